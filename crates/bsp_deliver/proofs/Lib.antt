@@ -1,0 +1,5 @@
+pub mod Writes
+pub mod Senders
+pub mod EndTests
+pub mod Counts
+pub mod Comparing

@@ -1,0 +1,8 @@
+use Rattle.std.proofs.Common.{◌≡◌, map, take, fold}
+use Rattle.bsp_deliver.specs.Cost.{put_transfer}
+use Rattle.bsp_deliver.specs.Sums.{counted}
+use Rattle.bsp_deliver.proofs.cost.Sums.count_puts.Given as goal
+
+-- the puts so far are counted
+abbrev pub invariant-loop-put : goal.invariant-loop-put
+invariant-loop-put l = l.self ≡ fold counted l.initial.self (map (put_transfer l.sender) (take l.put-index l.puts))

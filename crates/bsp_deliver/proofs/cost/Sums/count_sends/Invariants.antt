@@ -1,0 +1,8 @@
+use Rattle.std.proofs.Common.{◌≡◌, map, take, fold}
+use Rattle.bsp_deliver.specs.Cost.{send_transfer}
+use Rattle.bsp_deliver.specs.Sums.{counted}
+use Rattle.bsp_deliver.proofs.cost.Sums.count_sends.Given as goal
+
+-- the sends so far are counted
+abbrev pub invariant-loop-send : goal.invariant-loop-send
+invariant-loop-send l = l.self ≡ fold counted l.initial.self (map (send_transfer l.sender) (take l.send-index l.sends))

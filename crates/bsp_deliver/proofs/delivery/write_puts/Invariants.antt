@@ -1,0 +1,7 @@
+use Rattle.std.proofs.Common.{◌≡◌, ◌==◌, take, map, filter}
+use Rattle.bsp_deliver.specs.Delivery.{overlay, write_of}
+use Rattle.bsp_deliver.proofs.delivery.write_puts.Given as goal
+
+-- the puts to d so far stand over the memory
+abbrev pub invariant-loop-put : goal.invariant-loop-put
+invariant-loop-put l = l.memory ≡ overlay l.initial.memory (map write_of (filter (λ p. p.target == l.d) (take l.put-index l.puts)))

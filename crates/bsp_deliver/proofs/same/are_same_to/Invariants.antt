@@ -1,0 +1,18 @@
+use Rattle.std.proofs.Common.{◌≡◌, ◌==◌, ◌≤◌, ◌<◌, ◌-◌, Bool, true, filter, drop, length, get_or}
+use Rattle.bsp_deliver.proofs.same.are_same_to.Given as goal
+
+-- the lists are equal where what is left of them is, and both stand at a request to d or at the end
+abbrev pub invariant-loop-i : goal.invariant-loop-i
+invariant-loop-i g l =
+    let to : g.row.R.Denot → Bool = λ r. g.R.Addressed.addressee r == l.d in
+    record {
+      forth : filter to l.old ≡ filter to l.new → filter to (drop l.i l.old) ≡ filter to (drop l.j l.new);
+      back : filter to (drop l.i l.old) ≡ filter to (drop l.j l.new) → filter to l.old ≡ filter to l.new;
+      old_here : (r : _) → l.i < length l.old → to (get_or l.old l.i r) ≡ true;
+      new_here : (r : _) → l.j < length l.new → to (get_or l.new l.j r) ≡ true;
+      old_within : l.i ≤ length l.old;
+      new_within : l.j ≤ length l.new;
+    }
+
+abbrev pub decreases-loop-i : goal.decreases-loop-i
+decreases-loop-i g l = length l.old - l.i

@@ -1,0 +1,33 @@
+-- What the end of a superstep asks of the outcomes.
+use Rattle.std.specs.Prelude.{ℕ, ◌+◌, ◌<◌, ◌≤◌, All, List, map, length, slice_index}
+use Rattle.bsp_model.specs.declared.request.Put.{Put}
+use Rattle.bsp_model.specs.declared.request.Get.{Get}
+use Rattle.bsp_model.specs.declared.request.Send.{Send}
+use Rattle.bsp_step.specs.OutcomeParts.{OutcomeParts}
+
+abbrev pub sizes_of : List OutcomeParts → List ℕ
+sizes_of os = map (λ o. length o.memory) os
+
+-- words inside the target's memory
+pub record IsPutInside (sizes : List ℕ) (p : Put) : Type 0 where
+  pub known : p.target < length sizes
+  pub inside : p.start + length p.words ≤ slice_index sizes p.target
+
+-- words inside the owner's memory, into words inside the own one
+pub record IsGetInside (sizes : List ℕ) (own : ℕ) (g : Get) : Type 0 where
+  pub known : g.owner < length sizes
+  pub inside : g.start + g.len ≤ slice_index sizes g.owner
+  pub room : g.into + g.len ≤ own
+
+-- every request names a process, and words inside the memories, whose lengths are the sizes
+pub record AreRequestsInside (sizes : List ℕ) (o : OutcomeParts) : Type 0 where
+  pub puts : All (IsPutInside sizes) o.puts
+  pub gets : All (IsGetInside sizes (length o.memory)) o.gets
+  pub sends : All (λ m. m.target < length sizes) o.sends
+
+-- One outcome for each of 1 to 64 processes, with memories of at most 4,096 words, and every request inside the memories concerned.
+pub record AreDeliverable (os : List OutcomeParts) : Type 0 where
+  pub some : 1 ≤ length os
+  pub few : length os ≤ 64
+  pub short : All (λ o. length o.memory ≤ 4096) os
+  pub inside : All (AreRequestsInside (sizes_of os)) os

@@ -1,0 +1,38 @@
+-- Sums of words, transfer by transfer.
+use Rattle.std.specs.Prelude.{ℕ, ◌+◌, ◌*◌, ◌<◌, ◌≤◌, ◌^◌, ◌==◌, if◌then◌else◌, List, [], ◌∷◌, ◌++◌, map, All, slice_index, slice_set, replicate}
+use Rattle.bsp_deliver.specs.declared.cost.Sums.{Sums}
+use Rattle.bsp_step.specs.OutcomeParts.{OutcomeParts}
+use Rattle.bsp_deliver.specs.Cost.{Transfer, put_transfer, get_transfer, send_transfer}
+
+-- the sums with n more at p
+abbrev pub raised : List ℕ → ℕ → ℕ → List ℕ
+raised sums p n = slice_set sums p (slice_index sums p + n)
+
+-- one transfer more
+abbrev pub counted : Sums → Transfer → Sums
+counted s t =
+    if t.source == t.target then s
+    else record { sent = raised s.sent t.source t.count; received = raised s.received t.target t.count }
+
+abbrev pub no_words : Sums
+no_words = record { sent = replicate 64 0; received = replicate 64 0 }
+
+-- the transfers of one process
+abbrev pub transfers_of : ℕ → OutcomeParts → List Transfer
+transfers_of p o = map (put_transfer p) o.puts ++ map (get_transfer p) o.gets ++ map (send_transfer p) o.sends
+
+-- the transfers of these processes, of which the first is p
+abbrev pub transfers_from : ℕ → List OutcomeParts → List Transfer
+transfers_from p [] = []
+transfers_from p (o ∷ os) = transfers_of p o ++ transfers_from (p + 1) os
+
+-- so many transfers more leave each sum below 2 ^ 29
+pub record HasRoom (s : Sums) (transfers : ℕ) : Type 0 where
+  pub sent : All (λ n. n + 4112 * transfers < 2 ^ 29) s.sent
+  pub received : All (λ n. n + 4112 * transfers < 2 ^ 29) s.received
+
+-- a transfer between processes that there may be, of at most a tag and a payload
+pub record IsSmall (t : Transfer) : Type 0 where
+  pub known_source : t.source < 64
+  pub known_target : t.target < 64
+  pub few_words : t.count ≤ 4112

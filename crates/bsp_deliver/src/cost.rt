@@ -1,0 +1,122 @@
+//! The h-relation of a superstep.
+
+ghost use Rattle.std.specs.Prelude.{◌≡◌, ℕ, ◌+◌, ◌^◌, ◌<◌, ◌≤◌, length, map, fold, All};
+ghost use Rattle.bsp_deliver.specs.Requests.{outcome_of};
+ghost use Rattle.bsp_deliver.specs.Condition.{AreDeliverable};
+ghost use Rattle.bsp_deliver.specs.Cost.{put_transfer, get_transfer, send_transfer, largest, h_relation};
+
+use bsp_model::{Get, Put, Send};
+use bsp_step::Outcome;
+
+/// The words that each of 64 processes sends to and receives from others.
+#[derive(Clone, Copy)]
+pub(crate) struct Sums {
+    sent: [u64; 64],
+    received: [u64; 64],
+}
+
+impl Sums {
+    ghost use Rattle.bsp_deliver.specs.Sums.{counted, no_words, transfers_of, transfers_from, HasRoom, IsSmall};
+
+    /// Counts words on their way. Those to oneself count nowhere.
+    fn count(&mut self, source: u64, target: u64, count: u64)
+        requires small { IsSmall (record { source = source; target = target; count = count }) }
+        requires room { HasRoom self.old 1 }
+        ensures { self.new ≡ counted self.old (record { source = source; target = target; count = count }) }
+    {
+        if source != target {
+            self.sent[source as usize] += count;
+            self.received[target as usize] += count;
+        }
+    }
+
+    /// Counts the words of a sender's puts.
+    fn count_puts(&mut self, sender: u64, puts: &[Put])
+        requires small { All (λ p. IsSmall (put_transfer sender p)) puts.now }
+        requires room { HasRoom self.old (length puts.now) }
+        ensures { self.new ≡ fold counted self.old (map (put_transfer sender) puts.now) }
+    {
+        for put in puts {
+            self.count(sender, put.target, put.words.len() as u64);
+        }
+    }
+
+    /// Counts the words of a process's gets.
+    fn count_gets(&mut self, sender: u64, gets: &[Get])
+        requires small { All (λ g. IsSmall (get_transfer sender g)) gets.now }
+        requires room { HasRoom self.old (length gets.now) }
+        ensures { self.new ≡ fold counted self.old (map (get_transfer sender) gets.now) }
+    {
+        for get in gets {
+            self.count(get.owner, sender, get.len);
+        }
+    }
+
+    /// Counts the words of a sender's messages, tags and payloads.
+    fn count_sends(&mut self, sender: u64, sends: &[Send])
+        requires small { All (λ m. IsSmall (send_transfer sender m)) sends.now }
+        requires room { HasRoom self.old (length sends.now) }
+        ensures { self.new ≡ fold counted self.old (map (send_transfer sender) sends.now) }
+    {
+        for send in sends {
+            let words = send.tag.len() + send.words.len();
+            self.count(sender, send.target, words as u64);
+        }
+    }
+
+    /// Counts all requests of a process.
+    fn count_requests(&mut self, outcomes: &[Outcome], p: usize)
+        requires known { p < length outcomes.now }
+        requires deliverable { AreDeliverable outcomes.now }
+        requires room { HasRoom self.old 1024 }
+        ensures sums { self.new ≡ fold counted self.old (transfers_of p (outcome_of outcomes.now p)) }
+        ensures room { (n : ℕ) → HasRoom self.old (1024 + n) → HasRoom self.new n }
+    {
+        let own = &outcomes[p];
+        self.count_puts(p as u64, own.puts.as_slice());
+        self.count_gets(p as u64, own.gets.as_slice());
+        self.count_sends(p as u64, own.sends.as_slice());
+    }
+
+    /// The sums over all requests.
+    fn of(outcomes: &[Outcome]) -> Sums
+        requires { AreDeliverable outcomes.now }
+        ensures sums { result ≡ fold counted no_words (transfers_from 0 outcomes.now) }
+        ensures room { HasRoom result 0 }
+    {
+        let mut sums = Sums {
+            sent: [0; 64],
+            received: [0; 64],
+        };
+        for p in 0..outcomes.len() {
+            sums.count_requests(outcomes, p);
+        }
+        sums
+    }
+}
+
+/// The largest number, 0 where there is none.
+fn largest(numbers: &[u64]) -> u64
+    ensures { result ≡ largest numbers.now }
+{
+    let mut most = 0;
+    for number in numbers {
+        most = most.max(*number);
+    }
+    most
+}
+
+/// The h-relation of a superstep that ends by delivery: the largest number of words that a process sends or receives. A put counts its words
+/// from sender to target, a get from owner to requester, a message its tag and payload; words to oneself count nowhere (the usual additive BSP
+/// cost formula; what counts: this profile). It takes no memory.
+pub fn h_of(outcomes: &[Outcome]) -> u64
+    requires { AreDeliverable outcomes.now }
+    ensures value { result ≡ h_relation outcomes.now }
+    ensures small { result < 2 ^ 29 }
+{
+    let sums = Sums::of(outcomes);
+    let nprocs = outcomes.len();
+    let sent = largest(&sums.sent[..nprocs]);
+    let received = largest(&sums.received[..nprocs]);
+    sent.max(received)
+}

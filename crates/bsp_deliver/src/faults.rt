@@ -1,0 +1,65 @@
+//! The faults of a superstep's end, and the next tag size.
+
+ghost use Rattle.std.specs.Prelude.{◌≡◌, ◌≤◌, length, All, not};
+ghost use Rattle.std.specs.List.{list_any, list_all};
+ghost use Rattle.bsp_table.specs.NextTable.{AreSlots};
+ghost use Rattle.bsp_deliver.specs.SyncFault.{is_sync, same_tag, sync_fault, next_tag_size};
+
+use bsp_model::SyncFault;
+use bsp_step::{Ended, Outcome};
+use bsp_table::Table;
+
+/// Whether some process ended by sync.
+fn has_sync(outcomes: &[Outcome]) -> bool
+    ensures { result ≡ list_any (λ o. is_sync o.ended) outcomes.now }
+{
+    outcomes
+        .iter()
+        .any(|outcome| matches!(outcome.ended, Ended::Sync))
+}
+
+/// Whether some process ended by halt.
+fn has_halt(outcomes: &[Outcome]) -> bool
+    ensures { result ≡ list_any (λ o. not (is_sync o.ended)) outcomes.now }
+{
+    outcomes
+        .iter()
+        .any(|outcome| matches!(outcome.ended, Ended::Halt))
+}
+
+/// Whether all processes made the same choice as the first.
+fn is_same_choice(first: &Outcome, outcomes: &[Outcome]) -> bool
+    ensures { result ≡ list_all (λ o. same_tag first.now.tag o.tag) outcomes.now }
+{
+    outcomes.iter().all(|outcome| first.tag == outcome.tag)
+}
+
+/// The first of S1 `MixedEnd`, S2 `TagMismatch`, S3 `PopMismatch`, S4 `PushMismatch` and S5 `TooManySlots` that holds, and none where all
+/// processes halt (this profile). It takes no memory.
+pub fn sync_fault(outcomes: &[Outcome], table: &Table) -> Option<SyncFault>
+    requires some { 1 ≤ length outcomes.now }
+    requires slots { All (λ o. AreSlots table.now o.pops) outcomes.now }
+    ensures { result ≡ sync_fault outcomes.now table.now }
+{
+    let syncs = has_sync(outcomes);
+    if syncs && has_halt(outcomes) {
+        return Some(SyncFault::MixedEnd);
+    }
+    if !syncs {
+        return None;
+    }
+    if !is_same_choice(&outcomes[0], outcomes) {
+        return Some(SyncFault::TagMismatch);
+    }
+    table.fault(outcomes)
+}
+
+/// The tag size of the next superstep, in words: the common choice, or the old size where none was made (Hill et al. 1998). It takes no memory.
+pub fn next_tag_size(old: u64, outcomes: &[Outcome]) -> u64
+    requires { 1 ≤ length outcomes.now }
+    ensures choice { result ≡ next_tag_size old outcomes.now }
+    ensures small { old ≤ 16 → result ≤ 16 }
+{
+    let first = &outcomes[0];
+    first.tag.unwrap_or(old)
+}

@@ -1,0 +1,145 @@
+//! Whether a delivery depends on the same as another.
+
+ghost use Rattle.std.specs.Prelude.{◌≡◌, ℕ, ◌+◌, ◌<◌, ◌≤◌, ◌==◌, ◌↔◌, IsTrue, filter, drop, map, length, true, All, slice_index, slice_index_or};
+ghost use Rattle.bsp_deliver.specs.Requests.{each_below, words_read};
+ghost use Rattle.bsp_deliver.specs.Delivery.{delivery_parts};
+ghost use Rattle.bsp_deliver.specs.Condition.{AreDeliverable};
+ghost use Rattle.bsp_deliver.specs.Comparison.{HasSameParcel, IsReadable};
+
+use bsp_model::{Get, Memory, Put, Same, Send};
+use bsp_step::Outcome;
+
+/// A request that is addressed to a process.
+trait Addressed: Same {
+    ghost use Rattle.std.specs.Prelude.{◌≡◌, ℕ};
+
+    ghost addressee: { Self → ℕ };
+
+    /// The process.
+    fn addressee(&self) -> u64
+        ensures { result ≡ addressee self.now };
+}
+
+impl Addressed for Put {
+    ghost addressee = { λ p. p.target };
+
+    fn addressee(&self) -> u64 {
+        self.target
+    }
+}
+
+impl Addressed for Send {
+    ghost addressee = { λ m. m.target };
+
+    fn addressee(&self) -> u64 {
+        self.target
+    }
+}
+
+/// The place of the next request to `d`, or the number of requests.
+fn next_to<R: Addressed>(requests: &[R], d: u64, from: usize) -> usize
+    requires { from ≤ length requests.now }
+    ensures within { result ≤ length requests.now }
+    ensures later { from ≤ result }
+    ensures rest { filter (λ r. R.addressee r == d) (drop from requests.now) ≡ filter (λ r. R.addressee r == d) (drop result requests.now) }
+    ensures here { (r : _) → result < length requests.now → (R.addressee (slice_index_or requests.now result r) == d) ≡ true }
+{
+    for i in from..requests.len() {
+        if requests[i].addressee() == d {
+            return i;
+        }
+    }
+    requests.len()
+}
+
+/// Whether the requests of one sender to `d` are equal lists.
+fn are_same_to<R: Addressed>(old: &[R], new: &[R], d: u64) -> bool
+    ensures { IsTrue result ↔ (filter (λ r. R.addressee r == d) old.now ≡ filter (λ r. R.addressee r == d) new.now) }
+{
+    let mut i = next_to(old, d, 0);
+    let mut j = next_to(new, d, 0);
+    while i < old.len() && j < new.len() {
+        if !old[i].same(&new[j]) {
+            return false;
+        }
+        i = next_to(old, d, i + 1);
+        j = next_to(new, d, j + 1);
+    }
+    i == old.len() && j == new.len()
+}
+
+/// Whether one sender puts and sends the same to `d`.
+fn is_same_parcel(old: &Outcome, new: &Outcome, d: u64) -> bool
+    ensures { IsTrue result ↔ HasSameParcel d old.now new.now }
+{
+    are_same_to(old.puts.as_slice(), new.puts.as_slice(), d)
+        && are_same_to(old.sends.as_slice(), new.sends.as_slice(), d)
+}
+
+/// Whether the puts and the sends to `d` are equal lists, senders kept. It takes no memory.
+pub fn parcel_same(old: &[Outcome], new: &[Outcome], d: usize) -> bool
+    requires as_many { length old.now ≡ length new.now }
+    ensures { IsTrue result ↔ ((delivery_parts old.now d).puts ≡ (delivery_parts new.now d).puts) × ((delivery_parts old.now d).sends ≡ (delivery_parts new.now d).sends) }
+{
+    for sender in 0..old.len() {
+        if !is_same_parcel(&old[sender], &new[sender], d as u64) {
+            return false;
+        }
+    }
+    true
+}
+
+/// Whether the words of two memories from an address on are equal.
+fn are_same_words(old: &Memory, new: &Memory, start: u64, len: u64) -> bool
+    requires old { start + len ≤ length old.now }
+    requires new { start + len ≤ length new.now }
+    requires short { length old.now ≤ 4096 }
+    ensures { IsTrue result ↔ (each_below len (λ i. slice_index old.now (start + i)) ≡ each_below len (λ i. slice_index new.now (start + i))) }
+{
+    for i in 0..len {
+        let before = old.load(start + i).unwrap();
+        let after = new.load(start + i).unwrap();
+        if before != after {
+            return false;
+        }
+    }
+    true
+}
+
+/// Whether a get reads the same words.
+fn is_same_answer(old: &[Outcome], new: &[Outcome], get: &Get) -> bool
+    requires old { IsReadable old.now get.now }
+    requires new { IsReadable new.now get.now }
+    ensures { IsTrue result ↔ (words_read old.now get.now ≡ words_read new.now get.now) }
+{
+    let before = &old[get.owner as usize];
+    let after = &new[get.owner as usize];
+    are_same_words(&before.memory, &after.memory, get.start, get.len)
+}
+
+/// Whether gets read the same words.
+fn are_same_answers(old: &[Outcome], new: &[Outcome], gets: &[Get]) -> bool
+    requires old { All (IsReadable old.now) gets.now }
+    requires new { All (IsReadable new.now) gets.now }
+    ensures { IsTrue result ↔ (map (words_read old.now) gets.now ≡ map (words_read new.now) gets.now) }
+{
+    for get in gets {
+        if !is_same_answer(old, new, get) {
+            return false;
+        }
+    }
+    true
+}
+
+/// Whether the gets of `d` are equal lists, and the words that they read are equal. It takes no memory.
+pub fn answers_same(old: &[Outcome], new: &[Outcome], d: usize) -> bool
+    requires known { d < length old.now }
+    requires as_many { length old.now ≡ length new.now }
+    requires old { AreDeliverable old.now }
+    requires new { AreDeliverable new.now }
+    ensures { IsTrue result ↔ ((delivery_parts old.now d).gets ≡ (delivery_parts new.now d).gets) }
+{
+    let before = &old[d];
+    let after = &new[d];
+    before.gets.same(&after.gets) && are_same_answers(old, new, before.gets.as_slice())
+}

@@ -1,0 +1,35 @@
+//! The replies to an input and to batches of edits.
+
+use crate::EditRefusal;
+use bsp_model::Seq;
+use bsp_run::RunResult;
+
+/// A process in a superstep.
+#[derive(Clone, Copy, Debug, PartialEq, Eq)]
+pub struct Place {
+    /// The number of the superstep.
+    pub step: u64,
+    /// The number of the process.
+    pub pid: u64,
+}
+
+/// What was done again for a change.
+#[derive(Debug, Drop)]
+pub struct Update {
+    /// The turns that were taken again, by superstep, then process.
+    pub executed: Seq<Place>,
+    /// The deliveries that were made again, by superstep, then process.
+    pub redelivered: Seq<Place>,
+}
+
+/// The reply to an input or to a batch.
+#[derive(Drop)]
+pub enum Reply {
+    /// The run of the input as it is then. There is no update where the run was made afresh.
+    Done {
+        result: RunResult,
+        update: Option<Update>,
+    },
+    /// The batch was refused, and nothing has changed.
+    Refused(EditRefusal),
+}

@@ -1,0 +1,77 @@
+//! The input of a run.
+
+ghost use Rattle.std.specs.Prelude.{◌≡◌, OnOk, IfErr, None, Some, length, nat_le};
+ghost use Rattle.std.specs.List.{list_all};
+ghost use Rattle.bsp_model.specs.Input.{input_fault};
+
+use crate::{InputFault, Memory, OutOfMemory, Seq, TryCopy, Words};
+
+/// The input of a run: what each process starts with, and the limit and prices of the whole (Hill et al. 1998; limits are this profile's).
+#[derive(Drop)]
+pub struct Input {
+    /// A memory for each process: 1 to 64 memories of at most 4,096 words.
+    pub mems: Seq<Memory>,
+    /// An argument list for each process, of at most 64 words.
+    pub args: Seq<Words>,
+    /// The largest number of supersteps: 1 to 1,024.
+    pub limit: u64,
+    /// The price of a word of the h-relation: 0 to 1,000,000.
+    pub g: u64,
+    /// The price of a synchronisation: 0 to 1,000,000.
+    pub l: u64,
+}
+
+impl TryCopy for Input {
+    fn copy(&self) -> Result<Input, OutOfMemory> {
+        Ok(Input {
+            mems: self.mems.copy()?,
+            args: self.args.copy()?,
+            limit: self.limit,
+            g: self.g,
+            l: self.l,
+        })
+    }
+}
+
+fn are_short_memories(mems: &[Memory]) -> bool
+    ensures { result ≡ list_all (λ m. nat_le (length m) 4096) mems.now }
+{
+    mems.iter().all(|memory| memory.len() <= 4096)
+}
+
+fn are_short_arguments(args: &[Words]) -> bool
+    ensures { result ≡ list_all (λ a. nat_le (length a) 64) args.now }
+{
+    args.iter().all(|words| words.len() <= 64)
+}
+
+impl Input {
+    /// Whether a run may start with it: the first of I1 to I7 that holds. It takes no memory.
+    pub fn check(&self) -> Result<(), InputFault>
+        ensures ok { OnOk result (input_fault self.now ≡ None) }
+        ensures err { IfErr result (λ fault. input_fault self.now ≡ Some fault) }
+    {
+        if self.mems.is_empty() {
+            return Err(InputFault::NoProcess);
+        }
+        if self.mems.len() > 64 {
+            return Err(InputFault::TooMany);
+        }
+        if self.args.len() != self.mems.len() {
+            return Err(InputFault::LengthsDiffer);
+        }
+        if !are_short_memories(self.mems.as_slice()) {
+            return Err(InputFault::MemoryTooLong);
+        }
+        if !are_short_arguments(self.args.as_slice()) {
+            return Err(InputFault::ArgsTooLong);
+        }
+        if self.limit < 1 || self.limit > 1024 {
+            return Err(InputFault::BadLimit);
+        }
+        if self.g > 1_000_000 || self.l > 1_000_000 {
+            return Err(InputFault::BadPrice);
+        }
+        Ok(())
+    }
+}

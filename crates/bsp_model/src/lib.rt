@@ -1,0 +1,22 @@
+//! The words, memories, input and requests of a BSP computation.
+#![tactic(auto)]
+
+mod copying;
+mod cost;
+mod fault;
+mod input;
+mod memory;
+mod request;
+mod seq;
+
+pub use copying::{Same, TryCopy};
+pub use cost::CostRow;
+pub use fault::{End, Fault, InputFault, SyncFault};
+pub use input::Input;
+pub use memory::Memory;
+pub use request::{Get, Message, Put, Send, Store};
+pub use seq::Seq;
+pub use std::alloc::AllocError as OutOfMemory;
+
+/// A list of 64-bit words.
+pub type Words = Seq<u64>;

@@ -1,0 +1,127 @@
+//! What a process issues in its turn, and what it finds in its queue (Hill et al. 1998; sizes in words are this profile's).
+
+use crate::{OutOfMemory, Same, TryCopy, Words};
+
+/// A put, resolved: words to be written at a target.
+#[derive(Debug, Drop)]
+pub struct Put {
+    /// The process that is written to.
+    pub target: u64,
+    /// The address of the first word there.
+    pub start: u64,
+    /// The words, copied when the put was issued.
+    pub words: Words,
+}
+
+/// A get, resolved: words to be read from an owner.
+#[derive(Clone, Copy, Debug, PartialEq, Eq)]
+pub struct Get {
+    /// The process that is read.
+    pub owner: u64,
+    /// The address of the first word there.
+    pub start: u64,
+    /// The number of words.
+    pub len: u64,
+    /// The own address that the first word is written to.
+    pub into: u64,
+}
+
+/// A message on its way.
+#[derive(Debug, Drop)]
+pub struct Send {
+    /// The process that gets it.
+    pub target: u64,
+    /// The tag, of at most 16 words.
+    pub tag: Words,
+    /// The payload, of at most 4,096 words.
+    pub words: Words,
+}
+
+/// A message in a queue.
+#[derive(Debug, Drop)]
+pub struct Message {
+    /// The tag, of at most 16 words.
+    pub tag: Words,
+    /// The payload, of at most 4,096 words.
+    pub words: Words,
+}
+
+/// A store that was made in the own memory.
+#[derive(Clone, Copy, Debug, PartialEq, Eq)]
+pub struct Store {
+    /// The address.
+    pub addr: u64,
+    /// The word that was put there.
+    pub value: u64,
+}
+
+impl TryCopy for Put {
+    fn copy(&self) -> Result<Put, OutOfMemory> {
+        Ok(Put {
+            target: self.target,
+            start: self.start,
+            words: self.words.copy()?,
+        })
+    }
+}
+
+impl Same for Put {
+    fn same(&self, other: &Put) -> bool {
+        self.target == other.target && self.start == other.start && self.words.same(&other.words)
+    }
+}
+
+impl TryCopy for Get {
+    fn copy(&self) -> Result<Get, OutOfMemory> {
+        Ok(*self)
+    }
+}
+
+impl Same for Get {
+    fn same(&self, other: &Get) -> bool {
+        *self == *other
+    }
+}
+
+impl TryCopy for Send {
+    fn copy(&self) -> Result<Send, OutOfMemory> {
+        Ok(Send {
+            target: self.target,
+            tag: self.tag.copy()?,
+            words: self.words.copy()?,
+        })
+    }
+}
+
+impl Same for Send {
+    fn same(&self, other: &Send) -> bool {
+        self.target == other.target && self.tag.same(&other.tag) && self.words.same(&other.words)
+    }
+}
+
+impl TryCopy for Message {
+    fn copy(&self) -> Result<Message, OutOfMemory> {
+        Ok(Message {
+            tag: self.tag.copy()?,
+            words: self.words.copy()?,
+        })
+    }
+}
+
+impl Same for Message {
+    fn same(&self, other: &Message) -> bool {
+        self.tag.same(&other.tag) && self.words.same(&other.words)
+    }
+}
+
+impl TryCopy for Store {
+    fn copy(&self) -> Result<Store, OutOfMemory> {
+        Ok(*self)
+    }
+}
+
+impl Same for Store {
+    fn same(&self, other: &Store) -> bool {
+        *self == *other
+    }
+}

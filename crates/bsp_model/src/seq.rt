@@ -1,0 +1,128 @@
+//! A list of values, kept in a `Vec`.
+
+ghost use Rattle.std.specs.Prelude.{◌≡◌, ◌++◌, ◌-◌, ◌∷◌, [], length, take, IfOk, OnErr, OnOk, nat_eq, option_to_list};
+
+use crate::{OutOfMemory, Same, TryCopy};
+use std::alloc::Global;
+use std::marker::Model;
+
+/// A list of values. It keeps its own allocator.
+#[derive(Debug, Drop)]
+pub struct Seq<T> {
+    items: Vec<T>,
+}
+
+impl<T> Model for Seq<T> {
+    ghost use Rattle.std.specs.Prelude.{List};
+
+    ghost Value = { List T };
+
+    ghost view = { λ s. s.items.items };
+}
+
+impl<T> Seq<T> {
+    /// The empty list, which takes no memory.
+    pub fn new(alloc: Global) -> Seq<T>
+        ensures { result ≡ [] }
+    {
+        Seq {
+            items: Vec::new(alloc),
+        }
+    }
+
+    /// The list of these items.
+    pub fn from_vec(items: Vec<T>) -> Seq<T>
+        ensures { result ≡ items.items }
+    {
+        Seq { items }
+    }
+
+    /// The items, by value.
+    pub fn into_vec(self) -> Vec<T>
+        ensures { result.items ≡ self }
+    {
+        self.items
+    }
+
+    /// The items.
+    pub fn as_slice(&self) -> &[T]
+        ensures { result.now ≡ self.now }
+    {
+        self.items.as_slice()
+    }
+
+    /// The number of items.
+    pub fn len(&self) -> usize
+        ensures { result ≡ length self.now }
+    {
+        self.items.len()
+    }
+
+    /// The allocator that the list keeps.
+    pub fn allocator(&self) -> Global {
+        *self.items.allocator()
+    }
+
+    /// Whether there is no item.
+    pub fn is_empty(&self) -> bool
+        ensures { result ≡ nat_eq (length self.now) 0 }
+    {
+        self.items.is_empty()
+    }
+}
+
+impl<T: Drop> Seq<T> {
+    /// Puts an item at the end. After `OutOfMemory` nothing has changed, and the item is dropped.
+    pub fn push(&mut self, item: T) -> Result<(), OutOfMemory>
+        ensures ok { OnOk result (self.new ≡ self.old ++ item ∷ []) }
+        ensures err { OnErr result (self.new ≡ self.old) }
+    {
+        self.items.push(item)?;
+        Ok(())
+    }
+
+    /// Takes the last item away, if there is one, and answers it.
+    pub fn pop(&mut self) -> Option<T>
+        ensures item { self.old ≡ self.new ++ option_to_list result }
+        ensures rest { self.new ≡ take (length self.old - 1) self.old }
+    {
+        self.items.pop()
+    }
+}
+
+impl<T: TryCopy> TryCopy for Seq<T> {
+    fn copy(&self) -> Result<Seq<T>, OutOfMemory> {
+        let mut items = Vec::new(*self.items.allocator());
+        for item in &self.items {
+            items.push(item.copy()?)?;
+        }
+        Ok(Seq { items })
+    }
+}
+
+impl<T: Same> Same for Seq<T> {
+    fn same(&self, other: &Seq<T>) -> bool {
+        let items = self.items.as_slice();
+        let others = other.items.as_slice();
+        if items.len() != others.len() {
+            return false;
+        }
+        for i in 0..items.len() {
+            if !items[i].same(&others[i]) {
+                return false;
+            }
+        }
+        true
+    }
+}
+
+impl Seq<u64> {
+    /// The words of a slice, or `OutOfMemory`.
+    pub fn from_slice(alloc: Global, words: &[u64]) -> Result<Seq<u64>, OutOfMemory>
+        ensures { IfOk result (λ s. s ≡ words.now) }
+    {
+        Ok(Seq {
+            items: words.to_vec(alloc)?,
+        })
+    }
+}

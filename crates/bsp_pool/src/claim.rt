@@ -1,0 +1,59 @@
+// The rule of the claim word, and the kinds of step that passes make on it.
+
+use crate::pass_view::PassView;
+use atomic_table::{Join, Play, Split, TableRule};
+
+pub(crate) struct ClaimRule;
+
+impl TableRule<u8, PassView, ()> for ClaimRule {
+    ghost use Rattle.std.specs.Prelude.{[]};
+    ghost use Rattle.bsp_pool.specs.Numbers.{all_units};
+    ghost use Rattle.bsp_pool.specs.Claim.{view_of, IsClaimed};
+
+    ghost holds = { λ _ s. IsClaimed s.words s.views };
+
+    ghost first = { λ _. view_of all_units [] };
+}
+
+// A draw: one `fetch_add` of 1.
+pub(crate) struct Draw;
+
+impl Play<u8, PassView> for Draw {
+    ghost use Rattle.std.specs.Prelude.{◌≡◌};
+    ghost use Rattle.bsp_pool.specs.Claim.{Draws};
+
+    ghost then = { λ _ before found after. Draws before.0 found after.0 × (after.1 ≡ before.1) };
+}
+
+// A load, which tells a pass that its numbers are distinct and below the word.
+pub(crate) struct Look;
+
+impl Play<u8, PassView> for Look {
+    ghost use Rattle.std.specs.Prelude.{◌≡◌};
+    ghost use Rattle.bsp_pool.specs.Claim.{Looks};
+
+    ghost then = { λ _ before found after. Looks before.0 found after.0 × (after.1 ≡ before.1) };
+}
+
+// A pass is made of another, which may give it one unit.
+pub(crate) struct ShareUnit;
+
+impl Split<PassView> for ShareUnit {
+    ghost use Rattle.bsp_pool.specs.Claim.{kept_view, given_view};
+
+    ghost left = { kept_view };
+
+    ghost right = { given_view };
+}
+
+// A pass takes in another, which is spent.
+pub(crate) struct JoinPasses;
+
+impl Join<PassView> for JoinPasses {
+    ghost use Rattle.std.specs.Prelude.{[]};
+    ghost use Rattle.bsp_pool.specs.Claim.{view_of, joined_view};
+
+    ghost both = { joined_view };
+
+    ghost spent = { view_of 0 [] };
+}

@@ -1,0 +1,59 @@
+ghost use Rattle.std.specs.Prelude.{◌≡◌};
+ghost use Rattle.bsp_pool.specs.declared.event.CoreRefusal.TheVariants.{OutOfMemory};
+
+use std::alloc::{AllocError, AllocFailed};
+use std::error::Error;
+use std::fmt;
+
+/// What may happen in a round machine. Workers have the numbers from 0 on.
+#[derive(Clone, Copy, Debug, PartialEq, Eq)]
+pub enum Event {
+    /// The worker takes the next number: one `fetch_add` of 1 on the claim word.
+    Draw(usize),
+    /// The worker works the input of the number that it holds, and keeps the output.
+    Ran(usize),
+    /// The worker leaves, and gives up a number that it holds.
+    Left(usize),
+    /// Once all have left: what has no output is worked, the outputs are committed, and the next phase opens.
+    Turn,
+}
+
+/// Why an event was refused. The machine is then as before.
+#[derive(Clone, Copy, Debug, PartialEq, Eq)]
+pub enum CoreRefusal {
+    /// The event isn't allowed now, or all phases are committed.
+    NotNow,
+    /// The event is allowed, and memory for it was refused.
+    OutOfMemory,
+}
+
+impl fmt::Display for CoreRefusal {
+    ghost use Rattle.bsp_pool.specs.Refusals.{message_of};
+
+    ghost output = { message_of };
+
+    fn fmt<W: fmt::Write>(&self, f: &mut fmt::Formatter<W>) -> fmt::Result {
+        match self {
+            CoreRefusal::NotNow => write!(f, "the event is not allowed now"),
+            CoreRefusal::OutOfMemory => write!(f, "out of memory"),
+        }
+    }
+}
+
+impl Error for CoreRefusal {}
+
+impl From<AllocError> for CoreRefusal {
+    ghost from_gives = { λ _ refusal. refusal ≡ OutOfMemory };
+
+    fn from(_error: AllocError) -> CoreRefusal {
+        CoreRefusal::OutOfMemory
+    }
+}
+
+impl<T: Drop> From<AllocFailed<T>> for CoreRefusal {
+    ghost from_gives = { λ _ refusal. refusal ≡ OutOfMemory };
+
+    fn from(_error: AllocFailed<T>) -> CoreRefusal {
+        CoreRefusal::OutOfMemory
+    }
+}

@@ -1,0 +1,30 @@
+//! A worker pool over one claim word.
+//!
+//! `phase` works a list of inputs by 1 to 16 threads and gives the outputs in the order of the inputs. Its workers
+//! draw the numbers of the inputs from a `Deck`, each with a `Pass`. `Core` is the same pool as a machine on one
+//! thread, event by event.
+#![tactic(auto)]
+
+mod claim;
+mod coordinator;
+mod deck;
+mod event;
+mod machine;
+mod pass_view;
+mod piece;
+mod round;
+mod row;
+mod turning;
+mod work;
+mod worker;
+
+pub use coordinator::phase;
+pub use deck::{Deck, Pass};
+pub use event::{CoreRefusal, Event};
+pub use machine::Core;
+pub use row::Row;
+pub use std::alloc::AllocError as OutOfMemory;
+pub use work::{Gate, Open, Work};
+
+#[cfg(test)]
+mod tests;

@@ -1,0 +1,7 @@
+use std::collections::LinkedList;
+
+// What a pass knows of itself: its units, and the numbers that it has drawn or taken in, in order. No value of it is made.
+pub(crate) struct PassView {
+    pub(crate) units: u64,
+    pub(crate) numbers: LinkedList<u64>,
+}

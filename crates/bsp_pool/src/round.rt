@@ -1,0 +1,158 @@
+// The open phase of a round machine.
+
+ghost use Rattle.std.specs.Prelude.{◌≡◌, ◌+◌, ◌<◌, ◌≤◌, ◌++◌, IfOk, All, length, replicate, slice_get, vec_len};
+ghost use Rattle.std.specs.List.{list_all};
+ghost use Rattle.bsp_pool.specs.Rounds.{opened, after_draw, after_leave, number_of, with_output, is_gone, Applies};
+ghost use Rattle.std.specs.Vec.{vec_capacity};
+ghost use Rattle.bsp_pool.specs.Turning.{merged_of};
+
+use crate::event::CoreRefusal;
+use crate::turning::merged;
+use std::alloc::{AllocError, Global};
+use std::marker::Model;
+
+// What a worker is at.
+#[derive(Clone, Copy)]
+pub(crate) enum Worker {
+    // It may draw.
+    Ready,
+    // It holds this number, whose input it is to work.
+    Holding(usize),
+    // It has drawn a number past the end.
+    PastEnd,
+    // It has left.
+    Gone,
+}
+
+// Who drew each number, in order, what each worker is at, and the outputs kept, by number.
+#[derive(Drop)]
+pub(crate) struct Round<T> {
+    draws: Vec<usize>,
+    workers: Vec<Worker>,
+    outputs: Vec<Option<T>>,
+}
+
+impl<T> Model for Round<T> {
+    ghost use Rattle.bsp_pool.specs.Rounds.{OpenPhase};
+
+    ghost Value = { OpenPhase T };
+
+    ghost view = { λ r. record { draws = r.draws.items; workers = r.workers.items; outputs = r.outputs.items } };
+}
+
+impl<T: Drop> Round<T> {
+    // A phase that opens, with all workers ready.
+    pub(crate) fn open(alloc: Global, inputs: usize, workers: usize) -> Result<Round<T>, AllocError>
+        ensures { IfOk result (λ r. r ≡ opened inputs workers) }
+    {
+        Ok(Round {
+            draws: Vec::new(alloc),
+            workers: ready_workers(alloc, workers)?,
+            outputs: no_outputs(alloc, inputs)?,
+        })
+    }
+
+    // How many workers there are.
+    pub(crate) fn workers(&self) -> usize
+        ensures { result ≡ length self.now.workers }
+    {
+        self.workers.len()
+    }
+
+    // The worker takes the next number.
+    pub(crate) fn draw(&mut self, worker: usize, inputs: usize) -> Result<(), CoreRefusal>
+        ensures { Applies (after_draw inputs self.old worker (slice_get self.old.workers worker))
+            self.old result self.new }
+    {
+        let Some(Worker::Ready) = self.workers.get(worker) else {
+            return Err(CoreRefusal::NotNow);
+        };
+        let number = self.draws.len();
+        self.draws.push(worker)?;
+        self.workers[worker] = if number < inputs {
+            Worker::Holding(number)
+        } else {
+            Worker::PastEnd
+        };
+        Ok(())
+    }
+
+    // The number that the worker holds.
+    pub(crate) fn held(&self, worker: usize) -> Option<usize>
+        ensures { result ≡ number_of (slice_get self.now.workers worker) }
+    {
+        match self.workers.get(worker) {
+            Some(Worker::Holding(number)) => Some(*number),
+            _ => None,
+        }
+    }
+
+    // The worker keeps the output of the number that it held.
+    pub(crate) fn keep(&mut self, worker: usize, number: usize, output: T)
+        requires worker { worker < length self.old.workers }
+        requires number { number < length self.old.outputs }
+        ensures { self.new ≡ with_output self.old worker number (Some output) }
+    {
+        self.workers[worker] = Worker::Ready;
+        self.outputs[number] = Some(output);
+    }
+
+    // The worker leaves.
+    pub(crate) fn leave(&mut self, worker: usize) -> Result<(), CoreRefusal>
+        ensures { Applies (after_leave self.old worker (slice_get self.old.workers worker))
+            self.old result self.new }
+    {
+        match self.workers.get(worker) {
+            None | Some(Worker::Gone) => Err(CoreRefusal::NotNow),
+            Some(_) => {
+                self.workers[worker] = Worker::Gone;
+                Ok(())
+            }
+        }
+    }
+
+    // Whether all workers have left.
+    pub(crate) fn is_over(&self) -> bool
+        ensures { result ≡ list_all is_gone self.now.workers }
+    {
+        self.workers
+            .iter()
+            .all(|worker| matches!(worker, Worker::Gone))
+    }
+
+    // The outputs that were kept, by number.
+    pub(crate) fn outputs(&self) -> &[Option<T>]
+        ensures { result.now ≡ self.now.outputs }
+    {
+        self.outputs.as_slice()
+    }
+
+    // The outputs in order, behind the row: those that were kept, and else those that were made.
+    pub(crate) fn into_row(self, row: Vec<T>, made: Vec<Option<T>>) -> Vec<T>
+        requires { vec_len row + length self.outputs ≤ vec_capacity row }
+        ensures { result.items ≡ row.items ++ merged_of self.outputs made.items }
+    {
+        let Round { outputs, .. } = self;
+        merged(row, outputs, made)
+    }
+}
+
+fn ready_workers(alloc: Global, workers: usize) -> Result<Vec<Worker>, AllocError>
+    ensures { IfOk result (λ v. v.items ≡ replicate workers Worker.Ready) }
+{
+    let mut ready = Vec::with_capacity(alloc, workers)?;
+    for _worker in 0..workers {
+        ready.push(Worker::Ready)?;
+    }
+    Ok(ready)
+}
+
+fn no_outputs<T: Drop>(alloc: Global, inputs: usize) -> Result<Vec<Option<T>>, AllocError>
+    ensures { IfOk result (λ v. v.items ≡ replicate inputs None) }
+{
+    let mut outputs = Vec::with_capacity(alloc, inputs)?;
+    for _number in 0..inputs {
+        outputs.push(None)?;
+    }
+    Ok(outputs)
+}

@@ -1,0 +1,5 @@
+mod deck;
+mod doubling;
+mod machine;
+mod phase;
+mod refusals;

@@ -1,0 +1,4 @@
+pub mod Running
+pub mod Ranges
+pub mod Telling
+pub mod Multiplying

@@ -1,0 +1,13 @@
+pub mod Plan
+pub mod Footprints
+pub mod Doubling
+pub mod Broadcast
+pub mod BroadcastFootprint
+pub mod Prefix
+pub mod PrefixFootprint
+pub mod Rank
+pub mod RankFootprint
+pub mod MatVec
+pub mod MatVecFootprint
+pub mod Bundled
+pub mod BundledFootprint

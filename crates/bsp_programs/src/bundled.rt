@@ -1,0 +1,69 @@
+//! The bundled programs by name.
+
+ghost use Rattle.std.specs.Prelude.{◌≡◌};
+
+use crate::{Broadcast, MatVec, Prefix, Rank};
+use bsp_model::{End, OutOfMemory};
+use bsp_step::{Ctx, Program, View};
+use std::alloc::Global;
+
+/// One of the bundled programs. Its answers are that program's.
+#[derive(Clone, Copy, Debug, PartialEq, Eq)]
+pub enum Bundled {
+    /// One process tells a word to all others.
+    Broadcast(Broadcast),
+    /// Each process prints the sum of all words up to its own.
+    Prefix(Prefix),
+    /// The processes multiply a matrix by a vector.
+    MatVec(MatVec),
+    /// Each process prints its distance to the last element of a linked list.
+    Rank(Rank),
+}
+
+impl Bundled {
+    ghost use Rattle.bsp_programs.specs.Bundled.{program_named};
+
+    /// The bundled program with this name: `broadcast`, `prefix`, `matvec` or `rank`. No program has another name. It takes no memory.
+    pub fn by_name(name: &str) -> Option<Bundled>
+        ensures { result ≡ program_named name.now }
+    {
+        match name {
+            "broadcast" => Some(Bundled::Broadcast(Broadcast)),
+            "prefix" => Some(Bundled::Prefix(Prefix)),
+            "matvec" => Some(Bundled::MatVec(MatVec)),
+            "rank" => Some(Bundled::Rank(Rank)),
+            _ => None,
+        }
+    }
+}
+
+impl Program for Bundled {
+    ghost use Rattle.bsp_programs.specs.Bundled.{bundled_plan, bundled_looks};
+    ghost use Rattle.bsp_programs.specs.BundledFootprint.{bundled_footprint};
+
+    ghost acts = { λ p v. (bundled_plan p v).acts };
+
+    ghost ending = { λ p v. (bundled_plan p v).ending };
+
+    ghost looks = { bundled_looks };
+
+    ghost footprint = { bundled_footprint };
+
+    fn looks(&self, view: &View, address: u64) -> bool {
+        match self {
+            Bundled::Broadcast(program) => program.looks(view, address),
+            Bundled::Prefix(program) => program.looks(view, address),
+            Bundled::MatVec(program) => program.looks(view, address),
+            Bundled::Rank(program) => program.looks(view, address),
+        }
+    }
+
+    fn step(&self, alloc: Global, ctx: &mut Ctx<'_>) -> Result<End, OutOfMemory> {
+        match self {
+            Bundled::Broadcast(program) => program.step(alloc, ctx),
+            Bundled::Prefix(program) => program.step(alloc, ctx),
+            Bundled::MatVec(program) => program.step(alloc, ctx),
+            Bundled::Rank(program) => program.step(alloc, ctx),
+        }
+    }
+}

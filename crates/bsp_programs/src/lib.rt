@@ -1,0 +1,18 @@
+//! The bundled programs, each with its acts, its ending and its footprint.
+#![tactic(auto)]
+
+mod broadcast;
+mod bundled;
+mod doubling;
+mod matvec;
+mod prefix;
+mod rank;
+
+pub use broadcast::Broadcast;
+pub use bundled::Bundled;
+pub use matvec::MatVec;
+pub use prefix::Prefix;
+pub use rank::Rank;
+
+#[cfg(test)]
+mod tests;

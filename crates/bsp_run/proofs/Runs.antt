@@ -1,0 +1,160 @@
+-- Laws of runs, superstep by superstep.
+use Rattle.std.proofs.Common.{◌≡◌, ◌≤◌, ◌<◌, ◌+◌, ◌-◌, ◌==◌, ℕ, zero, suc, Bool, true, false, cond, List, [], ◌∷◌, ◌++◌, map, length, refl, sym, ap, ◌∙◌, subst, arith, Option, Some, None, length-append, get_or, All}
+use Rattle.std.proofs.Common.{inl, inr}
+use Rattle.std.proofs.lemmas.Bool.{false≢true, cases_lt}
+use Rattle.std.proofs.lemmas.Bool.Decides.{nat_tests}
+use Rattle.std.proofs.lemmas.List.Elements.{All-push}
+use Rattle.std.proofs.lemmas.Grind.{common_steps}
+use Rattle.bsp_model.specs.declared.input.Input.{Input}
+use Rattle.bsp_step.specs.ViewParts.{ViewParts}
+use Rattle.bsp_step.specs.OutcomeParts.{OutcomeParts, IsOutcome, IsOutcomeOf}
+use Rattle.bsp_deliver.specs.Requests.{no_outcome}
+use Rattle.bsp_run.specs.declared.result.Status.{Status}
+use Rattle.bsp_run.specs.declared.result.Status.TheVariants.{Limit}
+use Rattle.bsp_run.specs.declared.phase.Phase.{Phase}
+use Rattle.bsp_run.specs.declared.phase.Phase.TheVariants.{Open, Turned, Ended}
+use Rattle.bsp_run.specs.declared.superstep.Superstep.{Superstep}
+use Rattle.bsp_run.specs.State.{next_state}
+use Rattle.bsp_run.specs.Ending.{end_of}
+use Rattle.bsp_run.specs.Run.{Run, start, open_views, after_turns, after_delivery, phase_after, delivered_if, advanced_if, advance, times, is_limit}
+use Rattle.bsp_run.specs.Shown.{views_shown, outcomes_shown, last_of_past}
+use Rattle.bsp_run.specs.Condition.{AreOutcomesOf, is_turned, is_open, is_ended, no_view}
+
+-- one view and one outcome more
+pub AreOutcomesOf-push : (vs : List ViewParts) (os : List OutcomeParts) (v : ViewParts) (o : OutcomeParts) → AreOutcomesOf vs os → IsOutcome o → IsOutcomeOf v o → AreOutcomesOf (vs ++ v ∷ []) (os ++ o ∷ [])
+AreOutcomesOf-push vs os v o h limits fits =
+    let long : length (vs ++ v ∷ []) ≡ length vs + 1 = length-append vs (v ∷ []) in
+    let many : length (os ++ o ∷ []) ≡ length os + 1 = length-append os (o ∷ []) in
+    let count : length os ≡ length vs = h.count in
+    record {
+      count = omega arith;
+      limits = All-push IsOutcome os o h.limits limits;
+      each = λ p l. elim (cases_lt p (length vs)) [
+        | inl w ↦
+            let old : get_or (vs ++ v ∷ []) p no_view ≡ get_or vs p no_view = grind (arith, common_steps) in
+            let out : get_or (os ++ o ∷ []) p no_outcome ≡ get_or os p no_outcome = grind (arith, common_steps) in
+            rw (old, out) (h.each p w)
+        | inr w ↦
+            let old : get_or (vs ++ v ∷ []) p no_view ≡ v = grind (arith, common_steps) in
+            let out : get_or (os ++ o ∷ []) p no_outcome ≡ o = grind (arith, common_steps) in
+            rw (old, out) fits
+      ];
+    }
+
+-- an open run goes on by its turns
+pub advance-open : (turn : ViewParts → OutcomeParts) (r : Run) → r.phase ≡ Open → advance turn r ≡ delivered_if (after_turns r (map turn (open_views r))).phase (after_turns r (map turn (open_views r)))
+unfolding advance
+advance-open turn r e = ap (λ p. advanced_if turn p r) e
+
+delivers_if : (p : Phase) (r : Run) → is_turned p ≡ true → delivered_if p r ≡ after_delivery r
+delivers_if Turned r h = refl
+delivers_if Open r h = cc
+delivers_if (Ended status) r h = cc
+
+stays_if : (p : Phase) (r : Run) → is_turned p ≡ false → delivered_if p r ≡ r
+stays_if Turned r h = cc
+stays_if Open r h = refl
+stays_if (Ended status) r h = refl
+
+pub advance-delivers : (turn : ViewParts → OutcomeParts) (r : Run) → r.phase ≡ Open → is_turned (after_turns r (map turn (open_views r))).phase ≡ true → advance turn r ≡ after_delivery (after_turns r (map turn (open_views r)))
+advance-delivers turn r e h = advance-open turn r e ∙ delivers_if (after_turns r (map turn (open_views r))).phase (after_turns r (map turn (open_views r))) h
+
+pub advance-ends : (turn : ViewParts → OutcomeParts) (r : Run) → r.phase ≡ Open → is_turned (after_turns r (map turn (open_views r))).phase ≡ false → advance turn r ≡ after_turns r (map turn (open_views r))
+advance-ends turn r e h = advance-open turn r e ∙ stays_if (after_turns r (map turn (open_views r))).phase (after_turns r (map turn (open_views r))) h
+
+closed_stays : (turn : ViewParts → OutcomeParts) (p : Phase) (r : Run) → is_open p ≡ false → advanced_if turn p r ≡ r
+closed_stays turn Open r h = cc
+closed_stays turn Turned r h = refl
+closed_stays turn (Ended status) r h = refl
+
+-- a run that is not open stays as it is
+pub advance-closed : (turn : ViewParts → OutcomeParts) (r : Run) → is_open r.phase ≡ false → advance turn r ≡ r
+unfolding advance
+advance-closed turn r h = closed_stays turn r.phase r h
+
+pub open_phase : (p : Phase) → is_open p ≡ true → p ≡ Open
+open_phase Open h = refl
+open_phase Turned h = cc
+open_phase (Ended status) h = cc
+
+pub turned_phase_is : (p : Phase) → is_turned p ≡ true → p ≡ Turned
+turned_phase_is Open h = cc
+turned_phase_is Turned h = refl
+turned_phase_is (Ended status) h = cc
+
+ended_otherwise : (p : Phase) → is_open p ≡ false → is_turned p ≡ false → is_ended p ≡ true
+ended_otherwise Open h k = cc
+ended_otherwise Turned h k = cc
+ended_otherwise (Ended status) h k = refl
+
+-- Between supersteps a run is open or has ended; while it is open, so many supersteps are left to the limit.
+pub record IsBetween (n : ℕ) (r : Run) : Type 0 where
+  pub between : is_turned r.phase ≡ false
+  pub left : is_open r.phase ≡ true → (1 ≤ n) × (length r.past + n ≡ r.limit)
+
+never_open : (e : Option Status) → is_open (phase_after e) ≡ false
+never_open None = refl
+never_open (Some status) = refl
+
+at_limit : (b : Bool) (n : ℕ) (m limit : ℕ) → (m == limit) ≡ b → m + n ≡ limit → (is_turned (cond b (Ended Limit) Open) ≡ false) × (is_open (cond b (Ended Limit) Open) ≡ true → (1 ≤ n) × (m + n ≡ limit))
+at_limit true n m limit e h = (refl, λ k. absurd (false≢true k))
+at_limit false n m limit e h = (refl, λ k. (let apart : m < limit = grind (arith, nat_tests) in omega arith, h))
+
+delivery_between : (n : ℕ) (r : Run) → length r.past + suc n ≡ r.limit → IsBetween n (after_delivery r)
+unfolding after_delivery
+delivery_between n r h =
+    let step : Superstep = record { views = open_views r; outcomes = r.outcomes } in
+    let long : length (r.past ++ step ∷ []) ≡ length r.past + 1 = length-append r.past (step ∷ []) in
+    let both = at_limit ((length r.past + 1) == r.limit) n (length r.past + 1) r.limit refl (omega arith) in
+    record { between = both.0; left = λ k. let w = both.1 k in (w.0, omega (arith, w.1)) }
+
+turns_left : (n : ℕ) (r : Run) (os : List OutcomeParts) → length r.past + suc n ≡ r.limit → length (after_turns r os).past + suc n ≡ (after_turns r os).limit
+unfolding after_turns
+turns_left n r os h = h
+
+turns_closed : (r : Run) (os : List OutcomeParts) → is_open (after_turns r os).phase ≡ false
+unfolding after_turns
+turns_closed r os = never_open (end_of (length r.past) r.state.table os)
+
+open_between : (b : Bool) (turn : ViewParts → OutcomeParts) (n : ℕ) (r : Run) → r.phase ≡ Open → length r.past + suc n ≡ r.limit → is_turned (after_turns r (map turn (open_views r))).phase ≡ b → IsBetween n (advance turn r)
+open_between true turn n r e h t = subst (IsBetween n) (sym (advance-delivers turn r e t)) (delivery_between n (after_turns r (map turn (open_views r))) (turns_left n r (map turn (open_views r)) h))
+open_between false turn n r e h t =
+    subst (IsBetween n) (sym (advance-ends turn r e t)) record { between = t; left = λ k. absurd (false≢true (sym (turns_closed r (map turn (open_views r))) ∙ k)) }
+
+either_between : (b : Bool) (turn : ViewParts → OutcomeParts) (n : ℕ) (r : Run) → IsBetween (suc n) r → is_open r.phase ≡ b → IsBetween n (advance turn r)
+either_between true turn n r h e = open_between (is_turned (after_turns r (map turn (open_views r))).phase) turn n r (open_phase r.phase e) (h.left e).1 refl
+either_between false turn n r h e = subst (IsBetween n) (sym (advance-closed turn r e)) record { between = h.between; left = λ k. absurd (false≢true (sym e ∙ k)) }
+
+-- one superstep more leaves one less
+pub advance-between : (turn : ViewParts → OutcomeParts) (n : ℕ) (r : Run) → IsBetween (suc n) r → IsBetween n (advance turn r)
+advance-between turn n r h = either_between (is_open r.phase) turn n r h refl
+
+none_left : (b : Bool) (r : Run) → IsBetween zero r → is_open r.phase ≡ b → is_ended r.phase ≡ true
+none_left true r h e = absurd (let w = (h.left e).0 in omega (arith, w))
+none_left false r h e = ended_otherwise r.phase e h.between
+
+-- with no superstep left the run has ended
+pub ended-between : (r : Run) → IsBetween zero r → is_ended r.phase ≡ true
+ended-between r h = none_left (is_open r.phase) r h refl
+
+pub start-between : (input : Input) → 1 ≤ input.limit → IsBetween input.limit (start input)
+unfolding start
+start-between input h = record { between = refl; left = λ k. (h, omega arith) }
+
+shown_if : (p : Phase) (vs ws : List ViewParts) → is_open p ≡ true → cond (is_limit p) vs ws ≡ ws
+shown_if Open vs ws h = refl
+shown_if Turned vs ws h = cc
+shown_if (Ended status) vs ws h = cc
+
+-- an open run shows the views of its open superstep
+pub views_shown-open : (r : Run) → is_open r.phase ≡ true → views_shown r ≡ open_views r
+views_shown-open r h = shown_if r.phase (last_of_past r.past).views (open_views r) h
+
+turned_if : (p : Phase) (os us : List OutcomeParts) → p ≡ Turned → cond (is_limit p) os us ≡ us
+turned_if p os us h = ap (λ q. cond (is_limit q) os us) h
+
+pub outcomes_shown-turned : (r : Run) → r.phase ≡ Turned → outcomes_shown r ≡ r.outcomes
+outcomes_shown-turned r h = turned_if r.phase (last_of_past r.past).outcomes r.outcomes h
+
+pub times_more : (turn : ViewParts → OutcomeParts) (m n : ℕ) (r : Run) → m ≡ suc n → times m (advance turn) r ≡ times n (advance turn) (advance turn r)
+times_more turn m n r e = ap (λ k. times k (advance turn) r) e

@@ -1,0 +1,10 @@
+use Rattle.std.proofs.Common.{◌≡◌, ◌<◌, ◌^◌, max, map, drop}
+use Rattle.bsp_deliver.specs.Cost.{largest}
+use Rattle.bsp_run.proofs.costs.largest_work.Given as goal
+
+-- the largest so far, and the largest of what is left
+abbrev pub invariant-loop-outcome : goal.invariant-loop-outcome
+invariant-loop-outcome l = record {
+  value : max l.most (largest (map (λ o. o.work) (drop l.outcome-index l.outcomes))) ≡ largest (map (λ o. o.work) l.outcomes);
+  small : l.most < 2 ^ 32;
+}

@@ -1,0 +1,6 @@
+use Rattle.std.proofs.Common.{◌≡◌, take, map}
+use Rattle.bsp_run.specs.Result.{lines_of_process}
+use Rattle.bsp_run.proofs.lines.lines_of_past.Given as goal
+
+abbrev pub invariant-loop-superstep : goal.invariant-loop-superstep
+invariant-loop-superstep l = l.lines ≡ lines_of_process (map (λ s. s.outcomes) (take l.superstep-index l.past)) l.pid

@@ -1,0 +1,10 @@
+pub mod State
+pub mod Ending
+pub mod Run
+pub mod Result
+pub mod Condition
+pub mod TapeInside
+pub mod HistoryInside
+pub mod Shown
+pub mod RunErrors
+pub mod Opening

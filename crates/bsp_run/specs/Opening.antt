@@ -1,0 +1,26 @@
+-- What the opening of a superstep asks.
+use Rattle.std.specs.Prelude.{◌≡◌, ◌≤◌, ℕ, List, map, length, All}
+use Rattle.bsp_model.specs.declared.request.Message.{Message}
+use Rattle.bsp_table.specs.declared.area.Area.{Area}
+use Rattle.bsp_step.specs.ViewParts.{ViewParts, IsQueue, IsTableFor}
+use Rattle.bsp_run.specs.State.{State}
+
+-- the state of these memories and queues
+abbrev pub state_of : List (List ℕ × List Message) → List (List Area) → ℕ → State
+state_of cells table tag_size =
+    record { memories = map (λ c. c.0) cells; queues = map (λ c. c.1) cells; table = table; tag_size = tag_size }
+
+-- arguments and a state within the limits
+pub record CanOpen (args : List (List ℕ)) (s : State) : Type 0 where
+  pub few : length s.memories ≤ 64
+  pub same_args : length args ≡ length s.memories
+  pub short_args : All (λ a. length a ≤ 64) args
+  pub short_memories : All (λ m. length m ≤ 4096) s.memories
+  pub queues : All IsQueue s.queues
+  pub table : IsTableFor (length s.memories) s.table
+  pub small_tag : s.tag_size ≤ 16
+
+-- the view of these parts
+abbrev pub view_with : ℕ → ℕ → ℕ → List ℕ → (List ℕ × List Message) → List (List Area) → ℕ → ViewParts
+view_with nprocs pid step args cell table tag_size =
+    record { nprocs = nprocs; pid = pid; step = step; args = args; memory = cell.0; table = table; tag_size = tag_size; queue = cell.1 }

@@ -1,0 +1,76 @@
+//! How a superstep ends.
+
+ghost use Rattle.std.specs.Prelude.{◌≡◌, ◌≤◌, length, All, IfOk};
+ghost use Rattle.std.specs.List.{list_any};
+ghost use Rattle.std.specs.Prelude.{is_some};
+ghost use Rattle.bsp_table.specs.NextTable.{AreSlots};
+ghost use Rattle.bsp_deliver.specs.SyncFault.{is_sync};
+ghost use Rattle.bsp_run.specs.Ending.{end_of, faults_from};
+
+use crate::{ProcessFault, Status};
+use bsp_deliver::sync_fault;
+use bsp_model::{OutOfMemory, Seq};
+use bsp_step::{Ended, Outcome};
+use bsp_table::Table;
+use std::alloc::Global;
+
+fn has_fault(outcomes: &[Outcome]) -> bool
+    ensures { result ≡ list_any (λ o. is_some o.fault) outcomes.now }
+{
+    for outcome in outcomes {
+        if outcome.fault.is_some() {
+            return true;
+        }
+    }
+    false
+}
+
+/// The faults of all processes, by process.
+fn faults(alloc: Global, outcomes: &[Outcome]) -> Result<Seq<ProcessFault>, OutOfMemory>
+    ensures { IfOk result (λ faults. faults ≡ faults_from 0 outcomes.now) }
+{
+    let mut faults = Seq::new(alloc);
+    for pid in 0..outcomes.len() {
+        let outcome = &outcomes[pid];
+        if let Some(fault) = outcome.fault {
+            faults.push(ProcessFault {
+                pid: pid as u64,
+                fault,
+            })?;
+        }
+    }
+    Ok(faults)
+}
+
+fn has_sync(outcomes: &[Outcome]) -> bool
+    ensures { result ≡ list_any (λ o. is_sync o.ended) outcomes.now }
+{
+    outcomes
+        .iter()
+        .any(|outcome| matches!(outcome.ended, Ended::Sync))
+}
+
+/// How the run ends with a superstep of these outcomes, or none where the superstep ends by delivery.
+#[tactic(auto, unfolding(crate::specs::Ending::end_of))]
+pub fn end_of(
+    alloc: Global,
+    step: u64,
+    table: &Table,
+    outcomes: &[Outcome],
+) -> Result<Option<Status>, OutOfMemory>
+    requires some { 1 ≤ length outcomes.now }
+    requires slots { All (λ o. AreSlots table.now o.pops) outcomes.now }
+    ensures { IfOk result (λ end. end ≡ end_of step table.now outcomes.now) }
+{
+    if has_fault(outcomes) {
+        let faults = faults(alloc, outcomes)?;
+        return Ok(Some(Status::Faulted { step, faults }));
+    }
+    if let Some(fault) = sync_fault(outcomes, table) {
+        return Ok(Some(Status::SyncFaulted { step, fault }));
+    }
+    if has_sync(outcomes) {
+        return Ok(None);
+    }
+    Ok(Some(Status::Halted))
+}

@@ -1,0 +1,193 @@
+//! A run that has ended.
+
+ghost use Rattle.std.specs.Prelude.{◌≡◌, IfOk, map, slice_get, option_map, true};
+ghost use Rattle.bsp_run.specs.Condition.{is_ended};
+ghost use Rattle.bsp_run.specs.Result.{status_of, steps_of, memories_of, lines_of, costs_of, total_of, result_of, all_turns, all_views};
+
+use crate::costs::{all_costs, total_of};
+use crate::keeping::{is_limit, last_turn};
+use crate::lines::all_lines;
+use crate::{Lines, Phase, RunResult, Status, Tape};
+use bsp_model::{CostRow, Memory, OutOfMemory, Seq, TryCopy};
+use bsp_step::{Outcome, View};
+use std::alloc::Global;
+use std::marker::Model;
+
+/// A run that has ended, with the record of every view and outcome.
+#[derive(Drop)]
+pub struct History {
+    run: Tape,
+    lines: Seq<Lines>,
+    costs: Seq<CostRow>,
+    total: u64,
+}
+
+impl Model for History {
+    ghost use Rattle.bsp_run.specs.Run.{Run};
+
+    ghost Value = { Run };
+
+    ghost use Rattle.bsp_run.specs.HistoryInside.{run_of, IsLawful};
+
+    ghost view = { run_of };
+
+    ghost invariant = { IsLawful };
+}
+
+impl Tape {
+    /// The history of a run that has ended, or `OutOfMemory`.
+    pub fn finish(self) -> Result<History, OutOfMemory>
+        requires { is_ended self.phase ≡ true }
+        ensures { IfOk result (λ history. history ≡ self) }
+    {
+        let alloc = *self.past.allocator();
+        let past = self.past.as_slice();
+        let last = last_turn(&self.phase, self.outcomes.as_slice());
+        let lines = all_lines(alloc, past, last, self.views.len())?;
+        let costs = all_costs(alloc, self.g, self.l, past, last)?;
+        let total = total_of(costs.as_slice());
+        Ok(History {
+            run: self,
+            lines,
+            costs,
+            total,
+        })
+    }
+}
+
+impl History {
+    /// How the run ended. It takes no memory, as all readers of a history but `result`.
+    pub fn status(&self) -> &Status
+        ensures { result.now ≡ status_of self.now }
+    {
+        let run = &self.run;
+        match &run.phase {
+            Phase::Ended(status) => status,
+            _ => unreachable!(),
+        }
+    }
+
+    /// The memory of a process: after the last computing, or at `Limit` after the last delivery.
+    pub fn memory(&self, pid: u64) -> Option<&Memory>
+        ensures { option_map (λ m. m.now) result ≡ slice_get (memories_of self.now) pid }
+    {
+        let run = &self.run;
+        if is_limit(&run.phase) {
+            let view = run.views.as_slice().get(pid as usize)?;
+            Some(&view.memory)
+        } else {
+            let outcome = run.outcomes.as_slice().get(pid as usize)?;
+            Some(&outcome.memory)
+        }
+    }
+
+    /// The lines of a process, one superstep after the other.
+    pub fn lines(&self, pid: u64) -> Option<&Lines>
+        ensures { option_map (λ x. x.now) result ≡ slice_get (lines_of self.now) pid }
+    {
+        self.lines.as_slice().get(pid as usize)
+    }
+
+    /// The cost of each superstep.
+    pub fn costs(&self) -> &[CostRow]
+        ensures { result.now ≡ costs_of self.now }
+    {
+        self.costs.as_slice()
+    }
+
+    /// The sum of the costs.
+    pub fn total(&self) -> u64
+        ensures { result ≡ total_of (costs_of self.now) }
+    {
+        self.total
+    }
+
+    /// The number of supersteps.
+    pub fn steps(&self) -> usize
+        ensures { result ≡ steps_of self.now }
+    {
+        let run = &self.run;
+        if is_limit(&run.phase) {
+            run.past.len()
+        } else {
+            run.past.len() + 1
+        }
+    }
+}
+
+/// The memories of these views.
+fn memories_of_views(alloc: Global, views: &[View]) -> Result<Seq<Memory>, OutOfMemory>
+    ensures { IfOk result (λ all. all ≡ map (λ v. v.memory) views.now) }
+{
+    let mut all = Seq::new(alloc);
+    for view in views {
+        all.push(view.memory.copy()?)?;
+    }
+    Ok(all)
+}
+
+/// The memories of these outcomes.
+fn memories_of_outcomes(alloc: Global, outcomes: &[Outcome]) -> Result<Seq<Memory>, OutOfMemory>
+    ensures { IfOk result (λ all. all ≡ map (λ o. o.memory) outcomes.now) }
+{
+    let mut all = Seq::new(alloc);
+    for outcome in outcomes {
+        all.push(outcome.memory.copy()?)?;
+    }
+    Ok(all)
+}
+
+impl History {
+    /// The views of a superstep, by process; at `Limit` also of the superstep after the last.
+    pub fn views(&self, step: u64) -> Option<&[View]>
+        ensures { option_map (λ v. v.now) result ≡ slice_get (all_views self.now) step }
+    {
+        let run = &self.run;
+        match run.past.as_slice().get(step as usize) {
+            Some(superstep) => Some(superstep.views.as_slice()),
+            None if step as usize == run.past.len() => Some(run.views.as_slice()),
+            None => None,
+        }
+    }
+
+    /// The outcomes of a superstep, by process.
+    pub fn outcomes(&self, step: u64) -> Option<&[Outcome]>
+        ensures { option_map (λ o. o.now) result ≡ slice_get (all_turns self.now) step }
+    {
+        let run = &self.run;
+        match run.past.as_slice().get(step as usize) {
+            Some(superstep) => Some(superstep.outcomes.as_slice()),
+            None if step as usize == run.past.len() => {
+                last_turn(&run.phase, run.outcomes.as_slice())
+            }
+            None => None,
+        }
+    }
+
+    /// The memories of all processes.
+    fn memories(&self) -> Result<Seq<Memory>, OutOfMemory>
+        ensures { IfOk result (λ all. all ≡ memories_of self.now) }
+    {
+        let run = &self.run;
+        let alloc = *run.past.allocator();
+        if is_limit(&run.phase) {
+            memories_of_views(alloc, run.views.as_slice())
+        } else {
+            memories_of_outcomes(alloc, run.outcomes.as_slice())
+        }
+    }
+
+    /// What the run gives to its user, or `OutOfMemory`.
+    #[tactic(auto, unfolding(crate::specs::Result::result_of))]
+    pub fn result(&self) -> Result<RunResult, OutOfMemory>
+        ensures { IfOk result (λ r. r ≡ result_of self.now) }
+    {
+        Ok(RunResult {
+            status: self.status().copy()?,
+            memories: self.memories()?,
+            lines: self.lines.copy()?,
+            costs: self.costs.copy()?,
+            total: self.total,
+        })
+    }
+}

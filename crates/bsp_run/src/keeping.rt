@@ -1,0 +1,96 @@
+//! What a tape keeps of a superstep, and what comes after it.
+
+ghost use Rattle.std.specs.Prelude.{◌≡◌, ◌≤◌, ◌==◌, ◌++◌, ◌∷◌, [], length, map, All, IfOk, OnOk, OnErr, None, Some, option_map, if◌then◌else◌};
+ghost use Rattle.bsp_table.specs.NextTable.{AreFull, AreSlots, AreSlotsInside, AreSlotsWithin, ArePushesInside, AreWithin, next_table, table_fault};
+ghost use Rattle.bsp_run.specs.State.{pops_of, pushes_of};
+ghost use Rattle.bsp_run.specs.Run.{phase_after, is_limit};
+ghost use Rattle.bsp_run.specs.Condition.{IsNextTable, CanSync};
+
+use crate::{Phase, Status, Superstep};
+use bsp_model::{OutOfMemory, Seq};
+use bsp_step::{Outcome, View};
+use bsp_table::{Table, TableFault};
+use std::alloc::{AllocError, Global};
+use std::mem;
+
+/// What comes after the turns.
+pub fn phase_after(end: Option<Status>) -> Phase
+    ensures { result ≡ phase_after end }
+{
+    match end {
+        None => Phase::Turned,
+        Some(status) => Phase::Ended(status),
+    }
+}
+
+/// What comes after the delivery of so many supersteps.
+pub fn phase_at(steps: u64, limit: u64) -> Phase
+    ensures { result ≡ (if steps == limit then Phase.Ended Status.Limit else Phase.Open) }
+{
+    if steps == limit {
+        Phase::Ended(Status::Limit)
+    } else {
+        Phase::Open
+    }
+}
+
+/// The table after a superstep whose end has no fault.
+pub fn next_table(table: &Table, outcomes: &[Outcome]) -> Result<Table, OutOfMemory>
+    requires { CanSync table.now outcomes.now }
+    ensures next { IfOk result (λ t. t ≡ next_table table.now (pops_of outcomes.now) (pushes_of outcomes.now)) }
+    ensures limits { IfOk result (λ t. IsNextTable (length outcomes.now) (map (λ o. length o.memory) outcomes.now) t) }
+{
+    match table.synced(outcomes) {
+        Ok(next) => Ok(next),
+        Err(TableFault::OutOfMemory) => Err(AllocError),
+        Err(TableFault::Sync(_)) => unreachable!(),
+    }
+}
+
+/// Keeps the superstep that has ended, and puts the next views in its place. After `OutOfMemory` nothing has changed.
+pub fn keep_superstep(
+    alloc: Global,
+    past: &mut Vec<Superstep>,
+    views: &mut Seq<View>,
+    outcomes: &mut Seq<Outcome>,
+    next: Seq<View>,
+) -> Result<(), OutOfMemory>
+    ensures past { OnOk result (past.new.items ≡ past.old.items ++ record { views = views.old; outcomes = outcomes.old } ∷ []) }
+    ensures views { OnOk result (views.new ≡ next) }
+    ensures outcomes { OnOk result (outcomes.new ≡ []) }
+    ensures err_past { OnErr result (past.new.items ≡ past.old.items) }
+    ensures err_views { OnErr result (views.new ≡ views.old) }
+    ensures err_outcomes { OnErr result (outcomes.new ≡ outcomes.old) }
+{
+    let superstep = Superstep {
+        views: mem::replace(views, next),
+        outcomes: mem::replace(outcomes, Seq::new(alloc)),
+    };
+    match past.push(superstep) {
+        Ok(()) => Ok(()),
+        Err(failed) => {
+            let superstep = failed.value;
+            *views = superstep.views;
+            *outcomes = superstep.outcomes;
+            Err(AllocError)
+        }
+    }
+}
+
+/// Whether the run has ended at the limit.
+pub fn is_limit(phase: &Phase) -> bool
+    ensures { result ≡ is_limit phase.now }
+{
+    matches!(phase, Phase::Ended(Status::Limit))
+}
+
+/// The outcomes of the superstep that ended the run; at the limit there is none such.
+pub fn last_turn<'a>(phase: &Phase, outcomes: &'a [Outcome]) -> Option<&'a [Outcome]>
+    ensures { option_map (λ o. o.now) result ≡ (if is_limit phase.now then None else Some outcomes.now) }
+{
+    if is_limit(phase) {
+        None
+    } else {
+        Some(outcomes)
+    }
+}

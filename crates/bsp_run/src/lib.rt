@@ -1,0 +1,21 @@
+//! Whole runs of BSP programs.
+#![tactic(auto)]
+
+mod costs;
+mod ending;
+mod history;
+mod keeping;
+mod lines;
+mod opening;
+mod phase;
+mod plain;
+mod result;
+mod superstep;
+mod tape;
+
+pub use history::History;
+pub use phase::Phase;
+pub use plain::run_plain;
+pub use result::{Lines, ProcessFault, RunError, RunResult, Status};
+pub use superstep::Superstep;
+pub use tape::Tape;

@@ -1,0 +1,72 @@
+//! Opening a superstep.
+
+ghost use Rattle.std.specs.Prelude.{◌≡◌, map, IfOk};
+ghost use Rattle.bsp_step.specs.ViewParts.{IsView};
+ghost use Rattle.bsp_run.specs.State.{views_of, no_messages};
+ghost use Rattle.bsp_run.specs.Opening.{CanOpen, state_of, view_with};
+
+use bsp_model::{Memory, OutOfMemory, Seq, TryCopy, Words};
+use bsp_step::{Queue, View};
+use bsp_table::Table;
+use std::alloc::Global;
+
+/// The memory and the queue of each process in the first superstep.
+pub fn first_cells(alloc: Global, mems: &[Memory]) -> Result<Vec<(Memory, Queue)>, OutOfMemory>
+    ensures { IfOk result (λ cells. cells.items ≡ map (λ m. (m, no_messages m)) mems.now) }
+{
+    let mut cells = Vec::new(alloc);
+    for memory in mems {
+        cells.push((memory.copy()?, Seq::new(alloc)))?;
+    }
+    Ok(cells)
+}
+
+/// One view, of parts within the limits.
+fn view_at(
+    nprocs: usize,
+    pid: usize,
+    step: u64,
+    args: &Words,
+    cell: (Memory, Queue),
+    table: &Table,
+    tag_size: u64,
+) -> Result<View, OutOfMemory>
+    requires { IsView (view_with nprocs pid step args.now cell table.now tag_size) }
+    ensures { IfOk result (λ view. view ≡ view_with nprocs pid step args.now cell table.now tag_size) }
+{
+    let args = args.copy()?;
+    let table = table.copy()?;
+    let (memory, queue) = cell;
+    Ok(View {
+        nprocs: nprocs as u64,
+        pid: pid as u64,
+        step,
+        args,
+        memory,
+        table,
+        tag_size,
+        queue,
+    })
+}
+
+/// What the processes may see in a superstep.
+pub fn open_views(
+    alloc: Global,
+    args: &[Words],
+    step: u64,
+    mut cells: Vec<(Memory, Queue)>,
+    table: &Table,
+    tag_size: u64,
+) -> Result<Seq<View>, OutOfMemory>
+    requires { CanOpen args.now (state_of cells.items table.now tag_size) }
+    ensures { IfOk result (λ views. views ≡ views_of args.now step (state_of cells.items table.now tag_size)) }
+{
+    let mut views = Seq::new(alloc);
+    let nprocs = cells.len();
+    for pid in 0..nprocs {
+        let cell = cells.remove(0);
+        let view = view_at(nprocs, pid, step, &args[pid], cell, table, tag_size)?;
+        views.push(view)?;
+    }
+    Ok(views)
+}

@@ -1,0 +1,93 @@
+//! What a run gives.
+
+ghost use Rattle.std.specs.Prelude.{◌≡◌};
+ghost use Rattle.bsp_run.specs.declared.result.RunError.TheVariants.{OutOfMemory};
+
+use bsp_model::{CostRow, Fault, InputFault, Memory, OutOfMemory, Seq, SyncFault, TryCopy, Words};
+use std::alloc::AllocError;
+
+/// The lines that a process printed, in order.
+pub type Lines = Seq<Words>;
+
+/// A fault of a process.
+#[derive(Clone, Copy, Debug, PartialEq, Eq)]
+pub struct ProcessFault {
+    /// The number of the process.
+    pub pid: u64,
+    /// Its fault.
+    pub fault: Fault,
+}
+
+/// How a run ended.
+#[derive(Debug, Drop)]
+pub enum Status {
+    /// All processes halted.
+    Halted,
+    /// The superstep limit was reached, after delivery.
+    Limit,
+    /// Some processes had a fault in this superstep: all faults of the superstep, by process.
+    Faulted {
+        step: u64,
+        faults: Seq<ProcessFault>,
+    },
+    /// The end of this superstep had a fault.
+    SyncFaulted {
+        step: u64,
+        fault: SyncFault,
+    },
+}
+
+/// What a run gives to its user.
+#[derive(Drop)]
+pub struct RunResult {
+    /// How it ended.
+    pub status: Status,
+    /// The memory of each process: after the last computing, or after the last delivery at `Limit`.
+    pub memories: Seq<Memory>,
+    /// The lines of each process, one superstep after the other.
+    pub lines: Seq<Lines>,
+    /// The cost of each superstep.
+    pub costs: Seq<CostRow>,
+    /// The sum of the costs.
+    pub total: u64,
+}
+
+/// Why a run gave nothing.
+#[derive(Clone, Copy, Debug, PartialEq, Eq)]
+pub enum RunError {
+    /// The input is refused.
+    Input(InputFault),
+    /// Memory was refused.
+    OutOfMemory,
+}
+
+impl From<AllocError> for RunError {
+    ghost from_gives = { λ _ e. e ≡ OutOfMemory };
+
+    fn from(_error: AllocError) -> RunError {
+        RunError::OutOfMemory
+    }
+}
+
+impl TryCopy for ProcessFault {
+    fn copy(&self) -> Result<ProcessFault, OutOfMemory> {
+        Ok(*self)
+    }
+}
+
+impl TryCopy for Status {
+    fn copy(&self) -> Result<Status, OutOfMemory> {
+        match self {
+            Status::Halted => Ok(Status::Halted),
+            Status::Limit => Ok(Status::Limit),
+            Status::Faulted { step, faults } => Ok(Status::Faulted {
+                step: *step,
+                faults: faults.copy()?,
+            }),
+            Status::SyncFaulted { step, fault } => Ok(Status::SyncFaulted {
+                step: *step,
+                fault: *fault,
+            }),
+        }
+    }
+}

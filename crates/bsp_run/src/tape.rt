@@ -1,0 +1,167 @@
+//! A run while it is recorded.
+
+ghost use Rattle.std.specs.Prelude.{◌≡◌, ◌++◌, ◌∷◌, [], IfOk, IfErr, OnOk, OnErr, None, Some, length};
+ghost use Rattle.bsp_model.specs.Input.{input_fault};
+ghost use Rattle.bsp_deliver.specs.Condition.{AreDeliverable};
+ghost use Rattle.bsp_run.specs.Run.{start, after_turns, after_delivery, open_views};
+ghost use Rattle.bsp_run.specs.Shown.{views_shown, outcomes_shown};
+ghost use Rattle.bsp_run.specs.Condition.{AreOutcomesOf, deliveries_of, is_turned, is_open};
+ghost use Rattle.bsp_run.specs.RunErrors.{input_fault_of};
+
+use crate::ending::end_of;
+use crate::keeping::{keep_superstep, next_table, phase_after, phase_at};
+use crate::opening::{first_cells, open_views};
+use crate::{Phase, RunError, Status, Superstep};
+use bsp_deliver::next_tag_size;
+use bsp_model::{Input, Memory, OutOfMemory, Seq, TryCopy, Words};
+use bsp_step::{Outcome, Queue, View};
+use bsp_table::Table;
+use std::alloc::Global;
+use std::marker::Model;
+
+/// A run while it is recorded: the turns and the deliveries are handed in, superstep by superstep.
+#[derive(Drop)]
+pub struct Tape {
+    pub(crate) args: Seq<Words>,
+    pub(crate) limit: u64,
+    pub(crate) g: u64,
+    pub(crate) l: u64,
+    pub(crate) past: Vec<Superstep>,
+    pub(crate) views: Seq<View>,
+    pub(crate) outcomes: Seq<Outcome>,
+    pub(crate) table: Table,
+    pub(crate) tag_size: u64,
+    pub(crate) phase: Phase,
+}
+
+impl Model for Tape {
+    ghost use Rattle.bsp_run.specs.Run.{Run};
+
+    ghost Value = { Run };
+
+    ghost use Rattle.bsp_run.specs.TapeInside.{run_of, IsLawful};
+
+    ghost view = { run_of };
+
+    ghost invariant = { IsLawful };
+}
+
+fn checked(input: &Input) -> Result<(), RunError>
+    ensures ok { OnOk result (input_fault input.now ≡ None) }
+    ensures err { IfErr result (λ e. input_fault input.now ≡ input_fault_of e) }
+{
+    match input.check() {
+        Ok(()) => Ok(()),
+        Err(fault) => Err(RunError::Input(fault)),
+    }
+}
+
+impl Tape {
+    /// A run of the input whose superstep 0 is open, without outcomes. `Input(f)` exactly where the input's check answers f, or `OutOfMemory`.
+    pub fn open(alloc: Global, input: &Input) -> Result<Tape, RunError>
+        ensures ok { IfOk result (λ tape. (input_fault input.now ≡ None) × (tape ≡ start input.now)) }
+        ensures input { IfErr result (λ e. input_fault input.now ≡ input_fault_of e) }
+    {
+        checked(input)?;
+        let args = input.args.copy()?;
+        let cells = first_cells(alloc, input.mems.as_slice())?;
+        let table = Table::new(alloc, cells.len())?;
+        let views = open_views(alloc, args.as_slice(), 0, cells, &table, 0)?;
+        Ok(Tape {
+            args,
+            limit: input.limit,
+            g: input.g,
+            l: input.l,
+            past: Vec::new(alloc),
+            views,
+            outcomes: Seq::new(alloc),
+            table,
+            tag_size: 0,
+            phase: Phase::Open,
+        })
+    }
+
+    /// The views of the open superstep, by process; once the run has ended, those of its last superstep. It takes no memory.
+    pub fn views(&self) -> &[View]
+        ensures { result.now ≡ views_shown self.now }
+    {
+        match &self.phase {
+            Phase::Ended(Status::Limit) => match self.past.last() {
+                Some(superstep) => superstep.views.as_slice(),
+                None => &[],
+            },
+            _ => self.views.as_slice(),
+        }
+    }
+
+    /// The outcomes of the open superstep, by process, once they are there; once the run has ended, those of its last superstep.
+    /// It takes no memory.
+    pub fn outcomes(&self) -> &[Outcome]
+        ensures outcomes { result.now ≡ outcomes_shown self.now }
+        ensures deliverable { self.now.phase ≡ Phase.Turned → AreDeliverable result.now }
+    {
+        match &self.phase {
+            Phase::Ended(Status::Limit) => match self.past.last() {
+                Some(superstep) => superstep.outcomes.as_slice(),
+                None => &[],
+            },
+            _ => self.outcomes.as_slice(),
+        }
+    }
+
+    /// Takes the outcomes of the open superstep, one for each view. True where the superstep ends by delivery; else the run has ended.
+    /// After `OutOfMemory` nothing has changed.
+    pub fn turned(&mut self, outcomes: Vec<Outcome>) -> Result<bool, OutOfMemory>
+        requires open { self.old.phase ≡ Phase.Open }
+        requires turns { AreOutcomesOf (open_views self.old) outcomes.items }
+        ensures ok { OnOk result (self.new ≡ after_turns self.old outcomes.items) }
+        ensures answer { IfOk result (λ goes_on. goes_on ≡ is_turned self.new.phase) }
+        ensures err { OnErr result (self.new ≡ self.old) }
+    {
+        let alloc = *self.past.allocator();
+        let end = end_of(
+            alloc,
+            self.past.len() as u64,
+            &self.table,
+            outcomes.as_slice(),
+        )?;
+        let goes_on = end.is_none();
+        self.outcomes = Seq::from_vec(outcomes);
+        self.phase = phase_after(end);
+        Ok(goes_on)
+    }
+
+    /// Takes the next memory and queue of each process. True where the next superstep opens; else the limit has ended the run.
+    /// After `OutOfMemory` nothing has changed.
+    pub fn delivered(&mut self, cells: Vec<(Memory, Queue)>) -> Result<bool, OutOfMemory>
+        requires turned { self.old.phase ≡ Phase.Turned }
+        requires cells { cells.items ≡ deliveries_of self.old.outcomes }
+        ensures ok { OnOk result (self.new ≡ after_delivery self.old) }
+        ensures answer { IfOk result (λ goes_on. goes_on ≡ is_open self.new.phase) }
+        ensures err { OnErr result (self.new ≡ self.old) }
+    {
+        let alloc = *self.past.allocator();
+        let step = self.past.len() as u64 + 1;
+        let table = next_table(&self.table, self.outcomes.as_slice())?;
+        let tag_size = next_tag_size(self.tag_size, self.outcomes.as_slice());
+        let views = open_views(alloc, self.args.as_slice(), step, cells, &table, tag_size)?;
+        keep_superstep(
+            alloc,
+            &mut self.past,
+            &mut self.views,
+            &mut self.outcomes,
+            views,
+        )?;
+        self.table = table;
+        self.tag_size = tag_size;
+        self.phase = phase_at(step, self.limit);
+        Ok(step != self.limit)
+    }
+
+    /// Whether a superstep is open, without outcomes.
+    pub(crate) fn is_open(&self) -> bool
+        ensures { result ≡ is_open self.now.phase }
+    {
+        matches!(self.phase, Phase::Open)
+    }
+}

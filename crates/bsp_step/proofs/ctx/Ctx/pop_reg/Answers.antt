@@ -1,0 +1,25 @@
+use Rattle.std.proofs.Common.{◌≡◌, ◌≤◌, ◌<◌, ◌+◌, Some, length, arith}
+use Rattle.std.proofs.lemmas.Grind.{common_steps}
+use Rattle.bsp_table.specs.Table.{newest_under}
+use Rattle.bsp_step.proofs.Finding.{AreSlots-push}
+use Rattle.bsp_step.proofs.ctx.Ctx.pop_reg.Goals as goal
+
+pub invariant_of-self-2 : goal.invariant_of-self-2
+invariant_of-self-2 c =
+    let old = c.self.invariant in
+    let v = c.self.inside.view.now in
+    let found : newest_under v.table v.pid c.args.start c.self.inside.pops ≡ Some c.in-Some-find_under.slot = grind arith in
+    record {
+      view = old.view;
+      memory = old.memory;
+      left = old.left;
+      few_requests = grind (arith, common_steps);
+      placed = old.placed;
+      asked = old.asked;
+      addressed = old.addressed;
+      popped = rw c.in_ok-push.ensures.ok (AreSlots-push v.table v.pid c.self.inside.pops c.args.start c.in-Some-find_under.slot old.popped found);
+      pushed = old.pushed;
+      tag = old.tag;
+      lines = old.lines;
+      little_work = old.little_work;
+    }

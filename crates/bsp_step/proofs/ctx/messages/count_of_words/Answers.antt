@@ -1,0 +1,16 @@
+use Rattle.std.proofs.Common.{◌≡◌, ◌≤◌, ◌<◌, ◌+◌, ◌*◌, ◌∙◌, ℕ, ap, List, length, take, sum_by, arith, All, get_or, sym, subst}
+use Rattle.std.proofs.lemmas.List.Sums.{sum_by-le, sum_by-take-le}
+use Rattle.bsp_model.specs.declared.request.Message.{Message}
+use Rattle.bsp_step.proofs.ctx.messages.count_of_words.Goals as goal
+
+pub overflow_add-words : goal.overflow_add-words
+overflow_add-words c =
+    let ms = c.args.messages.now in
+    let i = c.loop-message.message-index in
+    let m = c.message-item.result in
+    let size : Message → ℕ = λ m. length m.words in
+    let so_far : sum_by size (take i ms) ≤ sum_by size ms = sum_by-take-le size ms i in
+    let all : sum_by size ms ≤ length ms * 4096 = sum_by-le size 4096 ms (λ k d l. (c.requires.short k d l).words) in
+    let here : length m.words ≤ 4096 = subst (λ (x : Message). length x.words ≤ 4096) (sym c.message-item.is) (c.requires.short i m c.loop-message-test.true).words in
+    let few : length ms ≤ 65536 = c.requires.few in
+    omega (arith, c.loop-message.invariant, c.len-words.ensures)

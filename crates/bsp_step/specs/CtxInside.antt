@@ -1,0 +1,45 @@
+-- The state of a turn, from the fields of its context.
+use Rattle.std.specs.Prelude.{◌≡◌, ◌≤◌, length}
+use Rattle.bsp_step.specs.declared.ctx.Ctx.TheInside.{Inside}
+use Rattle.bsp_step.specs.ViewParts.{IsView, IsQueue}
+use Rattle.bsp_step.specs.Context.{Context}
+use Rattle.bsp_step.specs.Perform.{count_of_requests}
+use Rattle.bsp_step.specs.Requests.{ArePlaced, AreAsked, AreAddressed, ArePushed}
+use Rattle.bsp_step.specs.OutcomeParts.{AreLines, IsTagChoice}
+use Rattle.bsp_table.specs.NextTable.{AreSlots}
+
+abbrev pub context_of : Inside → Context
+context_of c =
+    record {
+      view = c.view.now;
+      memory = c.memory;
+      left = c.left.now;
+      stores = c.stores;
+      puts = c.puts;
+      gets = c.gets;
+      sends = c.sends;
+      pops = c.pops;
+      pushes = c.pushes;
+      tag = c.tag;
+      lines = c.lines;
+      work = c.work;
+      fault = c.fault;
+    }
+
+-- What every context keeps (this profile).
+pub record IsContext (c : Context) : Type 0 where
+  pub view : IsView c.view
+  pub memory : length c.memory ≡ length c.view.memory
+  pub left : IsQueue c.left
+  pub few_requests : count_of_requests c ≤ 1024
+  pub placed : ArePlaced c.view c.puts
+  pub asked : AreAsked c.view c.gets
+  pub addressed : AreAddressed c.view c.sends
+  pub popped : AreSlots c.view.table c.pops
+  pub pushed : ArePushed c.view c.pushes
+  pub tag : IsTagChoice c.tag
+  pub lines : AreLines c.lines
+  pub little_work : c.work ≤ 4294967295
+
+abbrev pub IsLawful : Inside → Type 0
+IsLawful c = IsContext (context_of c)

@@ -1,0 +1,14 @@
+pub mod ViewParts
+pub mod ViewInside
+pub mod Context
+pub mod CtxInside
+pub mod Act
+pub mod Perform
+pub mod Requests
+pub mod OutcomeParts
+pub mod OutcomeInside
+pub mod Turn
+pub mod Calls
+pub mod Footprint
+pub mod SameOutcome
+pub mod Queue

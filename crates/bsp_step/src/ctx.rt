@@ -1,0 +1,124 @@
+//! The context of a turn.
+
+ghost use Rattle.std.specs.Prelude.{◌≡◌, IfOk, Err, Some};
+ghost use Rattle.bsp_step.specs.Context.{fresh};
+ghost use Rattle.bsp_step.specs.Perform.{count_of_requests};
+ghost use Rattle.bsp_step.specs.OutcomeParts.{IsOutcome, IsOutcomeOf};
+ghost use Rattle.bsp_step.specs.Turn.{closed};
+
+mod local;
+mod messages;
+mod reading;
+mod registration;
+mod remote;
+
+use crate::{Ended, Outcome, Stop, View};
+use bsp_model::{
+    End, Fault, Get, Memory, Message, OutOfMemory, Put, Send, Seq, Store, TryCopy, Words,
+};
+use bsp_table::Area;
+use std::alloc::Global;
+use std::marker::Model;
+
+/// The state of a turn. After a fault every acting call answers that fault, takes no memory and does nothing; reading calls answer as before.
+#[derive(Drop)]
+pub struct Ctx<'v> {
+    view: &'v View,
+    alloc: Global,
+    memory: Memory,
+    left: &'v [Message],
+    stores: Seq<Store>,
+    puts: Seq<Put>,
+    gets: Seq<Get>,
+    sends: Seq<Send>,
+    pops: Seq<usize>,
+    pushes: Seq<Area>,
+    tag: Option<u64>,
+    lines: Seq<Words>,
+    work: u64,
+    fault: Option<Fault>,
+}
+
+impl<'v> Model for Ctx<'v> {
+    ghost use Rattle.bsp_step.specs.Context.{Context};
+
+    ghost Value = { Context };
+
+    ghost use Rattle.bsp_step.specs.CtxInside.{context_of, IsLawful};
+
+    ghost view = { context_of };
+
+    ghost invariant = { IsLawful };
+}
+
+impl<'v> Ctx<'v> {
+    /// The context in which the turn of a view begins, or `OutOfMemory`.
+    pub fn open(alloc: Global, view: &'v View) -> Result<Ctx<'v>, OutOfMemory>
+        ensures { IfOk result (λ c. c ≡ fresh view.now) }
+    {
+        let memory = view.memory.copy()?;
+        Ok(Ctx {
+            view,
+            alloc,
+            memory,
+            left: view.queue.as_slice(),
+            stores: Seq::new(alloc),
+            puts: Seq::new(alloc),
+            gets: Seq::new(alloc),
+            sends: Seq::new(alloc),
+            pops: Seq::new(alloc),
+            pushes: Seq::new(alloc),
+            tag: None,
+            lines: Seq::new(alloc),
+            work: 0,
+            fault: None,
+        })
+    }
+
+    /// Keeps the fault, and answers it.
+    fn refuse<T>(&mut self, fault: Fault) -> Result<T, Stop>
+        ensures kept { self.new ≡ record self.old { fault = Some fault } }
+        ensures answer { result ≡ Err (Stop.Fault fault) }
+    {
+        self.fault = Some(fault);
+        Err(Stop::Fault(fault))
+    }
+
+    /// How many puts, gets, sends, pops and pushes stand.
+    fn count_of_requests(&self) -> usize
+        ensures { result ≡ count_of_requests self.now }
+    {
+        self.puts.len() + self.gets.len() + self.sends.len() + self.pops.len() + self.pushes.len()
+    }
+
+    /// What the turn leaves, where its step answered `how`. It takes no memory.
+    pub fn close(self, how: End) -> Outcome
+        ensures closed { result ≡ closed self.entry how }
+        ensures limits { IsOutcome result }
+        ensures issued { IsOutcomeOf self.entry.view result }
+    {
+        let fault = match (self.fault, how) {
+            (Some(fault), _) => Some(fault),
+            (None, End::Abort(code)) => Some(Fault::Abort(code)),
+            (None, _) => None,
+        };
+        let ended = match (fault, how) {
+            (None, End::Sync) => Ended::Sync,
+            _ => Ended::Halt,
+        };
+        Outcome {
+            fault,
+            ended,
+            memory: self.memory,
+            stores: self.stores,
+            puts: self.puts,
+            gets: self.gets,
+            sends: self.sends,
+            pops: self.pops,
+            pushes: self.pushes,
+            tag: self.tag,
+            lines: self.lines,
+            work: self.work,
+        }
+    }
+}

@@ -1,0 +1,69 @@
+//! The acts on what is the process's own: stores, work and lines.
+
+ghost use Rattle.std.specs.Prelude.{◌≡◌};
+ghost use Rattle.bsp_step.specs.Act as act;
+ghost use Rattle.bsp_step.specs.Calls.{Performs, PerformsAlways};
+
+use crate::{Ctx, Stop};
+use bsp_model::{Fault, Store, Words};
+
+impl<'v> Ctx<'v> {
+    /// Makes `value` the word at `address` of the own memory.
+    ///
+    /// Faults: F5 `BadLocal` where there is no such word.
+    pub fn store(&mut self, address: u64, value: u64) -> Result<(), Stop>
+        ensures { Performs self.old (act.store address value) self.new result }
+    {
+        if let Some(fault) = self.fault {
+            return Err(Stop::Fault(fault));
+        }
+        if address >= self.memory.len() as u64 {
+            return self.refuse(Fault::BadLocal);
+        }
+        self.stores.push(Store {
+            addr: address,
+            value,
+        })?;
+        if let Err(error) = self.memory.store(address, value) {
+            let _ = self.stores.pop();
+            return Err(Stop::from(error));
+        }
+        Ok(())
+    }
+
+    /// Adds to the work of this superstep, in operations on local words. It takes no memory.
+    ///
+    /// Faults: F9 `WorkLimit` where the work would exceed 4,294,967,295.
+    pub fn charge(&mut self, amount: u64) -> Result<(), Stop>
+        ensures { PerformsAlways self.old (act.charge amount) self.new result }
+    {
+        if let Some(fault) = self.fault {
+            return Err(Stop::Fault(fault));
+        }
+        if amount > 4_294_967_295 - self.work {
+            return self.refuse(Fault::WorkLimit);
+        }
+        self.work += amount;
+        Ok(())
+    }
+
+    /// Prints a line of words.
+    ///
+    /// Faults, in order: F10 `LineLimit` where 64 lines stand; F11 `TooLong` for more than 64 words.
+    pub fn print(&mut self, words: &[u64]) -> Result<(), Stop>
+        ensures { Performs self.old (act.print words.now) self.new result }
+    {
+        if let Some(fault) = self.fault {
+            return Err(Stop::Fault(fault));
+        }
+        if self.lines.len() >= 64 {
+            return self.refuse(Fault::LineLimit);
+        }
+        if words.len() > 64 {
+            return self.refuse(Fault::TooLong);
+        }
+        let line = Words::from_slice(self.alloc, words)?;
+        self.lines.push(line)?;
+        Ok(())
+    }
+}

@@ -1,0 +1,115 @@
+//! The acts and readings of messages.
+
+ghost use Rattle.std.specs.Prelude.{◌≡◌, ◌≤◌, ◌++◌, ◌*◌, All, IfOk, OnErr, length, min, take, drop, sum_by, option_map};
+ghost use Rattle.bsp_step.specs.Act as act;
+ghost use Rattle.bsp_step.specs.ViewParts.{IsShortMessage};
+ghost use Rattle.bsp_step.specs.Queue.{first_words, first_message, heading};
+ghost use Rattle.bsp_step.specs.Calls.{Performs, PerformsAlways};
+
+use crate::{Ctx, Stop};
+use bsp_model::{Fault, Message, Send, Words};
+
+/// The words of all payloads together.
+fn count_of_words(messages: &[Message]) -> usize
+    requires few { length messages.now ≤ 65536 }
+    requires short { All IsShortMessage messages.now }
+    ensures { result ≡ sum_by (λ m. length m.words) messages.now }
+{
+    let mut words = 0;
+    for message in messages {
+        words += message.words.len();
+    }
+    words
+}
+
+impl<'v> Ctx<'v> {
+    /// How many messages are left, and how many words their payloads have together (`bsp_qsize`).
+    pub fn qsize(&self) -> (usize, usize)
+        ensures messages { result.0 ≡ length self.now.left }
+        ensures words { result.1 ≡ sum_by (λ m. length m.words) self.now.left }
+    {
+        let left = self.left;
+        (left.len(), count_of_words(left))
+    }
+
+    /// The length of the first message's payload, and its tag, if a message is left (`bsp_get_tag`).
+    pub fn get_tag(&self) -> Option<(usize, &[u64])>
+        ensures { option_map (λ t. (t.0, t.1.now)) result ≡ heading (first_message self.now.left) }
+    {
+        let message = self.left.first()?;
+        Some((message.words.len(), message.tag.as_slice()))
+    }
+
+    /// Sends a message with a tag of the size in force to process `pid` (`bsp_send`). It is in the queue there in the next superstep alone.
+    ///
+    /// Faults, in order: F8 `TooManyRequests` where 1,024 stand; F2 `BadPid`; F6 `TagLength` where the tag is not of the size in force;
+    /// F11 `TooLong` for more than 4,096 words.
+    pub fn send(&mut self, pid: u64, tag: &[u64], words: &[u64]) -> Result<(), Stop>
+        ensures { Performs self.old (act.send pid tag.now words.now) self.new result }
+    {
+        if let Some(fault) = self.fault {
+            return Err(Stop::Fault(fault));
+        }
+        if self.count_of_requests() >= 1024 {
+            return self.refuse(Fault::TooManyRequests);
+        }
+        if pid >= self.nprocs() {
+            return self.refuse(Fault::BadPid(pid));
+        }
+        if tag.len() as u64 != self.tag_size() {
+            return self.refuse(Fault::TagLength);
+        }
+        if words.len() > 4096 {
+            return self.refuse(Fault::TooLong);
+        }
+        let tag = Words::from_slice(self.alloc, tag)?;
+        let words = Words::from_slice(self.alloc, words)?;
+        self.sends.push(Send {
+            target: pid,
+            tag,
+            words,
+        })?;
+        Ok(())
+    }
+
+    /// Takes the first message that is left, and copies the first words of its payload to `buffer`, as many as fit; the rest of `buffer` is
+    /// kept. Answers the number copied (`bsp_move`). It takes no memory.
+    ///
+    /// Faults: F7 `EmptyQueue` where no message is left; `buffer` is then unchanged.
+    pub fn move_into(&mut self, buffer: &mut [u64]) -> Result<usize, Stop>
+        ensures acted { PerformsAlways self.old (act.move_into (length buffer.old)) self.new result }
+        ensures copied { IfOk result (λ n. n ≡ min (length (first_words self.old.left)) (length buffer.old)) }
+        ensures words { IfOk result (λ n. buffer.new ≡ take n (first_words self.old.left) ++ drop n buffer.old) }
+        ensures err { OnErr result (buffer.new ≡ buffer.old) }
+    {
+        if let Some(fault) = self.fault {
+            return Err(Stop::Fault(fault));
+        }
+        let Some((message, later)) = self.left.split_first() else {
+            return self.refuse(Fault::EmptyQueue);
+        };
+        let words = message.words.as_slice();
+        let count = words.len().min(buffer.len());
+        buffer[..count].copy_from_slice(&words[..count]);
+        self.left = later;
+        Ok(count)
+    }
+
+    /// Chooses the tag size of the next superstep, in words; the last call counts. Answers the size in force in this superstep
+    /// (`bsp_set_tagsize`). It takes no memory.
+    ///
+    /// Faults: F12 `BadTagSize` for more than 16.
+    pub fn set_tagsize(&mut self, size: u64) -> Result<u64, Stop>
+        ensures acted { PerformsAlways self.old (act.set_tagsize size) self.new result }
+        ensures answer { IfOk result (λ n. n ≡ self.old.view.tag_size) }
+    {
+        if let Some(fault) = self.fault {
+            return Err(Stop::Fault(fault));
+        }
+        if size > 16 {
+            return self.refuse(Fault::BadTagSize);
+        }
+        self.tag = Some(size);
+        Ok(self.tag_size())
+    }
+}

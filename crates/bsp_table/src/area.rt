@@ -1,0 +1,24 @@
+//! A part of a memory.
+
+use bsp_model::{OutOfMemory, Same, TryCopy};
+
+/// A part of a process's memory, in words.
+#[derive(Clone, Copy, Debug, PartialEq, Eq)]
+pub struct Area {
+    /// The address of its first word.
+    pub start: u64,
+    /// The number of its words. It may be 0.
+    pub len: u64,
+}
+
+impl TryCopy for Area {
+    fn copy(&self) -> Result<Area, OutOfMemory> {
+        Ok(*self)
+    }
+}
+
+impl Same for Area {
+    fn same(&self, other: &Area) -> bool {
+        *self == *other
+    }
+}

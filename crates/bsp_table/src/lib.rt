@@ -1,0 +1,12 @@
+//! The registration table: which areas of the processes' memories go by which local addresses.
+#![tactic(auto)]
+
+mod area;
+mod next;
+mod table;
+#[cfg(test)]
+mod tests;
+
+pub use area::Area;
+pub use next::{Registers, TableFault};
+pub use table::{Slot, Table};

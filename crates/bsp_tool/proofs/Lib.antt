@@ -1,0 +1,4 @@
+pub mod Answering
+pub mod Flowing
+pub mod Numbering
+pub mod Trees

@@ -1,0 +1,10 @@
+pub mod Counting
+pub mod Document
+pub mod Faults
+pub mod Flow
+pub mod JobOf
+pub mod Lines
+pub mod Refusal
+pub mod Replies
+pub mod Report
+pub mod Text

@@ -1,0 +1,144 @@
+//! Why a document has no report.
+
+ghost use Rattle.std.specs.Prelude.{◌≡◌};
+ghost use Rattle.bsp_tool.specs.declared.errors.JobError.TheVariants.{OutOfMemory as RefusedMemory};
+ghost use Rattle.bsp_tool.specs.Faults.{fault_line, exit_status};
+ghost use Rattle.bsp_tool.specs.Refusal.{job_error_of, read_error_of};
+
+use crate::reading::ReadError;
+use bsp_model::{InputFault, OutOfMemory};
+use thiserror::Error;
+
+/// Why a document is not a job: the first that holds, in this order (this profile).
+#[derive(Clone, Copy, Debug, PartialEq, Eq)]
+pub enum JobFault {
+    /// J1: the bytes are not a TOML document.
+    NotToml,
+    /// J2: a key that each document needs is absent.
+    MissingKey,
+    /// J3: a known key has a value of another type.
+    WrongType,
+    /// J4: another key stands at the top.
+    UnknownKey,
+    /// J5: no program has this name.
+    UnknownProgram,
+    /// J6: a run may not start with the input, for this reason.
+    Input(InputFault),
+    /// J7: a word or an argument is negative.
+    BadWord,
+}
+
+/// Why a document was not read as a job.
+#[derive(Clone, Copy, Debug, PartialEq, Eq, Error)]
+pub enum JobError {
+    /// It is none.
+    #[error("the document has the fault {0:?}")]
+    Fault(JobFault),
+    /// Memory was refused.
+    #[error("out of memory")]
+    OutOfMemory,
+}
+
+impl From<OutOfMemory> for JobError {
+    ghost from_gives = { λ _ e. e ≡ RefusedMemory };
+
+    fn from(_error: OutOfMemory) -> JobError {
+        JobError::OutOfMemory
+    }
+}
+
+/// Why no report was written, or not all of it.
+#[derive(Clone, Copy, Debug, PartialEq, Eq, Error)]
+pub enum EngineError {
+    /// A read failed; nothing was written.
+    #[error("a read failed")]
+    Read,
+    /// The document has more than 16,777,216 bytes; nothing was written.
+    #[error("the document is too long")]
+    TooLong,
+    /// The document is not a job; nothing was written.
+    #[error("the document has the fault {0:?}")]
+    Job(JobFault),
+    /// A write failed or took no byte; a beginning of the report was written.
+    #[error("a write failed")]
+    Write,
+    /// Memory was refused; nothing was written.
+    #[error("out of memory")]
+    OutOfMemory,
+}
+
+impl From<JobError> for EngineError {
+    ghost from_gives = { λ e r. r ≡ job_error_of e };
+
+    fn from(error: JobError) -> EngineError {
+        match error {
+            JobError::Fault(fault) => EngineError::Job(fault),
+            JobError::OutOfMemory => EngineError::OutOfMemory,
+        }
+    }
+}
+
+impl From<ReadError> for EngineError {
+    ghost from_gives = { λ e r. r ≡ read_error_of e };
+
+    fn from(error: ReadError) -> EngineError {
+        match error {
+            ReadError::Failed => EngineError::Read,
+            ReadError::TooLong => EngineError::TooLong,
+            ReadError::OutOfMemory => EngineError::OutOfMemory,
+        }
+    }
+}
+
+fn input_fault_line(fault: InputFault) -> &'static str
+    ensures { result.now ≡ fault_line (EngineError.Job (JobFault.Input fault)) }
+{
+    match fault {
+        InputFault::NoProcess => "fault J6 I1",
+        InputFault::TooMany => "fault J6 I2",
+        InputFault::LengthsDiffer => "fault J6 I3",
+        InputFault::MemoryTooLong => "fault J6 I4",
+        InputFault::ArgsTooLong => "fault J6 I5",
+        InputFault::BadLimit => "fault J6 I6",
+        InputFault::BadPrice => "fault J6 I7",
+    }
+}
+
+fn job_fault_line(fault: JobFault) -> &'static str
+    ensures { result.now ≡ fault_line (EngineError.Job fault) }
+{
+    match fault {
+        JobFault::NotToml => "fault J1",
+        JobFault::MissingKey => "fault J2",
+        JobFault::WrongType => "fault J3",
+        JobFault::UnknownKey => "fault J4",
+        JobFault::UnknownProgram => "fault J5",
+        JobFault::Input(fault) => input_fault_line(fault),
+        JobFault::BadWord => "fault J7",
+    }
+}
+
+impl EngineError {
+    /// The fault line, without its LF.
+    pub fn line(&self) -> &'static str
+        ensures { result.now ≡ fault_line self.now }
+    {
+        match *self {
+            EngineError::Read => "fault read",
+            EngineError::TooLong => "fault long",
+            EngineError::Job(fault) => job_fault_line(fault),
+            EngineError::Write => "fault write",
+            EngineError::OutOfMemory => "fault memory",
+        }
+    }
+
+    /// The exit status: 1 where the machine failed, 3 where the document is refused.
+    pub fn status(&self) -> u8
+        ensures { result ≡ exit_status self.now }
+    {
+        match self {
+            EngineError::Read | EngineError::Write | EngineError::OutOfMemory => 1,
+            EngineError::TooLong | EngineError::Job(_) => 3,
+        }
+    }
+}
