@@ -18,121 +18,144 @@ fn outcome(rt: &HostRuntime, bytes: &[u8]) -> &'static str {
     }
 }
 
+/// Documents, and what each one is: a job, or the first fault that it has.
+const DOCUMENTS: [(&[u8], &str); 38] = [
+    (b"", "fault J2"),
+    (b"\xff", "fault J1"),
+    (b"program = \"broadcas", "fault J1"),
+    (b"program = \"prefi", "fault J1"),
+    (b"limit = 9223372036854775808\n", "fault J1"),
+    (
+        b"program = \"broadcast\"\nlimit = 16\ng = 4\nl = 10\n",
+        "fault J2",
+    ),
+    (b"limit = 16\ng = 4\nl = 10\nmemory = [[0]]\n", "fault J2"),
+    (
+        b"program = \"broadcast\"\ng = 4\nl = 10\nmemory = [[0]]\n",
+        "fault J2",
+    ),
+    (
+        b"program = \"broadcast\"\nlimit = 16\nl = 10\nmemory = [[0]]\n",
+        "fault J2",
+    ),
+    (
+        b"program = \"broadcast\"\nlimit = 16\ng = 4\nmemory = [[0]]\n",
+        "fault J2",
+    ),
+    (
+        b"program = 1\nlimit = true\ng = 4\nl = 10\ncolour = 1\n",
+        "fault J2",
+    ),
+    (
+        b"program = 1\nlimit = 16\ng = 4\nl = 10\nmemory = [[0]]\n",
+        "fault J3",
+    ),
+    (
+        b"program = \"broadcast\"\nlimit = \"16\"\ng = 4\nl = 10\nmemory = [[0]]\n",
+        "fault J3",
+    ),
+    (
+        b"program = \"broadcast\"\nlimit = 16\ng = 4.0\nl = 10\nmemory = [[0]]\n",
+        "fault J3",
+    ),
+    (
+        b"program = \"broadcast\"\nlimit = 16\ng = 4\nl = [10]\nmemory = [[0]]\n",
+        "fault J3",
+    ),
+    (
+        b"program = \"broadcast\"\nlimit = 16\ng = 4\nl = 10\nmemory = [0]\n",
+        "fault J3",
+    ),
+    (
+        b"program = \"broadcast\"\nlimit = 16\ng = 4\nl = 10\nmemory = [[0], [true]]\n",
+        "fault J3",
+    ),
+    (
+        b"program = \"broadcast\"\nlimit = 16\ng = 4\nl = 10\nmemory = [[0]]\nargs = [0]\n",
+        "fault J3",
+    ),
+    (
+        b"program = \"other\"\nlimit = 0\ng = 4\nl = 10\nmemory = [[-1]]\nargs = 1\ncolour = 1\n",
+        "fault J3",
+    ),
+    (
+        b"program = \"other\"\nlimit = 0\ng = 4\nl = 10\nmemory = [[-1]]\ncolour = 1\n",
+        "fault J4",
+    ),
+    (
+        b"program = \"broadcast\"\nlimit = 16\ng = 4\nl = 10\nmemory = [[0]]\nbatches = []\n",
+        "fault J4",
+    ),
+    (
+        b"program = \"prefix\"\nlimit = 16\ng = 4\nl = 10\nmemory = [[1, 0], [2, 0], [3, 0], [4, 0]]\ncolour = 1\n",
+        "fault J4",
+    ),
+    (
+        b"program = \"other\"\nlimit = 0\ng = 4\nl = 10\nmemory = [[-1]]\n",
+        "fault J5",
+    ),
+    (
+        b"program = \"broadcast\"\nlimit = 0\ng = 4\nl = 10\nmemory = []\n",
+        "fault J6 I1",
+    ),
+    (
+        b"program = \"broadcast\"\nlimit = 0\ng = 4\nl = 10\nmemory = [[0], [0]]\nargs = [[0]]\n",
+        "fault J6 I3",
+    ),
+    (
+        b"program = \"broadcast\"\nlimit = 0\ng = 4\nl = 10\nmemory = [[-1]]\nargs = [[0]]\n",
+        "fault J6 I6",
+    ),
+    (
+        b"program = \"broadcast\"\nlimit = 1025\ng = 4\nl = 10\nmemory = [[0]]\n",
+        "fault J6 I6",
+    ),
+    (
+        b"program = \"broadcast\"\nlimit = 1025\ng = 4\nl = 10\nmemory = [[-1]]\n",
+        "fault J6 I6",
+    ),
+    (
+        b"program = \"broadcast\"\nlimit = -1\ng = 4\nl = 10\nmemory = [[-1]]\n",
+        "fault J6 I6",
+    ),
+    (
+        b"program = \"broadcast\"\nlimit = -16\ng = -4\nl = 10\nmemory = [[0]]\n",
+        "fault J6 I6",
+    ),
+    (
+        b"program = \"broadcast\"\nlimit = 16\ng = -1\nl = 10\nmemory = [[-7]]\n",
+        "fault J6 I7",
+    ),
+    (
+        b"program = \"broadcast\"\nlimit = 16\ng = 4\nl = -9223372036854775808\nmemory = [[0]]\n",
+        "fault J6 I7",
+    ),
+    (
+        b"program = \"broadcast\"\nlimit = 16\ng = 1000001\nl = 10\nmemory = [[0]]\n",
+        "fault J6 I7",
+    ),
+    (
+        b"program = \"broadcast\"\nlimit = 16\ng = 4\nl = 1000001\nmemory = [[0]]\n",
+        "fault J6 I7",
+    ),
+    (
+        b"program = \"broadcast\"\nlimit = 16\ng = 4\nl = 10\nmemory = [[0, -1]]\n",
+        "fault J7",
+    ),
+    (
+        b"program = \"broadcast\"\nlimit = 16\ng = 4\nl = 10\nmemory = [[0]]\nargs = [[-1]]\n",
+        "fault J7",
+    ),
+    (
+        b"memory = [[9223372036854775807]]\nl = 1000000\ng = 0\nlimit = 1024\nprogram = \"broadcast\"\n",
+        "job",
+    ),
+    (EXAMPLE, "job"),
+];
+
 #[test]
 fn each_fault_in_order(rt: HostRuntime) {
-    let documents: [(&[u8], &str); 32] = [
-        (b"", "fault J2"),
-        (b"\xff", "fault J1"),
-        (b"program = \"broadcas", "fault J1"),
-        (b"limit = 9223372036854775808\n", "fault J1"),
-        (
-            b"program = \"broadcast\"\nlimit = 16\ng = 4\nl = 10\n",
-            "fault J2",
-        ),
-        (b"limit = 16\ng = 4\nl = 10\nmemory = [[0]]\n", "fault J2"),
-        (
-            b"program = \"broadcast\"\ng = 4\nl = 10\nmemory = [[0]]\n",
-            "fault J2",
-        ),
-        (
-            b"program = \"broadcast\"\nlimit = 16\nl = 10\nmemory = [[0]]\n",
-            "fault J2",
-        ),
-        (
-            b"program = \"broadcast\"\nlimit = 16\ng = 4\nmemory = [[0]]\n",
-            "fault J2",
-        ),
-        (
-            b"program = 1\nlimit = true\ng = 4\nl = 10\ncolour = 1\n",
-            "fault J2",
-        ),
-        (
-            b"program = 1\nlimit = 16\ng = 4\nl = 10\nmemory = [[0]]\n",
-            "fault J3",
-        ),
-        (
-            b"program = \"broadcast\"\nlimit = \"16\"\ng = 4\nl = 10\nmemory = [[0]]\n",
-            "fault J3",
-        ),
-        (
-            b"program = \"broadcast\"\nlimit = 16\ng = 4.0\nl = 10\nmemory = [[0]]\n",
-            "fault J3",
-        ),
-        (
-            b"program = \"broadcast\"\nlimit = 16\ng = 4\nl = [10]\nmemory = [[0]]\n",
-            "fault J3",
-        ),
-        (
-            b"program = \"broadcast\"\nlimit = 16\ng = 4\nl = 10\nmemory = [0]\n",
-            "fault J3",
-        ),
-        (
-            b"program = \"broadcast\"\nlimit = 16\ng = 4\nl = 10\nmemory = [[0], [true]]\n",
-            "fault J3",
-        ),
-        (
-            b"program = \"other\"\nlimit = 0\ng = 4\nl = 10\nmemory = [[-1]]\nargs = 1\ncolour = 1\n",
-            "fault J3",
-        ),
-        (
-            b"program = \"other\"\nlimit = 0\ng = 4\nl = 10\nmemory = [[-1]]\ncolour = 1\n",
-            "fault J4",
-        ),
-        (
-            b"program = \"broadcast\"\nlimit = 16\ng = 4\nl = 10\nmemory = [[0]]\nbatches = []\n",
-            "fault J4",
-        ),
-        (
-            b"program = \"other\"\nlimit = 0\ng = 4\nl = 10\nmemory = [[-1]]\n",
-            "fault J5",
-        ),
-        (
-            b"program = \"broadcast\"\nlimit = 0\ng = 4\nl = 10\nmemory = []\n",
-            "fault J6 I1",
-        ),
-        (
-            b"program = \"broadcast\"\nlimit = 0\ng = 4\nl = 10\nmemory = [[0], [0]]\nargs = [[0]]\n",
-            "fault J6 I3",
-        ),
-        (
-            b"program = \"broadcast\"\nlimit = 0\ng = 4\nl = 10\nmemory = [[-1]]\nargs = [[0]]\n",
-            "fault J6 I6",
-        ),
-        (
-            b"program = \"broadcast\"\nlimit = 1025\ng = 4\nl = 10\nmemory = [[0]]\n",
-            "fault J6 I6",
-        ),
-        (
-            b"program = \"broadcast\"\nlimit = -16\ng = -4\nl = 10\nmemory = [[0]]\n",
-            "fault J6 I6",
-        ),
-        (
-            b"program = \"broadcast\"\nlimit = 16\ng = -1\nl = 10\nmemory = [[-7]]\n",
-            "fault J6 I7",
-        ),
-        (
-            b"program = \"broadcast\"\nlimit = 16\ng = 4\nl = -9223372036854775808\nmemory = [[0]]\n",
-            "fault J6 I7",
-        ),
-        (
-            b"program = \"broadcast\"\nlimit = 16\ng = 1000001\nl = 10\nmemory = [[0]]\n",
-            "fault J6 I7",
-        ),
-        (
-            b"program = \"broadcast\"\nlimit = 16\ng = 4\nl = 10\nmemory = [[0, -1]]\n",
-            "fault J7",
-        ),
-        (
-            b"program = \"broadcast\"\nlimit = 16\ng = 4\nl = 10\nmemory = [[0]]\nargs = [[-1]]\n",
-            "fault J7",
-        ),
-        (
-            b"memory = [[9223372036854775807]]\nl = 1000000\ng = 0\nlimit = 1024\nprogram = \"broadcast\"\n",
-            "job",
-        ),
-        (EXAMPLE, "job"),
-    ];
-    for (bytes, want) in documents {
+    for (bytes, want) in DOCUMENTS {
         assert_eq!(rt; outcome(&rt, bytes), want);
     }
 }
@@ -165,6 +188,7 @@ fn the_sizes_of_an_input(rt: HostRuntime) -> Result<(), Fail> {
     for (memories, words, arguments, want) in [
         (64, 1, 1, "job"),
         (65, 1, 1, "fault J6 I2"),
+        (65, 1, 65, "fault J6 I2"),
         (1, 4096, 64, "job"),
         (1, 4097, 65, "fault J6 I4"),
         (1, 1, 65, "fault J6 I5"),
