@@ -1,4 +1,4 @@
-pub mod Running
+pub mod Continuing
 pub mod Ranges
 pub mod Telling
 pub mod Multiplying

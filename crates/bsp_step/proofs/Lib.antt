@@ -1,3 +1,4 @@
 pub mod Performing
+pub mod Running
 pub mod Placing
 pub mod Finding

@@ -10,5 +10,6 @@ pub mod OutcomeInside
 pub mod Turn
 pub mod Calls
 pub mod Footprint
+pub mod LooksEverywhere
 pub mod SameOutcome
 pub mod Queue

@@ -1,6 +1,6 @@
 use Rattle.std.proofs.lemmas.Result.{err_from_is_err_and}
 use Rattle.std.proofs.Common.{◌∙◌}
-use Rattle.bsp_programs.proofs.Running.{HasLeft-at_act, HasLeft-same, RunStops-left}
+use Rattle.bsp_step.proofs.Running.{HasLeft-at_act, HasLeft-same, RunStops-left}
 use Rattle.bsp_programs.proofs.Telling.{puts_to_others-other, puts_to_others-own}
 use Rattle.bsp_programs.proofs.broadcast.put_to_others.Goals as goal
 use Rattle.bsp_programs.proofs.broadcast.put_to_others.Goals.{then-pid-own+in_ok-put, else-pid-own}

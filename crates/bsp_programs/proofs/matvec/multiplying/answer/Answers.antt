@@ -2,7 +2,7 @@ use Rattle.std.proofs.lemmas.Result.{err_from_is_err_and}
 use Rattle.std.proofs.Common.{◌∷◌, ◌++◌, [], sym, refl}
 use Rattle.bsp_step.specs.Act.{charge, print}
 use Rattle.bsp_programs.specs.MatVec.{stores, product_start, block_start}
-use Rattle.bsp_programs.proofs.Running.{HasLeft-all, HasLeft-at_part, HasLeft-at_act, RunStops-left, RunStops-left_part, Stops-by_fault}
+use Rattle.bsp_step.proofs.Running.{HasLeft-all, HasLeft-at_part, HasLeft-at_act, RunStops-left, RunStops-left_part, Stops-by_fault}
 use Rattle.bsp_programs.proofs.matvec.multiplying.answer.Goals as goal
 
 pub returns-in_err-store_words : goal.returns-in_err-store_words

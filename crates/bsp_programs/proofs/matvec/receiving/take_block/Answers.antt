@@ -3,7 +3,7 @@ use Rattle.std.proofs.Common.{◌∷◌, length}
 use Rattle.bsp_step.specs.Act.{move_into}
 use Rattle.bsp_step.specs.Queue.{first_words}
 use Rattle.bsp_programs.specs.MatVec.{stores}
-use Rattle.bsp_programs.proofs.Running.{HasLeft-all, RunStops-left, Stops-by_fault}
+use Rattle.bsp_step.proofs.Running.{HasLeft-all, RunStops-left, Stops-by_fault}
 use Rattle.bsp_programs.proofs.matvec.receiving.take_block.Goals as goal
 
 pub returns-in_err-move_into-clause-ran : goal.returns-in_err-move_into-clause-ran

@@ -1,5 +1,5 @@
 use Rattle.std.proofs.lemmas.Result.{err_from_is_err_and}
-use Rattle.bsp_programs.proofs.Running.{HasLeft-at_act, HasLeft-same, RunStops-left}
+use Rattle.bsp_step.proofs.Running.{HasLeft-at_act, HasLeft-same, RunStops-left}
 use Rattle.bsp_programs.proofs.Multiplying.{sends_to_all-first}
 use Rattle.bsp_programs.proofs.matvec.sending.send_to_all.Goals as goal
 

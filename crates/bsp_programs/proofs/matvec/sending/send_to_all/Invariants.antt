@@ -1,7 +1,7 @@
 use Rattle.std.proofs.Common.{◌-◌}
 use Rattle.std.specs.List.{range_with_len}
 use Rattle.bsp_programs.specs.MatVec.{sends_to_all}
-use Rattle.bsp_programs.proofs.Running.{HasLeft}
+use Rattle.bsp_step.proofs.Running.{HasLeft}
 use Rattle.bsp_programs.proofs.matvec.sending.send_to_all.Given as goal
 
 abbrev pub invariant-loop-pid : goal.invariant-loop-pid

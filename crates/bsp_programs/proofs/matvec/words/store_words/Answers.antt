@@ -1,7 +1,7 @@
 use Rattle.std.proofs.lemmas.Result.{err_from_is_err_and}
 use Rattle.std.proofs.lemmas.List.{at_drop_more}
 use Rattle.bsp_programs.specs.MatVec.{stores}
-use Rattle.bsp_programs.proofs.Running.{HasLeft-same, RunStops-left}
+use Rattle.bsp_step.proofs.Running.{HasLeft-same, RunStops-left}
 use Rattle.bsp_programs.proofs.matvec.words.store_words.Goals as goal
 
 pub returns-in_err-store-clause-ran : goal.returns-in_err-store-clause-ran

@@ -1,6 +1,6 @@
 use Rattle.std.proofs.Common.{◌≡◌, ◌+◌, drop}
 use Rattle.bsp_programs.specs.MatVec.{stores, stored}
-use Rattle.bsp_programs.proofs.Running.{HasLeft}
+use Rattle.bsp_step.proofs.Running.{HasLeft}
 use Rattle.bsp_programs.proofs.matvec.words.store_words.Given as goal
 
 abbrev pub invariant-loop-word : goal.invariant-loop-word

@@ -6,17 +6,11 @@ use Rattle.bsp_step.specs.Act.{Act}
 use Rattle.bsp_step.specs.Perform.{perform, perform_all}
 use Rattle.bsp_step.specs.declared.stop.Stop.TheVariants.{Fault, OutOfMemory}
 use Rattle.bsp_step.specs.Calls.{Stops, StopsByFault, RunStops}
-use Rattle.bsp_programs.specs.Plan.{Plan, after}
 use Rattle.bsp_step.proofs.Performing.{RunStops-at_act, RunStops-at_part, perform_all-append}
 
 -- Of the acts that the context start performs, the context now has only the rest left to do.
 pub record HasLeft (start : Context) (acts : List Act) (now : Context) (rest : List Act) : Type 0 where
   pub left : perform_all start acts ≡ perform_all now rest
-
--- Of a plan that begins at a context, the context now has only the rest left, which ends in the same way.
-pub record Continues (start : Context) (plan : Plan) (now : Context) (rest : Plan) : Type 0 where
-  pub acts : HasLeft start plan.acts now rest.acts
-  pub ending : plan.ending ≡ rest.ending
 
 pub HasLeft-all : (start : Context) (acts : List Act) → HasLeft start acts start acts
 HasLeft-all start acts = record { left = refl }
@@ -43,14 +37,3 @@ RunStops-left_part {start} {now} {acts} new part rest e h stopped = RunStops-at_
 pub Stops-by_fault : (now : Context) (a : Act) (new : Context) (e : Stop) → StopsByFault now a new e → Stops now a new e
 Stops-by_fault now a new (Fault f) stopped = stopped
 Stops-by_fault now a new OutOfMemory stopped = absurd stopped
-
-pub Continues-same : {start now : Context} {plan rest other : Plan} → Continues start plan now rest → rest ≡ other → Continues start plan now other
-Continues-same {now = now} h e =
-    record {
-      acts = HasLeft-same h.acts (ap (λ (p : Plan). p.acts) e);
-      ending = h.ending ∙ ap (λ (p : Plan). p.ending) e;
-    }
-
--- once the first part of a plan is performed, the rest is left
-pub Continues-after : {start now : Context} {plan : Plan} → (new : Context) (part : List Act) (rest : Plan) → Continues start plan now (after part rest) → new ≡ perform_all now part → Continues start plan new rest
-Continues-after new part rest h acted = record { acts = HasLeft-at_part part h.acts acted; ending = h.ending }

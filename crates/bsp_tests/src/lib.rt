@@ -1,0 +1,11 @@
+//! Programs that are given as lists of calls, and tests that cross crates.
+#![tactic(auto)]
+
+mod call;
+mod script;
+
+pub use call::Call;
+pub use script::{Script, Turn};
+
+#[cfg(test)]
+mod tests;
