@@ -2,9 +2,11 @@
 #![tactic(auto)]
 
 mod call;
+mod hello;
 mod script;
 
 pub use call::Call;
+pub use hello::Hello;
 pub use script::{Script, Turn};
 
 #[cfg(test)]

@@ -7,7 +7,7 @@ use std::alloc::Global;
 use std::test::Fail;
 
 /// The input with these memories and no arguments.
-fn input_of(alloc: Global, memories: &[&[u64]]) -> Result<Input, OutOfMemory> {
+pub fn input_of(alloc: Global, memories: &[&[u64]]) -> Result<Input, OutOfMemory> {
     let mut mems = Seq::new(alloc);
     let mut args = Seq::new(alloc);
     for words in memories {
