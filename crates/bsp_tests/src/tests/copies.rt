@@ -1,6 +1,6 @@
 //! Copies of what a run records.
 
-use super::running::{has_fault, has_lines, history_of};
+use super::running::{Ends, Row, history_of, is_met};
 use crate::Call::{
     Charge, Get, PopReg, Print, PrintSetTagsize, PrintWord, PushReg, Put, Send, Store,
 };
@@ -27,30 +27,35 @@ fn has_equal_copies(history: &History, step: u64) -> Result<bool, Fail> {
     Ok(have_equal_copies(views)? && have_equal_copies(outcomes)?)
 }
 
+/// Each act once.
+const ROW: Row = Row {
+    memories: &[&[1, 2, 3]],
+    supersteps: &[
+        &[Turn(&[PushReg(0, 2), PrintSetTagsize(1)], Sync)],
+        &[Turn(
+            &[
+                Store(2, 9),
+                Charge(5),
+                Put(0, &[7], 0, 1),
+                Get(0, 0, 0, 2, 1),
+                Send(0, &[4], &[5, 6]),
+                PopReg(0),
+                Print(&[8]),
+            ],
+            Sync,
+        )],
+        &[Turn(&[PrintWord(1), PrintWord(2)], Abort(3))],
+    ],
+    ends: Ends::Faulted(2, Fault::Abort(3)),
+    after: &[&[1, 7, 1]],
+    lines: &[&[&[0], &[8], &[7], &[1]]],
+    costs: &[10, 15, 0],
+};
+
 #[test]
 fn views_and_outcomes(rt: HostRuntime) -> Result<(), Fail> {
-    let history = history_of(
-        rt.alloc(),
-        &[&[1, 2, 3]],
-        &[
-            &[Turn(&[PushReg(0, 2), PrintSetTagsize(1)], Sync)],
-            &[Turn(
-                &[
-                    Store(2, 9),
-                    Charge(5),
-                    Put(0, &[7], 0, 1),
-                    Get(0, 0, 0, 2, 1),
-                    Send(0, &[4], &[5, 6]),
-                    PopReg(0),
-                    Print(&[8]),
-                ],
-                Sync,
-            )],
-            &[Turn(&[PrintWord(1), PrintWord(2)], Abort(3))],
-        ],
-    )?;
-    assert!(rt; has_fault(&history, 2, Fault::Abort(3)));
-    assert!(rt; has_lines(&history, 0, &[&[0], &[8], &[7], &[1]]));
+    assert!(rt; is_met(rt.alloc(), ROW)?);
+    let history = history_of(rt.alloc(), ROW.memories, ROW.supersteps)?;
     for step in 0..3 {
         assert!(rt; has_equal_copies(&history, step)?);
     }

@@ -28,54 +28,57 @@ fn is_fault_of(
     )
 }
 
+const FAULTS: [(&[Call], Fault); 18] = [
+    (&[Store(3, 9)], Fault::BadLocal),
+    (&[Charge(4_294_967_296)], Fault::WorkLimit),
+    (&[Put(1, &[], 0, 0)], Fault::BadPid(1)),
+    (&[Put(0, &[], 2, 0)], Fault::NotRegistered(2)),
+    (&[Put(0, &[5], 0, 2)], Fault::OutOfArea),
+    (
+        &[Put(0, &[5], 0, 18_446_744_073_709_551_615)],
+        Fault::OutOfArea,
+    ),
+    (&[Get(1, 0, 0, 0, 0)], Fault::BadPid(1)),
+    (&[Get(0, 2, 0, 0, 0)], Fault::NotRegistered(2)),
+    (&[Get(0, 0, 1, 0, 2)], Fault::OutOfArea),
+    (&[Get(0, 0, 0, 2, 2)], Fault::BadLocal),
+    (&[Send(1, &[], &[])], Fault::BadPid(1)),
+    (&[Send(0, &[1], &[])], Fault::TagLength),
+    (&[Send(0, &[], &[0; 4097])], Fault::TooLong),
+    (&[PrintMoveInto], Fault::EmptyQueue),
+    (&[PushReg(2, 2)], Fault::BadLocal),
+    (&[PopReg(2)], Fault::NotRegistered(2)),
+    (&[PrintSetTagsize(17)], Fault::BadTagSize),
+    (&[Print(&[0; 65])], Fault::TooLong),
+];
+
 #[test]
 fn each_check_of_a_call(rt: HostRuntime) -> Result<(), Fail> {
-    let faults: [(&[Call], Fault); 18] = [
-        (&[Store(3, 9)], Fault::BadLocal),
-        (&[Charge(4_294_967_296)], Fault::WorkLimit),
-        (&[Put(1, &[], 0, 0)], Fault::BadPid(1)),
-        (&[Put(0, &[], 2, 0)], Fault::NotRegistered(2)),
-        (&[Put(0, &[5], 0, 2)], Fault::OutOfArea),
-        (
-            &[Put(0, &[5], 0, 18_446_744_073_709_551_615)],
-            Fault::OutOfArea,
-        ),
-        (&[Get(1, 0, 0, 0, 0)], Fault::BadPid(1)),
-        (&[Get(0, 2, 0, 0, 0)], Fault::NotRegistered(2)),
-        (&[Get(0, 0, 1, 0, 2)], Fault::OutOfArea),
-        (&[Get(0, 0, 0, 2, 2)], Fault::BadLocal),
-        (&[Send(1, &[], &[])], Fault::BadPid(1)),
-        (&[Send(0, &[1], &[])], Fault::TagLength),
-        (&[Send(0, &[], &[0; 4097])], Fault::TooLong),
-        (&[PrintMoveInto], Fault::EmptyQueue),
-        (&[PushReg(2, 2)], Fault::BadLocal),
-        (&[PopReg(2)], Fault::NotRegistered(2)),
-        (&[PrintSetTagsize(17)], Fault::BadTagSize),
-        (&[Print(&[0; 65])], Fault::TooLong),
-    ];
-    for (calls, fault) in faults {
+    for (calls, fault) in FAULTS {
         assert!(rt; is_fault_of(rt.alloc(), calls, Halt, fault)?);
     }
     assert!(rt; is_fault_of(rt.alloc(), &[], Abort(7), Fault::Abort(7))?);
     Ok(())
 }
 
+/// Turns of which two checks fail.
+const FAULTS_IN_ORDER: [(&[Call], Fault); 8] = [
+    (&[Put(1, &[], 2, 0)], Fault::BadPid(1)),
+    (&[Put(0, &[5, 5, 5], 2, 0)], Fault::NotRegistered(2)),
+    (&[Get(1, 2, 0, 0, 0)], Fault::BadPid(1)),
+    (&[Get(0, 2, 9, 0, 0)], Fault::NotRegistered(2)),
+    (&[Get(0, 0, 9, 9, 9)], Fault::OutOfArea),
+    (&[Send(1, &[1], &[])], Fault::BadPid(1)),
+    (&[Send(0, &[1], &[0; 4097])], Fault::TagLength),
+    (
+        &[Put(7, &[], 0, 0), Store(0, 9), Print(&[9]), Store(9, 9)],
+        Fault::BadPid(7),
+    ),
+];
+
 #[test]
 fn checks_in_order(rt: HostRuntime) -> Result<(), Fail> {
-    let faults: [(&[Call], Fault); 8] = [
-        (&[Put(1, &[], 2, 0)], Fault::BadPid(1)),
-        (&[Put(0, &[5, 5, 5], 2, 0)], Fault::NotRegistered(2)),
-        (&[Get(1, 2, 0, 0, 0)], Fault::BadPid(1)),
-        (&[Get(0, 2, 9, 0, 0)], Fault::NotRegistered(2)),
-        (&[Get(0, 0, 9, 9, 9)], Fault::OutOfArea),
-        (&[Send(1, &[1], &[])], Fault::BadPid(1)),
-        (&[Send(0, &[1], &[0; 4097])], Fault::TagLength),
-        (
-            &[Put(7, &[], 0, 0), Store(0, 9), Print(&[9]), Store(9, 9)],
-            Fault::BadPid(7),
-        ),
-    ];
-    for (calls, fault) in faults {
+    for (calls, fault) in FAULTS_IN_ORDER {
         assert!(rt; is_fault_of(rt.alloc(), calls, Abort(5), fault)?);
     }
     Ok(())

@@ -6,6 +6,28 @@ use bsp_run::{History, ProcessFault, Status, run_plain};
 use std::alloc::Global;
 use std::test::Fail;
 
+/// How a run has to end. A fault is that of process 0, and no other has one.
+#[derive(Clone, Copy)]
+pub enum Ends {
+    Halted,
+    Faulted(u64, Fault),
+    SyncFaulted(u64, SyncFault),
+}
+
+/// A script with its first memories, and what its run has to give, with the limit 16 and the prices 4 and 10.
+#[derive(Clone, Copy)]
+pub struct Row {
+    pub memories: &'static [&'static [u64]],
+    pub supersteps: &'static [&'static [Turn<'static>]],
+    pub ends: Ends,
+    /// The memories at the end, by process.
+    pub after: &'static [&'static [u64]],
+    /// The lines, by process.
+    pub lines: &'static [&'static [&'static [u64]]],
+    /// The cost of each superstep.
+    pub costs: &'static [u64],
+}
+
 /// The input with these memories and no arguments.
 pub fn input_of(alloc: Global, memories: &[&[u64]]) -> Result<Input, OutOfMemory> {
     let mut mems = Seq::new(alloc);
@@ -43,7 +65,8 @@ pub fn has_halted(history: &History) -> bool {
 pub fn has_fault(history: &History, step: u64, fault: Fault) -> bool {
     match history.status() {
         Status::Faulted { step: at, faults } => {
-            *at == step && faults.as_slice() == [ProcessFault { pid: 0, fault }].as_slice()
+            let want = ProcessFault { pid: 0, fault };
+            *at == step && faults.len() == 1 && faults.as_slice().first() == Some(&want)
         }
         _ => false,
     }
@@ -62,46 +85,81 @@ pub fn has_sync_fault(history: &History, step: u64, fault: SyncFault) -> bool {
 
 /// Whether these are the memories at the end, by process.
 pub fn has_memories(history: &History, want: &[&[u64]]) -> bool {
+    for pid in 0..want.len() {
+        match history.memory(pid as u64) {
+            Some(memory) if is_memory(memory, want[pid]) => {}
+            _ => return false,
+        }
+    }
     history.memory(want.len() as u64).is_none()
-        && want.iter().enumerate().all(|(pid, words)| is_memory(history.memory(pid as u64), words))
 }
 
-fn is_memory(memory: Option<&Memory>, want: &[u64]) -> bool {
-    match memory {
-        Some(memory) => {
-            memory.len() == want.len()
-                && want.iter().enumerate().all(|(address, word)| memory.load(address as u64)
-                    == Some(*word))
+fn is_memory(memory: &Memory, want: &[u64]) -> bool {
+    for address in 0..want.len() {
+        if memory.load(address as u64) != Some(want[address]) {
+            return false;
         }
-        None => false,
     }
+    memory.len() == want.len()
 }
 
 /// Whether these are the lines of a process.
 pub fn has_lines(history: &History, pid: u64, want: &[&[u64]]) -> bool {
     match history.lines(pid) {
-        Some(lines) => {
-            lines.len() == want.len()
-                && lines
-                    .as_slice()
-                    .iter()
-                    .zip(want)
-                    .all(|(line, words)| line.as_slice() == *words)
-        }
+        Some(lines) => are_lines(lines.as_slice(), want),
         None => false,
     }
 }
 
+fn are_lines(lines: &[Words], want: &[&[u64]]) -> bool {
+    if lines.len() != want.len() {
+        return false;
+    }
+    for i in 0..want.len() {
+        if lines[i].as_slice() != want[i] {
+            return false;
+        }
+    }
+    true
+}
+
+/// Whether these are the lines of all processes.
+fn has_all_lines(history: &History, want: &[&[&[u64]]]) -> bool {
+    for pid in 0..want.len() {
+        if !has_lines(history, pid as u64, want[pid]) {
+            return false;
+        }
+    }
+    history.lines(want.len() as u64).is_none()
+}
+
 /// Whether these are the costs of the supersteps, and the total their sum.
 pub fn has_costs(history: &History, want: &[u64]) -> bool {
+    let rows = history.costs();
+    if rows.len() != want.len() {
+        return false;
+    }
     let mut sum: u64 = 0;
-    for cost in want {
-        sum = sum.wrapping_add(*cost);
+    for step in 0..want.len() {
+        if rows[step].cost != want[step] {
+            return false;
+        }
+        sum = sum.wrapping_add(want[step]);
     }
     history.total() == sum
-        && history
-            .costs()
-            .iter()
-            .map(|row| row.cost)
-            .eq(want.iter().copied())
+}
+
+/// Whether the run of a row's script gives what the row says.
+pub fn is_met(alloc: Global, row: Row) -> Result<bool, Fail> {
+    let history = history_of(alloc, row.memories, row.supersteps)?;
+    let ends = match row.ends {
+        Ends::Halted => has_halted(&history),
+        Ends::Faulted(step, fault) => has_fault(&history, step, fault),
+        Ends::SyncFaulted(step, fault) => has_sync_fault(&history, step, fault),
+    };
+    Ok(
+        ends && has_memories(&history, row.after)
+            && has_all_lines(&history, row.lines)
+            && has_costs(&history, row.costs),
+    )
 }
