@@ -10,3 +10,6 @@ pub use cost::h_of;
 pub use delivery::deliver;
 pub use faults::{next_tag_size, sync_fault};
 pub use same::{answers_same, parcel_same};
+
+#[cfg(test)]
+mod tests;

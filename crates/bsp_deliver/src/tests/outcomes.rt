@@ -1,0 +1,236 @@
+//! Outcomes of turns that end by sync, made by hand, and a test of the condition of delivery.
+
+ghost use Rattle.std.specs.Prelude.{IsTrue, IfOk, All, ◌<◌, ◌≤◌, ◌+◌, length, slice_index};
+ghost use Rattle.bsp_step.specs.OutcomeParts.{IsShortSend};
+ghost use Rattle.bsp_deliver.specs.Condition.{AreDeliverable, AreRequestsInside, IsGetInside, IsPutInside, sizes_of};
+
+use bsp_model::{Get, Memory, OutOfMemory, Put, Send, Seq, Words};
+use bsp_step::{Ended, Outcome};
+use std::alloc::Global;
+use std::process::Abort;
+
+#[derive(Clone, Copy)]
+enum Request<'a> {
+    Put(u64, u64, &'a [u64]),
+    Get(Get),
+    Send(u64, &'a [u64], &'a [u64]),
+}
+
+/// A request, with the process that issues it.
+#[derive(Clone, Copy)]
+pub(crate) struct Issued<'a> {
+    process: usize,
+    request: Request<'a>,
+}
+
+/// The process of this number, which issues requests.
+#[derive(Clone, Copy)]
+pub(crate) struct Process(pub(crate) usize);
+
+impl Process {
+    /// A put of words to a target, from its word `start` on.
+    pub(crate) fn put(self, target: u64, start: u64, words: &[u64]) -> Issued<'_> {
+        Issued {
+            process: self.0,
+            request: Request::Put(target, start, words),
+        }
+    }
+
+    /// A get of words of an owner, from its word `start` on, into the own words from `into` on.
+    pub(crate) fn get(self, owner: u64, start: u64, len: u64, into: u64) -> Issued<'static> {
+        let get = Get {
+            owner,
+            start,
+            len,
+            into,
+        };
+        Issued {
+            process: self.0,
+            request: Request::Get(get),
+        }
+    }
+
+    /// A message to a target.
+    pub(crate) fn send<'a>(self, target: u64, tag: &'a [u64], words: &'a [u64]) -> Issued<'a> {
+        Issued {
+            process: self.0,
+            request: Request::Send(target, tag, words),
+        }
+    }
+}
+
+/// What one process issued.
+#[derive(Drop)]
+struct Requests {
+    puts: Seq<Put>,
+    gets: Seq<Get>,
+    sends: Seq<Send>,
+}
+
+impl Requests {
+    fn add(&mut self, alloc: Global, request: Request<'_>) -> Result<(), OutOfMemory> {
+        match request {
+            Request::Put(target, start, words) => {
+                let words = Words::from_slice(alloc, words)?;
+                self.puts.push(Put {
+                    target,
+                    start,
+                    words,
+                })
+            }
+            Request::Get(get) => self.gets.push(get),
+            Request::Send(target, tag, words) => {
+                let tag = Words::from_slice(alloc, tag)?;
+                let words = Words::from_slice(alloc, words)?;
+                self.sends.push(Send { target, tag, words })
+            }
+        }
+    }
+}
+
+fn requests_of(
+    alloc: Global,
+    process: usize,
+    issued: &[Issued<'_>],
+) -> Result<Requests, OutOfMemory> {
+    let mut requests = Requests {
+        puts: Seq::new(alloc),
+        gets: Seq::new(alloc),
+        sends: Seq::new(alloc),
+    };
+    for one in issued {
+        if one.process == process {
+            requests.add(alloc, one.request)?;
+        }
+    }
+    Ok(requests)
+}
+
+/// Whether tags and payloads are as short as outcomes keep them.
+fn are_short(sends: &[Send]) -> bool
+    ensures { IsTrue result → All IsShortSend sends.now }
+{
+    sends
+        .iter()
+        .all(|send| send.tag.len() <= 16 && send.words.len() <= 4096)
+}
+
+fn outcome_of(
+    rt: &impl Abort,
+    alloc: Global,
+    memory: &[u64],
+    requests: Requests,
+) -> Result<Outcome, OutOfMemory> {
+    let Requests { puts, gets, sends } = requests;
+    assert!(rt; memory.len() <= 4096 && are_short(sends.as_slice()));
+    assert!(rt; puts.len() <= 64 && gets.len() <= 64 && sends.len() <= 64);
+    Ok(Outcome {
+        fault: None,
+        ended: Ended::Sync,
+        memory: Memory::from_words(alloc, memory)?,
+        stores: Seq::new(alloc),
+        puts,
+        gets,
+        sends,
+        pops: Seq::new(alloc),
+        pushes: Seq::new(alloc),
+        tag: None,
+        lines: Seq::new(alloc),
+        work: 0,
+    })
+}
+
+/// Whether words from an address on lie in the memory of a process.
+fn are_words_of(outcomes: &[Outcome], process: u64, start: u64, len: u64) -> bool
+    ensures { IsTrue result → process < length outcomes.now × start + len ≤ slice_index (sizes_of outcomes.now) process }
+{
+    match outcomes.get(process as usize) {
+        Some(outcome) => is_room(&outcome.memory, start, len),
+        None => false,
+    }
+}
+
+/// Whether words from an address on lie in a memory.
+fn is_room(memory: &Memory, start: u64, len: u64) -> bool
+    ensures { IsTrue result → start + len ≤ length memory.now }
+{
+    let size = memory.len() as u64;
+    start <= size && len <= size - start
+}
+
+/// Whether all requests of an outcome name processes of the list, and words inside the memories concerned.
+fn are_requests_inside(outcome: &Outcome, outcomes: &[Outcome]) -> bool
+    ensures { IsTrue result → AreRequestsInside (sizes_of outcomes.now) outcome.now }
+{
+    are_puts_inside(outcome.puts.as_slice(), outcomes)
+        && are_gets_inside(outcome.gets.as_slice(), &outcome.memory, outcomes)
+        && are_sends_inside(outcome.sends.as_slice(), outcomes)
+}
+
+fn are_puts_inside(puts: &[Put], outcomes: &[Outcome]) -> bool
+    ensures { IsTrue result → All (IsPutInside (sizes_of outcomes.now)) puts.now }
+{
+    puts.iter().all(|put| are_words_of(outcomes, put.target, put.start, put.words.len() as u64))
+}
+
+fn are_gets_inside(gets: &[Get], own: &Memory, outcomes: &[Outcome]) -> bool
+    ensures { IsTrue result → All (IsGetInside (sizes_of outcomes.now) (length own.now)) gets.now }
+{
+    gets.iter().all(|get| {
+        are_words_of(outcomes, get.owner, get.start, get.len) && is_room(own, get.into, get.len)
+    })
+}
+
+fn are_sends_inside(sends: &[Send], outcomes: &[Outcome]) -> bool
+    ensures { IsTrue result → All (λ m. m.target < length (sizes_of outcomes.now)) sends.now }
+{
+    sends.iter().all(|send| send.target < outcomes.len() as u64)
+}
+
+fn are_all_inside(outcomes: &[Outcome]) -> bool
+    ensures { IsTrue result → All (AreRequestsInside (sizes_of outcomes.now)) outcomes.now }
+{
+    outcomes
+        .iter()
+        .all(|outcome| are_requests_inside(outcome, outcomes))
+}
+
+fn are_memories_short(outcomes: &[Outcome]) -> bool
+    ensures { IsTrue result → All (λ o. length o.memory ≤ 4096) outcomes.now }
+{
+    outcomes.iter().all(|outcome| outcome.memory.len() <= 4096)
+}
+
+/// Whether the outcomes meet the condition of delivery.
+fn are_deliverable(outcomes: &[Outcome]) -> bool
+    ensures { IsTrue result → AreDeliverable outcomes.now }
+{
+    if outcomes.is_empty() {
+        return false;
+    }
+    if outcomes.len() > 64 {
+        return false;
+    }
+    if !are_memories_short(outcomes) {
+        return false;
+    }
+    are_all_inside(outcomes)
+}
+
+/// The outcomes of processes with these memories after computing and these requests. They meet the condition of delivery.
+pub(crate) fn outcomes_of(
+    rt: &impl Abort,
+    alloc: Global,
+    memories: &[&[u64]],
+    issued: &[Issued<'_>],
+) -> Result<Vec<Outcome>, OutOfMemory>
+    ensures { IfOk result (λ outcomes. AreDeliverable outcomes.items) }
+{
+    let mut outcomes = Vec::new(alloc);
+    for process in 0..memories.len() {
+        let requests = requests_of(alloc, process, issued)?;
+        outcomes.push(outcome_of(rt, alloc, memories[process], requests)?)?;
+    }
+    assert!(rt; are_deliverable(outcomes.as_slice()));
+    Ok(outcomes)
+}
