@@ -4,20 +4,19 @@ use std::alloc::Global;
 use std::process::Abort;
 use std::test::Fail;
 
-/// Finds whether process 0 gets the same puts and messages, in both directions. There are three processes with two words each.
-fn assert_parcel_same(
+/// Whether process 0 gets the same puts and messages, asked in both directions. There are three processes with two words each.
+fn is_parcel_same(
     rt: &impl Abort,
     alloc: Global,
     old: &[Issued<'_>],
     new: &[Issued<'_>],
-    want: bool,
-) -> Result<(), Fail> {
+) -> Result<bool, Fail> {
     let old = outcomes_of(rt, alloc, &[&[0, 0], &[0, 0], &[0, 0]], old)?;
     let new = outcomes_of(rt, alloc, &[&[1, 2], &[3, 4], &[5, 6]], new)?;
     assert_eq!(rt; old.len(), new.len());
-    assert_eq!(rt; parcel_same(&old, &new, 0), want);
-    assert_eq!(rt; parcel_same(&new, &old, 0), want);
-    Ok(())
+    let same = parcel_same(&old, &new, 0);
+    assert_eq!(rt; parcel_same(&new, &old, 0), same);
+    Ok(same)
 }
 
 #[test]
@@ -36,14 +35,15 @@ fn puts_are_compared(rt: HostRuntime) -> Result<(), Fail> {
         Process(1).put(0, 1, &[6]),
         Process(0).get(1, 0, 1, 0),
     ];
-    assert_parcel_same(&rt, alloc, &old, &old, true)?;
-    assert_parcel_same(&rt, alloc, &old, &word, false)?;
-    assert_parcel_same(&rt, alloc, &old, &start, false)?;
-    assert_parcel_same(&rt, alloc, &old, &order, false)?;
-    assert_parcel_same(&rt, alloc, &old, &sender, false)?;
-    assert_parcel_same(&rt, alloc, &old, &fewer, false)?;
-    assert_parcel_same(&rt, alloc, &old, &[], false)?;
-    assert_parcel_same(&rt, alloc, &old, &others, true)
+    assert!(rt; is_parcel_same(&rt, alloc, &old, &old)?);
+    assert!(rt; !is_parcel_same(&rt, alloc, &old, &word)?);
+    assert!(rt; !is_parcel_same(&rt, alloc, &old, &start)?);
+    assert!(rt; !is_parcel_same(&rt, alloc, &old, &order)?);
+    assert!(rt; !is_parcel_same(&rt, alloc, &old, &sender)?);
+    assert!(rt; !is_parcel_same(&rt, alloc, &old, &fewer)?);
+    assert!(rt; !is_parcel_same(&rt, alloc, &old, &[])?);
+    assert!(rt; is_parcel_same(&rt, alloc, &old, &others)?);
+    Ok(())
 }
 
 #[test]
@@ -64,31 +64,31 @@ fn messages_are_compared(rt: HostRuntime) -> Result<(), Fail> {
         Process(2).send(0, &[], &[]),
         Process(0).send(2, &[], &[]),
     ];
-    assert_parcel_same(&rt, alloc, &old, &old, true)?;
-    assert_parcel_same(&rt, alloc, &old, &tag, false)?;
-    assert_parcel_same(&rt, alloc, &old, &payload, false)?;
-    assert_parcel_same(&rt, alloc, &old, &order, false)?;
-    assert_parcel_same(&rt, alloc, &old, &sender, false)?;
-    assert_parcel_same(&rt, alloc, &old, &fewer, false)?;
-    assert_parcel_same(&rt, alloc, &old, &[], false)?;
-    assert_parcel_same(&rt, alloc, &old, &others, true)
+    assert!(rt; is_parcel_same(&rt, alloc, &old, &old)?);
+    assert!(rt; !is_parcel_same(&rt, alloc, &old, &tag)?);
+    assert!(rt; !is_parcel_same(&rt, alloc, &old, &payload)?);
+    assert!(rt; !is_parcel_same(&rt, alloc, &old, &order)?);
+    assert!(rt; !is_parcel_same(&rt, alloc, &old, &sender)?);
+    assert!(rt; !is_parcel_same(&rt, alloc, &old, &fewer)?);
+    assert!(rt; !is_parcel_same(&rt, alloc, &old, &[])?);
+    assert!(rt; is_parcel_same(&rt, alloc, &old, &others)?);
+    Ok(())
 }
 
-/// Finds whether process 0's gets read the same, in both directions. There are three processes with two words each.
-fn assert_answers_same(
+/// Whether process 0's gets read the same, asked in both directions. There are three processes with two words each.
+fn is_answer_same(
     rt: &impl Abort,
     alloc: Global,
     old: &[Issued<'_>],
     words: &[u64],
     new: &[Issued<'_>],
-    want: bool,
-) -> Result<(), Fail> {
+) -> Result<bool, Fail> {
     let old = outcomes_of(rt, alloc, &[&[0, 0], &[5, 5], &[5, 5]], old)?;
     let new = outcomes_of(rt, alloc, &[&[0, 0], words, &[5, 5]], new)?;
     assert!(rt; old.len() == new.len() && !old.is_empty());
-    assert_eq!(rt; answers_same(&old, &new, 0), want);
-    assert_eq!(rt; answers_same(&new, &old, 0), want);
-    Ok(())
+    let same = answers_same(&old, &new, 0);
+    assert_eq!(rt; answers_same(&new, &old, 0), same);
+    Ok(same)
 }
 
 #[test]
@@ -106,14 +106,15 @@ fn gets_are_compared(rt: HostRuntime) -> Result<(), Fail> {
         Process(0).get(1, 0, 1, 0),
         Process(0).put(1, 0, &[9]),
     ];
-    assert_answers_same(&rt, alloc, &old, &fives, &old, true)?;
-    assert_answers_same(&rt, alloc, &old, &fives, &owner, false)?;
-    assert_answers_same(&rt, alloc, &old, &fives, &start, false)?;
-    assert_answers_same(&rt, alloc, &old, &fives, &len, false)?;
-    assert_answers_same(&rt, alloc, &old, &fives, &into, false)?;
-    assert_answers_same(&rt, alloc, &old, &fives, &more, false)?;
-    assert_answers_same(&rt, alloc, &old, &fives, &[], false)?;
-    assert_answers_same(&rt, alloc, &old, &fives, &others, true)
+    assert!(rt; is_answer_same(&rt, alloc, &old, &fives, &old)?);
+    assert!(rt; !is_answer_same(&rt, alloc, &old, &fives, &owner)?);
+    assert!(rt; !is_answer_same(&rt, alloc, &old, &fives, &start)?);
+    assert!(rt; !is_answer_same(&rt, alloc, &old, &fives, &len)?);
+    assert!(rt; !is_answer_same(&rt, alloc, &old, &fives, &into)?);
+    assert!(rt; !is_answer_same(&rt, alloc, &old, &fives, &more)?);
+    assert!(rt; !is_answer_same(&rt, alloc, &old, &fives, &[])?);
+    assert!(rt; is_answer_same(&rt, alloc, &old, &fives, &others)?);
+    Ok(())
 }
 
 #[test]
@@ -121,7 +122,8 @@ fn words_read_are_compared(rt: HostRuntime) -> Result<(), Fail> {
     let alloc = rt.alloc();
     let gets = [Process(0).get(2, 0, 2, 0), Process(0).get(1, 0, 1, 0)];
     let long = [Process(0).get(1, 0, 2, 0)];
-    assert_answers_same(&rt, alloc, &gets, &[6, 5], &gets, false)?;
-    assert_answers_same(&rt, alloc, &gets, &[5, 6], &gets, true)?;
-    assert_answers_same(&rt, alloc, &long, &[5, 6], &long, false)
+    assert!(rt; !is_answer_same(&rt, alloc, &gets, &[6, 5], &gets)?);
+    assert!(rt; is_answer_same(&rt, alloc, &gets, &[5, 6], &gets)?);
+    assert!(rt; !is_answer_same(&rt, alloc, &long, &[5, 6], &long)?);
+    Ok(())
 }
