@@ -1,8 +1,8 @@
 -- What the sums hold after transfers, and that they do not overflow.
-use Rattle.std.proofs.Common.{◌≡◌, ℕ, zero, suc, ◌+◌, ◌*◌, ◌-◌, ◌^◌, ◌<◌, ◌≤◌, ◌==◌, ◌&&◌, Bool, true, false, cond, not, List, [], ◌∷◌, ◌++◌, map, take, filter, length, fold, sum_by, replicate, All, refl, sym, ◌∙◌, ap, arith, get_or, set, subst, inl, inr, append_assoc, append-nil, zero-add}
+use Rattle.std.proofs.Common.{◌≡◌, ℕ, suc, ◌+◌, ◌*◌, ◌^◌, ◌<◌, ◌≤◌, ◌==◌, ◌&&◌, Bool, true, false, cond, not, List, [], ◌∷◌, ◌++◌, map, take, filter, length, fold, sum_by, replicate, All, refl, sym, ◌∙◌, ap, arith, get_or, subst, inl, inr, append_assoc, append-nil}
 use Rattle.std.proofs.lemmas.Bool.{eq-eqb, ne_eqb, cases_eq, cases_lt}
 use Rattle.std.proofs.lemmas.List.{length-set, set_past, get_or-set_same, get_or-set_other, get_or-replicate, length-replicate, get_or-take, length-take-le, take_more, map-append, length-map, length-append, get_or-map}
-use Rattle.std.proofs.lemmas.List.Elements.{filter-append, All-set, All-map, All-weaker, All-tail, All-head, All-replicate, All-append}
+use Rattle.std.proofs.lemmas.List.Elements.{filter-append, All-set, All-map, All-tail, All-head, All-replicate, All-append}
 use Rattle.std.proofs.lemmas.List.Sums.{sum_by-cons, sum_by-append}
 use Rattle.std.proofs.lemmas.List.FromFn.{fill_by_all}
 use Rattle.std.proofs.lemmas.Grind.{common_steps, fold-append}
@@ -12,7 +12,7 @@ use Rattle.bsp_model.specs.declared.request.Send.{Send}
 use Rattle.bsp_step.specs.OutcomeParts.{OutcomeParts, IsShortSend}
 use Rattle.bsp_deliver.specs.declared.cost.Sums.{Sums}
 use Rattle.bsp_deliver.specs.Requests.{each_below, outcome_of, requests_from, all_puts, all_gets, all_sends}
-use Rattle.bsp_deliver.specs.Condition.{sizes_of, AreRequestsInside, AreDeliverable, IsPutInside, IsGetInside}
+use Rattle.bsp_deliver.specs.Condition.{sizes_of, AreRequestsInside, AreDeliverable}
 use Rattle.bsp_deliver.specs.Cost.{Transfer, put_transfer, get_transfer, send_transfer, transfers, count_sent, count_received}
 use Rattle.bsp_deliver.specs.Sums.{raised, counted, no_words, transfers_of, transfers_from, HasRoom, IsSmall}
 use Rattle.bsp_deliver.proofs.Senders.{at_item, length-sizes_of, map_twice}

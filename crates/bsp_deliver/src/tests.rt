@@ -4,5 +4,5 @@ mod comparisons;
 mod counts;
 mod delivery;
 mod endings;
-mod ends;
 mod outcomes;
+mod sync_faults;

@@ -1,5 +1,5 @@
 -- What it means that an input has no fault.
-use Rattle.std.proofs.Common.{◌≡◌, ◌≤◌, ◌<◌, ℕ, Bool, true, false, cond, Option, None, Some, List, ◌==◌, ◌&&◌, not, nat_le, nat_lt, length, All, arith, refl, get_or, sym, ◌∙◌}
+use Rattle.std.proofs.Common.{◌≡◌, ◌≤◌, ℕ, Bool, true, false, cond, Option, None, Some, List, ◌==◌, ◌&&◌, not, nat_le, nat_lt, length, All, arith, refl, get_or, sym, ◌∙◌}
 use Rattle.std.specs.List.{list_all}
 use Rattle.std.proofs.lemmas.Bool.{false≢true, and_parts}
 use Rattle.std.proofs.lemmas.Bool.Decides.{nat_tests}

@@ -1,16 +1,11 @@
 -- Laws of footprints.
-use Rattle.std.proofs.Common.{◌≡◌, ℕ, ◌<◌, Bool, true, false, cond, List, Option, None, Some, length, get_or, refl, sym, ap, ◌∙◌, arith, inl, inr, [], ◌∷◌, zero, suc, eqb, set}
+use Rattle.std.proofs.Common.{◌≡◌, ℕ, Bool, true, false, cond, List, Option, None, Some, length, refl, sym, ap, ◌∙◌, arith, inl, inr, [], ◌∷◌, zero, suc, eqb, set}
 use Rattle.std.proofs.Math.Dec.{eqb-suc-zero, eqb-zero-suc, eqb-suc-suc}
 use Rattle.std.specs.Option.{option_map}
 use Rattle.std.specs.List.{slice_get}
 use Rattle.std.proofs.lemmas.Bool.{cases_lt}
-use Rattle.std.proofs.lemmas.List.{same_lists}
-use Rattle.std.proofs.lemmas.Option.{slice_get_past, slice_get-get_or}
-use Rattle.bsp_model.specs.declared.fault.End.{End}
-use Rattle.bsp_model.specs.declared.request.Message.{Message}
-use Rattle.bsp_table.specs.declared.area.Area.{Area}
+use Rattle.std.proofs.lemmas.Option.{slice_get_past}
 use Rattle.bsp_step.specs.ViewParts.{ViewParts}
-use Rattle.bsp_step.specs.Act.{Act}
 use Rattle.bsp_step.specs.Footprint.{IsFootprint, AreAlike, AreAlikeButForWords}
 use Rattle.bsp_programs.specs.Plan.{Plan, given_word, given_argument}
 

@@ -1,21 +1,15 @@
 -- The turns of a state's views meet the condition of its deliveries.
-use Rattle.std.proofs.Common.{◌≡◌, ◌≤◌, ◌<◌, ◌+◌, ◌*◌, ℕ, List, [], ◌∷◌, ◌++◌, map, filter, length, take, All, arith, get_or, refl, sym, ap, ◌∙◌, subst, Option, Some, None, suc, zero, ◌==◌, slice_get, Bool, true, false, length-append}
+use Rattle.std.proofs.Common.{◌≡◌, ◌≤◌, ◌<◌, ◌+◌, ℕ, List, [], map, length, All, arith, get_or, refl, sym, ap, ◌∙◌, subst, Option, Some, None, slice_get}
 use Rattle.std.proofs.lemmas.List.{get_or-map, length-map, get_or_default}
 use Rattle.std.proofs.lemmas.List.FromFn.{get_or-map-range_with_len, length-map-range_with_len, fill_by_all}
 use Rattle.std.proofs.lemmas.List.Elements.{All-weaker}
 use Rattle.std.proofs.lemmas.Option.{slice_get_within, get_or_from_slice_get}
-use Rattle.std.specs.List.{range_with_len}
-use Rattle.std.proofs.lemmas.Grind.{common_steps}
-use Rattle.bsp_model.specs.declared.request.Put.{Put}
-use Rattle.bsp_model.specs.declared.request.Get.{Get}
-use Rattle.bsp_model.specs.declared.request.Send.{Send}
-use Rattle.bsp_model.specs.declared.request.Message.{Message}
 use Rattle.bsp_table.specs.declared.area.Area.{Area}
 use Rattle.bsp_table.specs.Table.{area_at, area_in}
 use Rattle.bsp_table.specs.NextTable.{AreSlotsInside, ArePushesInside, IsSlotInside, no_area, AreSlots, AreWithin}
 use Rattle.bsp_step.specs.ViewParts.{ViewParts}
 use Rattle.bsp_step.specs.OutcomeParts.{OutcomeParts, IsOutcome, IsOutcomeOf}
-use Rattle.bsp_step.specs.Requests.{IsPlaced, IsAsked, IsAddressed, LiesIn}
+use Rattle.bsp_step.specs.Requests.{LiesIn}
 use Rattle.bsp_deliver.specs.Requests.{no_outcome, outcome_of}
 use Rattle.bsp_deliver.specs.Requests.{each_below}
 use Rattle.bsp_deliver.specs.Condition.{AreDeliverable, AreRequestsInside, sizes_of}

@@ -1,18 +1,16 @@
 -- Delivery keeps what a run keeps.
-use Rattle.std.proofs.Common.{◌≡◌, ◌≤◌, ◌<◌, ◌+◌, ◌*◌, ℕ, List, [], ◌∷◌, ◌++◌, map, filter, length, All, arith, get_or, refl, sym, ap, ◌∙◌, subst, Option, Some, None, suc, zero, ◌==◌, Bool, true, false, cond, length-append}
+use Rattle.std.proofs.Common.{◌≡◌, ◌≤◌, ◌<◌, ◌+◌, ◌*◌, ℕ, List, [], ◌∷◌, ◌++◌, map, filter, length, All, arith, sym, ap, ◌∙◌, subst, Option, Some, None, suc, ◌==◌, Bool, true, false, cond, length-append}
 use Rattle.std.specs.Prelude.{unwrap_or}
-use Rattle.std.specs.List.{range_with_len}
-use Rattle.std.proofs.lemmas.List.{get_or-map, length-map, get_or_default}
+use Rattle.std.proofs.lemmas.List.{get_or-map, length-map}
 use Rattle.std.proofs.lemmas.List.FromFn.{get_or-map-range_with_len, length-map-range_with_len, fill_by_all}
 use Rattle.std.proofs.lemmas.List.Elements.{All-map, All-nil, All-append, All-filter, All-head, All-tail}
 use Rattle.bsp_model.specs.declared.request.Send.{Send}
-use Rattle.bsp_model.specs.declared.request.Message.{Message}
 use Rattle.bsp_step.specs.ViewParts.{IsQueue, IsShortMessage}
 use Rattle.bsp_step.specs.OutcomeParts.{OutcomeParts, IsOutcome, IsShortSend, IsTagChoice}
 use Rattle.bsp_deliver.specs.Requests.{no_outcome, outcome_of, requests_from, all_sends}
 use Rattle.bsp_deliver.specs.Requests.{each_below}
 use Rattle.bsp_deliver.specs.Delivery.{delivery_parts, next_memory, next_queue, next_word, message_of}
-use Rattle.bsp_deliver.specs.Condition.{AreDeliverable, sizes_of}
+use Rattle.bsp_deliver.specs.Condition.{sizes_of}
 use Rattle.bsp_deliver.specs.SyncFault.{next_tag_size}
 
 -- every element of an each_below has what f gives at every number

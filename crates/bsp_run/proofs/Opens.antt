@@ -1,22 +1,21 @@
 -- Opening a superstep keeps what a run keeps.
-use Rattle.std.proofs.Common.{◌≡◌, ◌≤◌, ◌<◌, ◌+◌, ℕ, List, [], ◌∷◌, map, length, All, arith, get_or, refl, sym, ap, ◌∙◌, subst}
+use Rattle.std.proofs.Common.{◌≡◌, ◌≤◌, ◌+◌, ℕ, List, [], map, length, All, arith, get_or, refl, sym, ap, ◌∙◌, subst}
 use Rattle.std.specs.List.{range_with_len}
-use Rattle.std.proofs.lemmas.List.{get_or-map, length-map}
+use Rattle.std.proofs.lemmas.List.{length-map}
 use Rattle.std.proofs.lemmas.List.Elements.{All-map, All-nil}
-use Rattle.std.proofs.lemmas.List.FromFn.{fill_by_all, length-map-range_with_len}
+use Rattle.std.proofs.lemmas.List.FromFn.{fill_by_all}
 use Rattle.bsp_model.specs.declared.input.Input.{Input}
 use Rattle.bsp_model.specs.declared.request.Message.{Message}
 use Rattle.bsp_model.specs.Input.{IsLawfulInput}
 use Rattle.bsp_table.specs.declared.area.Area.{Area}
 use Rattle.bsp_table.specs.NextTable.{IsSlotInside}
 use Rattle.bsp_step.specs.ViewParts.{ViewParts, IsQueue, IsTableFor, IsShortMessage}
-use Rattle.bsp_deliver.specs.Requests.{each_below}
 use Rattle.bsp_deliver.specs.Condition.{AreDeliverable}
 use Rattle.bsp_step.specs.OutcomeParts.{OutcomeParts}
 use Rattle.bsp_run.specs.declared.phase.Phase.TheVariants.{Open}
 use Rattle.bsp_run.specs.declared.superstep.Superstep.{Superstep}
 use Rattle.bsp_run.specs.State.{State, first_state, no_messages, view_of, views_of}
-use Rattle.bsp_run.specs.Run.{Run, start}
+use Rattle.bsp_run.specs.Run.{start}
 use Rattle.bsp_run.specs.Opening.{CanOpen, state_of}
 use Rattle.bsp_run.specs.Condition.{IsState, IsRun}
 use Rattle.bsp_run.proofs.Lists.{map_twice, map_agree, map_same}

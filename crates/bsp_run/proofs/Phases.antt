@@ -1,9 +1,8 @@
 -- What a run keeps from phase to phase.
-use Rattle.std.proofs.Common.{◌≡◌, ◌≤◌, ◌<◌, ◌+◌, ℕ, List, [], ◌∷◌, ◌++◌, map, length, All, arith, get_or, refl, sym, ap, ◌∙◌, subst, Option, Some, None, ◌==◌, Bool, true, false, cond, length-append}
+use Rattle.std.proofs.Common.{◌≡◌, ◌≤◌, ◌<◌, ◌+◌, ℕ, List, [], ◌∷◌, ◌++◌, map, length, arith, refl, sym, ap, ◌∙◌, subst, Option, Some, None, ◌==◌, Bool, true, false, cond, length-append}
 use Rattle.std.specs.Prelude.{is_some, not, ◌&&◌}
 use Rattle.std.specs.List.{list_any, range_with_len}
 use Rattle.bsp_model.specs.declared.request.Message.{Message}
-use Rattle.std.proofs.lemmas.List.{length-map}
 use Rattle.bsp_model.specs.declared.fault.SyncFault.{SyncFault}
 use Rattle.bsp_model.specs.declared.fault.SyncFault.TheVariants.{MixedEnd, TagMismatch}
 use Rattle.std.proofs.lemmas.List.FromFn.{length-map-range_with_len}
@@ -11,12 +10,11 @@ use Rattle.std.proofs.lemmas.List.Elements.{All-push}
 use Rattle.std.proofs.lemmas.Bool.Decides.{nat_tests}
 use Rattle.bsp_table.specs.declared.area.Area.{Area}
 use Rattle.bsp_table.specs.NextTable.{AreFull, AreSlotsInside, ArePushesInside, next_table, table_fault, are_alike}
-use Rattle.bsp_step.specs.ViewParts.{ViewParts, IsTableFor, IsQueue}
-use Rattle.bsp_step.specs.OutcomeParts.{OutcomeParts, IsOutcome}
-use Rattle.bsp_deliver.specs.Requests.{outcome_of}
+use Rattle.bsp_step.specs.ViewParts.{ViewParts, IsQueue}
+use Rattle.bsp_step.specs.OutcomeParts.{OutcomeParts}
 use Rattle.bsp_deliver.specs.Requests.{each_below}
 use Rattle.bsp_deliver.specs.Delivery.{delivery_parts, next_memory, next_queue}
-use Rattle.bsp_deliver.specs.Condition.{AreDeliverable, sizes_of}
+use Rattle.bsp_deliver.specs.Condition.{AreDeliverable}
 use Rattle.bsp_deliver.specs.SyncFault.{sync_fault, is_sync, same_tag, next_tag_size}
 use Rattle.bsp_run.specs.declared.result.ProcessFault.{ProcessFault}
 use Rattle.bsp_run.specs.declared.result.Status.{Status}

@@ -1,14 +1,11 @@
 -- The views of a state.
-use Rattle.std.proofs.Common.{◌≡◌, ◌≤◌, ◌<◌, ◌+◌, ℕ, List, [], ◌∷◌, map, length, drop, All, arith, get_or, refl, sym, ap, ◌∙◌, subst}
+use Rattle.std.proofs.Common.{◌≡◌, ◌<◌, ℕ, List, [], map, length, drop, arith, get_or, sym, ap, ◌∙◌}
 use Rattle.std.proofs.lemmas.List.{get_or-map, length-map, get_or_default}
-use Rattle.std.proofs.lemmas.List.FromFn.{get_or-map-range_with_len, length-map-range_with_len, fill_by_all}
-use Rattle.std.specs.List.{range_with_len}
 use Rattle.std.proofs.lemmas.Grind.{common_steps}
 use Rattle.bsp_model.specs.declared.request.Message.{Message}
 use Rattle.bsp_table.specs.declared.area.Area.{Area}
-use Rattle.bsp_step.specs.ViewParts.{ViewParts, IsView, IsQueue}
-use Rattle.bsp_deliver.specs.Requests.{each_below}
-use Rattle.bsp_run.specs.State.{State, view_of, views_of}
+use Rattle.bsp_step.specs.ViewParts.{IsView}
+use Rattle.bsp_run.specs.State.{State, view_of}
 use Rattle.bsp_run.specs.Opening.{CanOpen, state_of, view_with}
 
 -- each view of a state within the limits is within them

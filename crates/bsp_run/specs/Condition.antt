@@ -1,5 +1,5 @@
 -- What a run keeps, and what its calls ask.
-use Rattle.std.specs.Prelude.{◌≡◌, ◌≤◌, ◌<◌, ℕ, Option, None, Some, Bool, true, false, List, [], map, length, All, slice_index_or}
+use Rattle.std.specs.Prelude.{◌≡◌, ◌≤◌, ◌<◌, ℕ, None, Some, Bool, true, false, List, [], map, length, All, slice_index_or}
 use Rattle.bsp_model.specs.declared.request.Message.{Message}
 use Rattle.bsp_table.specs.declared.area.Area.{Area}
 use Rattle.bsp_table.specs.NextTable.{AreFull, AreSlots, AreSlotsInside, AreSlotsWithin, ArePushesInside, AreWithin, table_fault}

@@ -8,7 +8,7 @@ use Rattle.bsp_step.specs.OutcomeParts.{OutcomeParts}
 use Rattle.bsp_deliver.specs.SyncFault.{sync_fault, is_sync}
 use Rattle.bsp_run.specs.declared.result.ProcessFault.{ProcessFault}
 use Rattle.bsp_run.specs.declared.result.Status.{Status}
-use Rattle.bsp_run.specs.declared.result.Status.TheVariants.{Halted, Limit, Faulted, SyncFaulted}
+use Rattle.bsp_run.specs.declared.result.Status.TheVariants.{Halted, Faulted, SyncFaulted}
 
 abbrev pub fault_at : ℕ → Option Fault → List ProcessFault
 fault_at p None = []

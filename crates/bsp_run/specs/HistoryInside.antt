@@ -2,7 +2,7 @@
 use Rattle.std.specs.Prelude.{◌≡◌, true}
 use Rattle.bsp_run.specs.declared.history.History.TheInside.{Inside}
 use Rattle.bsp_run.specs.Run.{Run}
-use Rattle.bsp_run.specs.Condition.{is_ended, IsRun}
+use Rattle.bsp_run.specs.Condition.{is_ended}
 use Rattle.bsp_run.specs.Result.{lines_of, costs_of, total_of}
 
 abbrev pub run_of : Inside → Run

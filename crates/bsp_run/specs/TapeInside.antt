@@ -1,7 +1,6 @@
 -- A run so far, from the fields of its tape.
-use Rattle.std.specs.Prelude.{◌≡◌, map, length}
+use Rattle.std.specs.Prelude.{◌≡◌, map}
 use Rattle.bsp_run.specs.declared.tape.Tape.TheInside.{Inside}
-use Rattle.bsp_run.specs.State.{views_of}
 use Rattle.bsp_run.specs.Run.{Run, open_views}
 use Rattle.bsp_run.specs.Condition.{IsRun}
 

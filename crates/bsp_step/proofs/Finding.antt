@@ -1,5 +1,5 @@
 -- What it means that a slot is found.
-use Rattle.std.proofs.Common.{◌≡◌, ◌≤◌, ◌<◌, ◌+◌, ℕ, List, [], ◌∷◌, ◌++◌, Option, None, Some, length, arith, zero, suc, ◌==◌, ◌&&◌, not, slice_get, false, true, Bool, ◌≢◌, refl, cond, All, get_or, sym, ◌∙◌}
+use Rattle.std.proofs.Common.{◌≡◌, ◌<◌, ℕ, List, [], ◌∷◌, ◌++◌, Some, length, arith, zero, suc, ◌==◌, ◌&&◌, not, slice_get, false, true, Bool, ◌≢◌, refl, cond, All, get_or}
 use Rattle.std.specs.Prelude.{IsSome}
 use Rattle.std.specs.List.{list_any, AllPairs}
 use Rattle.std.proofs.lemmas.Grind.{common_steps}
@@ -7,7 +7,7 @@ use Rattle.std.proofs.lemmas.Option.{slice_get-get_or}
 use Rattle.std.proofs.lemmas.List.Elements.{All-push}
 use Rattle.std.proofs.lemmas.List.Folds.{list_any_at}
 use Rattle.bsp_table.specs.declared.area.Area.{Area}
-use Rattle.bsp_table.specs.Table.{newest, newest_under, newest_below, is_slot_named, has_start, area_at, area_in}
+use Rattle.bsp_table.specs.Table.{newest, newest_under, newest_below, is_slot_named, has_start, area_at}
 use Rattle.bsp_table.specs.NextTable.{AreSlots, no_area}
 
 and_not_true : (a b : Bool) → (a && not b) ≡ true → b ≡ false

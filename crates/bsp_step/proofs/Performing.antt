@@ -4,7 +4,7 @@ use Rattle.bsp_model.specs.declared.fault.Fault.{Fault}
 use Rattle.bsp_step.specs.declared.stop.Stop.{Stop}
 use Rattle.bsp_step.specs.declared.stop.Stop.TheVariants.{Fault as Faulted, OutOfMemory}
 use Rattle.bsp_step.specs.Context.{Context}
-use Rattle.bsp_step.specs.Calls.{Stops, RunStops, StopsByFault}
+use Rattle.bsp_step.specs.Calls.{Stops, RunStops}
 use Rattle.bsp_step.specs.Turn.{Follows}
 use Rattle.bsp_model.specs.declared.fault.End.{End}
 use Rattle.bsp_step.specs.Act.{Act, store, charge, put, get, send, move_into, push_reg, pop_reg, set_tagsize, print}

@@ -1,5 +1,5 @@
 -- What is known of a document's bytes and of its report is known of all that the source had.
-use Rattle.std.proofs.Common.{◌≡◌, ◌<◌, ◌⊎◌, ℕ, List, length, Option, None, Some, Result, Ok, Err, nat_lt, true, refl, sym, ap, subst, inl, inr, ◌∙◌, arith}
+use Rattle.std.proofs.Common.{◌≡◌, ◌<◌, ℕ, List, length, Option, None, Some, Result, Ok, Err, nat_lt, true, refl, sym, ap, subst, inl, inr, ◌∙◌, arith}
 use Rattle.std.proofs.lemmas.Bool.Decides.{nat_tests}
 use Rattle.std.specs.Prelude.{IfSome, IsOkAnd, IsErrAnd}
 use Rattle.bsp_tool.specs.declared.errors.JobFault.{JobFault}

@@ -16,7 +16,7 @@ use Rattle.bsp_incr.specs.declared.edit.EditRefusal.{EditRefusal}
 use Rattle.bsp_incr.specs.declared.reply.Reply.{Reply}
 use Rattle.bsp_incr.specs.declared.reply.Reply.TheVariants.{Done, Refused}
 use Rattle.bsp_incr.specs.declared.reply.Update.{Update}
-use Rattle.bsp_tool.specs.Lines.{field, fields, line, numbered}
+use Rattle.bsp_tool.specs.Lines.{field, line, numbered}
 
 -- the faults of a process, by number
 abbrev pub fault_word : Fault → List ℕ

@@ -1,7 +1,6 @@
-use Rattle.std.proofs.Common.{◌≡◌, ◌<◌, ◌+◌, ◌*◌, ◌^◌, ℕ, List, [], ◌∷◌, All, max, ap, sym, ◌∙◌, arith, take, length}
+use Rattle.std.proofs.Common.{◌<◌, ◌+◌, ◌*◌, ◌^◌, ℕ, List, [], ◌∷◌, All, max, ap, ◌∙◌, arith, take, length}
 use Rattle.std.proofs.lemmas.List.Elements.{All-head, All-tail, All-take, All-weaker}
 use Rattle.bsp_deliver.specs.declared.cost.Sums.{Sums}
-use Rattle.bsp_deliver.specs.Requests.{each_below}
 use Rattle.bsp_deliver.specs.Cost.{largest, h_relation}
 use Rattle.bsp_deliver.specs.Sums.{transfers_from}
 use Rattle.bsp_deliver.proofs.Counts.{sent_below, received_below, sent_over_all, received_over_all}

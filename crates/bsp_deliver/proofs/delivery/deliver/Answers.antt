@@ -1,10 +1,10 @@
-use Rattle.std.proofs.Common.{◌≡◌, ℕ, ◌==◌, ◌∙◌, ap, sym, arith, length, map, filter, List, get_or}
+use Rattle.std.proofs.Common.{◌≡◌, ℕ, ◌==◌, ◌∙◌, ap, sym, arith, length, map, filter, List}
 use Rattle.bsp_model.specs.declared.request.Get.{Get}
 use Rattle.bsp_model.specs.declared.request.Put.{Put}
 use Rattle.bsp_step.specs.OutcomeParts.{OutcomeParts}
-use Rattle.bsp_deliver.specs.Requests.{words_read, outcome_of, all_puts}
+use Rattle.bsp_deliver.specs.Requests.{words_read, all_puts}
 use Rattle.bsp_deliver.specs.Delivery.{overlay, get_write, put_write, delivery_parts, next_memory, next_queue}
-use Rattle.bsp_deliver.specs.Condition.{sizes_of, AreRequestsInside, IsGetInside}
+use Rattle.bsp_deliver.specs.Condition.{sizes_of, AreRequestsInside}
 use Rattle.bsp_deliver.proofs.Writes.{overlay-next_memory, length-overlay, length-next_memory}
 use Rattle.bsp_deliver.proofs.Senders.{outcome_of-item, sizes-get_or, at_item, map_twice}
 use Rattle.bsp_deliver.proofs.delivery.deliver.Goals as goal

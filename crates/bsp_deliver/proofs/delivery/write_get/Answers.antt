@@ -1,8 +1,7 @@
-use Rattle.std.proofs.Common.{◌≡◌, ◌+◌, ◌≤◌, ◌<◌, ◌∷◌, [], List, ℕ, length, sym, ap, ◌∙◌, arith, get_or}
+use Rattle.std.proofs.Common.{◌≡◌, ◌+◌, ◌≤◌, ◌<◌, List, ℕ, length, sym, ap, ◌∙◌, arith, get_or}
 use Rattle.bsp_model.specs.Memory.{memory_written}
 use Rattle.bsp_step.specs.OutcomeParts.{OutcomeParts}
 use Rattle.bsp_deliver.specs.Requests.{each_below, words_read}
-use Rattle.bsp_deliver.specs.Delivery.{overlay}
 use Rattle.bsp_deliver.proofs.Writes.{memory_written-overlay, length-words_read}
 use Rattle.bsp_deliver.proofs.Senders.{outcome_of-item, length-sizes_of}
 use Rattle.bsp_deliver.proofs.delivery.write_get.Goals as goal

@@ -1,4 +1,4 @@
-use Rattle.std.proofs.Common.{◌≡◌, true, false, not, sym, ◌∙◌}
+use Rattle.std.proofs.Common.{◌≡◌, false, not, sym, ◌∙◌}
 use Rattle.std.specs.List.{list_any}
 use Rattle.std.proofs.lemmas.Bool.{false≢true}
 use Rattle.bsp_step.specs.OutcomeParts.{OutcomeParts}

@@ -1,10 +1,8 @@
-use Rattle.std.proofs.Common.{◌≡◌, ◌<◌, length, map, sym, ap, ◌∙◌, arith, subst, All}
+use Rattle.std.proofs.Common.{◌<◌, length, map, sym, ap, ◌∙◌, arith}
 use Rattle.std.proofs.lemmas.Bool.{false≢true}
-use Rattle.bsp_model.specs.declared.request.Get.{Get}
 use Rattle.bsp_step.specs.OutcomeParts.{OutcomeParts}
 use Rattle.bsp_deliver.specs.Requests.{words_read, outcome_of}
 use Rattle.bsp_deliver.specs.Delivery.{delivery_parts}
-use Rattle.bsp_deliver.specs.Comparison.{IsReadable}
 use Rattle.bsp_deliver.proofs.Senders.{outcome_of-item, readable_gets}
 use Rattle.bsp_deliver.proofs.Comparing.{pairs_from, pairs_apart}
 use Rattle.bsp_deliver.proofs.same.answers_same.Goals as goal

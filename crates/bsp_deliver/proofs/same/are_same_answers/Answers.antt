@@ -1,4 +1,4 @@
-use Rattle.std.proofs.Common.{◌≡◌, ℕ, ◌<◌, [], List, length, map, sym, ap, ◌∙◌, get_or}
+use Rattle.std.proofs.Common.{◌≡◌, ℕ, [], List, sym, ap, ◌∙◌, get_or}
 use Rattle.std.proofs.lemmas.List.{get_or-map}
 use Rattle.bsp_model.specs.declared.request.Get.{Get}
 use Rattle.bsp_deliver.specs.Requests.{words_read}

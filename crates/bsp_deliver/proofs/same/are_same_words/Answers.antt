@@ -1,7 +1,6 @@
-use Rattle.std.proofs.Common.{◌≡◌, ℕ, ◌+◌, ◌<◌, sym, ap, ◌∙◌, refl, arith, get_or, below_more, List}
+use Rattle.std.proofs.Common.{◌≡◌, ℕ, ◌+◌, sym, ap, ◌∙◌, refl, arith, get_or, below_more, List}
 use Rattle.std.proofs.lemmas.Option.{get_or_from_slice_get}
 use Rattle.std.proofs.lemmas.List.FromFn.{get_or-map-range_with_len}
-use Rattle.bsp_deliver.specs.Requests.{each_below}
 use Rattle.bsp_deliver.proofs.Writes.{each_below-same}
 use Rattle.bsp_deliver.proofs.same.are_same_words.Goals as goal
 

@@ -1,4 +1,4 @@
-use Rattle.std.proofs.Common.{◌≡◌, ℕ, ◌+◌, ◌<◌, ◌≤◌, ◌++◌, ◌∷◌, [], ◌∙◌, ap, sym, arith, List, length, drop, subst, get_or, map, refl}
+use Rattle.std.proofs.Common.{◌≡◌, ℕ, ◌++◌, ◌∷◌, [], ◌∙◌, ap, sym, arith, List, length, drop, subst, map}
 use Rattle.std.proofs.lemmas.List.{length-map}
 use Rattle.std.proofs.lemmas.Grind.{common_steps}
 use Rattle.bsp_model.specs.declared.request.Message.{Message}
@@ -6,7 +6,7 @@ use Rattle.bsp_step.specs.ViewParts.{ViewParts, IsView}
 use Rattle.bsp_deliver.specs.Requests.{each_below}
 use Rattle.bsp_run.proofs.Lists.{each_below_more}
 use Rattle.bsp_run.specs.State.{view_of, views_of}
-use Rattle.bsp_run.specs.Opening.{state_of, view_with}
+use Rattle.bsp_run.specs.Opening.{state_of}
 use Rattle.bsp_run.proofs.Views.{view_within, first_left, view_with-at}
 use Rattle.bsp_run.proofs.opening.open_views.Goals as goal
 

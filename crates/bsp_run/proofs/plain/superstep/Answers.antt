@@ -1,8 +1,7 @@
-use Rattle.std.proofs.Common.{◌≡◌, ◌∙◌, ap, sym, subst, map, List}
+use Rattle.std.proofs.Common.{◌∙◌, ap, sym, subst, map, List}
 use Rattle.bsp_step.specs.ViewParts.{ViewParts}
-use Rattle.bsp_step.specs.OutcomeParts.{OutcomeParts}
 use Rattle.bsp_step.specs.Turn.{turn_of}
-use Rattle.bsp_run.specs.Run.{Run, open_views, after_turns, after_delivery}
+use Rattle.bsp_run.specs.Run.{Run, after_turns, after_delivery}
 use Rattle.bsp_run.specs.Condition.{AreOutcomesOf, is_turned}
 use Rattle.bsp_run.proofs.Runs.{views_shown-open, open_phase, advance-delivers, advance-ends}
 use Rattle.bsp_run.proofs.plain.superstep.Goals as goal

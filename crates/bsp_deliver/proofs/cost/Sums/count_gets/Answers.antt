@@ -1,4 +1,4 @@
-use Rattle.std.proofs.Common.{◌≡◌, ◌<◌, length, take, sym, arith, subst}
+use Rattle.std.proofs.Common.{◌<◌, length, take, sym, arith, subst}
 use Rattle.std.proofs.lemmas.List.{length-take-le}
 use Rattle.std.proofs.lemmas.List.Elements.{All-take}
 use Rattle.bsp_deliver.specs.declared.cost.Sums.{Sums}

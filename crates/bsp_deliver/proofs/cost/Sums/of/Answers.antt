@@ -1,4 +1,4 @@
-use Rattle.std.proofs.Common.{◌≡◌, ◌+◌, ◌*◌, ◌-◌, ap, ◌∙◌, arith, fold}
+use Rattle.std.proofs.Common.{◌+◌, ◌*◌, ◌-◌, ap, ◌∙◌, arith, fold}
 use Rattle.bsp_deliver.specs.declared.cost.Sums.{Sums}
 use Rattle.bsp_deliver.specs.Requests.{outcome_of}
 use Rattle.bsp_deliver.specs.Sums.{counted, no_words, transfers_of}

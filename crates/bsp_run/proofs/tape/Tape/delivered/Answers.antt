@@ -1,5 +1,4 @@
-use Rattle.std.proofs.Common.{◌≡◌, ◌+◌, ◌∙◌, ℕ, ap, sym, subst, length, map, arith, List, Option}
-use Rattle.bsp_table.specs.declared.area.Area.{Area}
+use Rattle.std.proofs.Common.{◌≡◌, ◌+◌, ◌∙◌, ℕ, ap, sym, subst, length, map, arith, List}
 use Rattle.bsp_table.specs.NextTable.{next_table}
 use Rattle.bsp_step.specs.OutcomeParts.{OutcomeParts}
 use Rattle.bsp_deliver.specs.SyncFault.{next_tag_size}

@@ -1,4 +1,4 @@
-use Rattle.std.proofs.Common.{◌≡◌, ◌∙◌, ap, sym, length, map, List, ◌++◌, ℕ, cond, Option, None, Some}
+use Rattle.std.proofs.Common.{◌≡◌, ◌∙◌, ap, sym, length, map, List, ◌++◌, cond, Option, None, Some}
 use Rattle.std.specs.Prelude.{option_map}
 use Rattle.std.proofs.lemmas.List.{length-map}
 use Rattle.bsp_model.specs.declared.cost.CostRow.{CostRow}
@@ -8,7 +8,6 @@ use Rattle.bsp_deliver.specs.Requests.{each_below}
 use Rattle.bsp_run.specs.declared.superstep.Superstep.{Superstep}
 use Rattle.bsp_run.specs.Run.{Run, is_limit}
 use Rattle.bsp_run.specs.TapeInside.{run_of}
-use Rattle.bsp_run.specs.Condition.{is_ended}
 use Rattle.bsp_run.specs.Result.{lines_of, lines_of_process, costs_of, cost_of_delivery, cost_of_end, total_of, turns_in, last_turn}
 use Rattle.bsp_run.proofs.tape.Tape.finish.Goals as goal
 

@@ -1,7 +1,7 @@
-use Rattle.std.proofs.Common.{◌≡◌, ℕ, ◌∙◌, ap, sym, List, [], refl, subst, map}
+use Rattle.std.proofs.Common.{◌∙◌, ap, sym, subst, map}
 use Rattle.bsp_model.proofs.Inputs.{lawful_input}
 use Rattle.bsp_run.specs.State.{no_messages}
-use Rattle.bsp_run.specs.Opening.{CanOpen, state_of}
+use Rattle.bsp_run.specs.Opening.{state_of}
 use Rattle.bsp_run.specs.State.{views_of}
 use Rattle.bsp_run.specs.Condition.{IsRun}
 use Rattle.bsp_run.proofs.Opens.{can_open_first, views_first, opened_first, start_is_run}

@@ -1,4 +1,4 @@
-use Rattle.std.proofs.Common.{◌≡◌, ◌≤◌, ◌<◌, ◌+◌, ◌*◌, ◌∙◌, ℕ, ap, List, length, take, sum_by, arith, All, get_or, sym, subst}
+use Rattle.std.proofs.Common.{◌≤◌, ◌*◌, ℕ, length, take, sum_by, arith, sym, subst}
 use Rattle.std.proofs.lemmas.List.Sums.{sum_by-le, sum_by-take-le}
 use Rattle.bsp_model.specs.declared.request.Message.{Message}
 use Rattle.bsp_step.proofs.ctx.messages.count_of_words.Goals as goal

@@ -1,4 +1,4 @@
-use Rattle.std.proofs.Common.{◌≡◌, ◌≤◌, ◌<◌, ◌-◌, ◌+◌, length, nat_lt, true, false, arith, sym, ◌∙◌, ap, subst}
+use Rattle.std.proofs.Common.{length, true, false, arith, sym, ◌∙◌, ap, subst}
 use Rattle.std.proofs.lemmas.Bool.{lt-ltb, le-ltb}
 use Rattle.bsp_table.specs.NextTable.{AreSlots}
 use Rattle.bsp_table.proofs.NextTables.{length-kept_slots, pops_differ, counts_differ, counts_agree}

@@ -1,6 +1,5 @@
-use Rattle.std.proofs.Common.{◌≡◌, ◌<◌, ◌++◌, ◌∷◌, [], ℕ, List, not, true, false, sym, ap, ◌∙◌, get_or}
+use Rattle.std.proofs.Common.{◌++◌, ◌∷◌, [], ℕ, not, sym, ap, ◌∙◌, get_or}
 use Rattle.std.proofs.lemmas.List.{get_or_read}
-use Rattle.bsp_table.specs.declared.area.Area.{Area}
 use Rattle.bsp_table.specs.NextTable.{is_popped}
 use Rattle.bsp_table.proofs.NextTables.{kept_more, kept_same, is_popped-one}
 use Rattle.bsp_table.proofs.table.Table.kept.Goals as goal

@@ -1,4 +1,4 @@
-use Rattle.std.proofs.Common.{◌≡◌, ◌==◌, map, filter, not, [], get_or, ◌∷◌}
+use Rattle.std.proofs.Common.{◌≡◌, map, filter, not, [], get_or, ◌∷◌}
 use Rattle.std.specs.List.{range_with_len}
 use Rattle.bsp_table.specs.NextTable.{is_popped}
 use Rattle.bsp_table.proofs.table.Table.kept.Given as goal

@@ -1,10 +1,10 @@
-use Rattle.std.proofs.Common.{◌≡◌, ◌≤◌, ◌<◌, ◌+◌, ◌++◌, ◌∷◌, [], ℕ, List, length, map, All, None, sym, ap, ◌∙◌, subst, arith, rules, get_or}
+use Rattle.std.proofs.Common.{◌≡◌, ◌≤◌, ◌++◌, ◌∷◌, [], List, length, map, None, sym, ap, ◌∙◌, subst, arith, rules}
 use Rattle.std.specs.List.{range_with_len}
 use Rattle.std.proofs.lemmas.List.{length-map, append_assoc}
 use Rattle.std.proofs.lemmas.List.Elements.{All-map}
 use Rattle.std.proofs.lemmas.List.FromFn.{map-range_with_len_more}
 use Rattle.bsp_table.specs.declared.area.Area.{Area}
-use Rattle.bsp_table.specs.NextTable.{table_fault, next_table, kept_slots, pushed_slot, pushed_slots, count_of_pushes, AreFull, AreSlotsInside, AreSlotsWithin, AreWithin}
+use Rattle.bsp_table.specs.NextTable.{table_fault, kept_slots, pushed_slot, pushed_slots, count_of_pushes, AreFull, AreSlotsInside, AreSlotsWithin, AreWithin}
 use Rattle.bsp_table.proofs.NextTables.{count_of_all, kept_of_all, count_of_pushes-map, full_after, few_after, inside_after, within_after}
 use Rattle.bsp_table.proofs.table.Table.synced.Goals as goal
 
