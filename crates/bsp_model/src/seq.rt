@@ -1,6 +1,6 @@
 //! A list of values, kept in a `Vec`.
 
-ghost use Rattle.std.specs.Prelude.{◌≡◌, ◌++◌, ◌-◌, ◌∷◌, [], length, take, IfOk, OnErr, OnOk, nat_eq, option_to_list};
+ghost use Rattle.std.specs.Prelude.{◌≡◌, ◌++◌, ◌-◌, ◌∷◌, [], length, take, IfOk, OnErr, OnOk, nat_eq, option_to_list, slice_set};
 
 use crate::{OutOfMemory, Same, TryCopy};
 use std::alloc::Global;
@@ -79,6 +79,15 @@ impl<T: Drop> Seq<T> {
     {
         self.items.push(item)?;
         Ok(())
+    }
+
+    /// Makes `item` the one at a place. Nothing changes where there is no such place.
+    pub fn set(&mut self, at: usize, item: T)
+        ensures { self.new ≡ slice_set self.old at item }
+    {
+        if at < self.items.len() {
+            self.items[at] = item;
+        }
     }
 
     /// Takes the last item away, if there is one, and answers it.

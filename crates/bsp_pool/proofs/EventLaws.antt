@@ -7,12 +7,13 @@ use Rattle.bsp_pool.specs.declared.event.Event.{Event}
 use Rattle.bsp_pool.specs.declared.event.Event.TheVariants.{Draw, Ran, Left, Turn}
 use Rattle.bsp_pool.specs.declared.round.Worker.{Worker}
 use Rattle.bsp_pool.specs.declared.round.Worker.TheVariants.{Ready, Holding, PastEnd, Gone}
-use Rattle.bsp_pool.specs.Rounds.{OpenPhase, Machine, with_round, inputs_of, turned, is_gone, after_draw, after_run, after_leave, round_step, step, IsSound}
+use Rattle.bsp_pool.specs.Rounds.{RoundParts, is_gone, after_draw, after_run, after_leave}
+use Rattle.bsp_pool.specs.Machine.{Machine, with_round, inputs_of, turned, round_step, step, IsSound}
 use Rattle.bsp_pool.specs.EventLists.{draws_after, draws_after_all, KeepsRounds}
 use Rattle.bsp_pool.proofs.RoundSteps.{some-inj, after_draw_sound, after_run_sound, after_leave_sound, round_sound, turned_sound}
 
--- what an allowed event on the open phase leaves
-mapped : {Job In Out : Type 0} (m n : Machine Job In Out) (o : Option (OpenPhase Out)) → option_map (with_round m) o ≡ Some n → (q : OpenPhase Out) × (o ≡ Some q) × (with_round m q ≡ n)
+-- what an allowed event of the open round leaves
+mapped : {Job In Out : Type 0} (m n : Machine Job In Out) (o : Option (RoundParts Out)) → option_map (with_round m) o ≡ Some n → (q : RoundParts Out) × (o ≡ Some q) × (with_round m q ≡ n)
 mapped m n None e = absurd (cc)
 mapped m n (Some q) e = (q, refl, some-inj e)
 
@@ -21,41 +22,41 @@ turned_to : {M : Type 0} (b : Bool) (t n : M) → (if b then Some t else None) �
 turned_to true t n e = some-inj e
 turned_to false t n e = absurd (cc)
 
-draw_adds : {Out : Type 0} (inputs : ℕ) (p q : OpenPhase Out) (w : ℕ) (o : Option Worker) → after_draw inputs p w o ≡ Some q → length q.draws ≡ length p.draws + 1
+draw_adds : {Out : Type 0} (inputs : ℕ) (p q : RoundParts Out) (w : ℕ) (o : Option Worker) → after_draw inputs p w o ≡ Some q → length q.draws ≡ length p.draws + 1
 draw_adds inputs p q w None e = absurd (cc)
-draw_adds inputs p q w (Some Ready) e = ap (λ (s : OpenPhase _). length s.draws) (sym (some-inj e)) ∙ length-append p.draws (w ∷ [])
+draw_adds inputs p q w (Some Ready) e = ap (λ (s : RoundParts _). length s.draws) (sym (some-inj e)) ∙ length-append p.draws (w ∷ [])
 draw_adds inputs p q w (Some (Holding n)) e = absurd (cc)
 draw_adds inputs p q w (Some PastEnd) e = absurd (cc)
 draw_adds inputs p q w (Some Gone) e = absurd (cc)
 
-run_adds : {In Out : Type 0} (does : In → Out) (inputs : List In) (p q : OpenPhase Out) (w : ℕ) (o : Option Worker) → after_run does inputs p w o ≡ Some q → length q.draws ≡ length p.draws
+run_adds : {In Out : Type 0} (does : In → Out) (inputs : List In) (p q : RoundParts Out) (w : ℕ) (o : Option Worker) → after_run does inputs p w o ≡ Some q → length q.draws ≡ length p.draws
 run_adds does inputs p q w None e = absurd (cc)
 run_adds does inputs p q w (Some Ready) e = absurd (cc)
-run_adds does inputs p q w (Some (Holding n)) e = ap (λ (s : OpenPhase _). length s.draws) (sym (some-inj e))
+run_adds does inputs p q w (Some (Holding n)) e = ap (λ (s : RoundParts _). length s.draws) (sym (some-inj e))
 run_adds does inputs p q w (Some PastEnd) e = absurd (cc)
 run_adds does inputs p q w (Some Gone) e = absurd (cc)
 
-leave_adds : {Out : Type 0} (p q : OpenPhase Out) (w : ℕ) (o : Option Worker) → after_leave p w o ≡ Some q → length q.draws ≡ length p.draws
+leave_adds : {Out : Type 0} (p q : RoundParts Out) (w : ℕ) (o : Option Worker) → after_leave p w o ≡ Some q → length q.draws ≡ length p.draws
 leave_adds p q w None e = absurd (cc)
 leave_adds p q w (Some Gone) e = absurd (cc)
-leave_adds p q w (Some Ready) e = ap (λ (s : OpenPhase _). length s.draws) (sym (some-inj e))
-leave_adds p q w (Some (Holding n)) e = ap (λ (s : OpenPhase _). length s.draws) (sym (some-inj e))
-leave_adds p q w (Some PastEnd) e = ap (λ (s : OpenPhase _). length s.draws) (sym (some-inj e))
+leave_adds p q w (Some Ready) e = ap (λ (s : RoundParts _). length s.draws) (sym (some-inj e))
+leave_adds p q w (Some (Holding n)) e = ap (λ (s : RoundParts _). length s.draws) (sym (some-inj e))
+leave_adds p q w (Some PastEnd) e = ap (λ (s : RoundParts _). length s.draws) (sym (some-inj e))
 
 round_step_keeps : {Job In Out : Type 0} (does : In → Out) (m n : Machine Job In Out) (e : Event) → IsSound does m → length m.committed < length m.phases → round_step does m e ≡ Some n → IsSound does n × (length n.round.draws ≡ draws_after (Some n) e (length m.round.draws))
 round_step_keeps {Out = Out} does m n (Draw w) h lt is =
     let o = mapped m n (after_draw (length (inputs_of m)) m.round w (slice_get m.round.workers w)) is in (
-      subst (IsSound does) o.2 (round_sound does m o.0 h (after_draw_sound does (inputs_of m) m.round o.0 w (slice_get m.round.workers w) h.phase o.1)),
+      subst (IsSound does) o.2 (round_sound does m o.0 h (after_draw_sound does (inputs_of m) m.round o.0 w (slice_get m.round.workers w) h.round o.1)),
       ap (λ (k : Machine _ _ Out). length k.round.draws) (sym o.2) ∙ draw_adds (length (inputs_of m)) m.round o.0 w (slice_get m.round.workers w) o.1,
     )
 round_step_keeps {Out = Out} does m n (Ran w) h lt is =
     let o = mapped m n (after_run does (inputs_of m) m.round w (slice_get m.round.workers w)) is in (
-      subst (IsSound does) o.2 (round_sound does m o.0 h (after_run_sound does (inputs_of m) m.round o.0 w (slice_get m.round.workers w) refl h.phase o.1)),
+      subst (IsSound does) o.2 (round_sound does m o.0 h (after_run_sound does (inputs_of m) m.round o.0 w (slice_get m.round.workers w) refl h.round o.1)),
       ap (λ (k : Machine _ _ Out). length k.round.draws) (sym o.2) ∙ run_adds does (inputs_of m) m.round o.0 w (slice_get m.round.workers w) o.1,
     )
 round_step_keeps {Out = Out} does m n (Left w) h lt is =
     let o = mapped m n (after_leave m.round w (slice_get m.round.workers w)) is in (
-      subst (IsSound does) o.2 (round_sound does m o.0 h (after_leave_sound does (inputs_of m) m.round o.0 w (slice_get m.round.workers w) h.phase o.1)),
+      subst (IsSound does) o.2 (round_sound does m o.0 h (after_leave_sound does (inputs_of m) m.round o.0 w (slice_get m.round.workers w) h.round o.1)),
       ap (λ (k : Machine _ _ Out). length k.round.draws) (sym o.2) ∙ leave_adds m.round o.0 w (slice_get m.round.workers w) o.1,
     )
 round_step_keeps {Out = Out} does m n Turn h lt is =

@@ -8,7 +8,8 @@ use Rattle.bsp_pool.specs.declared.round.Worker.{Worker}
 use Rattle.bsp_pool.specs.declared.round.Worker.TheVariants.{Ready, Holding, PastEnd, Gone}
 use Rattle.bsp_pool.specs.declared.event.CoreRefusal.{CoreRefusal}
 use Rattle.bsp_pool.specs.declared.event.CoreRefusal.TheVariants.{NotNow, OutOfMemory}
-use Rattle.bsp_pool.specs.Rounds.{OpenPhase, Machine, starting, with_round, inputs_of, opened, turned, Applies, after_draw, after_run, after_leave, number_of, finished, IsPhaseSound, IsSound}
+use Rattle.bsp_pool.specs.Rounds.{RoundParts, opened, Applies, after_draw, after_run, after_leave, number_of, finished, IsRoundSound}
+use Rattle.bsp_pool.specs.Machine.{Machine, starting, with_round, inputs_of, turned, IsSound}
 
 pub some-inj : {X : Type 0} {x y : X} → Some x ≡ Some y → x ≡ y
 some-inj e = cc
@@ -53,8 +54,8 @@ get-replicate_within zero k y lt = absurd (omega arith)
 get-replicate_within (suc n) zero y lt = refl
 get-replicate_within (suc n) (suc k) y lt = get-replicate_within n k y (omega arith)
 
--- a phase that opens is sound
-pub opened_sound : {In Out : Type 0} (does : In → Out) (inputs : List In) (workers : ℕ) → IsPhaseSound does inputs (opened (length inputs) workers)
+-- a round that opens is sound
+pub opened_sound : {In Out : Type 0} (does : In → Out) (inputs : List In) (workers : ℕ) → IsRoundSound does inputs (opened (length inputs) workers)
 opened_sound {Out = Out} does inputs workers = record {
   places = length-replicate (length inputs) None;
   kept = λ n out e. let bad = get-replicate {X = Option Out} (length inputs) n None (Some out) e in absurd (cc);
@@ -71,8 +72,8 @@ taken_number a b n e =
     (cases_lt a b)
 
 -- Draw
-drawn_sound : {In Out : Type 0} (does : In → Out) (inputs : List In) (p : OpenPhase Out) (w : ℕ) → IsPhaseSound does inputs p
-    → IsPhaseSound does inputs (record p { draws = p.draws ++ w ∷ []; workers = slice_set p.workers w (if nat_lt (length p.draws) (length inputs) then Holding (length p.draws) else PastEnd) })
+drawn_sound : {In Out : Type 0} (does : In → Out) (inputs : List In) (p : RoundParts Out) (w : ℕ) → IsRoundSound does inputs p
+    → IsRoundSound does inputs (record p { draws = p.draws ++ w ∷ []; workers = slice_set p.workers w (if nat_lt (length p.draws) (length inputs) then Holding (length p.draws) else PastEnd) })
 drawn_sound does inputs p w h =
     let x : Worker = if nat_lt (length p.draws) (length inputs) then Holding (length p.draws) else PastEnd in
     let long = length-append p.draws (w ∷ []) in
@@ -92,8 +93,8 @@ drawn_sound does inputs p w h =
     }
 
 -- Ran
-ran_sound : {In Out : Type 0} (does : In → Out) (inputs : List In) (p : OpenPhase Out) (w n : ℕ) → IsPhaseSound does inputs p → slice_get p.workers w ≡ Some (Holding n)
-    → IsPhaseSound does inputs (record p { workers = slice_set p.workers w Ready; outputs = slice_set p.outputs n (option_map does (slice_get inputs n)) })
+ran_sound : {In Out : Type 0} (does : In → Out) (inputs : List In) (p : RoundParts Out) (w n : ℕ) → IsRoundSound does inputs p → slice_get p.workers w ≡ Some (Holding n)
+    → IsRoundSound does inputs (record p { workers = slice_set p.workers w Ready; outputs = slice_set p.outputs n (option_map does (slice_get inputs n)) })
 ran_sound {Out = Out} does inputs p w n h at =
     let y : Option Out = option_map does (slice_get inputs n) in
     let mine = h.held w n at in
@@ -119,7 +120,7 @@ ran_sound {Out = Out} does inputs p w n h at =
     }
 
 -- Left
-left_sound : {In Out : Type 0} (does : In → Out) (inputs : List In) (p : OpenPhase Out) (w : ℕ) → IsPhaseSound does inputs p → IsPhaseSound does inputs (record p { workers = slice_set p.workers w Gone })
+left_sound : {In Out : Type 0} (does : In → Out) (inputs : List In) (p : RoundParts Out) (w : ℕ) → IsRoundSound does inputs p → IsRoundSound does inputs (record p { workers = slice_set p.workers w Gone })
 left_sound does inputs p w h = record {
   places = h.places;
   kept = h.kept;
@@ -145,38 +146,38 @@ applied_keeps P next old (Ok u) new before after a = after new a
 applied_keeps P next old (Err NotNow) new before after a = subst P (sym a.1) before
 applied_keeps P next old (Err OutOfMemory) new before after a = subst P (sym a.1) before
 
-pub after_draw_sound : {In Out : Type 0} (does : In → Out) (inputs : List In) (p q : OpenPhase Out) (w : ℕ) (o : Option Worker) → IsPhaseSound does inputs p → after_draw (length inputs) p w o ≡ Some q → IsPhaseSound does inputs q
+pub after_draw_sound : {In Out : Type 0} (does : In → Out) (inputs : List In) (p q : RoundParts Out) (w : ℕ) (o : Option Worker) → IsRoundSound does inputs p → after_draw (length inputs) p w o ≡ Some q → IsRoundSound does inputs q
 after_draw_sound does inputs p q w None h e = absurd (cc)
-after_draw_sound does inputs p q w (Some Ready) h e = subst (IsPhaseSound does inputs) (some-inj e) (drawn_sound does inputs p w h)
+after_draw_sound does inputs p q w (Some Ready) h e = subst (IsRoundSound does inputs) (some-inj e) (drawn_sound does inputs p w h)
 after_draw_sound does inputs p q w (Some (Holding n)) h e = absurd (cc)
 after_draw_sound does inputs p q w (Some PastEnd) h e = absurd (cc)
 after_draw_sound does inputs p q w (Some Gone) h e = absurd (cc)
 
-pub draw_sound : {In Out U : Type 0} (does : In → Out) (inputs : List In) (p q : OpenPhase Out) (w : ℕ) (r : Result U CoreRefusal) → IsPhaseSound does inputs p → Applies (after_draw (length inputs) p w (slice_get p.workers w)) p r q → IsPhaseSound does inputs q
+pub draw_sound : {In Out U : Type 0} (does : In → Out) (inputs : List In) (p q : RoundParts Out) (w : ℕ) (r : Result U CoreRefusal) → IsRoundSound does inputs p → Applies (after_draw (length inputs) p w (slice_get p.workers w)) p r q → IsRoundSound does inputs q
 draw_sound does inputs p q w r h a =
-    applied_keeps (IsPhaseSound does inputs) (after_draw (length inputs) p w (slice_get p.workers w)) p r q h (λ s e. after_draw_sound does inputs p s w (slice_get p.workers w) h e) a
+    applied_keeps (IsRoundSound does inputs) (after_draw (length inputs) p w (slice_get p.workers w)) p r q h (λ s e. after_draw_sound does inputs p s w (slice_get p.workers w) h e) a
 
-pub after_leave_sound : {In Out : Type 0} (does : In → Out) (inputs : List In) (p q : OpenPhase Out) (w : ℕ) (o : Option Worker) → IsPhaseSound does inputs p → after_leave p w o ≡ Some q → IsPhaseSound does inputs q
+pub after_leave_sound : {In Out : Type 0} (does : In → Out) (inputs : List In) (p q : RoundParts Out) (w : ℕ) (o : Option Worker) → IsRoundSound does inputs p → after_leave p w o ≡ Some q → IsRoundSound does inputs q
 after_leave_sound does inputs p q w None h e = absurd (cc)
 after_leave_sound does inputs p q w (Some Gone) h e = absurd (cc)
-after_leave_sound does inputs p q w (Some Ready) h e = subst (IsPhaseSound does inputs) (some-inj e) (left_sound does inputs p w h)
-after_leave_sound does inputs p q w (Some (Holding n)) h e = subst (IsPhaseSound does inputs) (some-inj e) (left_sound does inputs p w h)
-after_leave_sound does inputs p q w (Some PastEnd) h e = subst (IsPhaseSound does inputs) (some-inj e) (left_sound does inputs p w h)
+after_leave_sound does inputs p q w (Some Ready) h e = subst (IsRoundSound does inputs) (some-inj e) (left_sound does inputs p w h)
+after_leave_sound does inputs p q w (Some (Holding n)) h e = subst (IsRoundSound does inputs) (some-inj e) (left_sound does inputs p w h)
+after_leave_sound does inputs p q w (Some PastEnd) h e = subst (IsRoundSound does inputs) (some-inj e) (left_sound does inputs p w h)
 
-pub leave_sound : {In Out U : Type 0} (does : In → Out) (inputs : List In) (p q : OpenPhase Out) (w : ℕ) (r : Result U CoreRefusal) → IsPhaseSound does inputs p → Applies (after_leave p w (slice_get p.workers w)) p r q → IsPhaseSound does inputs q
+pub leave_sound : {In Out U : Type 0} (does : In → Out) (inputs : List In) (p q : RoundParts Out) (w : ℕ) (r : Result U CoreRefusal) → IsRoundSound does inputs p → Applies (after_leave p w (slice_get p.workers w)) p r q → IsRoundSound does inputs q
 leave_sound does inputs p q w r h a =
-    applied_keeps (IsPhaseSound does inputs) (after_leave p w (slice_get p.workers w)) p r q h (λ s e. after_leave_sound does inputs p s w (slice_get p.workers w) h e) a
+    applied_keeps (IsRoundSound does inputs) (after_leave p w (slice_get p.workers w)) p r q h (λ s e. after_leave_sound does inputs p s w (slice_get p.workers w) h e) a
 
-pub after_run_sound : {In Out : Type 0} (does : In → Out) (inputs : List In) (p q : OpenPhase Out) (w : ℕ) (o : Option Worker) → slice_get p.workers w ≡ o → IsPhaseSound does inputs p → after_run does inputs p w o ≡ Some q → IsPhaseSound does inputs q
+pub after_run_sound : {In Out : Type 0} (does : In → Out) (inputs : List In) (p q : RoundParts Out) (w : ℕ) (o : Option Worker) → slice_get p.workers w ≡ o → IsRoundSound does inputs p → after_run does inputs p w o ≡ Some q → IsRoundSound does inputs q
 after_run_sound does inputs p q w None at h e = absurd (cc)
 after_run_sound does inputs p q w (Some Ready) at h e = absurd (cc)
-after_run_sound does inputs p q w (Some (Holding n)) at h e = subst (IsPhaseSound does inputs) (some-inj e) (ran_sound does inputs p w n h at)
+after_run_sound does inputs p q w (Some (Holding n)) at h e = subst (IsRoundSound does inputs) (some-inj e) (ran_sound does inputs p w n h at)
 after_run_sound does inputs p q w (Some PastEnd) at h e = absurd (cc)
 after_run_sound does inputs p q w (Some Gone) at h e = absurd (cc)
 
--- the machine is sound with another sound phase
-pub round_sound : {Job In Out : Type 0} (does : In → Out) (m : Machine Job In Out) (q : OpenPhase Out) → IsSound does m → IsPhaseSound does (inputs_of m) q → IsSound does (with_round m q)
-round_sound does m q h phase = record { count = h.count; rows = h.rows; phase = phase }
+-- the machine is sound with another sound round
+pub round_sound : {Job In Out : Type 0} (does : In → Out) (m : Machine Job In Out) (q : RoundParts Out) → IsSound does m → IsRoundSound does (inputs_of m) q → IsSound does (with_round m q)
+round_sound does m q h sound = record { count = h.count; rows = h.rows; round = sound }
 
 pub number_of-some : (o : Option Worker) (n : ℕ) → Some n ≡ number_of o → o ≡ Some (Holding n)
 number_of-some None n e = absurd (cc)
@@ -186,7 +187,7 @@ number_of-some (Some PastEnd) n e = absurd (cc)
 number_of-some (Some Gone) n e = absurd (cc)
 
 -- a number that is held is that of an input
-pub held_within : {In Out : Type 0} (does : In → Out) (inputs : List In) (p : OpenPhase Out) (w n : ℕ) → IsPhaseSound does inputs p → Some n ≡ number_of (slice_get p.workers w) → (w < length p.workers) × (n < length p.outputs) × (n < length inputs)
+pub held_within : {In Out : Type 0} (does : In → Out) (inputs : List In) (p : RoundParts Out) (w n : ℕ) → IsRoundSound does inputs p → Some n ≡ number_of (slice_get p.workers w) → (w < length p.workers) × (n < length p.outputs) × (n < length inputs)
 held_within does inputs p w n h is =
     let at = number_of-some (slice_get p.workers w) n is in
     let there = slice_get_within p.workers w (Holding n) at in
@@ -197,36 +198,36 @@ held_within does inputs p w n h is =
 output_is : {In Out : Type 0} (does : In → Out) (inputs : List In) (n : ℕ) (x : In) (out : Out) → n < length inputs → x ≡ slice_index_or inputs n x → out ≡ does x → option_map does (slice_get inputs n) ≡ Some out
 output_is does inputs n x out lt at is = ap (option_map does) (slice_get-get_or inputs n x lt ∙ ap Some (sym at)) ∙ ap Some (sym is)
 
-pub run_sound : {In Out : Type 0} (does : In → Out) (inputs : List In) (p q : OpenPhase Out) (w n : ℕ) (x : In) (out : Out) → IsPhaseSound does inputs p → Some n ≡ number_of (slice_get p.workers w)
-    → x ≡ slice_index_or inputs n x → out ≡ does x → q ≡ record p { workers = slice_set p.workers w Ready; outputs = slice_set p.outputs n (Some out) } → IsPhaseSound does inputs q
+pub run_sound : {In Out : Type 0} (does : In → Out) (inputs : List In) (p q : RoundParts Out) (w n : ℕ) (x : In) (out : Out) → IsRoundSound does inputs p → Some n ≡ number_of (slice_get p.workers w)
+    → x ≡ slice_index_or inputs n x → out ≡ does x → q ≡ record p { workers = slice_set p.workers w Ready; outputs = slice_set p.outputs n (Some out) } → IsRoundSound does inputs q
 run_sound {Out = Out} does inputs p q w n x out h is at done new =
     let made = output_is does inputs n x out (held_within does inputs p w n h is).2 at done in
-    let P : Option Out → Type 0 = λ o. IsPhaseSound does inputs (record p { workers = slice_set p.workers w Ready; outputs = slice_set p.outputs n o }) in
-    subst (IsPhaseSound does inputs) (sym new) (subst P made (ran_sound does inputs p w n h (number_of-some (slice_get p.workers w) n is)))
+    let P : Option Out → Type 0 = λ o. IsRoundSound does inputs (record p { workers = slice_set p.workers w Ready; outputs = slice_set p.outputs n o }) in
+    subst (IsRoundSound does inputs) (sym new) (subst P made (ran_sound does inputs p w n h (number_of-some (slice_get p.workers w) n is)))
 
-pub run_steps : {Job In Out : Type 0} (does : In → Out) (m : Machine Job In Out) (q : OpenPhase Out) (w n : ℕ) (x : In) (out : Out) → IsPhaseSound does (inputs_of m) m.round → Some n ≡ number_of (slice_get m.round.workers w)
+pub run_steps : {Job In Out : Type 0} (does : In → Out) (m : Machine Job In Out) (q : RoundParts Out) (w n : ℕ) (x : In) (out : Out) → IsRoundSound does (inputs_of m) m.round → Some n ≡ number_of (slice_get m.round.workers w)
     → x ≡ slice_index_or (inputs_of m) n x → out ≡ does x → q ≡ record m.round { workers = slice_set m.round.workers w Ready; outputs = slice_set m.round.outputs n (Some out) }
     → option_map (with_round m) (after_run does (inputs_of m) m.round w (slice_get m.round.workers w)) ≡ Some (with_round m q)
 run_steps {Out = Out} does m q w n x out h is at done new =
     let made = output_is does (inputs_of m) n x out (held_within does (inputs_of m) m.round w n h is).2 at done in
     ap (λ (o : Option Worker). option_map (with_round m) (after_run does (inputs_of m) m.round w o)) (number_of-some (slice_get m.round.workers w) n is)
     ∙ (ap (λ (o : Option Out). Some (with_round m (record m.round { workers = slice_set m.round.workers w Ready; outputs = slice_set m.round.outputs n o }))) made
-    ∙ ap (λ (p : OpenPhase Out). Some (with_round m p)) (sym new))
+    ∙ ap (λ (p : RoundParts Out). Some (with_round m p)) (sym new))
 
 -- Turn
 pub turned_sound : {Job In Out : Type 0} (does : In → Out) (m : Machine Job In Out) → IsSound does m → length m.committed < length m.phases → IsSound does (turned does m)
 turned_sound {In = In} {Out = Out} does m h lt =
     let k = length m.committed in
     let row = finished does (inputs_of m) m.round.outputs in
-    let same : row ≡ map does (inputs_of m) = finished-kept does (inputs_of m) m.round.outputs h.phase.places h.phase.kept in
+    let same : row ≡ map does (inputs_of m) = finished-kept does (inputs_of m) m.round.outputs h.round.places h.round.kept in
     let long : length (m.committed ++ row ∷ []) ≡ k + 1 = length-append m.committed (row ∷ []) in
-    let P : List In → Type 0 = λ inputs. IsPhaseSound does inputs (opened (length (slice_index_or m.phases (k + 1) [])) (length m.round.workers)) in
+    let P : List In → Type 0 = λ inputs. IsRoundSound does inputs (opened (length (slice_index_or m.phases (k + 1) [])) (length m.round.workers)) in
     record {
       count = omega arith;
       rows = ap (λ (l : List (List Out)). l ++ row ∷ []) h.rows ∙ (ap (λ (r : List Out). map (map does) (take k m.phases) ++ r ∷ []) same ∙ (sym (map_more (map does) m.phases k [] lt) ∙ ap (λ (n : ℕ). map (map does) (take n m.phases)) (sym long)));
-      phase = subst P (ap (λ (n : ℕ). slice_index_or m.phases n []) (sym long)) (opened_sound does (slice_index_or m.phases (k + 1) []) (length m.round.workers));
+      round = subst P (ap (λ (n : ℕ). slice_index_or m.phases n []) (sym long)) (opened_sound does (slice_index_or m.phases (k + 1) []) (length m.round.workers));
     }
 
 -- the machine at the start
 pub starting_sound : {Job In Out : Type 0} (does : In → Out) (work : Job) (phases : List (List In)) (workers : ℕ) → IsSound does (starting work phases workers)
-starting_sound does work phases workers = record { count = omega arith; rows = refl; phase = opened_sound does (slice_index_or phases 0 []) workers }
+starting_sound does work phases workers = record { count = omega arith; rows = refl; round = opened_sound does (slice_index_or phases 0 []) workers }

@@ -3,7 +3,8 @@ use Rattle.std.proofs.lemmas.List.{take_all}
 use Rattle.std.proofs.Common.{◌≡◌, ℕ, zero, suc, ◌<◌, ◌≤◌, ◌+◌, take, List, [], ◌∷◌, ◌++◌, length, refl, sym, ap, ◌∙◌, arith}
 use Rattle.std.specs.Prelude.{Option, Some, None, slice_get, slice_index_or}
 use Rattle.bsp_pool.specs.Turning.{made_unless, missing_of, merged_of}
-use Rattle.bsp_pool.specs.Rounds.{OpenPhase, Machine, machine, inputs_of, opened, finished, turned}
+use Rattle.bsp_pool.specs.Rounds.{RoundParts, opened, finished}
+use Rattle.bsp_pool.specs.Machine.{Machine, machine, inputs_of, turned}
 use Rattle.bsp_pool.proofs.PieceLists.{output_more}
 
 pub length-missing_of : {In Out : Type 0} (does : In → Out) (xs : List In) (os : List (Option Out)) → length (missing_of does xs os) ≡ length xs
@@ -36,7 +37,7 @@ missing_of-more does xs os k made x o out lt same so_far at at' is =
     (slice_get-missing_of does xs os k x o lt same ∙ ap Some (ap (λ o. made_unless o (does (slice_index_or xs k x))) (sym at') ∙ (ap (λ x. made_unless o (does x)) (sym at) ∙ sym is)))
 
 -- what a Turn leaves is the machine turned
-pub turned-is : {Job In Out : Type 0} (does : In → Out) (m : Machine Job In Out) (done : List (List Out)) (next : OpenPhase Out) (row : List Out) (inputs : List In) (kept made : List (Option Out)) → length m.round.outputs ≡ length (inputs_of m)
+pub turned-is : {Job In Out : Type 0} (does : In → Out) (m : Machine Job In Out) (done : List (List Out)) (next : RoundParts Out) (row : List Out) (inputs : List In) (kept made : List (Option Out)) → length m.round.outputs ≡ length (inputs_of m)
     → inputs ≡ inputs_of m → kept ≡ m.round.outputs → made ≡ missing_of does inputs kept → row ≡ merged_of m.round.outputs made → done ≡ m.committed ++ row ∷ [] → next ≡ opened (length (slice_index_or m.phases (length m.committed + 1) [])) (length m.round.workers)
     → machine m.work m.phases done next ≡ turned does m
 turned-is does m done next row inputs kept made places inputs-is kept-is made-is row-is done-is next-is =

@@ -1,4 +1,5 @@
--- The rule between any two steps on the claim word, and what each kind of step does. This profile's own.
+-- The rule between any two steps on the claim word, and what each kind of step does to the view of the pass that makes it.
+-- Passes.antt says the same of passes, as callers see them: a view doesn't know its deck. This profile's own.
 use Rattle.std.specs.Prelude.{◌≡◌, ℕ, ◌+◌, ◌*◌, ◌<◌, ◌≤◌, nat_lt, if◌then◌else◌, List, [], ◌∷◌, ◌++◌, length, slice_index, All}
 use mathlib.Core.Option.{some}
 use lib.ListN.{get_elem?}

@@ -3,6 +3,7 @@ pub mod Claim
 pub mod Passes
 pub mod Pieces
 pub mod Rounds
+pub mod Machine
 pub mod Turning
 pub mod EventLists
 pub mod Refusals

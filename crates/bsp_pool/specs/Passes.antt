@@ -1,4 +1,4 @@
--- What contracts see of a pass. This profile's own.
+-- What contracts see of a pass: its deck, and what its view in Claim.antt has. This profile's own.
 use Rattle.std.specs.Prelude.{◌≡◌, ℕ, ◌+◌, ◌≤◌, List, [], ◌∷◌, ◌++◌, length}
 use Rattle.atomic_table.specs.Seated.{TableId}
 use Rattle.bsp_pool.specs.Numbers.{units_kept, units_given}

@@ -1,4 +1,4 @@
-// The rule of the claim word, and the kinds of step that passes make on it.
+//! The rule of the claim word, and the kinds of step that passes make on it.
 
 use crate::pass_view::PassView;
 use atomic_table::{Join, Play, Split, TableRule};
@@ -15,7 +15,7 @@ impl TableRule<u8, PassView, ()> for ClaimRule {
     ghost first = { λ _. view_of all_units [] };
 }
 
-// A draw: one `fetch_add` of 1.
+/// A draw: one `fetch_add` of 1.
 pub(crate) struct Draw;
 
 impl Play<u8, PassView> for Draw {
@@ -25,7 +25,7 @@ impl Play<u8, PassView> for Draw {
     ghost then = { λ _ before found after. Draws before.0 found after.0 × (after.1 ≡ before.1) };
 }
 
-// A load, which tells a pass that its numbers are distinct and below the word.
+/// A load, which tells a pass that its numbers are distinct and below the word.
 pub(crate) struct Look;
 
 impl Play<u8, PassView> for Look {
@@ -35,7 +35,7 @@ impl Play<u8, PassView> for Look {
     ghost then = { λ _ before found after. Looks before.0 found after.0 × (after.1 ≡ before.1) };
 }
 
-// A pass is made of another, which may give it one unit.
+/// A pass is made of another, which may give it one unit.
 pub(crate) struct ShareUnit;
 
 impl Split<PassView> for ShareUnit {
@@ -46,7 +46,7 @@ impl Split<PassView> for ShareUnit {
     ghost right = { given_view };
 }
 
-// A pass takes in another, which is spent.
+/// A pass takes in another, which is spent.
 pub(crate) struct JoinPasses;
 
 impl Join<PassView> for JoinPasses {

@@ -1,3 +1,5 @@
+//! A phase, by the thread that calls it.
+
 ghost use Rattle.std.specs.Prelude.{◌≡◌, ◌<◌, ◌≤◌, All, IfOk, Some, map, length, slice_get};
 ghost use Rattle.bsp_pool.specs.Pieces.{ArePieces};
 
@@ -8,8 +10,9 @@ use crate::{Deck, OutOfMemory};
 use std::alloc::Global;
 use std::thread::Threads;
 
-/// The output of each input, in the order of the inputs, whoever worked it. `workers` (1 to 16) share the inputs:
-/// each draws numbers from one deck, passes the gate with the number, and works that input.
+/// The output of each input, in the order of the inputs, whoever worked it. `workers` (1 to 16), but no more than there
+/// are inputs, share the inputs: each draws numbers from one deck, passes the gate with the number, and works that
+/// input.
 ///
 /// No worker's want of memory ends the call. What no worker handed back, the calling thread works once all have
 /// left, and passes no gate for it.
@@ -28,11 +31,13 @@ pub fn phase<W: Work, G: Gate, R: Threads + Sync>(
     requires accepts { All (W.accepts work.now) inputs.now }
     ensures { IfOk result (λ outputs. outputs.items ≡ map (W.does work.now) inputs.now) }
 {
-    let pieces = lowest_last(worked(rt, alloc, work, inputs, workers, gate));
+    // A worker beyond the number of inputs would find nothing to draw.
+    let useful = workers.min(inputs.len()).max(1);
+    let pieces = lowest_last(worked(rt, alloc, work, inputs, useful, gate));
     in_order(alloc, work, inputs, pieces)
 }
 
-// The pieces that the workers hand back. Where there is no memory for a deck, nobody draws.
+/// The pieces that the workers hand back. Where there is no memory for a deck, nobody draws.
 fn worked<W: Work, G: Gate, R: Threads + Sync>(
     rt: &R,
     alloc: Global,
@@ -60,7 +65,7 @@ fn worked<W: Work, G: Gate, R: Threads + Sync>(
     pieces
 }
 
-// The outputs in order. What has no piece is worked here.
+/// The outputs in order. What has no piece is worked here.
 fn in_order<W: Work>(
     alloc: Global,
     work: &W,
@@ -79,7 +84,7 @@ fn in_order<W: Work>(
     Ok(outputs)
 }
 
-// The output of this number, worked here if its piece does not lie last.
+/// The output of this number, worked here if its piece does not lie last.
 #[tactic(auto, using(crate::proofs::PieceLists::output_at))]
 fn output_of<W: Work>(
     alloc: Global,

@@ -1,3 +1,5 @@
+//! The deck that workers draw from, and their passes.
+
 ghost use Rattle.std.specs.Prelude.{◌≡◌, ℕ, ◌*◌, ◌<◌, [], All, IfOk, length};
 ghost use Rattle.bsp_pool.specs.Numbers.{all_units, numbers_a_unit, occurrences, AreApart, IsDistinct};
 ghost use Rattle.bsp_pool.specs.Passes.{pass_of, drawn, kept, given, joined};
@@ -15,6 +17,7 @@ use std::marker::Model;
 /// Contracts see a deck as which one it is.
 #[derive(Drop)]
 pub struct Deck {
+    // A table of one word and no slots: `u8` stands for the items that slots would hold, and `()` for what a rule may be given.
     table: Table<u8, PassView, (), ClaimRule, Global>,
 }
 

@@ -1,3 +1,5 @@
+//! What may happen in a round machine, and why it was refused.
+
 ghost use Rattle.std.specs.Prelude.{◌≡◌};
 ghost use Rattle.bsp_pool.specs.declared.event.CoreRefusal.TheVariants.{OutOfMemory};
 

@@ -1,7 +1,10 @@
+//! The round machine.
+
 ghost use Rattle.std.specs.Prelude.{◌≡◌, ◌<◌, ◌≤◌, List, [], All, IfOk, length, map, slice_index_or, take};
 ghost use Rattle.bsp_pool.specs.declared.event.Event.{Event};
 ghost use Rattle.bsp_pool.specs.EventLists.{KeepsRounds};
-ghost use Rattle.bsp_pool.specs.Rounds.{starting, step, round_step, Applies, IsSound};
+ghost use Rattle.bsp_pool.specs.Rounds.{Applies};
+ghost use Rattle.bsp_pool.specs.Machine.{starting, step, round_step, IsSound};
 
 use crate::OutOfMemory;
 use crate::event::{CoreRefusal, Event};
@@ -13,10 +16,10 @@ use std::alloc::Global;
 use std::marker::Model;
 use std::mem;
 
-/// The round machine: the pool, step by step, on one thread. It has a list of phases, each a list of inputs. The
-/// workers of the open phase draw its numbers, work their inputs and leave, and a turn commits the outputs.
+/// The round machine: the pool, step by step, on one thread. It has a list of phases, each a list of inputs. In the
+/// round of the open phase workers draw its numbers, work their inputs and leave, and a turn commits the outputs.
 ///
-/// Contracts see it as its work, its phases, the outputs committed so far, and the open phase: who drew each number,
+/// Contracts see it as its work, its phases, the outputs committed so far, and the open round: who drew each number,
 /// what each worker is at, and the outputs kept. After every list of events, refused ones included, the committed
 /// outputs are those of the first phases, in order.
 #[derive(Drop)]
@@ -30,7 +33,7 @@ pub struct Core<W: Work> {
 
 impl<W: Work> Model for Core<W> {
     ghost use Rattle.std.specs.Prelude.{All};
-    ghost use Rattle.bsp_pool.specs.Rounds.{Machine, machine, IsSound};
+    ghost use Rattle.bsp_pool.specs.Machine.{Machine, machine, IsSound};
 
     ghost Value = { Machine W W.In W.Out };
 
@@ -43,7 +46,7 @@ impl<W: Work> Model for Core<W> {
 impl<W: Work + Drop> Core<W> {
     /// The machine over these phases with so many workers (1 to 16), of which nothing has happened yet. After every
     /// list of events from here on, refused ones included, the committed outputs are those of the first phases, and
-    /// the next number is how many draws were made in the open phase.
+    /// the next number is how many draws were made in the open round.
     ///
     /// # Errors
     /// `OutOfMemory` where memory is refused.
@@ -125,7 +128,7 @@ impl<W: Work + Drop> Core<W> {
         self.round.leave(worker)
     }
 
-    // What may be refused memory comes first, so that nothing has changed where it is.
+    /// What may be refused memory comes first, so that nothing has changed where it is.
     fn turn(&mut self) -> Result<(), CoreRefusal>
         requires { length self.old.committed < length self.old.phases }
         ensures { Applies (round_step (W.does self.old.work) self.old Event.Turn) self.old result self.new }
@@ -146,7 +149,7 @@ impl<W: Work + Drop> Core<W> {
     }
 }
 
-// The inputs of the phase of this number, none if there is no such phase.
+/// The inputs of the phase of this number, none if there is no such phase.
 fn inputs_at<T>(phases: &[Row<T>], phase: usize) -> &[T]
     ensures { result.now ≡ slice_index_or phases.now phase [] }
 {

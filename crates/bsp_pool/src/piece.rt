@@ -1,11 +1,11 @@
-// What workers hand back: pieces, each the output of one number.
+//! What workers hand back: pieces, each the output of one number.
 
 ghost use Rattle.std.specs.Prelude.{◌≡◌, IfSome, List, Some, slice_get};
 ghost use Rattle.bsp_pool.specs.Pieces.{ArePieces};
 
 use std::alloc::Global;
 
-// The output of the input of this number.
+/// The output of the input of this number.
 #[derive(Drop)]
 pub(crate) struct Piece<T> {
     pub(crate) number: usize,
@@ -19,7 +19,7 @@ pub(crate) fn no_pieces<T>(alloc: Global) -> Vec<Piece<T>>
     Vec::new(alloc)
 }
 
-// The pieces of both, or of the first alone where there is no memory for more.
+/// The pieces of both, or of the first alone where there is no memory for more.
 #[tactic(auto, using(crate::proofs::PieceLists::more_pieces))]
 pub(crate) fn gathered<T: Drop>(
     mut pieces: Vec<Piece<T>>,
@@ -34,7 +34,7 @@ pub(crate) fn gathered<T: Drop>(
     }
 }
 
-// The same pieces, with the lowest number last.
+/// The same pieces, with the lowest number last.
 #[tactic(auto, using(crate::proofs::PieceLists::permuted_pieces))]
 pub(crate) fn lowest_last<T: Drop>(mut pieces: Vec<Piece<T>>) -> Vec<Piece<T>>
     ensures { (outs : List T) → ArePieces outs pieces.items → ArePieces outs result.items }
@@ -43,7 +43,7 @@ pub(crate) fn lowest_last<T: Drop>(mut pieces: Vec<Piece<T>>) -> Vec<Piece<T>>
     pieces
 }
 
-// The output of this number, if its piece lies last.
+/// The output of this number, if its piece lies last.
 pub(crate) fn next_output<T: Drop>(pieces: &mut Vec<Piece<T>>, number: usize) -> Option<T>
     ensures kept { (outs : List T) → ArePieces outs pieces.old.items → ArePieces outs pieces.new.items }
     ensures output { IfSome result

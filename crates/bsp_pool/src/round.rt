@@ -1,4 +1,4 @@
-// The open phase of a round machine.
+//! A round: what is known of the open phase of the round machine.
 
 ghost use Rattle.std.specs.Prelude.{◌≡◌, ◌+◌, ◌<◌, ◌≤◌, ◌++◌, IfOk, All, length, replicate, slice_get, vec_len};
 ghost use Rattle.std.specs.List.{list_all};
@@ -11,20 +11,20 @@ use crate::turning::merged;
 use std::alloc::{AllocError, Global};
 use std::marker::Model;
 
-// What a worker is at.
+/// What a worker is at.
 #[derive(Clone, Copy)]
 pub(crate) enum Worker {
-    // It may draw.
+    /// It may draw.
     Ready,
-    // It holds this number, whose input it is to work.
+    /// It holds this number, whose input it is to work.
     Holding(usize),
-    // It has drawn a number past the end.
+    /// It has drawn a number past the end.
     PastEnd,
-    // It has left.
+    /// It has left.
     Gone,
 }
 
-// Who drew each number, in order, what each worker is at, and the outputs kept, by number.
+/// Who drew each number, in order, what each worker is at, and the outputs kept, by number.
 #[derive(Drop)]
 pub(crate) struct Round<T> {
     draws: Vec<usize>,
@@ -33,15 +33,15 @@ pub(crate) struct Round<T> {
 }
 
 impl<T> Model for Round<T> {
-    ghost use Rattle.bsp_pool.specs.Rounds.{OpenPhase};
+    ghost use Rattle.bsp_pool.specs.Rounds.{RoundParts};
 
-    ghost Value = { OpenPhase T };
+    ghost Value = { RoundParts T };
 
     ghost view = { λ r. record { draws = r.draws.items; workers = r.workers.items; outputs = r.outputs.items } };
 }
 
 impl<T: Drop> Round<T> {
-    // A phase that opens, with all workers ready.
+    /// A round that opens, with all workers ready.
     pub(crate) fn open(alloc: Global, inputs: usize, workers: usize) -> Result<Round<T>, AllocError>
         ensures { IfOk result (λ r. r ≡ opened inputs workers) }
     {
@@ -52,14 +52,14 @@ impl<T: Drop> Round<T> {
         })
     }
 
-    // How many workers there are.
+    /// How many workers there are.
     pub(crate) fn workers(&self) -> usize
         ensures { result ≡ length self.now.workers }
     {
         self.workers.len()
     }
 
-    // The worker takes the next number.
+    /// The worker takes the next number.
     pub(crate) fn draw(&mut self, worker: usize, inputs: usize) -> Result<(), CoreRefusal>
         ensures { Applies (after_draw inputs self.old worker (slice_get self.old.workers worker))
             self.old result self.new }
@@ -77,7 +77,7 @@ impl<T: Drop> Round<T> {
         Ok(())
     }
 
-    // The number that the worker holds.
+    /// The number that the worker holds.
     pub(crate) fn held(&self, worker: usize) -> Option<usize>
         ensures { result ≡ number_of (slice_get self.now.workers worker) }
     {
@@ -87,7 +87,7 @@ impl<T: Drop> Round<T> {
         }
     }
 
-    // The worker keeps the output of the number that it held.
+    /// The worker keeps the output of the number that it held.
     pub(crate) fn keep(&mut self, worker: usize, number: usize, output: T)
         requires worker { worker < length self.old.workers }
         requires number { number < length self.old.outputs }
@@ -97,7 +97,7 @@ impl<T: Drop> Round<T> {
         self.outputs[number] = Some(output);
     }
 
-    // The worker leaves.
+    /// The worker leaves.
     pub(crate) fn leave(&mut self, worker: usize) -> Result<(), CoreRefusal>
         ensures { Applies (after_leave self.old worker (slice_get self.old.workers worker))
             self.old result self.new }
@@ -111,7 +111,7 @@ impl<T: Drop> Round<T> {
         }
     }
 
-    // Whether all workers have left.
+    /// Whether all workers have left.
     pub(crate) fn is_over(&self) -> bool
         ensures { result ≡ list_all is_gone self.now.workers }
     {
@@ -120,14 +120,14 @@ impl<T: Drop> Round<T> {
             .all(|worker| matches!(worker, Worker::Gone))
     }
 
-    // The outputs that were kept, by number.
+    /// The outputs that were kept, by number.
     pub(crate) fn outputs(&self) -> &[Option<T>]
         ensures { result.now ≡ self.now.outputs }
     {
         self.outputs.as_slice()
     }
 
-    // The outputs in order, behind the row: those that were kept, and else those that were made.
+    /// The outputs in order, behind the row: those that were kept, and else those that were made.
     pub(crate) fn into_row(self, row: Vec<T>, made: Vec<Option<T>>) -> Vec<T>
         requires { vec_len row + length self.outputs ≤ vec_capacity row }
         ensures { result.items ≡ row.items ++ merged_of self.outputs made.items }

@@ -1,3 +1,5 @@
+//! Lists of inputs and of outputs.
+
 ghost use Rattle.std.specs.Prelude.{◌≡◌};
 
 use std::marker::Model;
@@ -22,6 +24,13 @@ impl<T> Row<T> {
         ensures { result ≡ items.items }
     {
         Row { items }
+    }
+
+    /// The items in order, as a `Vec`.
+    pub fn into_vec(self) -> Vec<T>
+        ensures { result.items ≡ self }
+    {
+        self.items
     }
 
     /// The items in order.

@@ -3,3 +3,4 @@ mod doubling;
 mod machine;
 mod phase;
 mod refusals;
+mod rows;

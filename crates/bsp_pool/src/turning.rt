@@ -1,5 +1,5 @@
-// How the outputs of a phase are put together at a Turn. What may fail for want of memory comes first, so that the
-// kept outputs stay where they are until nothing can fail.
+//! How the outputs of a round are put together at a Turn. What may fail for want of memory comes first, so that the
+//! kept outputs stay where they are until nothing can fail.
 
 ghost use Rattle.std.specs.Prelude.{◌≡◌, ◌+◌, ◌≤◌, ◌++◌, IfOk, All, length, vec_len};
 ghost use Rattle.std.specs.Vec.{vec_capacity};
@@ -9,7 +9,7 @@ use crate::OutOfMemory;
 use crate::work::Work;
 use std::alloc::Global;
 
-// The output of each input for which none was kept.
+/// The output of each input for which none was kept.
 pub(crate) fn missing<W: Work>(
     alloc: Global,
     work: &W,
@@ -28,7 +28,7 @@ pub(crate) fn missing<W: Work>(
     Ok(made)
 }
 
-// The output of this input, if none was kept.
+/// The output of this input, if none was kept.
 fn made_for<W: Work>(
     alloc: Global,
     work: &W,
@@ -44,7 +44,7 @@ fn made_for<W: Work>(
     }
 }
 
-// The row, and then the kept outputs in order, with what was made where none was kept.
+/// The row, and then the kept outputs in order, with what was made where none was kept.
 pub(crate) fn merged<T: Drop>(mut row: Vec<T>, kept: Vec<Option<T>>, made: Vec<Option<T>>) -> Vec<T>
     requires { vec_len row + length kept.items ≤ vec_capacity row }
     ensures { result.items ≡ row.items ++ merged_of kept.items made.items }

@@ -1,3 +1,5 @@
+//! What the pool works, and the gate before it.
+
 ghost use Rattle.std.specs.Prelude.{◌≡◌, IfOk};
 
 use crate::OutOfMemory;
@@ -11,10 +13,10 @@ pub trait Work: Sync {
     /// What a job gives.
     type Out: Send + Drop;
 
-    // The inputs that `work` takes: the condition of its call.
+    /// The inputs that `work` takes: the condition of its call.
     ghost accepts: { Self → Self.In → Type 0 };
 
-    // The output of an input.
+    /// The output of an input.
     ghost does: { Self → Self.In → Self.Out };
 
     /// The output of this input, the same at each call.

@@ -1,4 +1,4 @@
-// The workers of a phase. Each has a pass of its own, shared from the first one, and the passes are joined as they end.
+//! The workers of a phase. Each has a pass of its own, shared from the first one, and the passes are joined as they end.
 
 ghost use Rattle.std.specs.Prelude.{◌≡◌, ◌-◌, ◌<◌, All, List, map};
 ghost use Rattle.std.specs.Thread.{IsSync};
@@ -11,7 +11,7 @@ use crate::{Deck, Pass};
 use std::alloc::Global;
 use std::thread::{Threads, join};
 
-// What the workers of a phase share.
+/// What the workers of a phase share.
 #[derive(Drop)]
 pub(crate) struct Shared<'a, W: Work, G: Gate> {
     pub(crate) alloc: Global,
@@ -21,18 +21,18 @@ pub(crate) struct Shared<'a, W: Work, G: Gate> {
     pub(crate) gate: &'a G,
 }
 
-// What workers hand back at their end.
+/// What workers hand back at their end.
 #[derive(Drop)]
 pub(crate) struct Finished<T> {
     pub(crate) pass: Pass,
     pub(crate) pieces: Vec<Piece<T>>,
 }
 
-// The most numbers that one worker draws, so that its pass stays within 2^32 for each unit.
+/// The most numbers that one worker draws, so that its pass stays within 2^32 for each unit.
 const MOST_DRAWS: u64 = 4294967295;
 
-// One worker: draws numbers until one is past the end, and works the input of each. It leaves early where its work
-// or the storing of a piece finds no memory, or after `MOST_DRAWS` numbers.
+/// One worker: draws numbers until one is past the end, and works the input of each. It leaves early where its work
+/// or the storing of a piece finds no memory, or after `MOST_DRAWS` numbers.
 fn run_worker<W: Work, G: Gate>(shared: &Shared<W, G>, mut pass: Pass) -> Finished<W::Out>
     requires fresh { IsFreshFor shared.now.deck.now 1 pass }
     requires accepts { All (W.accepts shared.now.work.now) shared.now.inputs.now }
@@ -65,8 +65,8 @@ fn run_worker<W: Work, G: Gate>(shared: &Shared<W, G>, mut pass: Pass) -> Finish
     Finished { pass, pieces }
 }
 
-// So many workers, in threads of their own where threads can be made. A worker for which there is none runs on the
-// calling thread.
+/// So many workers, in threads of their own where threads can be made. A worker for which there is none runs on the
+/// calling thread.
 pub(crate) fn run_workers<W: Work, G: Gate, R: Threads + Sync>(
     rt: &R,
     shared: &Shared<W, G>,
@@ -106,7 +106,7 @@ pub(crate) fn run_workers<W: Work, G: Gate, R: Threads + Sync>(
     joined(shared.deck, one, others)
 }
 
-// What both hand back, under one pass.
+/// What both hand back, under one pass.
 fn joined<T: Drop>(deck: &Deck, one: Finished<T>, others: Finished<T>) -> Finished<T>
     requires deck { one.pass.deck ≡ deck.now }
     requires others { others.pass.deck ≡ deck.now }

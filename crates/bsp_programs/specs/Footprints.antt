@@ -36,9 +36,9 @@ AreAlike-words looks v w alike a looked =
 pub IsFootprint-of_plan : (plan : ViewParts → Plan) (looks : ViewParts → ℕ → Bool) → ((v w : ViewParts) → AreAlike (looks v) v w → plan v ≡ plan w) → ((v w : ViewParts) → AreAlikeButForWords v w → (a : ℕ) → looks v a ≡ looks w a) → IsFootprint (λ v. (plan v).acts) (λ v. (plan v).ending) looks
 IsFootprint-of_plan plan looks same_plan same_looks =
     record {
-      acts_alike = λ v w alike. ap (λ (p : Plan). p.acts) (same_plan v w alike);
-      ending_alike = λ v w alike. ap (λ (p : Plan). p.ending) (same_plan v w alike);
-      looks_alike = same_looks;
+      acts_alike = λ v w _ _ alike. ap (λ (p : Plan). p.acts) (same_plan v w alike);
+      ending_alike = λ v w _ _ alike. ap (λ (p : Plan). p.ending) (same_plan v w alike);
+      looks_alike = λ v w _ _ alike. same_looks v w alike;
     }
 
 choice-same : (b : Bool) (o : Option ℕ) → o ≡ cond b o o

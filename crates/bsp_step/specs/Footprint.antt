@@ -1,7 +1,7 @@
 -- Which words of its memory a turn depends on (this profile).
 use Rattle.std.specs.Prelude.{ℕ, Bool, true, List, ◌≡◌, ◌<◌, length, slice_get}
 use Rattle.bsp_model.specs.declared.fault.End.{End}
-use Rattle.bsp_step.specs.ViewParts.{ViewParts}
+use Rattle.bsp_step.specs.ViewParts.{ViewParts, IsView}
 use Rattle.bsp_step.specs.Act.{Act}
 
 -- two views that are equal but for the words of their memories
@@ -21,7 +21,8 @@ pub record AreAlike (looks : ℕ → Bool) (v w : ViewParts) : Type 0 where
   pub words : (a : ℕ) → a < length v.memory → looks a ≡ true → slice_get v.memory a ≡ slice_get w.memory a
 
 -- The law of a footprint: views that are alike have equal acts and endings, and views that differ only in words have equal footprints.
+-- It speaks of views within the limits alone.
 pub record IsFootprint (acts : ViewParts → List Act) (ending : ViewParts → End) (looks : ViewParts → ℕ → Bool) : Type 0 where
-  pub acts_alike : (v w : ViewParts) → AreAlike (looks v) v w → acts v ≡ acts w
-  pub ending_alike : (v w : ViewParts) → AreAlike (looks v) v w → ending v ≡ ending w
-  pub looks_alike : (v w : ViewParts) → AreAlikeButForWords v w → (a : ℕ) → looks v a ≡ looks w a
+  pub acts_alike : (v w : ViewParts) → IsView v → IsView w → AreAlike (looks v) v w → acts v ≡ acts w
+  pub ending_alike : (v w : ViewParts) → IsView v → IsView w → AreAlike (looks v) v w → ending v ≡ ending w
+  pub looks_alike : (v w : ViewParts) → IsView v → IsView w → AreAlikeButForWords v w → (a : ℕ) → looks v a ≡ looks w a

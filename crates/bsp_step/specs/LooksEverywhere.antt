@@ -37,7 +37,7 @@ pub looks_everywhere : (acts : ViewParts → List Act) (ending : ViewParts → E
 looks_everywhere acts ending =
     let same : (v w : ViewParts) → AreAlike (λ _. true) v w → v ≡ w = λ v w alike. same_views v w alike.parts (same_memories v.memory w.memory alike.parts.same_length (λ a within. alike.words a within refl)) in
     record {
-      acts_alike = λ v w alike. ap acts (same v w alike);
-      ending_alike = λ v w alike. ap ending (same v w alike);
-      looks_alike = λ v w alike a. refl;
+      acts_alike = λ v w _ _ alike. ap acts (same v w alike);
+      ending_alike = λ v w _ _ alike. ap ending (same v w alike);
+      looks_alike = λ v w _ _ alike a. refl;
     }

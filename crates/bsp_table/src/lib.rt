@@ -4,8 +4,6 @@
 mod area;
 mod next;
 mod table;
-#[cfg(test)]
-mod tests;
 
 pub use area::Area;
 pub use next::{Registers, TableFault};

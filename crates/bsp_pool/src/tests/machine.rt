@@ -1,43 +1,64 @@
 use crate::tests::doubling::Doubling;
-use crate::{Core, CoreRefusal, Event, Row};
+use crate::{Core, CoreRefusal, Event, OutOfMemory, Row};
+use std::alloc::Global;
+use std::process::Abort;
 use std::test::Fail;
+
+const ALLOWED: Result<(), CoreRefusal> = Ok(());
+
+const NOT_NOW: Result<(), CoreRefusal> = Err(CoreRefusal::NotNow);
+
+/// The events of two workers over phases of three inputs and of one input, with their answers.
+const EVENTS: [(Event, Result<(), CoreRefusal>); 17] = [
+    (Event::Draw(0), ALLOWED),
+    (Event::Draw(1), ALLOWED),
+    (Event::Ran(1), ALLOWED),
+    (Event::Draw(1), ALLOWED),
+    (Event::Turn, NOT_NOW),
+    (Event::Ran(0), ALLOWED),
+    (Event::Left(0), ALLOWED),
+    // Number 2 is given up, so the turn runs it.
+    (Event::Left(1), ALLOWED),
+    (Event::Turn, ALLOWED),
+    (Event::Draw(0), ALLOWED),
+    (Event::Ran(0), ALLOWED),
+    (Event::Draw(0), ALLOWED),
+    (Event::Ran(0), NOT_NOW),
+    (Event::Left(0), ALLOWED),
+    (Event::Left(1), ALLOWED),
+    (Event::Turn, ALLOWED),
+    (Event::Draw(0), NOT_NOW),
+];
+
+/// Hands in the events, and finds that each has its answer.
+fn play(rt: &impl Abort, core: &mut Core<Doubling>, events: &[(Event, Result<(), CoreRefusal>)]) {
+    for (event, answer) in events {
+        assert_eq!(rt; core.apply(*event), *answer, "{event:?}");
+    }
+}
+
+/// Two workers over the phases [5, 6, 7] and [8].
+fn two_phases(alloc: Global) -> Result<Core<Doubling>, OutOfMemory> {
+    let first = Row::from_vec(vec![in alloc; 5, 6, 7]?);
+    let second = Row::from_vec(vec![in alloc; 8]?);
+    let mut phases = Vec::new(alloc);
+    phases.push(first)?;
+    phases.push(second)?;
+    Core::new(alloc, Doubling, phases, 2)
+}
+
+fn find_committed(rt: &impl Abort, core: &Core<Doubling>, outputs: &[&[u64]]) {
+    let rows = core.committed();
+    assert_eq!(rt; rows.len(), outputs.len());
+    for (row, want) in rows.iter().zip(outputs) {
+        assert_eq!(rt; row.as_slice(), *want);
+    }
+}
 
 #[test]
 fn two_phases_event_by_event(rt: HostRuntime) -> Result<(), Fail> {
-    let first = Row::from_vec(vec![in rt.alloc(); 5, 6, 7]?);
-    let second = Row::from_vec(vec![in rt.alloc(); 8]?);
-    let phases = vec![in rt.alloc(); first, second]?;
-    let mut core = Core::new(rt.alloc(), Doubling, phases, 2)?;
-    let (allowed, not_now) = (Ok(()), Err(CoreRefusal::NotNow));
-    let steps = [
-        (Event::Draw(0), allowed, 0),
-        (Event::Draw(1), allowed, 0),
-        (Event::Ran(1), allowed, 0),
-        (Event::Draw(1), allowed, 0),
-        (Event::Turn, not_now, 0),
-        (Event::Ran(0), allowed, 0),
-        (Event::Left(0), allowed, 0),
-        (Event::Left(1), allowed, 0),
-        (Event::Turn, allowed, 1),
-        (Event::Draw(0), allowed, 1),
-        (Event::Ran(0), allowed, 1),
-        (Event::Draw(0), allowed, 1),
-        (Event::Ran(0), not_now, 1),
-        (Event::Left(0), allowed, 1),
-        (Event::Left(1), allowed, 1),
-        (Event::Turn, allowed, 2),
-        (Event::Draw(0), not_now, 2),
-    ];
-    for (event, answer, committed) in steps {
-        assert_eq!(rt; core.apply(event), answer, "{event:?}");
-        let rows = core.committed();
-        assert_eq!(rt; rows.len(), committed, "{event:?}");
-        if let Some(row) = rows.first() {
-            assert_eq!(rt; row.as_slice(), [10, 12, 14].as_slice());
-        }
-        if let Some(row) = rows.get(1) {
-            assert_eq!(rt; row.as_slice(), [16].as_slice());
-        }
-    }
+    let mut core = two_phases(rt.alloc())?;
+    play(&rt, &mut core, &EVENTS);
+    find_committed(&rt, &core, &[&[10, 12, 14], &[16]]);
     Ok(())
 }

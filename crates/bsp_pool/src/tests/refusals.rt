@@ -7,7 +7,7 @@ use std::sync::atomic::AtomicU64;
 use std::sync::atomic::Ordering::SeqCst;
 use std::test::Fail;
 
-// Doubles, and refuses memory for input 1 in its first calls with it.
+/// Doubles, and refuses memory for input 1 in its first calls with it.
 #[derive(Drop)]
 struct Refusing {
     refusals: u64,
@@ -51,11 +51,11 @@ fn a_work_that_refuses_memory(rt: HostRuntime) -> Result<(), Fail> {
     Ok(())
 }
 
-// How many allocations are tried after the call. One of them is refused where the call met no refusal, since the
-// number of its allocations differs by fewer than that from run to run.
+/// How many allocations are tried after the call. One of them is refused where the call met no refusal, since the
+/// number of its allocations differs by fewer than that from run to run.
 const LATER_ALLOCATIONS: u32 = 64;
 
-// `ci/refuse_allocations` runs this with the Nth allocation refused, for N = 1, 2, .., until it ends by the error.
+/// `ci/refuse_allocations` runs this with the Nth allocation refused, for N = 1, 2, .., until it ends by the error.
 #[test]
 fn phase_with_an_allocation_refused(rt: HostRuntime) -> Result<(), Fail> {
     let inputs = [0, 1, 2, 3, 4, 5, 6, 7];

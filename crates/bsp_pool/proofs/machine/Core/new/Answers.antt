@@ -1,7 +1,8 @@
 use Rattle.std.proofs.Common.{◌≡◌, ◌∙◌, ap, sym, subst, [], length, ℕ}
 use Rattle.std.specs.Prelude.{slice_index_or}
 use Rattle.bsp_pool.specs.EventLists.{KeepsRounds}
-use Rattle.bsp_pool.specs.Rounds.{Machine, machine, opened, starting}
+use Rattle.bsp_pool.specs.Rounds.{opened}
+use Rattle.bsp_pool.specs.Machine.{Machine, machine, starting}
 use Rattle.bsp_pool.proofs.RoundSteps.{starting_sound}
 use Rattle.bsp_pool.proofs.EventLaws.{every_list}
 use Rattle.bsp_pool.proofs.machine.Core.new.Goals as goal
