@@ -1,12 +1,12 @@
 -- Lists of requests that are compared from place to place.
-use Rattle.std.proofs.Common.{◌≡◌, ℕ, zero, suc, ◌+◌, ◌<◌, ◌≤◌, ◌==◌, Bool, true, false, cond, List, [], ◌∷◌, ◌++◌, map, append-nil, filter, drop, length, refl, sym, ◌∙◌, ap, arith, get_or, nat_eq, inl, inr}
+use Rattle.std.proofs.Common.{◌≡◌, ℕ, zero, suc, ◌+◌, ◌<◌, ◌≤◌, ◌==◌, Bool, true, cond, List, [], ◌∷◌, ◌++◌, map, append-nil, filter, drop, length, refl, sym, ◌∙◌, ap, arith, get_or, nat_eq, inl, inr}
 use Rattle.std.proofs.lemmas.List.{drop_more, drop_all, map-append, map-id}
 use Rattle.std.proofs.lemmas.List.Elements.{filter-append}
 use Rattle.std.proofs.lemmas.Bool.{eq-eqb, eqb-true, ne_eqb}
 use Rattle.std.proofs.lemmas.Option.{slice_get_cases}
 use Rattle.bsp_step.specs.OutcomeParts.{OutcomeParts}
 use Rattle.bsp_deliver.specs.Requests.{requests_from, outcome_of}
-use Rattle.bsp_deliver.proofs.Senders.{map_twice}
+use Rattle.bsp_deliver.proofs.Senders.{map_twice, passing_pairs}
 
 -- at a place that passes, the rest begins with what stands there
 pub rest_from : {X : Type 0} (q : X → Bool) (xs : List X) (i : ℕ) (x : X) → i < length xs → x ≡ get_or xs i x → q x ≡ true → filter q (drop i xs) ≡ x ∷ filter q (drop (i + 1) xs)
@@ -43,12 +43,6 @@ ended_second q xs ys i j l e here forth = (
 )
 
 -- Where each sender's requests that pass are the same, all that pass are.
-passing_pairs : {R : Type 0} (n : ℕ) (q : R → Bool) (rs : List R) → filter (λ (s : ℕ × R). q s.1) (map (λ r. (n, r)) rs) ≡ map (λ r. (n, r)) (filter q rs)
-passing_pairs n q [] = refl
-passing_pairs {R = R} n q (r ∷ rs) =
-    elim (q r) as (λ b. cond b ((n, r) ∷ filter (λ (s : ℕ × R). q s.1) (map (λ r. (n, r)) rs)) (filter (λ (s : ℕ × R). q s.1) (map (λ r. (n, r)) rs)) ≡ map (λ r. (n, r)) (cond b (r ∷ filter q rs) (filter q rs)))
-    [ true ↦ ap (λ ys. (n, r) ∷ ys) (passing_pairs n q rs) | false ↦ passing_pairs n q rs ]
-
 passing_first : {R : Type 0} (of : OutcomeParts → List R) (q : R → Bool) (n : ℕ) (o : OutcomeParts) (os : List OutcomeParts)
     → filter (λ (s : ℕ × R). q s.1) (requests_from of n (o ∷ os)) ≡ map (λ r. (n, r)) (filter q (of o)) ++ filter (λ (s : ℕ × R). q s.1) (requests_from of (n + 1) os)
 passing_first {R = R} of q n o os =

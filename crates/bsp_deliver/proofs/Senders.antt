@@ -1,15 +1,14 @@
 -- Requests of several senders, and facts of the outcomes that are read one by one.
 use Rattle.std.proofs.Common.{◌≡◌, ℕ, ◌+◌, ◌<◌, ◌≤◌, ◌==◌, Bool, true, false, cond, List, [], ◌∷◌, ◌++◌, map, filter, take, length, All, refl, sym, ◌∙◌, ap, arith, get_or, subst, append_assoc, append-nil}
 use Rattle.std.proofs.lemmas.List.{take_more, map-append, get_or-map, get_or_default, length-map}
-use Rattle.std.proofs.lemmas.List.Elements.{filter_more, filter-append, All-map, All-filter, All-weaker}
-use Rattle.std.proofs.lemmas.List.Sums.{length-filter, count_by-le-length}
+use Rattle.std.proofs.lemmas.List.Elements.{filter_more, filter-append, filter_passes, All-nil, All-append, All-map, All-head, All-tail, All-filter}
+use Rattle.std.proofs.lemmas.Bool.{eqb-true}
 use Rattle.std.proofs.lemmas.Grind.{common_steps}
-use Rattle.bsp_model.specs.declared.request.Send.{Send}
-use Rattle.bsp_step.specs.OutcomeParts.{OutcomeParts, IsShortSend}
-use Rattle.bsp_step.specs.ViewParts.{IsShortMessage}
-use Rattle.bsp_deliver.specs.Requests.{requests_from, no_outcome, outcome_of}
-use Rattle.bsp_deliver.specs.Delivery.{message_of}
-use Rattle.bsp_deliver.specs.Condition.{sizes_of, AreRequestsInside, AreDeliverable}
+use Rattle.bsp_model.specs.declared.request.Put.{Put}
+use Rattle.bsp_step.specs.OutcomeParts.{OutcomeParts}
+use Rattle.bsp_deliver.specs.Requests.{requests_from, all_puts, no_outcome, outcome_of}
+use Rattle.bsp_deliver.specs.Delivery.{delivery_parts}
+use Rattle.bsp_deliver.specs.Condition.{sizes_of, IsPutInside, AreRequestsInside, AreDeliverable}
 use Rattle.bsp_deliver.specs.Comparison.{IsReadable}
 
 -- a fact of each element, at the one that was read
@@ -33,27 +32,43 @@ requests_from-more of n m (x ∷ os) o e =
     ap (λ ys. map (λ r. (n, r)) (of x) ++ ys) (requests_from-more of (n + 1) m os o (omega arith))
     ∙ sym (append_assoc (map (λ r. (n, r)) (of x)) (requests_from of (n + 1) os) (map (λ r. (m, r)) (of o)))
 
--- a test of the request alone, and what is made of the request alone, do not see the sender
-without_sender : {R X : Type 0} (n : ℕ) (p : R → Bool) (f : R → X) (rs : List R) → map (λ (s : ℕ × R). f s.1) (filter (λ (s : ℕ × R). p s.1) (map (λ r. (n, r)) rs)) ≡ map f (filter p rs)
-without_sender n p f [] = refl
-without_sender {R = R} {X = X} n p f (r ∷ rs) =
-    elim (p r) as (λ b. map (λ (s : ℕ × R). f s.1) (cond b ((n, r) ∷ filter (λ (s : ℕ × R). p s.1) (map (λ r. (n, r)) rs)) (filter (λ (s : ℕ × R). p s.1) (map (λ r. (n, r)) rs))) ≡ map f (cond b (r ∷ filter p rs) (filter p rs)))
-    [ true ↦ ap (λ ys. f r ∷ ys) (without_sender n p f rs) | false ↦ without_sender n p f rs ]
+pub map_twice : {X Y Z : Type 0} (f : Y → Z) (g : X → Y) (xs : List X) → map (λ x. f (g x)) xs ≡ map f (map g xs)
+map_twice f g [] = refl
+map_twice f g (x ∷ xs) = ap (λ ys. f (g x) ∷ ys) (map_twice f g xs)
+
+-- a test of the request alone does not see the sender
+pub passing_pairs : {R : Type 0} (n : ℕ) (p : R → Bool) (rs : List R) → filter (λ (s : ℕ × R). p s.1) (map (λ r. (n, r)) rs) ≡ map (λ r. (n, r)) (filter p rs)
+passing_pairs n p [] = refl
+passing_pairs {R = R} n p (r ∷ rs) =
+    elim (p r) as (λ b. cond b ((n, r) ∷ filter (λ (s : ℕ × R). p s.1) (map (λ r. (n, r)) rs)) (filter (λ (s : ℕ × R). p s.1) (map (λ r. (n, r)) rs)) ≡ map (λ r. (n, r)) (cond b (r ∷ filter p rs) (filter p rs)))
+    [ true ↦ ap (λ ys. (n, r) ∷ ys) (passing_pairs n p rs) | false ↦ passing_pairs n p rs ]
 
 -- what passes among the requests of one sender more
-pub passing_more : {R X : Type 0} (of : OutcomeParts → List R) (p : R → Bool) (f : R → X) (os : List OutcomeParts) (i : ℕ) (o : OutcomeParts) → i < length os → o ≡ get_or os i o
-    → map (λ (s : ℕ × R). f s.1) (filter (λ (s : ℕ × R). p s.1) (requests_from of 0 (take (i + 1) os))) ≡ map (λ (s : ℕ × R). f s.1) (filter (λ (s : ℕ × R). p s.1) (requests_from of 0 (take i os))) ++ map f (filter p (of o))
-passing_more {R = R} of p f os i o l e =
-    let F : List (ℕ × R) → List _ = λ ys. map (λ (s : ℕ × R). f s.1) (filter (λ (s : ℕ × R). p s.1) ys) in
+pub addressed_more : {R : Type 0} (of : OutcomeParts → List R) (p : R → Bool) (os : List OutcomeParts) (i : ℕ) (o : OutcomeParts) → i < length os → o ≡ get_or os i o
+    → filter (λ (s : ℕ × R). p s.1) (requests_from of 0 (take (i + 1) os)) ≡ filter (λ (s : ℕ × R). p s.1) (requests_from of 0 (take i os)) ++ map (λ r. (i, r)) (filter p (of o))
+addressed_more {R = R} of p os i o l e =
+    let F : List (ℕ × R) → List (ℕ × R) = filter (λ (s : ℕ × R). p s.1) in
     let long : i ≡ 0 + length (take i os) = grind (arith, common_steps) in
     ap (λ ys. F (requests_from of 0 ys)) (take_more os i o l ∙ ap (λ y. take i os ++ y ∷ []) (sym e))
     ∙ ap F (requests_from-more of 0 i (take i os) o long)
-    ∙ ap (map (λ (s : ℕ × R). f s.1)) (filter-append (λ (s : ℕ × R). p s.1) (requests_from of 0 (take i os)) (map (λ r. (i, r)) (of o)))
-    ∙ map-append (λ (s : ℕ × R). f s.1) (filter (λ (s : ℕ × R). p s.1) (requests_from of 0 (take i os))) (filter (λ (s : ℕ × R). p s.1) (map (λ r. (i, r)) (of o)))
-    ∙ ap (λ ys. F (requests_from of 0 (take i os)) ++ ys) (without_sender i p f (of o))
+    ∙ filter-append (λ (s : ℕ × R). p s.1) (requests_from of 0 (take i os)) (map (λ r. (i, r)) (of o))
+    ∙ ap (λ ys. F (requests_from of 0 (take i os)) ++ ys) (passing_pairs i p (of o))
+
+-- and what is made of the request alone
+pub passing_more : {R X : Type 0} (of : OutcomeParts → List R) (p : R → Bool) (f : R → X) (os : List OutcomeParts) (i : ℕ) (o : OutcomeParts) → i < length os → o ≡ get_or os i o
+    → map (λ (s : ℕ × R). f s.1) (filter (λ (s : ℕ × R). p s.1) (requests_from of 0 (take (i + 1) os))) ≡ map (λ (s : ℕ × R). f s.1) (filter (λ (s : ℕ × R). p s.1) (requests_from of 0 (take i os))) ++ map f (filter p (of o))
+passing_more {R = R} of p f os i o l e =
+    let F : List (ℕ × R) → List _ = map (λ (s : ℕ × R). f s.1) in
+    let before = filter (λ (s : ℕ × R). p s.1) (requests_from of 0 (take i os)) in
+    ap F (addressed_more of p os i o l e)
+    ∙ map-append (λ (s : ℕ × R). f s.1) before (map (λ r. (i, r)) (filter p (of o)))
+    ∙ ap (λ ys. F before ++ ys) (sym (map_twice (λ (s : ℕ × R). f s.1) (λ r. (i, r)) (filter p (of o))))
 
 pub sizes-get_or : (os : List OutcomeParts) (d : ℕ) (o : OutcomeParts) → d < length os → o ≡ get_or os d o → get_or (sizes_of os) d 0 ≡ length o.memory
 sizes-get_or os d o l e = get_or-map (λ (x : OutcomeParts). length x.memory) os d o 0 l ∙ ap (λ (x : OutcomeParts). length x.memory) (sym e)
+
+pub sizes-outcome_of : (os : List OutcomeParts) (d : ℕ) → d < length os → get_or (sizes_of os) d 0 ≡ length (outcome_of os d).memory
+sizes-outcome_of os d l = get_or-map (λ (x : OutcomeParts). length x.memory) os d no_outcome 0 l
 
 pub length-sizes_of : (os : List OutcomeParts) → length (sizes_of os) ≡ length os
 length-sizes_of os = length-map os (λ (x : OutcomeParts). length x.memory)
@@ -61,24 +76,29 @@ length-sizes_of os = length-map os (λ (x : OutcomeParts). length x.memory)
 pub outcome_of-item : (os : List OutcomeParts) (d : ℕ) (o : OutcomeParts) → d < length os → o ≡ get_or os d o → outcome_of os d ≡ o
 outcome_of-item os d o l e = get_or_default os d no_outcome o l ∙ sym e
 
-pub map_twice : {X Y Z : Type 0} (f : Y → Z) (g : X → Y) (xs : List X) → map (λ x. f (g x)) xs ≡ map f (map g xs)
-map_twice f g [] = refl
-map_twice f g (x ∷ xs) = ap (λ ys. f (g x) ∷ ys) (map_twice f g xs)
-
--- the messages of one sender
-pub few_messages : (d : ℕ) (sends : List Send) → length (map message_of (filter (λ (m : Send). m.target == d) sends)) ≤ length sends
-few_messages d sends =
-    let P : Send → Bool = λ m. m.target == d in
-    omega (arith, length-map (filter P sends) message_of, length-filter P sends, count_by-le-length P sends)
-
-pub short_messages : (d : ℕ) (sends : List Send) → All IsShortSend sends → All IsShortMessage (map message_of (filter (λ (m : Send). m.target == d) sends))
-short_messages d sends h =
-    let P : Send → Bool = λ m. m.target == d in
-    All-map IsShortMessage message_of (filter P sends)
-    (All-weaker IsShortSend (λ (m : Send). IsShortMessage (message_of m)) (λ m s. record { tag = s.tag; words = s.words }) (filter P sends) (All-filter P IsShortSend sends h))
-
 -- the words that the gets of a process read are there
 pub readable_gets : (os : List OutcomeParts) (d : ℕ) (o : OutcomeParts) → AreDeliverable os → d < length os → o ≡ get_or os d o → All (IsReadable os) o.gets
 readable_gets os d o h l e =
     let inside = at_item (AreRequestsInside (sizes_of os)) os d o h.inside l e in
     λ k g i. let w = inside.gets k g i in record { known = omega (arith, w.known, length-sizes_of os); inside = w.inside }
+
+-- what holds of the requests of each process holds of all
+all_requests : {R : Type 0} (P : R → Type 0) (of : OutcomeParts → List R) (n : ℕ) (os : List OutcomeParts) → All (λ o. All P (of o)) os → All (λ (s : ℕ × R). P s.1) (requests_from of n os)
+all_requests {R = R} P of n [] h = All-nil (λ (s : ℕ × R). P s.1)
+all_requests {R = R} P of n (o ∷ os) h =
+    let Q : ℕ × R → Type 0 = λ s. P s.1 in
+    All-append Q (map (λ r. (n, r)) (of o)) (requests_from of (n + 1) os)
+    (All-map Q (λ r. (n, r)) (of o) (All-head (λ o. All P (of o)) o os h))
+    (all_requests P of (n + 1) os (All-tail (λ o. All P (of o)) o os h))
+
+-- the puts to a process fit into its memory
+pub puts_inside : (os : List OutcomeParts) (d : ℕ) → AreDeliverable os → All (λ (s : ℕ × Put). s.1.start + length s.1.words ≤ get_or (sizes_of os) d 0) (delivery_parts os d).puts
+unfolding delivery_parts all_puts
+puts_inside os d h =
+    let to : ℕ × Put → Bool = λ s. s.1.target == d in
+    let all = all_requests (IsPutInside (sizes_of os)) (λ (o : OutcomeParts). o.puts) 0 os (λ k o l. (h.inside k o l).puts) in
+    λ k s l.
+    let p : Put = (get_or (filter to (all_puts os)) k s).1 in
+    let here : p.target ≡ d = eqb-true p.target d (filter_passes to (all_puts os) k s l) in
+    let fits : p.start + length p.words ≤ get_or (sizes_of os) p.target 0 = (All-filter to (λ (s : ℕ × Put). IsPutInside (sizes_of os) s.1) (all_puts os) all k s l).inside in
+    subst (λ n. p.start + length p.words ≤ get_or (sizes_of os) n 0) here fits

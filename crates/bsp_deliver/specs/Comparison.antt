@@ -1,4 +1,4 @@
--- What is compared of two lists of outcomes.
+-- What private functions compare of two lists of outcomes: no public contract speaks of it.
 use Rattle.std.specs.Prelude.{ℕ, ◌+◌, ◌<◌, ◌≤◌, ◌≡◌, ◌==◌, List, filter, length, slice_index}
 use Rattle.bsp_model.specs.declared.request.Get.{Get}
 use Rattle.bsp_step.specs.OutcomeParts.{OutcomeParts}

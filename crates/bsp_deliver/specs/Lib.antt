@@ -1,7 +1,10 @@
 pub mod Requests
 pub mod Delivery
+pub mod Inbox
+pub mod InboxInside
 pub mod Condition
 pub mod SyncFault
 pub mod Cost
 pub mod Sums
 pub mod Comparison
+pub mod Marks

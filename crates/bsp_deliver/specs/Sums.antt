@@ -1,4 +1,4 @@
--- Sums of words, transfer by transfer.
+-- Sums of words, transfer by transfer, which private functions keep: no public contract speaks of them.
 use Rattle.std.specs.Prelude.{ℕ, ◌+◌, ◌*◌, ◌<◌, ◌≤◌, ◌^◌, ◌==◌, if◌then◌else◌, List, [], ◌∷◌, ◌++◌, map, All, slice_index, slice_set, replicate}
 use Rattle.bsp_deliver.specs.declared.cost.Sums.{Sums}
 use Rattle.bsp_step.specs.OutcomeParts.{OutcomeParts}

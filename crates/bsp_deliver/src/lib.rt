@@ -1,14 +1,20 @@
 //! The end of a superstep: delivery, sync faults, tag sizes and the h-relation.
 #![tactic(auto)]
 
+mod addressed;
 mod cost;
 mod delivery;
 mod faults;
+mod inboxes;
+mod marking;
 mod same;
 
+pub use addressed::inbox;
 pub use cost::h_of;
-pub use delivery::deliver;
+pub use delivery::{deliver, deliver_inbox};
 pub use faults::{next_tag_size, sync_fault};
+pub use inboxes::Inbox;
+pub use marking::considered;
 pub use same::{answers_same, parcel_same};
 
 #[cfg(test)]

@@ -6,35 +6,9 @@ ghost use Rattle.bsp_deliver.specs.Delivery.{delivery_parts};
 ghost use Rattle.bsp_deliver.specs.Condition.{AreDeliverable};
 ghost use Rattle.bsp_deliver.specs.Comparison.{HasSameParcel, IsReadable};
 
-use bsp_model::{Get, Memory, Put, Same, Send};
+use crate::addressed::Addressed;
+use bsp_model::{Get, Memory, Same};
 use bsp_step::Outcome;
-
-/// A request that is addressed to a process.
-trait Addressed: Same {
-    ghost use Rattle.std.specs.Prelude.{◌≡◌, ℕ};
-
-    ghost addressee: { Self → ℕ };
-
-    /// The process.
-    fn addressee(&self) -> u64
-        ensures { result ≡ addressee self.now };
-}
-
-impl Addressed for Put {
-    ghost addressee = { λ p. p.target };
-
-    fn addressee(&self) -> u64 {
-        self.target
-    }
-}
-
-impl Addressed for Send {
-    ghost addressee = { λ m. m.target };
-
-    fn addressee(&self) -> u64 {
-        self.target
-    }
-}
 
 /// The place of the next request to `d`, or the number of requests.
 fn next_to<R: Addressed>(requests: &[R], d: u64, from: usize) -> usize

@@ -1,8 +1,5 @@
 //! Ends of supersteps, worked out by hand.
 
-mod comparisons;
-mod counts;
-mod delivery;
-mod endings;
+mod exchange;
+mod inboxes;
 mod outcomes;
-mod sync_faults;

@@ -5,3 +5,7 @@ pub mod Deliveries
 pub mod Phases
 pub mod Runs
 pub mod Opens
+pub mod Records
+pub mod Laws
+pub mod Turns
+pub mod Shares

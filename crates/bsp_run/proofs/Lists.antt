@@ -1,6 +1,7 @@
 -- Lists that are made by a function.
-use Rattle.std.proofs.Common.{◌≡◌, ℕ, ◌+◌, List, [], ◌∷◌, ◌++◌, map, refl, ap, ◌∙◌, arith}
-use Rattle.std.proofs.lemmas.List.FromFn.{map-range_with_len_more}
+use Rattle.std.proofs.Common.{◌≡◌, ◌<◌, ℕ, ◌+◌, List, [], ◌∷◌, ◌++◌, map, All, refl, ap, sym, ◌∙◌, arith}
+use Rattle.std.specs.List.{range_with_len}
+use Rattle.std.proofs.lemmas.List.FromFn.{map-range_with_len_more, length-range_with_len, get_or-range_with_len}
 use Rattle.bsp_deliver.specs.Requests.{each_below}
 
 pub map_twice : {X Y Z : Type 0} (f : Y → Z) (g : X → Y) (xs : List X) → map (λ x. f (g x)) xs ≡ map f (map g xs)
@@ -17,3 +18,13 @@ map_same (x ∷ xs) = ap (λ ys. x ∷ ys) (map_same xs)
 
 pub each_below_more : {X : Type 0} (f : ℕ → X) (n : ℕ) → each_below (n + 1) f ≡ each_below n f ++ f n ∷ []
 each_below_more f n = map-range_with_len_more f 0 n n (omega arith)
+
+pub range_more : (n : ℕ) → range_with_len 0 (n + 1) ≡ range_with_len 0 n ++ n ∷ []
+range_more n =
+    sym (map_same (range_with_len 0 (n + 1))) ∙ map-range_with_len_more (λ k. k) 0 n n (omega arith) ∙ ap (λ ks. ks ++ n ∷ []) (map_same (range_with_len 0 n))
+
+-- the numbers below n are below n
+pub range_below : (n : ℕ) → All (λ k. k < n) (range_with_len 0 n)
+range_below n = λ k d l.
+    let here : k < n = omega (arith, length-range_with_len 0 n) in
+    omega (arith, get_or-range_with_len 0 n k d here)

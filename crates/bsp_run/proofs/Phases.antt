@@ -67,7 +67,7 @@ not_limit false step os faults (Some f) h = cc
 not_limit false step os faults None h = halts_or_not (list_any (λ o. is_sync o.ended) os) h
 
 -- no superstep ends a run by the limit before its delivery
-end_of-limit : (step : ℕ) (slots : List (List Area)) (os : List OutcomeParts) → end_of step slots os ≡ Some Limit → ⊥
+pub end_of-limit : (step : ℕ) (slots : List (List Area)) (os : List OutcomeParts) → end_of step slots os ≡ Some Limit → ⊥
 unfolding end_of
 end_of-limit step slots os h = not_limit (list_any (λ o. is_some o.fault) os) step os (faults_from 0 os) (sync_fault os slots) h
 

@@ -1,14 +1,10 @@
 -- Laws of runs, superstep by superstep.
-use Rattle.std.proofs.Common.{◌≡◌, ◌≤◌, ◌<◌, ◌+◌, ◌==◌, ℕ, zero, suc, Bool, true, false, cond, List, [], ◌∷◌, ◌++◌, map, length, refl, sym, ap, ◌∙◌, subst, arith, Option, Some, None, length-append, get_or}
-use Rattle.std.proofs.Common.{inl, inr}
-use Rattle.std.proofs.lemmas.Bool.{false≢true, cases_lt}
+use Rattle.std.proofs.Common.{◌≡◌, ◌≤◌, ◌<◌, ◌+◌, ◌==◌, ℕ, zero, suc, Bool, true, false, cond, List, [], ◌∷◌, ◌++◌, map, length, refl, sym, ap, ◌∙◌, subst, arith, Option, Some, None, length-append}
+use Rattle.std.proofs.lemmas.Bool.{false≢true}
 use Rattle.std.proofs.lemmas.Bool.Decides.{nat_tests}
-use Rattle.std.proofs.lemmas.List.Elements.{All-push}
-use Rattle.std.proofs.lemmas.Grind.{common_steps}
 use Rattle.bsp_model.specs.declared.input.Input.{Input}
 use Rattle.bsp_step.specs.ViewParts.{ViewParts}
-use Rattle.bsp_step.specs.OutcomeParts.{OutcomeParts, IsOutcome, IsOutcomeOf}
-use Rattle.bsp_deliver.specs.Requests.{no_outcome}
+use Rattle.bsp_step.specs.OutcomeParts.{OutcomeParts}
 use Rattle.bsp_run.specs.declared.result.Status.{Status}
 use Rattle.bsp_run.specs.declared.result.Status.TheVariants.{Limit}
 use Rattle.bsp_run.specs.declared.phase.Phase.{Phase}
@@ -17,28 +13,7 @@ use Rattle.bsp_run.specs.declared.superstep.Superstep.{Superstep}
 use Rattle.bsp_run.specs.Ending.{end_of}
 use Rattle.bsp_run.specs.Run.{Run, start, open_views, after_turns, after_delivery, phase_after, delivered_if, advanced_if, advance, times, is_limit}
 use Rattle.bsp_run.specs.Shown.{views_shown, outcomes_shown, last_of_past}
-use Rattle.bsp_run.specs.Condition.{AreOutcomesOf, is_turned, is_open, is_ended, no_view}
-
--- one view and one outcome more
-pub AreOutcomesOf-push : (vs : List ViewParts) (os : List OutcomeParts) (v : ViewParts) (o : OutcomeParts) → AreOutcomesOf vs os → IsOutcome o → IsOutcomeOf v o → AreOutcomesOf (vs ++ v ∷ []) (os ++ o ∷ [])
-AreOutcomesOf-push vs os v o h limits fits =
-    let long : length (vs ++ v ∷ []) ≡ length vs + 1 = length-append vs (v ∷ []) in
-    let many : length (os ++ o ∷ []) ≡ length os + 1 = length-append os (o ∷ []) in
-    let count : length os ≡ length vs = h.count in
-    record {
-      count = omega arith;
-      limits = All-push IsOutcome os o h.limits limits;
-      each = λ p l. elim (cases_lt p (length vs)) [
-        | inl w ↦
-            let old : get_or (vs ++ v ∷ []) p no_view ≡ get_or vs p no_view = grind (arith, common_steps) in
-            let out : get_or (os ++ o ∷ []) p no_outcome ≡ get_or os p no_outcome = grind (arith, common_steps) in
-            rw (old, out) (h.each p w)
-        | inr w ↦
-            let old : get_or (vs ++ v ∷ []) p no_view ≡ v = grind (arith, common_steps) in
-            let out : get_or (os ++ o ∷ []) p no_outcome ≡ o = grind (arith, common_steps) in
-            rw (old, out) fits
-      ];
-    }
+use Rattle.bsp_run.specs.Condition.{is_turned, is_open, is_ended}
 
 -- an open run goes on by its turns
 pub advance-open : (turn : ViewParts → OutcomeParts) (r : Run) → r.phase ≡ Open → advance turn r ≡ delivered_if (after_turns r (map turn (open_views r))).phase (after_turns r (map turn (open_views r)))
@@ -111,7 +86,7 @@ turns_left : (n : ℕ) (r : Run) (os : List OutcomeParts) → length r.past + su
 unfolding after_turns
 turns_left n r os h = h
 
-turns_closed : (r : Run) (os : List OutcomeParts) → is_open (after_turns r os).phase ≡ false
+pub turns_closed : (r : Run) (os : List OutcomeParts) → is_open (after_turns r os).phase ≡ false
 unfolding after_turns
 turns_closed r os = never_open (end_of (length r.past) r.state.table os)
 

@@ -8,3 +8,7 @@ pub mod HistoryInside
 pub mod Shown
 pub mod RunErrors
 pub mod Opening
+pub mod Supersteps
+pub mod Law
+pub mod Record
+pub mod Shares

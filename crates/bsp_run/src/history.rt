@@ -1,13 +1,15 @@
 //! A run that has ended.
 
-ghost use Rattle.std.specs.Prelude.{◌≡◌, IfOk, map, slice_get, option_map, true};
+ghost use Rattle.std.specs.Prelude.{◌≡◌, IfOk, IfSome, map, slice_get, option_map, true, All};
+ghost use Rattle.bsp_deliver.specs.Condition.{AreDeliverable};
+ghost use Rattle.bsp_run.specs.Supersteps.{supersteps_of, superstep_at};
 ghost use Rattle.bsp_run.specs.Condition.{is_ended};
 ghost use Rattle.bsp_run.specs.Result.{status_of, steps_of, memories_of, lines_of, costs_of, total_of, result_of, all_turns, all_views};
 
 use crate::costs::{all_costs, total_of};
 use crate::keeping::{is_limit, last_turn};
 use crate::lines::all_lines;
-use crate::{Lines, Phase, RunResult, Status, Tape};
+use crate::{Lines, Phase, RunResult, Status, Superstep, Tape};
 use bsp_model::{CostRow, Memory, OutOfMemory, Seq, TryCopy};
 use bsp_step::{Outcome, View};
 use std::alloc::Global;
@@ -152,7 +154,8 @@ impl History {
 
     /// The outcomes of a superstep, by process.
     pub fn outcomes(&self, step: u64) -> Option<&[Outcome]>
-        ensures { option_map (λ o. o.now) result ≡ slice_get (all_turns self.now) step }
+        ensures outcomes { option_map (λ o. o.now) result ≡ slice_get (all_turns self.now) step }
+        ensures deliverable { IfSome result (λ o. AreDeliverable o.now) }
     {
         let run = &self.run;
         match run.past.as_slice().get(step as usize) {
@@ -161,6 +164,39 @@ impl History {
                 last_turn(&run.phase, run.outcomes.as_slice())
             }
             None => None,
+        }
+    }
+
+    /// The supersteps that ended by delivery.
+    pub fn past(&self) -> &[Superstep]
+        ensures past { result.now ≡ self.now.past }
+        ensures deliverable { All (λ s. AreDeliverable s.outcomes) result.now }
+    {
+        let run = &self.run;
+        run.past.as_slice()
+    }
+
+    /// The views of superstep `step`; none where the run took no turns of such a superstep.
+    pub fn superstep_views(&self, step: usize) -> &[View]
+        ensures { result.now ≡ (superstep_at (supersteps_of self.now) step).views }
+    {
+        let run = &self.run;
+        match run.past.as_slice().get(step) {
+            Some(superstep) => superstep.views.as_slice(),
+            None if step == run.past.len() && !is_limit(&run.phase) => run.views.as_slice(),
+            None => &[],
+        }
+    }
+
+    /// The outcomes of superstep `step`; none where the run took no turns of such a superstep.
+    pub fn superstep_outcomes(&self, step: usize) -> &[Outcome]
+        ensures { result.now ≡ (superstep_at (supersteps_of self.now) step).outcomes }
+    {
+        let run = &self.run;
+        match run.past.as_slice().get(step) {
+            Some(superstep) => superstep.outcomes.as_slice(),
+            None if step == run.past.len() && !is_limit(&run.phase) => run.outcomes.as_slice(),
+            None => &[],
         }
     }
 

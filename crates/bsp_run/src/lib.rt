@@ -11,7 +11,10 @@ mod phase;
 mod plain;
 mod result;
 mod superstep;
+mod supersteps;
 mod tape;
+mod wide;
+mod works;
 
 pub use history::History;
 pub use phase::Phase;
@@ -19,3 +22,4 @@ pub use plain::run_plain;
 pub use result::{Lines, ProcessFault, RunError, RunResult, Status};
 pub use superstep::Superstep;
 pub use tape::Tape;
+pub use wide::{run_wide, wide_deliveries, wide_turns};

@@ -1,7 +1,8 @@
 //! A run while it is recorded.
 
-ghost use Rattle.std.specs.Prelude.{◌≡◌, ◌++◌, ◌∷◌, [], IfOk, IfErr, OnOk, OnErr, None, Some, length};
+ghost use Rattle.std.specs.Prelude.{◌≡◌, ◌++◌, ◌∷◌, [], IfOk, IfErr, OnOk, OnErr, None, Some, length, All};
 ghost use Rattle.bsp_model.specs.Input.{input_fault};
+ghost use Rattle.bsp_step.specs.ViewParts.{IsView};
 ghost use Rattle.bsp_deliver.specs.Condition.{AreDeliverable};
 ghost use Rattle.bsp_run.specs.Run.{start, after_turns, after_delivery, open_views};
 ghost use Rattle.bsp_run.specs.Shown.{views_shown, outcomes_shown};
@@ -83,7 +84,8 @@ impl Tape {
 
     /// The views of the open superstep, by process; once the run has ended, those of its last superstep. It takes no memory.
     pub fn views(&self) -> &[View]
-        ensures { result.now ≡ views_shown self.now }
+        ensures views { result.now ≡ views_shown self.now }
+        ensures limits { self.now.phase ≡ Phase.Open → All IsView result.now }
     {
         match &self.phase {
             Phase::Ended(Status::Limit) => match self.past.last() {
@@ -158,8 +160,15 @@ impl Tape {
         Ok(step != self.limit)
     }
 
+    /// The number of supersteps that ended by delivery.
+    pub fn step(&self) -> usize
+        ensures { result ≡ length self.now.past }
+    {
+        self.past.len()
+    }
+
     /// Whether a superstep is open, without outcomes.
-    pub(crate) fn is_open(&self) -> bool
+    pub fn is_open(&self) -> bool
         ensures { result ≡ is_open self.now.phase }
     {
         matches!(self.phase, Phase::Open)

@@ -1,13 +1,12 @@
-use Rattle.std.proofs.Common.{◌≡◌, ◌≤◌, ◌*◌, ◌==◌, take, map, filter, length, All}
-use Rattle.bsp_step.specs.ViewParts.{IsShortMessage}
+use Rattle.std.proofs.Common.{◌≡◌, ◌==◌, take, map, filter}
 use Rattle.bsp_deliver.specs.Requests.{all_sends}
 use Rattle.bsp_deliver.specs.Delivery.{message_of}
+use Rattle.bsp_deliver.proofs.Queues.{IsQueueOf}
 use Rattle.bsp_deliver.proofs.delivery.queue_of.Given as goal
 
--- the messages to d of the senders so far, at most 1,024 from each
+-- the messages to d of the senders so far
 abbrev pub invariant-loop-outcome : goal.invariant-loop-outcome
 invariant-loop-outcome l = record {
   messages : l.queue ≡ map (λ m. message_of m.1) (filter (λ m. m.1.target == l.d) (all_sends (take l.outcome-index l.outcomes)));
-  few : length l.queue ≤ 1024 * l.outcome-index;
-  short : All IsShortMessage l.queue;
+  limits : IsQueueOf l.outcome-index l.queue;
 }

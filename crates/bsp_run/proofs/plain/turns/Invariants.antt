@@ -1,10 +1,8 @@
-use Rattle.std.proofs.Common.{◌≡◌, take, map}
+use Rattle.std.proofs.Common.{◌≡◌, take}
 use Rattle.bsp_step.specs.Turn.{turn_of}
-use Rattle.bsp_run.specs.Condition.{AreOutcomesOf}
+use Rattle.bsp_run.specs.Shares.{turns_of}
 use Rattle.bsp_run.proofs.plain.turns.Given as goal
 
-abbrev pub invariant-loop-view : goal.invariant-loop-view
-invariant-loop-view g l = record {
-  turns : l.outcomes.items ≡ map (turn_of (g.P.Program.acts l.program) (g.P.Program.ending l.program)) (take l.view-index l.views);
-  limits : AreOutcomesOf (take l.view-index l.views) l.outcomes.items;
-}
+abbrev pub invariant-loop-process : goal.invariant-loop-process
+invariant-loop-process g l =
+    l.outcomes.items ≡ turns_of (turn_of (g.P.Program.acts l.program) (g.P.Program.ending l.program)) l.views (take l.process-index l.processes)

@@ -1,0 +1,43 @@
+use Rattle.std.proofs.Common.{◌≡◌, ℕ, Bool, ◌+◌, ◌==◌, ◌++◌, ◌∙◌, ap, sym, arith, map, filter, List, subst}
+use Rattle.std.proofs.lemmas.List.{map-append}
+use Rattle.bsp_model.specs.declared.request.Send.{Send}
+use Rattle.bsp_model.specs.declared.request.Message.{Message}
+use Rattle.bsp_step.specs.OutcomeParts.{OutcomeParts, IsOutcome}
+use Rattle.bsp_deliver.specs.Requests.{all_sends}
+use Rattle.bsp_deliver.specs.Delivery.{message_of}
+use Rattle.bsp_deliver.proofs.Senders.{addressed_more, map_twice}
+use Rattle.bsp_deliver.proofs.Queues.{IsQueueOf, no_senders, sender_more, queue_of_few}
+use Rattle.bsp_deliver.proofs.addressed.sends_to.Goals as goal
+
+abbrev messages_of : List (ℕ × Send) → List Message
+messages_of ms = map (λ (m : ℕ × Send). message_of m.1) ms
+
+pub loop-sender-init : goal.loop-sender-init
+unfolding all_sends
+loop-sender-init c = record { sends = c.new-sends.ensures; limits = subst (λ (ms : List (ℕ × Send)). IsQueueOf 0 (messages_of ms)) (sym c.new-sends.ensures) no_senders }
+
+pub loop-sender-preserved : goal.loop-sender-preserved
+unfolding all_sends
+loop-sender-preserved c =
+    let i = c.loop-sender.sender in
+    let o = c.index-outcomes-sender.result in
+    let to : Send → Bool = λ m. m.target == c.args.d in
+    let sent = λ (ms : List Send). map {B = ℕ × Send} (λ (m : Send). (i, m)) (filter to ms) in
+    let grown : c.add_addressed.new.list ≡ c.loop-sender.sends ++ sent o.sends =
+    c.in_ok-add_addressed.ensures ∙ ap (λ ms. c.loop-sender.sends ++ sent ms) (c.as_slice.ensures ∙ ap (λ (x : OutcomeParts). x.sends) c.outcome.view_is) in
+    let queue : messages_of c.add_addressed.new.list ≡ messages_of c.loop-sender.sends ++ map message_of (filter to o.sends) =
+    ap messages_of grown
+    ∙ map-append (λ (m : ℕ × Send). message_of m.1) c.loop-sender.sends (sent o.sends)
+    ∙ ap (λ ms. messages_of c.loop-sender.sends ++ ms) (sym (map_twice (λ (m : ℕ × Send). message_of m.1) (λ (m : Send). (i, m)) (filter to o.sends))) in
+    record {
+      sends =
+          grown
+          ∙ ap (λ (ms : List (ℕ × Send)). ms ++ sent o.sends) c.loop-sender.invariant.sends
+          ∙ sym (addressed_more (λ (x : OutcomeParts). x.sends) to c.args.outcomes.now i o c.loop-sender-test.true c.index-outcomes-sender.is);
+      limits =
+          subst (IsQueueOf (i + 1)) (sym queue)
+          (sender_more c.args.d i (messages_of c.loop-sender.sends) o c.loop-sender.invariant.limits (subst IsOutcome c.outcome.view_is c.outcome.invariant));
+    }
+
+pub returns-clause-limits : goal.returns-clause-limits
+returns-clause-limits c = queue_of_few c.loop-sender.sender (messages_of c.loop-sender.sends) (omega (arith, c.requires)) c.loop-sender.invariant.limits

@@ -1,0 +1,58 @@
+-- The shares of all processes are a whole superstep.
+use Rattle.std.proofs.Common.{◌≡◌, ℕ, List, map, length, All, get_or, true, sym, ap, ◌∙◌, subst, refl}
+use Rattle.std.specs.List.{range_with_len}
+use Rattle.std.proofs.lemmas.List.{get_or-map, length-map}
+use Rattle.std.proofs.lemmas.List.FromFn.{fill_by_all}
+use Rattle.bsp_model.specs.declared.request.Message.{Message}
+use Rattle.bsp_model.specs.declared.fault.End.{End}
+use Rattle.bsp_step.specs.ViewParts.{ViewParts, IsView}
+use Rattle.bsp_step.specs.OutcomeParts.{OutcomeParts}
+use Rattle.bsp_step.specs.Act.{Act}
+use Rattle.bsp_step.specs.Turn.{turn_of}
+use Rattle.bsp_deliver.specs.Requests.{no_outcome}
+use Rattle.bsp_run.specs.Run.{Run, open_views, after_turns}
+use Rattle.bsp_run.specs.Condition.{AreOutcomesOf, no_view, is_open, is_turned, deliveries_of}
+use Rattle.bsp_run.specs.Shown.{views_shown, outcomes_shown}
+use Rattle.bsp_run.specs.Shares.{turns_of, deliveries_to}
+use Rattle.bsp_run.proofs.Runs.{views_shown-open, outcomes_shown-turned, turned_phase_is}
+use Rattle.bsp_run.proofs.Turns.{AreOutcomesOf-turns}
+
+-- the turns of all processes, by number, are those of all views
+pub turns_of-all : (turn : ViewParts → OutcomeParts) (vs : List ViewParts) → turns_of turn vs (range_with_len 0 (length vs)) ≡ map turn vs
+turns_of-all turn vs =
+    sym (fill_by_all (λ p. turn (get_or vs p no_view)) (map turn vs) (length vs) no_outcome (length-map vs turn) (λ p l. get_or-map turn vs p no_view no_outcome l))
+
+-- the deliveries to all processes, by number
+pub deliveries_to-all : (os : List OutcomeParts) → deliveries_to os (range_with_len 0 (length os)) ≡ deliveries_of os
+unfolding deliveries_of
+deliveries_to-all os = refl
+
+-- What is known of the outcomes of the open superstep that are made of the views shown.
+pub record AreTurnsOf (turn : ViewParts → OutcomeParts) (r : Run) (vs : List ViewParts) (os : List OutcomeParts) : Type 0 where
+  pub turns : os ≡ map turn (open_views r)
+  pub outcomes : AreOutcomesOf (open_views r) os
+  pub count : length os ≡ length vs
+
+pub turns_made : (acts : ViewParts → List Act) (ending : ViewParts → End) (r : Run) (vs : List ViewParts) (ps : List ℕ) (os : List OutcomeParts) → is_open r.phase ≡ true → vs ≡ views_shown r → All IsView vs → ps ≡ range_with_len 0 (length vs) → os ≡ turns_of (turn_of acts ending) vs ps → AreTurnsOf (turn_of acts ending) r vs os
+turns_made acts ending r vs ps os h shown limits all made =
+    let turn = turn_of acts ending in
+    let views : vs ≡ open_views r = shown ∙ views_shown-open r h in
+    let turns : os ≡ map turn vs = made ∙ ap (turns_of turn vs) all ∙ turns_of-all turn vs in
+    record {
+      turns = turns ∙ ap (map turn) views;
+      outcomes = subst (λ ws. AreOutcomesOf ws os) views (subst (AreOutcomesOf vs) (sym turns) (AreOutcomesOf-turns acts ending vs limits));
+      count = ap (λ (us : List OutcomeParts). length us) turns ∙ length-map vs turn;
+    }
+
+after_turns-outcomes : (r : Run) (os : List OutcomeParts) → (after_turns r os).outcomes ≡ os
+unfolding after_turns
+after_turns-outcomes r os = refl
+
+-- the outcomes that a run shows once its turns are taken are those of the turns
+pub outcomes_made : (r t : Run) (os us : List OutcomeParts) → t ≡ after_turns r os → is_turned t.phase ≡ true → us ≡ outcomes_shown t → (us ≡ t.outcomes) × (us ≡ os)
+outcomes_made r t os us turned h shown =
+    let kept : us ≡ t.outcomes = shown ∙ outcomes_shown-turned t (turned_phase_is t.phase h) in
+    (kept, kept ∙ ap (λ (x : Run). x.outcomes) turned ∙ after_turns-outcomes r os)
+
+pub deliveries_made : (os : List OutcomeParts) (count : ℕ) (ds : List ℕ) (cells : List (List ℕ × List Message)) → length os ≡ count → ds ≡ range_with_len 0 count → cells ≡ deliveries_to os ds → cells ≡ deliveries_of os
+deliveries_made os count ds cells long all made = made ∙ ap (deliveries_to os) (all ∙ ap (range_with_len 0) (sym long)) ∙ deliveries_to-all os

@@ -1,0 +1,84 @@
+//! A run, superstep by superstep, whoever takes its turns and makes its deliveries.
+
+ghost use Rattle.std.specs.Prelude.{◌≡◌, ◌<◌, All, None, IfOk, IfErr, OnOk, length, false};
+ghost use Rattle.std.specs.List.{range_with_len};
+ghost use Rattle.bsp_model.specs.Input.{input_fault};
+ghost use Rattle.bsp_step.specs.Turn.{turn_of};
+ghost use Rattle.bsp_deliver.specs.Condition.{AreDeliverable};
+ghost use Rattle.bsp_run.specs.Run.{advance, run};
+ghost use Rattle.bsp_run.specs.Condition.{is_turned};
+ghost use Rattle.bsp_run.specs.Shares.{turns_of, deliveries_to};
+ghost use Rattle.bsp_run.specs.Law.{IsBspRun};
+ghost use Rattle.bsp_run.specs.RunErrors.{input_fault_of};
+
+use crate::{History, RunError, Tape};
+use bsp_model::{Input, Memory, OutOfMemory};
+use bsp_step::{Outcome, Program, Queue, View};
+use std::alloc::Global;
+
+/// The numbers of so many processes.
+#[tactic(auto, using(crate::proofs::Lists::range_more))]
+fn numbers(alloc: Global, count: usize) -> Result<Vec<usize>, OutOfMemory>
+    ensures { IfOk result (λ numbers. numbers.items ≡ range_with_len 0 count) }
+{
+    let mut numbers = Vec::with_capacity(alloc, count)?;
+    for number in 0..count {
+        numbers.push(number)?;
+    }
+    Ok(numbers)
+}
+
+/// One superstep more, if the run has not ended: its turns and, where it ends by delivery, its deliveries.
+fn advance<
+    P: Program,
+    T: Fn(&P, &[View], &[usize]) -> Result<Vec<Outcome>, OutOfMemory>,
+    D: Fn(&[Outcome], &[usize]) -> Result<Vec<(Memory, Queue)>, OutOfMemory>,
+>(alloc: Global, program: &P, turns: &T, deliveries: &D, tape: &mut Tape) -> Result<(), OutOfMemory>
+    requires between { is_turned tape.old.phase ≡ false }
+    requires turn { (p : _) (views : _) (ps : _) → All (λ k. k < length views.now) ps.now → T.pre turns.now p views ps }
+    requires turns { (p : _) (views : _) (ps : _) (r : _) → T.post turns.now p views ps r
+        → IfOk r (λ all. all.items ≡ turns_of (turn_of (P.acts p.now) (P.ending p.now)) views.now ps.now) }
+    requires deliver { (os : _) (ds : _) → AreDeliverable os.now → All (λ d. d < length os.now) ds.now → D.pre deliveries.now os ds }
+    requires deliveries { (os : _) (ds : _) (r : _) → D.post deliveries.now os ds r
+        → IfOk r (λ all. all.items ≡ deliveries_to os.now ds.now) }
+    ensures { OnOk result (tape.new ≡ advance (turn_of (P.acts program.now) (P.ending program.now)) tape.old) }
+{
+    if !tape.is_open() {
+        return Ok(());
+    }
+    let views = tape.views();
+    let processes = numbers(alloc, views.len())?;
+    let outcomes = turns(program, views, processes.as_slice())?;
+    let delivers = tape.turned(outcomes)?;
+    if delivers {
+        let cells = deliveries(tape.outcomes(), processes.as_slice())?;
+        let _ = tape.delivered(cells)?;
+    }
+    Ok(())
+}
+
+/// The run of a program on an input: every process from its first superstep, up to the superstep limit. `turns` takes the turns of the
+/// processes that it is given, and `deliveries` makes the deliveries to them.
+pub(crate) fn run_by<
+    P: Program,
+    T: Fn(&P, &[View], &[usize]) -> Result<Vec<Outcome>, OutOfMemory>,
+    D: Fn(&[Outcome], &[usize]) -> Result<Vec<(Memory, Queue)>, OutOfMemory>,
+>(alloc: Global, program: &P, input: &Input, turns: &T, deliveries: &D) -> Result<History, RunError>
+    requires turn { (p : _) (views : _) (ps : _) → All (λ k. k < length views.now) ps.now → T.pre turns.now p views ps }
+    requires turns { (p : _) (views : _) (ps : _) (r : _) → T.post turns.now p views ps r
+        → IfOk r (λ all. all.items ≡ turns_of (turn_of (P.acts p.now) (P.ending p.now)) views.now ps.now) }
+    requires deliver { (os : _) (ds : _) → AreDeliverable os.now → All (λ d. d < length os.now) ds.now → D.pre deliveries.now os ds }
+    requires deliveries { (os : _) (ds : _) (r : _) → D.post deliveries.now os ds r
+        → IfOk r (λ all. all.items ≡ deliveries_to os.now ds.now) }
+    ensures lawful { OnOk result (input_fault input.now ≡ None) }
+    ensures run { IfOk result (λ history. history ≡ run (turn_of (P.acts program.now) (P.ending program.now)) input.now) }
+    ensures law { IfOk result (λ history. IsBspRun (turn_of (P.acts program.now) (P.ending program.now)) input.now history) }
+    ensures input { IfErr result (λ e. input_fault input.now ≡ input_fault_of e) }
+{
+    let mut tape = Tape::open(alloc, input)?;
+    // Once the run has ended, `advance` leaves it as it is.
+    for _step in 0..input.limit {
+        advance(alloc, program, turns, deliveries, &mut tape)?;
+    }
+    Ok(tape.finish()?)
+}

@@ -1,0 +1,60 @@
+//! The turns and the deliveries of a superstep, as works of the pool.
+
+ghost use Rattle.std.specs.Prelude.{◌<◌, length, slice_index_or};
+ghost use Rattle.bsp_step.specs.Turn.{turn_of};
+ghost use Rattle.bsp_deliver.specs.Condition.{AreDeliverable};
+ghost use Rattle.bsp_deliver.specs.Delivery.{delivery_parts, next_memory, next_queue};
+ghost use Rattle.bsp_run.specs.Condition.{no_view};
+
+use bsp_deliver::deliver;
+use bsp_model::{Memory, OutOfMemory};
+use bsp_pool::Work;
+use bsp_step::{Ctx, Outcome, Program, Queue, View};
+use std::alloc::Global;
+
+/// The turns of a program. A job is the number of a process.
+#[derive(Drop)]
+pub struct Turns<'a, P: Program> {
+    pub program: &'a P,
+    pub views: &'a [View],
+}
+
+impl<'a, P: Program> Work for Turns<'a, P> {
+    type In = usize;
+
+    type Out = Outcome;
+
+    ghost accepts = { λ turns p. p < length turns.views.now };
+
+    ghost does = { λ turns p.
+        turn_of (P.acts turns.program.now) (P.ending turns.program.now) (slice_index_or turns.views.now p no_view) };
+
+    // The calls of `bsp_step::turn`, to which no method of a trait may pass a program.
+    fn work(&self, alloc: Global, process: &usize) -> Result<Outcome, OutOfMemory> {
+        let mut ctx = Ctx::open(alloc, &self.views[*process])?;
+        let how = self.program.step(alloc, &mut ctx)?;
+        Ok(ctx.close(how))
+    }
+}
+
+/// The deliveries at the end of a superstep. A job is the number of a process.
+#[derive(Drop)]
+pub struct Deliveries<'a> {
+    pub outcomes: &'a [Outcome],
+    ghost deliverable: { AreDeliverable outcomes.now },
+}
+
+impl<'a> Work for Deliveries<'a> {
+    type In = usize;
+
+    type Out = (Memory, Queue);
+
+    ghost accepts = { λ all d. d < length all.outcomes.now };
+
+    ghost does = { λ all d.
+        (next_memory (delivery_parts all.outcomes.now d), next_queue (delivery_parts all.outcomes.now d)) };
+
+    fn work(&self, alloc: Global, process: &usize) -> Result<(Memory, Queue), OutOfMemory> {
+        deliver(alloc, *process, self.outcomes)
+    }
+}
