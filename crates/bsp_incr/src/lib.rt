@@ -1,8 +1,28 @@
-//! Edits of an input, and the replies to batches of them.
+//! Sessions: a program, its input, and the run that stays ready for edits of the input.
 #![tactic(auto)]
 
+mod counts;
+mod deliveries;
 mod edit;
+mod editing;
+mod error;
+mod kept;
+mod looking;
+mod marks;
+mod places;
+mod replies;
 mod reply;
+mod rerun;
+mod reuse;
+mod session;
+mod turns;
+mod workers;
 
 pub use edit::{Batch, Edit, EditFault, EditRefusal};
+pub use error::EditError;
+pub use replies::{scratch_run, session_run};
 pub use reply::{Place, Reply, Update};
+pub use session::Session;
+
+#[cfg(test)]
+mod tests;

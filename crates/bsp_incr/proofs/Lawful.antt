@@ -1,0 +1,115 @@
+-- Edits that are accepted keep an input lawful.
+use Rattle.std.proofs.Common.{◌≡◌, ◌+◌, ℕ, Bool, true, false, cond, Option, None, Some, List, [], ◌∷◌, map, length, get_or, ◌==◌, ◌&&◌, not, refl, sym, ap, ◌∙◌}
+use Rattle.std.specs.Prelude.{slice_set, nat_le, nat_lt}
+use Rattle.std.specs.List.{list_all}
+use Rattle.std.proofs.Math.ListN.{length-set}
+use Rattle.std.proofs.Math.Seq.{map-set_same}
+use Rattle.std.proofs.lemmas.List.{length-map}
+use Rattle.std.proofs.lemmas.List.Folds.{list_all-map}
+use Rattle.bsp_model.specs.declared.input.Input.{Input}
+use Rattle.bsp_model.specs.declared.fault.InputFault.{InputFault}
+use Rattle.bsp_model.specs.declared.fault.InputFault.TheVariants.{NoProcess, TooMany, LengthsDiffer, MemoryTooLong, ArgsTooLong, BadLimit, BadPrice}
+use Rattle.bsp_model.specs.Input.{input_fault}
+use Rattle.bsp_incr.specs.declared.edit.Edit.{Edit}
+use Rattle.bsp_incr.specs.declared.edit.Edit.TheVariants.{Word, Arg, Limit, Prices}
+use Rattle.bsp_incr.specs.declared.edit.EditFault.{EditFault}
+use Rattle.bsp_incr.specs.declared.edit.EditFault.TheVariants as why
+use Rattle.bsp_incr.specs.declared.edit.EditRefusal.{EditRefusal}
+use Rattle.bsp_incr.specs.Edits.{edit_fault, refusal_or, refusal_from, refusal_of, with_number, edited_by, edited}
+
+set_own : (lists : List (List ℕ)) (p a value : ℕ) → map (λ (m : List ℕ). length m) (with_number lists p a value) ≡ map (λ (m : List ℕ). length m) lists
+set_own lists p a value = map-set_same (λ (m : List ℕ). length m) lists p (slice_set (get_or lists p []) a value) [] (length-set (get_or lists p []) a value)
+
+all_same : (bound : ℕ) (xs ys : List (List ℕ)) → map (λ (m : List ℕ). length m) xs ≡ map (λ (m : List ℕ). length m) ys → list_all (λ m. nat_le (length m) bound) xs ≡ list_all (λ m. nat_le (length m) bound) ys
+all_same bound xs ys e =
+    sym (list_all-map (λ n. nat_le n bound) (λ (m : List ℕ). length m) xs) ∙ ap (list_all (λ n. nat_le n bound)) e ∙ list_all-map (λ n. nat_le n bound) (λ (m : List ℕ). length m) ys
+
+abbrev chain : (a b c d e x y : Bool) → Option InputFault
+chain a b c d e x y = cond a (Some NoProcess) (cond b (Some TooMany) (cond c (Some LengthsDiffer) (cond d (Some MemoryTooLong) (cond e (Some ArgsTooLong) (cond x (Some BadLimit) (cond y (Some BadPrice) None))))))
+
+last_tests : (a b c d e x y u v : Bool) → chain a b c d e x y ≡ None → (u ≡ false) → (v ≡ false) → chain a b c d e u v ≡ None
+last_tests true b c d e x y u v h k l = cc
+last_tests false true c d e x y u v h k l = cc
+last_tests false false true d e x y u v h k l = cc
+last_tests false false false true e x y u v h k l = cc
+last_tests false false false false true x y u v h k l = cc
+last_tests false false false false false x y u v h k l = cc
+
+limit_test : (a b c d e x y : Bool) → chain a b c d e x y ≡ None → x ≡ false
+limit_test true b c d e x y h = cc
+limit_test false true c d e x y h = cc
+limit_test false false true d e x y h = cc
+limit_test false false false true e x y h = cc
+limit_test false false false false true x y h = cc
+limit_test false false false false false true y h = cc
+limit_test false false false false false false y h = refl
+
+price_test : (a b c d e x y : Bool) → chain a b c d e x y ≡ None → y ≡ false
+price_test true b c d e x y h = cc
+price_test false true c d e x y h = cc
+price_test false false true d e x y h = cc
+price_test false false false true e x y h = cc
+price_test false false false false true x y h = cc
+price_test false false false false false true y h = cc
+price_test false false false false false false true h = cc
+price_test false false false false false false false h = refl
+
+-- no edit of a word or an argument changes whether an input is lawful
+mems_same : (i : Input) (mems : List (List ℕ)) → map (λ (m : List ℕ). length m) mems ≡ map (λ (m : List ℕ). length m) i.mems → input_fault (record i { mems = mems }) ≡ input_fault i
+mems_same i mems e =
+    let count : length mems ≡ length i.mems = sym (length-map mems (λ (m : List ℕ). length m)) ∙ ap (λ (ns : List ℕ). length ns) e ∙ length-map i.mems (λ (m : List ℕ). length m) in
+    let short = all_same 4096 mems i.mems e in
+    let rest : Bool → Option InputFault = λ d. chain false false false d (not (list_all (λ (a : List ℕ). nat_le (length a) 64) i.args)) (not (nat_le 1 i.limit && nat_le i.limit 1024)) (not (nat_le i.g 1000000 && nat_le i.l 1000000)) in
+    ap (λ n. cond (n == 0) (Some NoProcess) (cond (nat_lt 64 n) (Some TooMany) (cond (not (length i.args == n)) (Some LengthsDiffer) (rest (not (list_all (λ (m : List ℕ). nat_le (length m) 4096) mems)))))) count
+    ∙ ap (λ b. cond (length i.mems == 0) (Some NoProcess) (cond (nat_lt 64 (length i.mems)) (Some TooMany) (cond (not (length i.args == length i.mems)) (Some LengthsDiffer) (rest (not b))))) short
+
+args_same : (i : Input) (args : List (List ℕ)) → map (λ (a : List ℕ). length a) args ≡ map (λ (a : List ℕ). length a) i.args → input_fault (record i { args = args }) ≡ input_fault i
+args_same i args e =
+    let count : length args ≡ length i.args = sym (length-map args (λ (m : List ℕ). length m)) ∙ ap (λ (ns : List ℕ). length ns) e ∙ length-map i.args (λ (m : List ℕ). length m) in
+    let short = all_same 64 args i.args e in
+    let rest : Bool → Option InputFault = λ x. chain false false false (not (list_all (λ (m : List ℕ). nat_le (length m) 4096) i.mems)) (not x) (not (nat_le 1 i.limit && nat_le i.limit 1024)) (not (nat_le i.g 1000000 && nat_le i.l 1000000)) in
+    ap (λ n. cond (length i.mems == 0) (Some NoProcess) (cond (nat_lt 64 (length i.mems)) (Some TooMany) (cond (not (n == length i.mems)) (Some LengthsDiffer) (rest (list_all (λ (a : List ℕ). nat_le (length a) 64) args))))) count
+    ∙ ap (λ b. cond (length i.mems == 0) (Some NoProcess) (cond (nat_lt 64 (length i.mems)) (Some TooMany) (cond (not (length i.args == length i.mems)) (Some LengthsDiffer) (rest b)))) short
+
+accepted : (b : Bool) (f : EditFault) → cond (not b) (Some f) None ≡ None → not b ≡ false
+accepted true f h = refl
+accepted false f h = cc
+
+edit_lawful : (i j : Input) (e : Edit) → edit_fault i e ≡ None → input_fault j ≡ None → input_fault (edited_by j e) ≡ None
+edit_lawful i j (Word pid addr value) h k = mems_same j (with_number j.mems pid addr value) (set_own j.mems pid addr value) ∙ k
+edit_lawful i j (Arg pid index value) h k = args_same j (with_number j.args pid index value) (set_own j.args pid index value) ∙ k
+edit_lawful i j (Limit n) h k =
+    let a = length j.mems == 0 in let b = nat_lt 64 (length j.mems) in let c = not (length j.args == length j.mems) in
+    let d = not (list_all (λ (m : List ℕ). nat_le (length m) 4096) j.mems) in let e = not (list_all (λ (a : List ℕ). nat_le (length a) 64) j.args) in
+    let x = not (nat_le 1 j.limit && nat_le j.limit 1024) in let y = not (nat_le j.g 1000000 && nat_le j.l 1000000) in
+    last_tests a b c d e x y (not (nat_le 1 n && nat_le n 1024)) y k (accepted (nat_le 1 n && nat_le n 1024) why.BadLimit h) (price_test a b c d e x y k)
+edit_lawful i j (Prices g l) h k =
+    let a = length j.mems == 0 in let b = nat_lt 64 (length j.mems) in let c = not (length j.args == length j.mems) in
+    let d = not (list_all (λ (m : List ℕ). nat_le (length m) 4096) j.mems) in let e = not (list_all (λ (a : List ℕ). nat_le (length a) 64) j.args) in
+    let x = not (nat_le 1 j.limit && nat_le j.limit 1024) in let y = not (nat_le j.g 1000000 && nat_le j.l 1000000) in
+    last_tests a b c d e x y x (not (nat_le g 1000000 && nat_le l 1000000)) k (limit_test a b c d e x y k) (accepted (nat_le g 1000000 && nat_le l 1000000) why.BadPrice h)
+
+none_refused : (place : ℕ) (f : Option EditFault) (later : Option EditRefusal) → refusal_or place f later ≡ None → (f ≡ None) × (later ≡ None)
+none_refused place None later h = (refl, h)
+none_refused place (Some f) later h = cc
+
+all_lawful : (i j : Input) (place : ℕ) (edits : List Edit) → refusal_from i place edits ≡ None → input_fault j ≡ None → input_fault (edited j edits) ≡ None
+all_lawful i j place [] h k = k
+all_lawful i j place (e ∷ later) h k =
+    let both = none_refused place (edit_fault i e) (refusal_from i (place + 1) later) h in
+    all_lawful i (edited_by j e) (place + 1) later both.1 (edit_lawful i j e both.0 k)
+
+-- An accepted batch keeps an input lawful ..
+pub edited_lawful : (i : Input) (edits : List Edit) → refusal_of i edits ≡ None → input_fault i ≡ None → input_fault (edited i edits) ≡ None
+edited_lawful i edits h k = all_lawful i i 0 edits h k
+
+edit_count : (i : Input) (e : Edit) → length (edited_by i e).mems ≡ length i.mems
+edit_count i (Word pid addr value) = length-set i.mems pid (slice_set (get_or i.mems pid []) addr value)
+edit_count i (Arg pid index value) = refl
+edit_count i (Limit n) = refl
+edit_count i (Prices g l) = refl
+
+-- .. and any batch its number of processes.
+pub edited_count : (i : Input) (edits : List Edit) → length (edited i edits).mems ≡ length i.mems
+edited_count i [] = refl
+edited_count i (e ∷ later) = edited_count (edited_by i e) later ∙ edit_count i e

@@ -1,0 +1,104 @@
+-- A recorded turn over another memory.
+use Rattle.std.proofs.Common.{◌≡◌, ℕ, ◌+◌, Bool, List, [], ◌∷◌, ◌++◌, Option, None, Some, length, refl, sym, ap, ◌∙◌}
+use Rattle.std.specs.Prelude.{slice_set, nat_lt, nat_le}
+use Rattle.std.proofs.Math.ListN.{length-set}
+use Rattle.bsp_model.specs.declared.request.Store.{Store}
+use Rattle.bsp_model.specs.declared.fault.Fault.{Fault}
+use Rattle.bsp_model.specs.declared.fault.Fault.TheVariants.{BadLocal, BadPid}
+use Rattle.bsp_model.specs.declared.fault.End.{End}
+use Rattle.bsp_step.specs.ViewParts.{ViewParts, IsView}
+use Rattle.bsp_step.specs.Context.{Context, fresh}
+use Rattle.bsp_step.specs.Act.{Act, store, charge, put, get, send, move_into, push_reg, pop_reg, set_tagsize, print}
+use Rattle.bsp_step.specs.Perform.{perform, performed, perform_all, refusal, done, first_fault, fault_unless, area_fault, target_area, request_fault}
+use Rattle.bsp_step.specs.Turn.{turn_of, closed}
+use Rattle.bsp_step.specs.Footprint.{IsFootprint, AreAlike, AreAlikeButForWords}
+use Rattle.bsp_incr.specs.Reuse.{made_again, reused}
+
+pub length-made_again : (m : List ℕ) (stores : List Store) → length (made_again m stores) ≡ length m
+length-made_again m [] = refl
+length-made_again m (s ∷ later) = length-made_again (slice_set m s.addr s.value) later ∙ length-set m s.addr s.value
+
+pub made_again-push : (m : List ℕ) (stores : List Store) (s : Store) → made_again m (stores ++ s ∷ []) ≡ slice_set (made_again m stores) s.addr s.value
+made_again-push m [] s = refl
+made_again-push m (t ∷ later) s = made_again-push (slice_set m t.addr t.value) later s
+
+-- the state of a turn, over another memory of the view
+abbrev over : List ℕ → Context → Context
+over m c = record c { view = record c.view { memory = m }; memory = made_again m c.stores }
+
+refusal-over : (m : List ℕ) (c : Context) (a : Act) → length c.memory ≡ length m → refusal (over m c) a ≡ refusal c a
+refusal-over m c (store a v) e = ap (λ n. fault_unless (nat_lt a n) BadLocal) (length-made_again m c.stores ∙ sym e)
+refusal-over m c (charge n) e = refl
+refusal-over m c (put pid words area offset) e = refl
+refusal-over m c (get pid area offset into len) e =
+    ap (λ n. first_fault (request_fault c) (first_fault (fault_unless (nat_lt pid c.view.nprocs) (BadPid pid)) (first_fault (area_fault (target_area c.view pid area) area (offset + len)) (fault_unless (nat_le (into + len) n) BadLocal)))) (length-made_again m c.stores ∙ sym e)
+refusal-over m c (send pid tag words) e = refl
+refusal-over m c (move_into room) e = refl
+refusal-over m c (push_reg start len) e = ap (λ n. first_fault (request_fault c) (fault_unless (nat_le (start + len) n) BadLocal)) (length-made_again m c.stores ∙ sym e)
+refusal-over m c (pop_reg start) e = refl
+refusal-over m c (set_tagsize size) e = refl
+refusal-over m c (print words) e = refl
+
+done-over : (m : List ℕ) (c : Context) (a : Act) → done (over m c) a ≡ over m (done c a)
+done-over m c (store a v) = let again = sym (made_again-push m c.stores record { addr = a; value = v }) in λ i. record (over m (done c (store a v))) { memory = again i }
+done-over m c (charge n) = refl
+done-over m c (put pid words area offset) = refl
+done-over m c (get pid area offset into len) = refl
+done-over m c (send pid tag words) = refl
+done-over m c (move_into room) = refl
+done-over m c (push_reg start len) = refl
+done-over m c (pop_reg start) = refl
+done-over m c (set_tagsize size) = refl
+done-over m c (print words) = refl
+
+performed-over : (m : List ℕ) (f r : Option Fault) (c d : Context) → performed f r (over m c) (over m d) ≡ over m (performed f r c d)
+performed-over m (Some f) r c d = refl
+performed-over m None (Some f) c d = refl
+performed-over m None None c d = refl
+
+perform-over : (m : List ℕ) (c : Context) (a : Act) → length c.memory ≡ length m → perform (over m c) a ≡ over m (perform c a)
+perform-over m c a e =
+    ap (λ r. performed c.fault r (over m c) (done (over m c) a)) (refusal-over m c a e)
+    ∙ ap (λ d. performed c.fault (refusal c a) (over m c) d) (done-over m c a)
+    ∙ performed-over m c.fault (refusal c a) c (done c a)
+
+done-length : (c : Context) (a : Act) → length (done c a).memory ≡ length c.memory
+done-length c (store a v) = length-set c.memory a v
+done-length c (charge n) = refl
+done-length c (put pid words area offset) = refl
+done-length c (get pid area offset into len) = refl
+done-length c (send pid tag words) = refl
+done-length c (move_into room) = refl
+done-length c (push_reg start len) = refl
+done-length c (pop_reg start) = refl
+done-length c (set_tagsize size) = refl
+done-length c (print words) = refl
+
+performed-length : (f r : Option Fault) (c d : Context) → length d.memory ≡ length c.memory → length (performed f r c d).memory ≡ length c.memory
+performed-length (Some f) r c d e = refl
+performed-length None (Some f) c d e = refl
+performed-length None None c d e = e
+
+-- no act changes the memory's length
+pub perform-length : (c : Context) (a : Act) → length (perform c a).memory ≡ length c.memory
+perform-length c a = performed-length c.fault (refusal c a) c (done c a) (done-length c a)
+
+perform_all-over : (m : List ℕ) (c : Context) (acts : List Act) → length c.memory ≡ length m → perform_all (over m c) acts ≡ over m (perform_all c acts)
+perform_all-over m c [] e = refl
+perform_all-over m c (a ∷ acts) e = ap (λ d. perform_all d acts) (perform-over m c a e) ∙ perform_all-over m (perform c a) acts (perform-length c a ∙ e)
+
+-- a view that is alike is the first with another memory
+pub with_memory : (v w : ViewParts) → AreAlikeButForWords v w → w ≡ record v { memory = w.memory }
+with_memory v w h =
+    λ i. record { nprocs = sym h.nprocs i; pid = sym h.pid i; step = sym h.step i; args = sym h.args i; memory = w.memory; table = sym h.table i; tag_size = sym h.tag_size i; queue = sym h.queue i }
+
+turn_over : (acts : ViewParts → List Act) (ending : ViewParts → End) (v : ViewParts) (m : List ℕ) → length v.memory ≡ length m → closed (perform_all (fresh record v { memory = m }) (acts v)) (ending v) ≡ reused (turn_of acts ending v) m
+turn_over acts ending v m e = ap (λ (c : Context). closed c (ending v)) (perform_all-over m (fresh v) (acts v) e)
+
+-- The turn of a view that is alike is the recorded one, over the new memory.
+pub turn_of-alike : (acts : ViewParts → List Act) (ending : ViewParts → End) (looks : ViewParts → ℕ → Bool) (v w : ViewParts) → IsFootprint acts ending looks → IsView v → IsView w → AreAlike (looks v) v w → turn_of acts ending w ≡ reused (turn_of acts ending v) w.memory
+turn_of-alike acts ending looks v w footprint old new alike =
+    ap (λ (xs : List Act). closed (perform_all (fresh w) xs) (ending w)) (sym (footprint.acts_alike v w old new alike))
+    ∙ ap (λ (how : End). closed (perform_all (fresh w) (acts v)) how) (sym (footprint.ending_alike v w old new alike))
+    ∙ ap (λ (x : ViewParts). closed (perform_all (fresh x) (acts v)) (ending v)) (with_memory v w alike.parts)
+    ∙ turn_over acts ending v w.memory alike.parts.same_length

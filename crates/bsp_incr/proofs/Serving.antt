@@ -1,0 +1,83 @@
+-- The test whether a recorded turn serves decides whether the views are alike.
+use Rattle.std.proofs.Common.{◌≡◌, ℕ, ◌<◌, Bool, true, false, List, Some, All, length, get_or, arith, ◌==◌, ◌&&◌, ◌||◌, not, slice_get, refl, sym, ap, ◌∙◌, subst}
+use Rattle.std.specs.Bool.{Decides}
+use Rattle.std.proofs.lemmas.Bool.{false≢true}
+use Rattle.std.specs.List.{list_all, range_with_len}
+use Rattle.std.specs.Cmp.Lexicographic.{pointwise}
+use Rattle.std.proofs.lemmas.Bool.Decides.{Decides-eqb, Decides-and, Decides-like, Decides-by_and}
+use Rattle.std.proofs.lemmas.List.FromFn.{length-range_with_len, get_or-range_with_len}
+use Rattle.std.proofs.lemmas.Option.{slice_get-get_or}
+use Rattle.bsp_step.specs.ViewParts.{ViewParts}
+use Rattle.bsp_step.specs.Footprint.{AreAlike, AreAlikeButForWords}
+use Rattle.bsp_incr.specs.Comparing.{same_words, same_table, same_message}
+use Rattle.bsp_incr.specs.Reuse.{same_but_for_words, same_where_looked_at, serves}
+use Rattle.bsp_incr.proofs.Comparing.{Decides-words, Decides-table, Decides-message, Decides-pointwise}
+
+pub Decides-but_for_words : (v w : ViewParts) → Decides (same_but_for_words v w) (AreAlikeButForWords v w)
+Decides-but_for_words v w =
+    let one = (v.nprocs == w.nprocs) && (v.pid == w.pid) in
+    let two = one && (v.step == w.step) in
+    let three = two && same_words v.args w.args in
+    let four = three && same_table v.table w.table in
+    let five = four && (v.tag_size == w.tag_size) in
+    let six = five && pointwise same_message v.queue w.queue in
+    Decides-like (same_but_for_words v w)
+    (λ (e : (((((((v.nprocs ≡ w.nprocs) × (v.pid ≡ w.pid)) × (v.step ≡ w.step)) × (v.args ≡ w.args)) × (v.table ≡ w.table)) × (v.tag_size ≡ w.tag_size)) × (v.queue ≡ w.queue)) × (length v.memory ≡ length w.memory)).
+    record { nprocs = e.0.0.0.0.0.0.0; pid = e.0.0.0.0.0.0.1; step = e.0.0.0.0.0.1; args = e.0.0.0.0.1; table = e.0.0.0.1; tag_size = e.0.0.1; queue = e.0.1; same_length = e.1 })
+    (λ (h : AreAlikeButForWords v w). (((((((h.nprocs, h.pid), h.step), h.args), h.table), h.tag_size), h.queue), h.same_length))
+    (Decides-and six (length v.memory == length w.memory)
+    (Decides-and five (pointwise same_message v.queue w.queue)
+    (Decides-and four (v.tag_size == w.tag_size)
+    (Decides-and three (same_table v.table w.table)
+    (Decides-and two (same_words v.args w.args)
+    (Decides-and one (v.step == w.step)
+    (Decides-and (v.nprocs == w.nprocs) (v.pid == w.pid) (Decides-eqb v.nprocs w.nprocs) (Decides-eqb v.pid w.pid))
+    (Decides-eqb v.step w.step)) (Decides-words v.args w.args)) (Decides-table v.table w.table)) (Decides-eqb v.tag_size w.tag_size))
+    (Decides-pointwise Decides-message v.queue w.queue)) (Decides-eqb (length v.memory) (length w.memory)))
+
+one_word : (looked same : Bool) {P : Type 0} → Decides same P → Decides (not looked || same) (looked ≡ true → P)
+one_word true same h = (λ e _. h.0 e, λ k. h.1 (k refl))
+one_word false same h = (λ _ e. cc, λ _. refl)
+
+-- the words are equal at each address that is looked at
+pub Decides-where_looked_at : (looks : ℕ → Bool) (m n : List ℕ) → Decides (same_where_looked_at looks m n) ((a : ℕ) → a < length m → looks a ≡ true → get_or m a 0 ≡ get_or n a 0)
+Decides-where_looked_at looks m n =
+    let test : ℕ → Bool = λ a. not (looks a) || (get_or m a 0 == get_or n a 0) in
+    let fact : ℕ → Type 0 = λ a. looks a ≡ true → get_or m a 0 ≡ get_or n a 0 in
+    let range = range_with_len 0 (length m) in
+    let long : length range ≡ length m = length-range_with_len 0 (length m) in
+    Decides-like (list_all test range)
+    (λ (h : All fact range). λ a l. let at : get_or range a 0 ≡ a = get_or-range_with_len 0 (length m) a 0 l ∙ omega arith in subst fact at (h a 0 (omega arith)))
+    (λ (h : (a : ℕ) → a < length m → fact a). λ k d l. let here : k < length m = omega arith in let at : get_or range k d ≡ k = get_or-range_with_len 0 (length m) k d here ∙ omega arith in subst fact (sym at) (h k here))
+    (Decides-by_and test fact (list_all test) (λ a. one_word (looks a) (get_or m a 0 == get_or n a 0) (Decides-eqb (get_or m a 0) (get_or n a 0))) refl (λ _ _. refl) range)
+
+index_get : (m n : List ℕ) (a : ℕ) → a < length m → length m ≡ length n → get_or m a 0 ≡ get_or n a 0 → slice_get m a ≡ slice_get n a
+index_get m n a l e h = slice_get-get_or m a 0 l ∙ ap (λ (x : ℕ). Some x) h ∙ sym (slice_get-get_or n a 0 (omega arith))
+
+get_index : (m n : List ℕ) (a : ℕ) → a < length m → length m ≡ length n → slice_get m a ≡ slice_get n a → get_or m a 0 ≡ get_or n a 0
+get_index m n a l e h =
+    let f : Some (get_or m a 0) ≡ Some (get_or n a 0) = sym (slice_get-get_or m a 0 l) ∙ h ∙ slice_get-get_or n a 0 (omega arith) in
+    cc
+
+-- A recorded turn serves exactly where the views are alike.
+pub Decides-serves : (looks : ViewParts → ℕ → Bool) (v w : ViewParts) → Decides (serves looks v w) (AreAlike (looks v) v w)
+Decides-serves looks v w =
+    Decides-like (serves looks v w)
+    (λ (e : AreAlikeButForWords v w × ((a : ℕ) → a < length v.memory → looks v a ≡ true → get_or v.memory a 0 ≡ get_or w.memory a 0)).
+    record { parts = e.0; words = λ a l k. index_get v.memory w.memory a l e.0.same_length (e.1 a l k) })
+    (λ (h : AreAlike (looks v) v w). (h.parts, λ a l k. get_index v.memory w.memory a l h.parts.same_length (h.words a l k)))
+    (Decides-and (same_but_for_words v w) (same_where_looked_at (looks v) v.memory w.memory) (Decides-but_for_words v w) (Decides-where_looked_at (looks v) v.memory w.memory))
+
+-- the turn of a view serves for the view itself
+pub serves-itself : (looks : ViewParts → ℕ → Bool) (v : ViewParts) → serves looks v v ≡ true
+serves-itself looks v =
+    (Decides-serves looks v v).1 record { parts = record { nprocs = refl; pid = refl; step = refl; args = refl; table = refl; tag_size = refl; queue = refl; same_length = refl }; words = λ a l k. refl }
+
+by_test : (b : Bool) (looks : ℕ → Bool) (m n : List ℕ) (a : ℕ) (same : Bool) → same_where_looked_at looks m n ≡ b → a < length m → looks a ≡ true → Decides same (get_or m a 0 ≡ get_or n a 0) → same ≡ false → false ≡ same_where_looked_at looks m n
+by_test true looks m n a same e l h d f = absurd (let k : same ≡ true = d.1 ((Decides-where_looked_at looks m n).0 e a l h) in false≢true (sym f ∙ k))
+by_test false looks m n a same e l h d f = sym e
+
+-- what fails at one address fails
+pub not_where_looked_at : (looks : ℕ → Bool) (m n : List ℕ) (a : ℕ) (same : Bool) → a < length m → looks a ≡ true → Decides same (get_or m a 0 ≡ get_or n a 0) → same ≡ false → false ≡ same_where_looked_at looks m n
+not_where_looked_at looks m n a same l h d f =
+    by_test (same_where_looked_at looks m n) looks m n a same refl l h d f

@@ -1,0 +1,67 @@
+-- What a run needs anew, against the record of another run. A run that there is not has no superstep.
+use Rattle.std.specs.Prelude.{◌≡◌, ℕ, ◌+◌, Bool, List, [], ◌∷◌, ◌++◌, Option, None, Some, ◌&&◌, not, nat_lt, filter, map, length, slice_get, slice_index_or}
+use Rattle.std.specs.List.{range_with_len}
+use Rattle.bsp_step.specs.ViewParts.{ViewParts}
+use Rattle.bsp_step.specs.OutcomeParts.{OutcomeParts}
+use Rattle.bsp_deliver.specs.Delivery.{delivery_parts}
+use Rattle.bsp_run.specs.declared.superstep.Superstep.{Superstep}
+use Rattle.bsp_run.specs.Run.{Run}
+use Rattle.bsp_run.specs.Supersteps.{supersteps_of, superstep_at}
+use Rattle.bsp_run.specs.Condition.{no_view}
+use Rattle.bsp_incr.specs.declared.reply.Place.{Place}
+use Rattle.bsp_incr.specs.declared.reply.Update.{Update}
+use Rattle.bsp_incr.specs.Comparing.{same_delivery}
+use Rattle.bsp_incr.specs.Reuse.{needs_turn}
+
+-- the supersteps of a run whose turns were taken
+abbrev pub supersteps_before : Option Run → List Superstep
+supersteps_before None = []
+supersteps_before (Some old) = supersteps_of old
+
+-- those that ended by delivery
+abbrev pub delivered_before : Option Run → List Superstep
+delivered_before None = []
+delivered_before (Some old) = old.past
+
+-- the processes at which the test holds, of so many
+abbrev pub processes_where : ℕ → (ℕ → Bool) → List ℕ
+processes_where count test = filter test (range_with_len 0 count)
+
+-- the places of these processes in a superstep
+abbrev pub places_of : ℕ → List ℕ → List Place
+places_of step processes = map (λ p. record { step = step; pid = p }) processes
+
+abbrev pub differs : (ViewParts → ℕ → Bool) → List ViewParts → List ViewParts → ℕ → Bool
+differs looks old new p = needs_turn looks (slice_get old p) (slice_index_or new p no_view)
+
+abbrev pub differ_in : (ViewParts → ℕ → Bool) → ℕ → List ViewParts → List ViewParts → List Place
+differ_in looks step old new = places_of step (processes_where (length new) (differs looks old new))
+
+abbrev pub differ_from : (ViewParts → ℕ → Bool) → ℕ → List Superstep → List Superstep → List Place
+differ_from looks step olds [] = []
+differ_from looks step olds (s ∷ later) = differ_in looks step (superstep_at olds step).views s.views ++ differ_from looks (step + 1) olds later
+
+-- The places whose turn has to be taken (this profile), by superstep, then process: the old run has no such superstep, or a view of the process that does
+-- not serve.
+unfoldable pub differ : (ViewParts → ℕ → Bool) → List Superstep → List Superstep → List Place
+differ looks olds news = differ_from looks 0 olds news
+
+-- The delivery to d has to be made: the old run has none, or one that depends on something else.
+abbrev pub is_touched : List OutcomeParts → List OutcomeParts → ℕ → Bool
+is_touched old new d = not (nat_lt d (length old) && same_delivery (delivery_parts old d) (delivery_parts new d))
+
+abbrev pub touched_in : ℕ → List OutcomeParts → List OutcomeParts → List Place
+touched_in step old new = places_of step (processes_where (length new) (is_touched old new))
+
+abbrev pub touched_from : ℕ → List Superstep → List Superstep → List Place
+touched_from step olds [] = []
+touched_from step olds (s ∷ later) = touched_in step (superstep_at olds step).outcomes s.outcomes ++ touched_from (step + 1) olds later
+
+-- The places whose delivery has to be made (this profile), by superstep, then process. Both lists are of supersteps that ended by delivery.
+unfoldable pub touched : List Superstep → List Superstep → List Place
+touched olds news = touched_from 0 olds news
+
+-- What was done for a new run, against an old one: no more and no less than has to be.
+pub record IsUpdate (looks : ViewParts → ℕ → Bool) (old : Option Run) (new : Run) (update : Update) : Type 0 where
+  pub executed : update.executed ≡ differ looks (supersteps_before old) (supersteps_of new)
+  pub redelivered : update.redelivered ≡ touched (delivered_before old) new.past

@@ -1,0 +1,54 @@
+-- Which views of an open superstep may differ from those of the old run: what the private functions of this crate ask and promise.
+use Rattle.std.specs.Prelude.{◌≡◌, ◌<◌, ℕ, Bool, true, false, List, length, slice_index_or}
+use Rattle.bsp_step.specs.ViewParts.{ViewParts}
+use Rattle.bsp_step.specs.OutcomeParts.{OutcomeParts}
+use Rattle.bsp_deliver.specs.Requests.{outcome_of}
+use Rattle.bsp_deliver.specs.Delivery.{delivery_parts, next_memory, next_queue}
+use Rattle.bsp_deliver.specs.Condition.{AreDeliverable}
+use Rattle.bsp_run.specs.Condition.{no_view}
+
+-- views that are equal but for the table and the tag size
+pub record AreAlikeButForTable (v w : ViewParts) : Type 0 where
+  pub nprocs : v.nprocs ≡ w.nprocs
+  pub pid : v.pid ≡ w.pid
+  pub step : v.step ≡ w.step
+  pub args : v.args ≡ w.args
+  pub memory : v.memory ≡ w.memory
+  pub queue : v.queue ≡ w.queue
+
+-- A process that is not marked sees what it saw in the old run, the table and the tag size aside. If the old run has no such superstep, nothing is asked.
+pub record AreMarked (old new : List ViewParts) (marks : List Bool) : Type 0 where
+  pub count : length marks ≡ length new
+  pub clean : (p : ℕ) → p < length old → p < length new → slice_index_or marks p true ≡ false → AreAlikeButForTable (slice_index_or old p no_view) (slice_index_or new p no_view)
+
+-- a process that is known sees what it saw in the old run
+pub record AreKnown (old new : List ViewParts) (known : List Bool) : Type 0 where
+  pub count : length known ≡ length new
+  pub same : (p : ℕ) → slice_index_or known p false ≡ true → (p < length old) × (slice_index_or old p no_view ≡ slice_index_or new p no_view)
+
+-- and leaves what it left
+pub record AreUnchanged (old new : List OutcomeParts) (known : List Bool) : Type 0 where
+  pub count : length known ≡ length new
+  pub same : (p : ℕ) → p < length old → slice_index_or known p false ≡ true → outcome_of old p ≡ outcome_of new p
+
+-- an outcome that is not changed is the old one
+pub record AreChanged (old new : List OutcomeParts) (changed : List Bool) : Type 0 where
+  pub count : length changed ≡ length new
+  pub same : (p : ℕ) → p < length new → slice_index_or changed p true ≡ false → outcome_of old p ≡ outcome_of new p
+
+-- the processes of a superstep all see one table and one tag size
+pub record HaveOneTable (views : List ViewParts) : Type 0 where
+  pub table : (p : ℕ) → p < length views → (slice_index_or views p no_view).table ≡ (slice_index_or views 0 no_view).table
+  pub tag_size : (p : ℕ) → p < length views → (slice_index_or views p no_view).tag_size ≡ (slice_index_or views 0 no_view).tag_size
+
+-- the memories and queues of these views are what these outcomes delivered
+pub record AreDelivered (os : List OutcomeParts) (views : List ViewParts) : Type 0 where
+  pub count : length views ≡ length os
+  pub memory : (d : ℕ) → d < length os → (slice_index_or views d no_view).memory ≡ next_memory (delivery_parts os d)
+  pub queue : (d : ℕ) → d < length os → (slice_index_or views d no_view).queue ≡ next_queue (delivery_parts os d)
+
+-- what was delivered before can be compared: nothing, or something to each of the same processes
+pub record AreComparable (os us : List OutcomeParts) : Type 0 where
+  pub count : 0 < length os → length os ≡ length us
+  pub before : 0 < length os → AreDeliverable os
+  pub after : AreDeliverable us

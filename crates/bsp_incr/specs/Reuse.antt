@@ -1,0 +1,36 @@
+-- When the recorded turn of another run serves, and what it leaves then.
+use Rattle.std.specs.Prelude.{ℕ, Bool, true, List, [], ◌∷◌, Option, None, Some, ◌==◌, ◌&&◌, ◌||◌, not, length, slice_set, slice_index}
+use Rattle.std.specs.List.{list_all, range_with_len}
+use Rattle.std.specs.Cmp.Lexicographic.{pointwise}
+use Rattle.bsp_model.specs.declared.request.Store.{Store}
+use Rattle.bsp_step.specs.ViewParts.{ViewParts}
+use Rattle.bsp_step.specs.OutcomeParts.{OutcomeParts}
+use Rattle.bsp_incr.specs.Comparing.{same_words, same_table, same_message}
+
+-- The memory on which these stores are made again, in order (this profile).
+abbrev pub made_again : List ℕ → List Store → List ℕ
+made_again memory [] = memory
+made_again memory (s ∷ later) = made_again (slice_set memory s.addr s.value) later
+
+-- A recorded outcome over a new memory: all of it stays but the memory, on which its stores are made again.
+abbrev pub reused : OutcomeParts → List ℕ → OutcomeParts
+reused o memory = record o { memory = made_again memory o.stores }
+
+-- views that are the same but for the words of their memories
+abbrev pub same_but_for_words : ViewParts → ViewParts → Bool
+same_but_for_words v w =
+    (v.nprocs == w.nprocs) && (v.pid == w.pid) && (v.step == w.step) && same_words v.args w.args && same_table v.table w.table
+    && (v.tag_size == w.tag_size) && pointwise same_message v.queue w.queue && (length v.memory == length w.memory)
+
+-- equal words at each address that is looked at
+abbrev pub same_where_looked_at : (ℕ → Bool) → List ℕ → List ℕ → Bool
+same_where_looked_at looks m n = list_all (λ a. not (looks a) || (slice_index m a == slice_index n a)) (range_with_len 0 (length m))
+
+-- The turn of the first view serves for the second (this profile): they differ at most in words at which the program does not look.
+abbrev pub serves : (ViewParts → ℕ → Bool) → ViewParts → ViewParts → Bool
+serves looks v w = same_but_for_words v w && same_where_looked_at (looks v) v.memory w.memory
+
+-- A turn has to be taken where the other run has no view of the place, or one whose turn does not serve.
+abbrev pub needs_turn : (ViewParts → ℕ → Bool) → Option ViewParts → ViewParts → Bool
+needs_turn looks None w = true
+needs_turn looks (Some v) w = not (serves looks v w)

@@ -1,0 +1,255 @@
+//! The deliveries of a superstep, of which those that depend on the same as in the run before are not made again. The outcomes of a run before
+//! that has no such superstep, or none that ended by delivery, are empty.
+
+ghost use Rattle.std.specs.Prelude.{◌≡◌, ◌<◌, ◌↔◌, ◌++◌, ◌||◌, [], IsTrue, IfOk, OnOk, length, map, slice_index_or, true, false};
+ghost use Rattle.bsp_deliver.specs.Requests.{each_below, outcome_of};
+ghost use Rattle.bsp_deliver.specs.Delivery.{delivery_parts, next_memory, next_queue};
+ghost use Rattle.bsp_deliver.specs.Condition.{AreDeliverable};
+ghost use Rattle.bsp_run.specs.Condition.{deliveries_of, no_view};
+ghost use Rattle.bsp_run.specs.Shares.{deliveries_to};
+ghost use Rattle.bsp_incr.specs.Changes.{is_touched, touched_in, processes_where};
+ghost use Rattle.bsp_incr.specs.Marks.{AreDelivered, AreComparable, AreUnchanged, AreChanged};
+
+use crate::Place;
+use crate::counts::Counts;
+use crate::places::{add_places, processes_where, take_next};
+use crate::workers::Workers;
+use bsp_deliver::{answers_same, considered, parcel_same};
+use bsp_model::{Memory, OutOfMemory, Same, Seq, TryCopy};
+use bsp_pool::Gate;
+use bsp_run::wide_deliveries;
+use bsp_step::{Outcome, Queue, View};
+use std::alloc::Global;
+use std::thread::Threads;
+
+/// Whether a process has the same memory after these turns as after those.
+fn is_same_memory(old: &[Outcome], new: &[Outcome], d: usize) -> bool
+    requires old { d < length old.now }
+    requires new { d < length new.now }
+    ensures { IsTrue result ↔ ((delivery_parts old.now d).memory ≡ (delivery_parts new.now d).memory) }
+{
+    let before = &old[d];
+    let after = &new[d];
+    before.memory.same(&after.memory)
+}
+
+/// Whether the delivery to a process depends on the same after these outcomes as after those. It takes no memory.
+fn is_same_delivery(old: &[Outcome], new: &[Outcome], d: usize) -> bool
+    requires known { d < length old.now }
+    requires count { length old.now ≡ length new.now }
+    requires old { AreDeliverable old.now }
+    requires new { AreDeliverable new.now }
+    ensures { IsTrue result ↔ (delivery_parts old.now d ≡ delivery_parts new.now d) }
+{
+    if !is_same_memory(old, new, d) {
+        return false;
+    }
+    if !answers_same(old, new, d) {
+        return false;
+    }
+    parcel_same(old, new, d)
+}
+
+/// Whether the outcome of a process is another one.
+fn is_changed(old: &[Outcome], new: &[Outcome], p: usize, known: bool) -> bool
+    requires old { p < length old.now }
+    requires new { p < length new.now }
+    requires known { known ≡ true → outcome_of old.now p ≡ outcome_of new.now p }
+    ensures { result ≡ false → outcome_of old.now p ≡ outcome_of new.now p }
+{
+    if known {
+        return false;
+    }
+    let before = &old[p];
+    let after = &new[p];
+    !before.same(after)
+}
+
+/// Which outcomes are other ones, by process.
+fn changed(
+    alloc: Global,
+    old: &[Outcome],
+    new: &[Outcome],
+    known: &[bool],
+) -> Result<Vec<bool>, OutOfMemory>
+    requires count { length old.now ≡ length new.now }
+    requires known { AreUnchanged old.now new.now known.now }
+    ensures { IfOk result (λ all. AreChanged old.now new.now all.items) }
+{
+    let mut changed = Vec::new(alloc);
+    for p in 0..new.len() {
+        let is_changed = is_changed(old, new, p, known[p]);
+        changed.push(is_changed)?;
+    }
+    Ok(changed)
+}
+
+/// Whether the delivery to a process has to be made, where the run before made it too. One that no changed outcome may reach is not compared.
+fn is_touched(old: &[Outcome], new: &[Outcome], d: usize, is_considered: bool) -> bool
+    requires known { d < length old.now }
+    requires count { length old.now ≡ length new.now }
+    requires old { AreDeliverable old.now }
+    requires new { AreDeliverable new.now }
+    requires considered { is_considered ≡ false → delivery_parts old.now d ≡ delivery_parts new.now d }
+    ensures { result ≡ is_touched old.now new.now d }
+{
+    if !is_considered {
+        return false;
+    }
+    !is_same_delivery(old, new, d)
+}
+
+/// Which deliveries have to be made, by process, where the run before made them too. Only those are compared that a changed outcome may reach.
+fn touched_again(
+    alloc: Global,
+    old: &[Outcome],
+    new: &[Outcome],
+    known: &[bool],
+) -> Result<Vec<bool>, OutOfMemory>
+    requires count { length old.now ≡ length new.now }
+    requires old { AreDeliverable old.now }
+    requires new { AreDeliverable new.now }
+    requires known { AreUnchanged old.now new.now known.now }
+    ensures { IfOk result (λ all. all.items ≡ each_below (length new.now) (is_touched old.now new.now)) }
+{
+    let changed = changed(alloc, old, new, known)?;
+    let considered = considered(alloc, old, new, changed.as_slice())?;
+    let mut touched = Vec::new(alloc);
+    for d in 0..new.len() {
+        let is_considered = considered[d];
+        let is_touched = is_touched(old, new, d, is_considered);
+        touched.push(is_touched)?;
+    }
+    Ok(touched)
+}
+
+/// Which deliveries have to be made, where the run before made none.
+fn all_touched(alloc: Global, new: &[Outcome]) -> Result<Vec<bool>, OutOfMemory>
+    ensures { IfOk result (λ all. all.items ≡ each_below (length new.now) (is_touched [] new.now)) }
+{
+    let mut touched = Vec::new(alloc);
+    for _d in 0..new.len() {
+        touched.push(true)?;
+    }
+    Ok(touched)
+}
+
+/// Which deliveries have to be made, by process.
+fn touched(
+    alloc: Global,
+    old: &[Outcome],
+    new: &[Outcome],
+    known: &[bool],
+) -> Result<Vec<bool>, OutOfMemory>
+    requires comparable { AreComparable old.now new.now }
+    requires known { AreUnchanged old.now new.now known.now }
+    ensures { IfOk result (λ all. all.items ≡ each_below (length new.now) (is_touched old.now new.now)) }
+{
+    if old.is_empty() {
+        all_touched(alloc, new)
+    } else {
+        touched_again(alloc, old, new, known)
+    }
+}
+
+/// A next memory and a next queue, as the run before has them.
+fn recorded(next: &View) -> Result<(Memory, Queue), OutOfMemory>
+    ensures { IfOk result (λ pair. pair ≡ (next.now.memory, next.now.queue)) }
+{
+    let memory = next.memory.copy()?;
+    let queue = next.queue.copy()?;
+    Ok((memory, queue))
+}
+
+/// The next memories and queues of all processes: those that were made, and the recorded ones.
+fn gathered(
+    alloc: Global,
+    old_outcomes: &[Outcome],
+    old_next: &[View],
+    outcomes: &[Outcome],
+    touched: &[bool],
+    made: Vec<(Memory, Queue)>,
+) -> Result<Vec<(Memory, Queue)>, OutOfMemory>
+    requires next { AreDelivered old_outcomes.now old_next.now }
+    requires touched { touched.now ≡ each_below (length outcomes.now) (is_touched old_outcomes.now outcomes.now) }
+    requires made { made.items ≡ deliveries_to outcomes.now (processes_where (length outcomes.now) (is_touched old_outcomes.now outcomes.now)) }
+    ensures { IfOk result (λ all. all.items ≡ deliveries_of outcomes.now) }
+{
+    let mut made = made.into_iter();
+    let mut all = Vec::new(alloc);
+    for d in 0..outcomes.len() {
+        let pair = if touched[d] {
+            take_next(&mut made)
+        } else {
+            recorded(&old_next[d])?
+        };
+        all.push(pair)?;
+    }
+    Ok(all)
+}
+
+/// Whether a process is marked for the next superstep.
+fn is_marked(touched: bool, always: &[bool], d: usize) -> bool
+    requires { d < length always.now }
+    ensures { result ≡ (touched || slice_index_or always.now d true) }
+{
+    touched || always[d]
+}
+
+/// The marks for the next superstep: a process is marked if it is touched, or if it was to be marked anyway.
+fn next_marks(alloc: Global, touched: &[bool], always: &[bool]) -> Result<Vec<bool>, OutOfMemory>
+    requires { length always.now ≡ length touched.now }
+    ensures { IfOk result (λ marks. marks.items ≡ each_below (length touched.now) (λ d. slice_index_or touched.now d true || slice_index_or always.now d true)) }
+{
+    let mut marks = Vec::new(alloc);
+    for d in 0..touched.len() {
+        let is_marked = is_marked(touched[d], always, d);
+        marks.push(is_marked)?;
+    }
+    Ok(marks)
+}
+
+/// The deliveries of a superstep, and the marks for the next: the workers make those that have to be made, and their places are added.
+pub fn deliveries_again<G: Gate, R: Threads + Sync>(
+    workers: &Workers<'_, R, G>,
+    alloc: Global,
+    step: u64,
+    old_outcomes: &[Outcome],
+    old_next: &[View],
+    outcomes: &[Outcome],
+    known: &[bool],
+    always: &[bool],
+    redelivered: &mut Seq<Place>,
+    counts: &mut Counts,
+) -> Result<(Vec<(Memory, Queue)>, Vec<bool>), OutOfMemory>
+    requires comparable { AreComparable old_outcomes.now outcomes.now }
+    requires next { AreDelivered old_outcomes.now old_next.now }
+    requires known { AreUnchanged old_outcomes.now outcomes.now known.now }
+    requires always { length always.now ≡ length outcomes.now }
+    ensures deliveries { IfOk result (λ r. r.0.items ≡ deliveries_of outcomes.now) }
+    ensures marks { IfOk result (λ r. r.1.items ≡ each_below (length outcomes.now) (λ d. is_touched old_outcomes.now outcomes.now d || slice_index_or always.now d true)) }
+    ensures redelivered { OnOk result (redelivered.new ≡ redelivered.old ++ touched_in step old_outcomes.now outcomes.now) }
+{
+    let touched = touched(alloc, old_outcomes, outcomes, known)?;
+    let processes = processes_where(alloc, touched.as_slice())?;
+    add_places(redelivered, step, processes.as_slice())?;
+    counts.deliver(processes.len());
+    let made = wide_deliveries(
+        workers.rt,
+        alloc,
+        outcomes,
+        processes.as_slice(),
+        workers.count,
+        workers.gate,
+    )?;
+    let all = gathered(
+        alloc,
+        old_outcomes,
+        old_next,
+        outcomes,
+        touched.as_slice(),
+        made,
+    )?;
+    let marks = next_marks(alloc, touched.as_slice(), always)?;
+    Ok((all, marks))
+}

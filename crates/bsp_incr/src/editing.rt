@@ -1,0 +1,109 @@
+//! Edits, checked and made.
+
+ghost use Rattle.std.specs.Prelude.{◌≡◌, ℕ, OnOk, IfOk};
+ghost use Rattle.bsp_incr.specs.Edits.{edit_fault, refusal_of, edited_by, edited};
+
+use crate::{Edit, EditFault, EditRefusal};
+use bsp_model::{Input, OutOfMemory, TryCopy};
+
+/// Why an edit of a word is refused, if it is.
+fn word_fault(input: &Input, pid: u64, addr: u64) -> Option<EditFault>
+    ensures { (value : ℕ) → result ≡ edit_fault input.now (Edit.Word pid addr value) }
+{
+    let Some(memory) = input.mems.as_slice().get(pid as usize) else {
+        return Some(EditFault::NoSuchProcess);
+    };
+    if addr >= memory.len() as u64 {
+        return Some(EditFault::NoSuchWord);
+    }
+    None
+}
+
+/// Why an edit of an argument is refused, if it is.
+fn arg_fault(input: &Input, pid: u64, index: u64) -> Option<EditFault>
+    ensures { (value : ℕ) → result ≡ edit_fault input.now (Edit.Arg pid index value) }
+{
+    if pid >= input.mems.len() as u64 {
+        return Some(EditFault::NoSuchProcess);
+    }
+    let Some(args) = input.args.as_slice().get(pid as usize) else {
+        return Some(EditFault::NoSuchArg);
+    };
+    if index >= args.len() as u64 {
+        return Some(EditFault::NoSuchArg);
+    }
+    None
+}
+
+/// Why an edit of this input is refused, if it is. It takes no memory.
+fn edit_fault(input: &Input, edit: &Edit) -> Option<EditFault>
+    ensures { result ≡ edit_fault input.now edit.now }
+{
+    match *edit {
+        Edit::Word {
+            pid,
+            addr,
+            value: _,
+        } => word_fault(input, pid, addr),
+        Edit::Arg {
+            pid,
+            index,
+            value: _,
+        } => arg_fault(input, pid, index),
+        Edit::Limit(n) if n < 1 || n > 1024 => Some(EditFault::BadLimit),
+        Edit::Prices { g, l } if g > 1_000_000 || l > 1_000_000 => Some(EditFault::BadPrice),
+        _ => None,
+    }
+}
+
+/// The first refused edit of a batch, if there is one. It takes no memory.
+pub fn refusal_of(input: &Input, edits: &[Edit]) -> Option<EditRefusal>
+    ensures { result ≡ refusal_of input.now edits.now }
+{
+    for place in 0..edits.len() {
+        let fault = edit_fault(input, &edits[place]);
+        if let Some(fault) = fault {
+            return Some(EditRefusal { place, fault });
+        }
+    }
+    None
+}
+
+/// Makes an edit.
+fn make_edit(input: &mut Input, edit: &Edit) -> Result<(), OutOfMemory>
+    ensures { OnOk result (input.new ≡ edited_by input.old edit.now) }
+{
+    match *edit {
+        Edit::Word { pid, addr, value } => {
+            if let Some(memory) = input.mems.as_slice().get(pid as usize) {
+                let mut memory = memory.copy()?;
+                let _ = memory.store(addr, value)?;
+                input.mems.set(pid as usize, memory);
+            }
+        }
+        Edit::Arg { pid, index, value } => {
+            if let Some(args) = input.args.as_slice().get(pid as usize) {
+                let mut args = args.copy()?;
+                args.set(index as usize, value);
+                input.args.set(pid as usize, args);
+            }
+        }
+        Edit::Limit(n) => input.limit = n,
+        Edit::Prices { g, l } => {
+            input.g = g;
+            input.l = l;
+        }
+    }
+    Ok(())
+}
+
+/// The input after a batch.
+pub fn edited(input: &Input, edits: &[Edit]) -> Result<Input, OutOfMemory>
+    ensures { IfOk result (λ i. i ≡ edited input.now edits.now) }
+{
+    let mut next = input.copy()?;
+    for edit in edits {
+        make_edit(&mut next, edit)?;
+    }
+    Ok(next)
+}

@@ -1,0 +1,49 @@
+//! Processes at which a test holds, their places, and what was made for them.
+
+ghost use Rattle.std.specs.Prelude.{◌≡◌, ◌<◌, ◌+◌, ◌++◌, ◌∷◌, IfOk, OnOk, length, false, slice_index_or};
+ghost use Rattle.std.specs.Vec.Iter.{into_iter_items, into_iter_len};
+ghost use Rattle.bsp_incr.specs.Changes.{processes_where, places_of};
+
+use crate::Place;
+use bsp_model::{OutOfMemory, Seq};
+use std::alloc::Global;
+use std::vec::IntoIter;
+
+/// The numbers of the processes whose answer is true, in order.
+pub fn processes_where(alloc: Global, answers: &[bool]) -> Result<Vec<usize>, OutOfMemory>
+    ensures { IfOk result (λ all. all.items ≡ processes_where (length answers.now) (λ p. slice_index_or answers.now p false)) }
+{
+    let mut processes = Vec::new(alloc);
+    for p in 0..answers.len() {
+        if answers[p] {
+            processes.push(p)?;
+        }
+    }
+    Ok(processes)
+}
+
+/// Adds the places of these processes in a superstep.
+pub fn add_places(
+    places: &mut Seq<Place>,
+    step: u64,
+    processes: &[usize],
+) -> Result<(), OutOfMemory>
+    ensures { OnOk result (places.new ≡ places.old ++ places_of step processes.now) }
+{
+    for process in processes {
+        places.push(Place {
+            step,
+            pid: *process as u64,
+        })?;
+    }
+    Ok(())
+}
+
+/// The next of the items that were made for some processes.
+pub fn take_next<T: Drop>(made: &mut IntoIter<T>) -> T
+    requires { 0 < into_iter_len made.old }
+    ensures items { into_iter_items made.old ≡ result ∷ into_iter_items made.new }
+    ensures len { into_iter_len made.old ≡ into_iter_len made.new + 1 }
+{
+    made.next().unwrap()
+}

@@ -1,0 +1,37 @@
+//! What a recorded turn leaves over a new memory.
+
+ghost use Rattle.std.specs.Prelude.{◌≡◌, IfOk, OnOk, true};
+ghost use Rattle.bsp_step.specs.Turn.{turn_of};
+ghost use Rattle.bsp_incr.specs.Reuse.{made_again, reused, serves};
+
+use bsp_model::{Memory, OutOfMemory, Store, TryCopy};
+use bsp_step::{Outcome, Program, View};
+
+/// Makes stores again, in order.
+fn make_again(memory: &mut Memory, stores: &[Store]) -> Result<(), OutOfMemory>
+    ensures { OnOk result (memory.new ≡ made_again memory.old stores.now) }
+{
+    for store in stores {
+        let _ = memory.store(store.addr, store.value)?;
+    }
+    Ok(())
+}
+
+/// The turn at a view for which the recorded turn of another view serves: no call is made.
+pub fn reuse<P: Program>(
+    program: &P,
+    recorded: &View,
+    outcome: &Outcome,
+    view: &View,
+) -> Result<Outcome, OutOfMemory>
+    requires serves { serves (P.looks program.now) recorded.now view.now ≡ true }
+    requires outcome { outcome.now ≡ turn_of (P.acts program.now) (P.ending program.now) recorded.now }
+    ensures { IfOk result (λ o. o ≡ turn_of (P.acts program.now) (P.ending program.now) view.now) }
+{
+    let _step = recorded.step;
+    let mut memory = view.memory.copy()?;
+    make_again(&mut memory, outcome.stores.as_slice())?;
+    let mut reused = outcome.copy()?;
+    reused.memory = memory;
+    Ok(reused)
+}

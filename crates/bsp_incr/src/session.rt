@@ -1,0 +1,150 @@
+//! Sessions.
+
+use crate::counts::Counts;
+use crate::editing::{edited, refusal_of};
+use crate::kept::Kept;
+use crate::rerun::{rerun, rerun_after};
+use crate::workers::Workers;
+use crate::{Edit, EditError, Update};
+use bsp_model::Input;
+use bsp_pool::Gate;
+use bsp_run::{History, RunError};
+use bsp_step::Program;
+use std::alloc::Global;
+use std::marker::Model;
+use std::thread::Threads;
+
+/// A program, an input, and the history of the program's run on that input.
+#[derive(Drop)]
+pub struct Session<P: Program> {
+    program: P,
+    kept: Kept,
+}
+
+impl<P: Program> Model for Session<P> {
+    ghost use Rattle.bsp_step.specs.Turn.{turn_of};
+    ghost use Rattle.bsp_incr.specs.Replies.{SessionParts, IsSession};
+
+    ghost Value = { SessionParts P };
+
+    ghost view = { λ s. record { program = s.program; input = s.kept.input; history = s.kept.history } };
+
+    ghost invariant = { λ s. IsSession (turn_of (P.acts s.program) (P.ending s.program)) s.kept.input s.kept.history };
+}
+
+impl<P: Program + Drop> Session<P> {
+    ghost use Rattle.std.specs.Prelude.{◌≡◌, ◌<◌, ◌≤◌, IfOk, IfErr, OnOk, OnErr, None, Some};
+    ghost use Rattle.bsp_model.specs.Input.{input_fault};
+    ghost use Rattle.bsp_step.specs.Turn.{turn_of};
+    ghost use Rattle.bsp_run.specs.Run.{run};
+    ghost use Rattle.bsp_run.specs.RunErrors.{input_fault_of};
+    ghost use Rattle.bsp_incr.specs.Edits.{refusal_of, edited};
+    ghost use Rattle.bsp_incr.specs.Changes.{IsUpdate};
+    ghost use Rattle.bsp_incr.specs.Replies.{refusal_in};
+
+    /// A session with the run of the input, whose turns and deliveries are shared by 1 to 16 workers. The update has every process of every
+    /// superstep, and every delivery. `Input(f)` exactly where the input's check answers f, or `OutOfMemory`.
+    pub fn open<R: Threads + Sync, G: Gate>(
+        rt: &R,
+        alloc: Global,
+        program: P,
+        input: Input,
+        workers: usize,
+        gate: &G,
+    ) -> Result<(Session<P>, Update), RunError>
+        requires workers { (0 < workers) × (workers ≤ 16) }
+        ensures program { IfOk result (λ r. r.0.program ≡ program) }
+        ensures given { IfOk result (λ r. r.0.input ≡ input) }
+        ensures history { IfOk result (λ r. r.0.history ≡ run (turn_of (P.acts program) (P.ending program)) input) }
+        ensures update { IfOk result (λ r. IsUpdate (P.looks program) None r.0.history r.1) }
+        ensures lawful { OnOk result (input_fault input ≡ None) }
+        ensures input { IfErr result (λ e. input_fault input ≡ input_fault_of e) }
+    {
+        let workers = Workers {
+            rt,
+            count: workers,
+            gate,
+        };
+        let (history, update) = rerun(&workers, alloc, &program, None, &input, &mut Counts::new())?;
+        let kept = Kept { input, history };
+        Ok((Session { program, kept }, update))
+    }
+
+    /// The input.
+    pub fn input(&self) -> &Input
+        ensures { result.now ≡ self.now.input }
+    {
+        let kept = &self.kept;
+        &kept.input
+    }
+
+    /// The history, which is the run of the input.
+    pub fn history(&self) -> &History
+        ensures history { result.now ≡ self.now.history }
+        ensures run { result.now ≡ run (turn_of (P.acts self.now.program) (P.ending self.now.program)) self.now.input }
+    {
+        let kept = &self.kept;
+        &kept.history
+    }
+
+    /// Puts a batch of edits, and makes the run again as far as it has changed: 1 to 16 workers take the turns and make the deliveries that have
+    /// to be. `Refused` exactly where the batch is not accepted, with the first refused edit's place and fault; else `Ok` or `OutOfMemory`.
+    /// After every `Err` nothing has changed.
+    pub fn apply<R: Threads + Sync, G: Gate>(
+        &mut self,
+        rt: &R,
+        alloc: Global,
+        edits: &[Edit],
+        workers: usize,
+        gate: &G,
+    ) -> Result<Update, EditError>
+        requires workers { (0 < workers) × (workers ≤ 16) }
+        ensures accepted { OnOk result (refusal_of self.old.input edits.now ≡ None) }
+        ensures refused { IfErr result (λ e. refusal_of self.old.input edits.now ≡ refusal_in e) }
+        ensures program { self.new.program ≡ self.old.program }
+        ensures given { OnOk result (self.new.input ≡ edited self.old.input edits.now) }
+        ensures history { OnOk result (self.new.history ≡ run (turn_of (P.acts self.old.program) (P.ending self.old.program)) (edited self.old.input edits.now)) }
+        ensures update { IfOk result (λ u. IsUpdate (P.looks self.old.program) (Some self.old.history) self.new.history u) }
+        ensures err { OnErr result (self.new ≡ self.old) }
+    {
+        let workers = Workers {
+            rt,
+            count: workers,
+            gate,
+        };
+        self.apply_counted(&workers, alloc, edits, &mut Counts::new())
+    }
+
+    /// What `apply` does, with the places that it looks at and the deliveries that it makes counted.
+    pub(crate) fn apply_counted<R: Threads + Sync, G: Gate>(
+        &mut self,
+        workers: &Workers<'_, R, G>,
+        alloc: Global,
+        edits: &[Edit],
+        counts: &mut Counts,
+    ) -> Result<Update, EditError>
+        ensures accepted { OnOk result (refusal_of self.old.input edits.now ≡ None) }
+        ensures refused { IfErr result (λ e. refusal_of self.old.input edits.now ≡ refusal_in e) }
+        ensures program { self.new.program ≡ self.old.program }
+        ensures given { OnOk result (self.new.input ≡ edited self.old.input edits.now) }
+        ensures history { OnOk result (self.new.history ≡ run (turn_of (P.acts self.old.program) (P.ending self.old.program)) (edited self.old.input edits.now)) }
+        ensures update { IfOk result (λ u. IsUpdate (P.looks self.old.program) (Some self.old.history) self.new.history u) }
+        ensures err { OnErr result (self.new ≡ self.old) }
+    {
+        match refusal_of(&self.kept.input, edits) {
+            Some(refusal) => return Err(EditError::Refused(refusal)),
+            None => {}
+        }
+        let input = edited(&self.kept.input, edits)?;
+        let (history, update) = rerun_after(
+            workers,
+            alloc,
+            &self.program,
+            &self.kept,
+            &input,
+            counts,
+        )?;
+        self.kept = Kept { input, history };
+        Ok(update)
+    }
+}

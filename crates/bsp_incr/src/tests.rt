@@ -1,0 +1,9 @@
+//! Tests of sessions.
+
+mod counting;
+mod inputs;
+mod programs;
+mod refusals;
+mod replies;
+mod sums;
+mod updates;

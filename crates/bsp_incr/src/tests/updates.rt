@@ -1,0 +1,108 @@
+//! What updates do again, and how many places they look at.
+
+use super::counting::Counting;
+use super::inputs::Start;
+use crate::counts::Counts;
+use crate::workers::Workers;
+use crate::{Edit, Place, Session, Update};
+use bsp_pool::Open;
+use bsp_step::Program;
+use std::alloc::Global;
+use std::process::Abort;
+use std::sync::atomic::AtomicU64;
+use std::sync::atomic::Ordering::SeqCst;
+use std::test::Fail;
+use std::thread::Threads;
+
+/// A superstep and a process.
+pub type At = (u64, u64);
+
+/// A batch, and what its update has to do.
+#[derive(Clone, Copy)]
+pub struct Row {
+    pub batch: &'static [Edit],
+    pub executed: &'static [At],
+    pub redelivered: &'static [At],
+    /// The largest number of places that it may look at.
+    pub most_places: u64,
+    /// The cost of the whole run then.
+    pub total: u64,
+}
+
+/// Whether these are the places.
+fn are_places(places: &[Place], want: &[At]) -> bool {
+    if places.len() != want.len() {
+        return false;
+    }
+    for i in 0..want.len() {
+        let (step, pid) = want[i];
+        if places[i].step != step || places[i].pid != pid {
+            return false;
+        }
+    }
+    true
+}
+
+/// Whether the update did what the row says.
+fn is_update(update: &Update, row: &Row) -> bool {
+    are_places(update.executed.as_slice(), row.executed)
+        && are_places(update.redelivered.as_slice(), row.redelivered)
+}
+
+/// Whether the counts are those of the row: each delivery of the update, and no fewer places than were executed, some of them where anything changed.
+fn are_counts(counts: &Counts, row: &Row) -> bool {
+    let some = row.redelivered.is_empty() || counts.looked_at > 0;
+    some && counts.looked_at >= row.executed.len() as u64
+        && counts.looked_at <= row.most_places
+        && counts.delivered == row.redelivered.len() as u64
+}
+
+/// Puts the row's batch, and finds that the update and its counts are the row's, with a step for each executed place.
+fn find_update<P: Program + Drop, R: Threads + Sync + Abort>(
+    rt: &R,
+    alloc: Global,
+    session: &mut Session<Counting<'_, P>>,
+    steps: &AtomicU64,
+    row: &Row,
+) -> Result<(), Fail> {
+    let workers = Workers {
+        rt,
+        count: 1,
+        gate: &Open,
+    };
+    let mut counts = Counts::new();
+    let before = steps.load(SeqCst);
+    let update = session.apply_counted(&workers, alloc, row.batch, &mut counts);
+    let steps = steps.load(SeqCst).wrapping_sub(before);
+    assert!(rt;
+        matches!(&update, Ok(update) if is_update(update, row)),
+        "{:?}: {update:?}",
+        row.batch
+    );
+    assert!(rt; are_counts(&counts, row), "{:?}: {counts:?}", row.batch);
+    assert_eq!(rt; steps, row.executed.len() as u64, "{:?}", row.batch);
+    assert_eq!(rt; session.history().total(), row.total, "{:?}", row.batch);
+    Ok(())
+}
+
+/// Opens a session, and finds that its batches have the updates of the rows.
+pub fn find_updates<P: Program + Drop, R: Threads + Sync + Abort>(
+    rt: &R,
+    alloc: Global,
+    program: P,
+    start: &Start,
+    rows: &[Row],
+) -> Result<(), Fail> {
+    let steps = AtomicU64::new(0);
+    let program = Counting {
+        program,
+        steps: &steps,
+    };
+    let opened = Session::open(rt, alloc, program, start.input(alloc)?, 1, &Open);
+    let (mut session, opening) = opened.ok().ok_or("no session")?;
+    assert_eq!(rt; steps.load(SeqCst), opening.executed.len() as u64);
+    for row in rows {
+        find_update(rt, alloc, &mut session, &steps, row)?;
+    }
+    Ok(())
+}
