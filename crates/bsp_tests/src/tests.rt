@@ -7,3 +7,5 @@ mod hello;
 mod messages;
 mod registration;
 mod running;
+mod sessions;
+mod wide;

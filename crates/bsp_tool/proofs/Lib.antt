@@ -1,4 +1,6 @@
 pub mod Answering
+pub mod Described
 pub mod Flowing
 pub mod Numbering
+pub mod Optional
 pub mod Trees

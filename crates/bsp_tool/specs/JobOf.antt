@@ -1,22 +1,17 @@
 -- What job a document is, or the first fault that it has (this profile).
-use Rattle.std.specs.Prelude.{ℕ, List, Option, None, Some, Result, Ok, Err, codes, not, option_and_then, if◌then◌else◌}
+use Rattle.std.specs.Prelude.{ℕ, List, Option, None, Some, Result, Ok, Err, codes, option_and_then, if◌then◌else◌}
 use Rattle.toml.specs.Data.{Members, get_member, as_str}
 use Rattle.bsp_model.specs.declared.fault.InputFault.{InputFault}
-use Rattle.bsp_model.specs.Input.{input_fault}
 use Rattle.bsp_programs.specs.declared.bundled.Bundled.{Bundled}
 use Rattle.bsp_programs.specs.Bundled.{program_named}
 use Rattle.bsp_tool.specs.declared.errors.JobFault.{JobFault}
-use Rattle.bsp_tool.specs.declared.errors.JobFault.TheVariants.{NotToml, MissingKey, WrongType, UnknownKey, UnknownProgram, Input as InputRefused, BadWord}
+use Rattle.bsp_tool.specs.declared.errors.JobFault.TheVariants.{NotToml, UnknownProgram, Input as InputRefused, BadWord}
 use Rattle.bsp_tool.specs.declared.jobs.Job.{Job}
-use Rattle.bsp_tool.specs.Document.{tree_of, has_required_keys, has_right_types, has_known_keys, has_negative_word, input_of}
-
--- the first of J2, J3 and J4
-abbrev pub key_fault : Members → Option JobFault
-key_fault t =
-    if not (has_required_keys t) then Some MissingKey
-    else (if not (has_right_types t) then Some WrongType
-    else (if not (has_known_keys t) then Some UnknownKey
-    else None))
+use Rattle.bsp_tool.specs.Tree.{tree_of}
+use Rattle.bsp_tool.specs.Keys.{key_fault}
+use Rattle.bsp_tool.specs.Sizes.{described_fault}
+use Rattle.bsp_tool.specs.Signs.{has_negative_word}
+use Rattle.bsp_tool.specs.Values.{input_of, batches_of}
 
 -- the program that the document names, if there is one
 abbrev pub program_of : Members → Option Bundled
@@ -26,12 +21,13 @@ program_of t = option_and_then program_named (option_and_then as_str (get_member
 abbrev pub job_with : Bundled → Option InputFault → Members → Result Job JobFault
 job_with program (Some fault) t = Err (InputRefused fault)
 job_with program None t =
-    if has_negative_word t then Err BadWord else Ok (record { program = program; input = input_of t })
+    if has_negative_word t then Err BadWord
+    else Ok (record { program = program; input = input_of t; batches = batches_of t })
 
 -- J5 before them
 abbrev pub job_named : Option Bundled → Members → Result Job JobFault
 job_named None t = Err UnknownProgram
-job_named (Some program) t = job_with program (input_fault (input_of t)) t
+job_named (Some program) t = job_with program (described_fault t) t
 
 -- J2, J3 and J4 before it
 abbrev pub job_unless : Option JobFault → Members → Result Job JobFault

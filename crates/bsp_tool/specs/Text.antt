@@ -41,8 +41,8 @@ fault_numbers (NotRegistered start) = start ∷ []
 fault_numbers _ = []
 
 -- `fault P Fn`, and for some the number that belongs to it
-abbrev pub fault_line : ProcessFault → List ℕ
-fault_line f = codes "fault" ++ field f.pid ++ codes " " ++ line (fault_word f.fault) (fault_numbers f.fault)
+abbrev pub process_fault_line : ProcessFault → List ℕ
+process_fault_line f = codes "fault" ++ field f.pid ++ codes " " ++ line (fault_word f.fault) (fault_numbers f.fault)
 
 -- the faults at the end of a superstep, by number
 abbrev pub sync_fault_word : SyncFault → List ℕ
@@ -56,7 +56,7 @@ sync_fault_word TooManySlots = codes "S5"
 abbrev pub status_lines : Status → List ℕ
 status_lines Halted = codes "status halted\n"
 status_lines Limit = codes "status limit\n"
-status_lines (Faulted step faults) = line (codes "status faulted") (step ∷ []) ++ flat_map fault_line faults
+status_lines (Faulted step faults) = line (codes "status faulted") (step ∷ []) ++ flat_map process_fault_line faults
 status_lines (SyncFaulted step fault) = codes "status syncfault" ++ field step ++ codes " " ++ line (sync_fault_word fault) []
 
 -- `memory P W W ..`
@@ -77,11 +77,14 @@ result_lines r =
     status_lines r.status ++ numbered memory_line 0 r.memories ++ numbered print_lines 0 r.lines
     ++ numbered cost_line 0 r.costs ++ line (codes "total") (r.total ∷ [])
 
--- `executed X redelivered Y`, where there is an update
+-- `executed X redelivered Y`
+abbrev pub counts_line : ℕ → ℕ → List ℕ
+counts_line executed redelivered = codes "executed" ++ field executed ++ codes " " ++ line (codes "redelivered") (redelivered ∷ [])
+
+-- how long the lists of an update are, where there is one
 abbrev pub update_line : Option Update → List ℕ
 update_line None = []
-update_line (Some u) =
-    codes "executed" ++ field (length u.executed) ++ line (codes " redelivered") (length u.redelivered ∷ [])
+update_line (Some u) = counts_line (length u.executed) (length u.redelivered)
 
 -- the faults of an edit, by number
 abbrev pub edit_fault_word : EditFault → List ℕ
@@ -93,7 +96,7 @@ edit_fault_word BadPrice = codes "E5"
 
 -- `refused En at PLACE`
 abbrev pub refusal_line : EditRefusal → List ℕ
-refusal_line r = codes "refused " ++ edit_fault_word r.fault ++ line (codes " at") (r.place ∷ [])
+refusal_line r = codes "refused " ++ edit_fault_word r.fault ++ codes " " ++ line (codes "at") (r.place ∷ [])
 
 -- what follows the line `run K`
 abbrev pub reply_lines : Reply → List ℕ

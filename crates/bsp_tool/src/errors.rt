@@ -16,7 +16,7 @@ pub enum JobFault {
     NotToml,
     /// J2: a key that each document needs is absent.
     MissingKey,
-    /// J3: a known key has a value of another type.
+    /// J3: a known key has a value of another shape, as an edit of another word or length.
     WrongType,
     /// J4: another key stands at the top.
     UnknownKey,
@@ -24,18 +24,17 @@ pub enum JobFault {
     UnknownProgram,
     /// J6: a run may not start with the input, for this reason.
     Input(InputFault),
-    /// J7: a word or an argument is negative.
+    /// J7: a word, an argument or a number of an edit is negative.
     BadWord,
 }
 
 /// Why a document was not read as a job.
 #[derive(Clone, Copy, Debug, PartialEq, Eq, Error)]
+#[error("{}", EngineError::from(*self).line())]
 pub enum JobError {
     /// It is none.
-    #[error("the document has the fault {0:?}")]
     Fault(JobFault),
     /// Memory was refused.
-    #[error("out of memory")]
     OutOfMemory,
 }
 
@@ -49,21 +48,17 @@ impl From<OutOfMemory> for JobError {
 
 /// Why no report was written, or not all of it.
 #[derive(Clone, Copy, Debug, PartialEq, Eq, Error)]
+#[error("{}", self.line())]
 pub enum EngineError {
     /// A read failed; nothing was written.
-    #[error("a read failed")]
     Read,
     /// The document has more than 16,777,216 bytes; nothing was written.
-    #[error("the document is too long")]
     TooLong,
     /// The document is not a job; nothing was written.
-    #[error("the document has the fault {0:?}")]
     Job(JobFault),
     /// A write failed or took no byte; a beginning of the report was written.
-    #[error("a write failed")]
     Write,
     /// Memory was refused; nothing was written.
-    #[error("out of memory")]
     OutOfMemory,
 }
 

@@ -1,4 +1,16 @@
 //! The job of a document.
+//!
+//! A document is read in this order: its tree (`tree`, J1), the keys and the shapes of their values (`keys`, `shapes`; J2 to J4), the program's
+//! name (J5), the sizes of the input (`sizes`, J6), and the signs of the numbers (`signs`, J7). Where it has no fault, and only then, its
+//! values are made (`inputs`, `batches`).
+
+mod batches;
+mod inputs;
+mod keys;
+mod shapes;
+mod signs;
+mod sizes;
+mod tree;
 
 ghost use Rattle.std.specs.Prelude.{◌≡◌, IfOk, IfErr, None, Some, Ok, Err};
 ghost use Rattle.toml.specs.View.{table_view};
@@ -6,23 +18,28 @@ ghost use Rattle.bsp_model.specs.Input.{input_fault};
 ghost use Rattle.bsp_tool.specs.Refusal.{IfFault};
 ghost use Rattle.bsp_tool.specs.JobOf.{program_of, job_of_tree, job_of};
 
-use crate::document::{read_tree, value_at};
 use crate::errors::{JobError, JobFault};
-use crate::inputs::read_input;
-use crate::shapes::key_fault;
-use crate::words::has_negative_word;
-use bsp_model::Input;
+use batches::read_batches;
+use bsp_incr::Batch;
+use bsp_model::{Input, Seq};
 use bsp_programs::Bundled;
+use inputs::read_input;
+use keys::key_fault;
+use signs::has_negative_word;
+use sizes::described_fault;
 use std::alloc::Global;
 use toml::Table;
+use tree::{read_tree, value_at};
 
-/// A program and its input, over which a run may start.
+/// A program, its input, over which a run may start, and batches of edits.
 #[derive(Drop)]
 pub struct Job {
     /// The program.
     pub program: Bundled,
     /// The input, which has none of the faults I1 to I7.
     pub input: Input,
+    /// The batches of edits, in their order. What they name need not be there.
+    pub batches: Seq<Batch>,
 }
 
 fn program_in(table: &Table) -> Option<Bundled>
@@ -45,14 +62,17 @@ fn job_in(alloc: Global, table: &Table) -> Result<Job, JobError>
     let Some(program) = program_in(table) else {
         return Err(JobError::Fault(JobFault::UnknownProgram));
     };
-    let input = read_input(alloc, table)?;
-    if let Err(fault) = input.check() {
+    if let Some(fault) = described_fault(table) {
         return Err(JobError::Fault(JobFault::Input(fault)));
     }
     if has_negative_word(table) {
         return Err(JobError::Fault(JobFault::BadWord));
     }
-    Ok(Job { program, input })
+    Ok(Job {
+        program,
+        input: read_input(alloc, table)?,
+        batches: read_batches(alloc, table)?,
+    })
 }
 
 /// The job of a document, or the first of J1 to J7 that it has.

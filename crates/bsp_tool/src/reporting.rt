@@ -3,7 +3,7 @@
 ghost use Rattle.std.specs.Prelude.{◌≡◌, ◌++◌, OnOk, IfOk};
 ghost use Rattle.std.specs.List.{flat_map};
 ghost use Rattle.bsp_tool.specs.Lines.{line, numbered};
-ghost use Rattle.bsp_tool.specs.Text.{fault_word, fault_numbers, fault_line, sync_fault_word, status_lines, memory_line, print_lines, cost_line, result_lines, update_line, edit_fault_word, refusal_line, reply_lines, reply_block, text_of};
+ghost use Rattle.bsp_tool.specs.Text.{fault_word, fault_numbers, process_fault_line, sync_fault_word, status_lines, memory_line, print_lines, cost_line, result_lines, counts_line, update_line, edit_fault_word, refusal_line, reply_lines, reply_block, text_of};
 
 use crate::lines::{push_field, push_line, push_long_line, push_memory};
 use bsp_incr::{EditFault, EditRefusal, Reply, Update};
@@ -30,7 +30,8 @@ fn fault_word(fault: Fault) -> &'static str
     }
 }
 
-fn push_fault_word(text: &mut Vec<u8>, fault: Fault) -> Result<(), OutOfMemory>
+/// Appends the fault's word, the number that belongs to it, and LF.
+fn end_fault_line(text: &mut Vec<u8>, fault: Fault) -> Result<(), OutOfMemory>
     ensures { OnOk result (text.new.items ≡ text.old.items ++ line (fault_word fault) (fault_numbers fault)) }
 {
     let word = fault_word(fault);
@@ -43,16 +44,16 @@ fn push_fault_word(text: &mut Vec<u8>, fault: Fault) -> Result<(), OutOfMemory>
 }
 
 fn push_fault(text: &mut Vec<u8>, fault: ProcessFault) -> Result<(), OutOfMemory>
-    ensures { OnOk result (text.new.items ≡ text.old.items ++ fault_line fault) }
+    ensures { OnOk result (text.new.items ≡ text.old.items ++ process_fault_line fault) }
 {
     text.extend_from_slice(b"fault")?;
     push_field(text, fault.pid)?;
     text.push(b' ')?;
-    push_fault_word(text, fault.fault)
+    end_fault_line(text, fault.fault)
 }
 
 fn push_faults(text: &mut Vec<u8>, faults: &[ProcessFault]) -> Result<(), OutOfMemory>
-    ensures { OnOk result (text.new.items ≡ text.old.items ++ flat_map fault_line faults.now) }
+    ensures { OnOk result (text.new.items ≡ text.old.items ++ flat_map process_fault_line faults.now) }
 {
     for fault in faults {
         push_fault(text, *fault)?;
@@ -160,12 +161,23 @@ fn push_result(text: &mut Vec<u8>, run: &RunResult) -> Result<(), OutOfMemory>
     push_line(text, "total", &[run.total])
 }
 
+fn push_counts(text: &mut Vec<u8>, executed: u64, redelivered: u64) -> Result<(), OutOfMemory>
+    ensures { OnOk result (text.new.items ≡ text.old.items ++ counts_line executed redelivered) }
+{
+    text.extend_from_slice(b"executed")?;
+    push_field(text, executed)?;
+    text.push(b' ')?;
+    push_line(text, "redelivered", &[redelivered])
+}
+
 fn push_update(text: &mut Vec<u8>, update: &Update) -> Result<(), OutOfMemory>
     ensures { OnOk result (text.new.items ≡ text.old.items ++ update_line (Some update.now)) }
 {
-    text.extend_from_slice(b"executed")?;
-    push_field(text, update.executed.len() as u64)?;
-    push_line(text, " redelivered", &[update.redelivered.len() as u64])
+    push_counts(
+        text,
+        update.executed.len() as u64,
+        update.redelivered.len() as u64,
+    )
 }
 
 fn edit_fault_word(fault: EditFault) -> &'static str
@@ -185,7 +197,8 @@ fn push_refusal(text: &mut Vec<u8>, refusal: EditRefusal) -> Result<(), OutOfMem
 {
     text.extend_from_slice(b"refused ")?;
     text.extend_from_slice(edit_fault_word(refusal.fault).as_bytes())?;
-    push_line(text, " at", &[refusal.place as u64])
+    text.push(b' ')?;
+    push_line(text, "at", &[refusal.place as u64])
 }
 
 fn push_reply(text: &mut Vec<u8>, reply: &Reply) -> Result<(), OutOfMemory>

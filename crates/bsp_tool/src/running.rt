@@ -1,38 +1,45 @@
 //! The replies to a job.
 
-ghost use Rattle.std.specs.Prelude.{◌≡◌, IfOk, None};
+ghost use Rattle.std.specs.Prelude.{◌≡◌, ◌<◌, ◌≤◌, IfOk, None};
 ghost use Rattle.bsp_model.specs.Input.{input_fault};
-ghost use Rattle.bsp_run.specs.Run.{run};
-ghost use Rattle.bsp_tool.specs.Replies.{turn_of_program, replies_of};
+ghost use Rattle.bsp_tool.specs.Replies.{replies_of};
 
 use crate::jobs::Job;
-use bsp_incr::Reply;
+use bsp_incr::{Reply, scratch_run, session_run};
 use bsp_model::OutOfMemory;
-use bsp_run::{History, RunError, run_plain};
+use bsp_pool::Gate;
+use bsp_run::RunError;
 use std::alloc::{AllocError, Global};
+use std::thread::Threads;
 
-fn run_job(alloc: Global, job: &Job) -> Result<History, OutOfMemory>
-    requires { input_fault job.now.input ≡ None }
-    ensures { IfOk result (λ history. history ≡ run (turn_of_program job.now.program) job.now.input) }
+/// The replies to a job: to its input, and then one to each batch. 1 to 16 workers share the work; from scratch the calling thread makes
+/// each run alone, and the replies have no updates.
+#[tactic(auto, unfolding(crate::specs::Replies::replies_of))]
+pub fn replies_to<R: Threads + Sync, G: Gate>(
+    rt: &R,
+    alloc: Global,
+    job: Job,
+    workers: usize,
+    scratch: bool,
+    gate: &G,
+) -> Result<Vec<Reply>, OutOfMemory>
+    requires lawful { input_fault job.input ≡ None }
+    requires workers { (0 < workers) × (workers ≤ 16) }
+    ensures { IfOk result (λ all. all.items ≡ replies_of scratch job) }
 {
-    match run_plain(alloc, &job.program, &job.input) {
-        Ok(history) => Ok(history),
+    let Job {
+        program,
+        input,
+        batches,
+    } = job;
+    let replies = if scratch {
+        scratch_run(alloc, &program, input, batches.as_slice())
+    } else {
+        session_run(rt, alloc, program, input, batches.as_slice(), workers, gate)
+    };
+    match replies {
+        Ok(replies) => Ok(replies),
         Err(RunError::Input(_)) => unreachable!(),
         Err(RunError::OutOfMemory) => Err(AllocError),
     }
-}
-
-/// The replies to a job: one, to its input.
-#[tactic(auto, unfolding(crate::specs::Replies::replies_of))]
-pub fn replies_to(alloc: Global, job: &Job) -> Result<Vec<Reply>, OutOfMemory>
-    requires { input_fault job.now.input ≡ None }
-    ensures { IfOk result (λ replies. replies.items ≡ replies_of job.now) }
-{
-    let result = run_job(alloc, job)?.result()?;
-    Ok(vec![in alloc;
-        Reply::Done {
-            result,
-            update: None
-        },
-    ]?)
 }

@@ -1,7 +1,8 @@
-//! What no clause says: that calls succeed, and that documents, reports and failures give what their rules name.
+//! What no clause says and no document shows: that calls succeed, failing readers and writers, and the text of replies that no bundled program has.
 
 mod documents;
 mod failing;
 mod failures;
+mod options;
 mod reports;
-mod runs;
+mod workers;

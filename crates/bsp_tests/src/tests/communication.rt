@@ -1,6 +1,6 @@
 //! Puts, gets and ends of supersteps.
 
-use super::running::{Ends, Row, is_met};
+use super::running::{Ends, Row, meet};
 use crate::Call::{Get, PushReg, Put};
 use crate::Turn;
 use bsp_model::End::{Halt, Sync};
@@ -88,8 +88,5 @@ const ROWS: [Row; 5] = [
 
 #[test]
 fn puts_gets_and_ends(rt: HostRuntime) -> Result<(), Fail> {
-    for row in ROWS {
-        assert!(rt; is_met(rt.alloc(), row)?);
-    }
-    Ok(())
+    meet(&rt, rt.alloc(), &ROWS)
 }

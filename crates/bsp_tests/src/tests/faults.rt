@@ -1,34 +1,19 @@
 //! Each fault of a turn, and the order of each call's checks.
 
-use super::running::{has_costs, has_fault, has_lines, has_memories, history_of};
+use super::running::{Ends, Row, has_costs, has_fault, has_lines, has_memories, history_of, meet};
 use crate::Call::{
     Charge, Get, PopReg, Print, PrintMoveInto, PrintSetTagsize, PushReg, Put, Send, Store,
 };
 use crate::{Call, Turn};
 use bsp_model::End::{Abort, Halt, Sync};
-use bsp_model::{End, Fault};
+use bsp_model::Fault;
+use bsp_run::History;
 use std::alloc::Global;
 use std::test::Fail;
 
-/// Whether a turn of the only process, which has registered words 0 and 1 of its three words, ends by this fault and leaves the memory.
-fn is_fault_of(
-    alloc: Global,
-    calls: &'static [Call<'static>],
-    end: End,
-    fault: Fault,
-) -> Result<bool, Fail> {
-    let turns = [Turn(&[PushReg(0, 2)], Sync), Turn(calls, end)];
-    let (first, second) = turns.split_at(1);
-    let history = history_of(alloc, &[&[1, 2, 3]], &[first, second])?;
-    Ok(
-        has_fault(&history, 1, fault)
-            && has_memories(&history, &[&[1, 2, 3]])
-            && has_lines(&history, 0, &[])
-            && has_costs(&history, &[10, 0]),
-    )
-}
-
-const FAULTS: [(&[Call], Fault); 18] = [
+/// The calls of a turn, in which words 0 and 1 of three words are registered, and the fault that is kept. The turn answers `Abort(5)`.
+const FAULTS: [(&[Call], Fault); 27] = [
+    (&[], Fault::Abort(5)),
     (&[Store(3, 9)], Fault::BadLocal),
     (&[Charge(4_294_967_296)], Fault::WorkLimit),
     (&[Put(1, &[], 0, 0)], Fault::BadPid(1)),
@@ -50,19 +35,7 @@ const FAULTS: [(&[Call], Fault); 18] = [
     (&[PopReg(2)], Fault::NotRegistered(2)),
     (&[PrintSetTagsize(17)], Fault::BadTagSize),
     (&[Print(&[0; 65])], Fault::TooLong),
-];
-
-#[test]
-fn each_check_of_a_call(rt: HostRuntime) -> Result<(), Fail> {
-    for (calls, fault) in FAULTS {
-        assert!(rt; is_fault_of(rt.alloc(), calls, Halt, fault)?);
-    }
-    assert!(rt; is_fault_of(rt.alloc(), &[], Abort(7), Fault::Abort(7))?);
-    Ok(())
-}
-
-/// Turns of which two checks fail.
-const FAULTS_IN_ORDER: [(&[Call], Fault); 8] = [
+    // Two checks fail.
     (&[Put(1, &[], 2, 0)], Fault::BadPid(1)),
     (&[Put(0, &[5, 5, 5], 2, 0)], Fault::NotRegistered(2)),
     (&[Get(1, 2, 0, 0, 0)], Fault::BadPid(1)),
@@ -70,45 +43,70 @@ const FAULTS_IN_ORDER: [(&[Call], Fault); 8] = [
     (&[Get(0, 0, 9, 9, 9)], Fault::OutOfArea),
     (&[Send(1, &[1], &[])], Fault::BadPid(1)),
     (&[Send(0, &[1], &[0; 4097])], Fault::TagLength),
+    // Later acts do nothing.
     (
         &[Put(7, &[], 0, 0), Store(0, 9), Print(&[9]), Store(9, 9)],
         Fault::BadPid(7),
     ),
 ];
 
-#[test]
-fn checks_in_order(rt: HostRuntime) -> Result<(), Fail> {
-    for (calls, fault) in FAULTS_IN_ORDER {
-        assert!(rt; is_fault_of(rt.alloc(), calls, Abort(5), fault)?);
+/// The run of one process, whose second turn makes the calls.
+fn run_of(alloc: Global, calls: &'static [Call<'static>]) -> Result<History, Fail> {
+    let turns = [Turn(&[PushReg(0, 2)], Sync), Turn(calls, Abort(5))];
+    let (first, second) = turns.split_at(1);
+    history_of(alloc, &[&[1, 2, 3]], &[first, second])
+}
+
+/// Finds that the second turn kept the fault and did nothing.
+fn find_fault(rt: &impl std::process::Abort, history: &History, number: usize, fault: Fault) {
+    assert!(rt;
+        has_fault(history, 1, fault),
+        "row {number}: {:?}",
+        history.status()
+    );
+    assert!(rt;
+        has_memories(history, &[&[1, 2, 3]]),
+        "row {number}: the memory"
+    );
+    assert!(rt; has_lines(history, 0, &[]), "row {number}: the lines");
+    assert!(rt;
+        has_costs(history, &[10, 0]),
+        "row {number}: {:?}",
+        history.costs()
+    );
+}
+
+fn find_faults(
+    rt: &impl std::process::Abort,
+    alloc: Global,
+    rows: &[(&'static [Call<'static>], Fault)],
+) -> Result<(), Fail> {
+    for number in 0..rows.len() {
+        let (calls, fault) = rows[number];
+        let history = run_of(alloc, calls)?;
+        find_fault(rt, &history, number, fault);
     }
     Ok(())
 }
 
 #[test]
-fn the_number_of_requests_is_checked_first(rt: HostRuntime) -> Result<(), Fail> {
-    let last = [
-        Put(1, &[], 2, 0),
-        Get(1, 2, 0, 0, 0),
-        Send(1, &[1], &[]),
-        PushReg(2, 2),
-        PopReg(2),
-    ];
-    for call in last {
-        let mut calls = [Send(0, &[], &[]); 1025];
-        calls[1024] = call;
-        let history = history_of(rt.alloc(), &[&[]], &[&[Turn(&calls, Halt)]])?;
-        assert!(rt; has_fault(&history, 0, Fault::TooManyRequests));
-    }
-    Ok(())
+fn the_first_check_that_fails(rt: HostRuntime) -> Result<(), Fail> {
+    find_faults(&rt, rt.alloc(), &FAULTS)
 }
 
+const NO_WORDS: &[u64] = &[];
+
+/// A turn with a line too many.
+const LINES: Row = Row {
+    memories: &[&[]],
+    supersteps: &[&[Turn(&[Print(&[]); 65], Halt)]],
+    ends: Ends::Faulted(0, Fault::LineLimit),
+    after: &[&[]],
+    lines: &[&[NO_WORDS; 64]],
+    costs: &[0],
+};
+
 #[test]
-fn the_number_of_lines_is_checked_first(rt: HostRuntime) -> Result<(), Fail> {
-    let mut calls = [Print(&[]); 65];
-    calls[64] = Print(&[0; 65]);
-    let history = history_of(rt.alloc(), &[&[]], &[&[Turn(&calls, Halt)]])?;
-    assert!(rt; has_fault(&history, 0, Fault::LineLimit));
-    let lines: [&[u64]; 64] = [&[]; 64];
-    assert!(rt; has_lines(&history, 0, &lines));
-    Ok(())
+fn lines_up_to_a_fault_stand(rt: HostRuntime) -> Result<(), Fail> {
+    meet(&rt, rt.alloc(), &[LINES])
 }

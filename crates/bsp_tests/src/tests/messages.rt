@@ -1,6 +1,6 @@
 //! Messages and their tags.
 
-use super::running::{Ends, Row, is_met};
+use super::running::{Ends, Row, meet};
 use crate::Call::{PrintGetTag, PrintMoveInto, PrintQsize, PrintSetTagsize, PrintTagSize, Send};
 use crate::Turn;
 use bsp_model::End::{Halt, Sync};
@@ -58,7 +58,7 @@ const ROWS: [Row; 6] = [
         memories: &[&[]],
         supersteps: &[
             &[Turn(&[PrintSetTagsize(2), PrintSetTagsize(1)], Sync)],
-            &[Turn(&[PrintTagSize, Send(0, &[], &[])], Sync)],
+            &[Turn(&[PrintTagSize, Send(0, &[], &[5])], Sync)],
         ],
         ends: Ends::Faulted(1, Fault::TagLength),
         after: &[&[]],
@@ -67,7 +67,7 @@ const ROWS: [Row; 6] = [
     },
     Row {
         memories: &[&[], &[]],
-        supersteps: &[&[Turn(&[PrintSetTagsize(0)], Sync), Turn(&[], Sync)]],
+        supersteps: &[&[Turn(&[PrintSetTagsize(1)], Sync), Turn(&[], Sync)]],
         ends: Ends::SyncFaulted(0, SyncFault::TagMismatch),
         after: &[&[], &[]],
         lines: &[&[&[0]], &[]],
@@ -90,8 +90,5 @@ const ROWS: [Row; 6] = [
 
 #[test]
 fn messages_and_tags(rt: HostRuntime) -> Result<(), Fail> {
-    for row in ROWS {
-        assert!(rt; is_met(rt.alloc(), row)?);
-    }
-    Ok(())
+    meet(&rt, rt.alloc(), &ROWS)
 }

@@ -1,6 +1,6 @@
 //! Registration: which slot a name means, and when pops and pushes count.
 
-use super::running::{Ends, Row, is_met};
+use super::running::{Ends, Row, meet};
 use crate::Call::{PopReg, PrintWord, PushReg, Put};
 use crate::Turn;
 use bsp_model::End::{Halt, Sync};
@@ -90,21 +90,21 @@ const ROWS: [Row; 9] = [
     },
     // At most 256 slots and 1024 requests.
     Row {
-        memories: &[&[]],
+        memories: &[&[0]],
         supersteps: &[
-            &[Turn(&[PushReg(0, 0); 256], Sync)],
-            &[Turn(&[PushReg(0, 0)], Sync)],
+            &[Turn(&[PushReg(0, 1); 256], Sync)],
+            &[Turn(&[PushReg(0, 1)], Sync)],
         ],
         ends: Ends::SyncFaulted(1, SyncFault::TooManySlots),
-        after: &[&[]],
+        after: &[&[0]],
         lines: &[&[]],
         costs: &[10, 0],
     },
     Row {
-        memories: &[&[]],
-        supersteps: &[&[Turn(&[PushReg(0, 0); 1025], Sync)]],
+        memories: &[&[0]],
+        supersteps: &[&[Turn(&[PushReg(0, 1); 1025], Sync)]],
         ends: Ends::Faulted(0, Fault::TooManyRequests),
-        after: &[&[]],
+        after: &[&[0]],
         lines: &[&[]],
         costs: &[0],
     },
@@ -112,8 +112,5 @@ const ROWS: [Row; 9] = [
 
 #[test]
 fn registration(rt: HostRuntime) -> Result<(), Fail> {
-    for row in ROWS {
-        assert!(rt; is_met(rt.alloc(), row)?);
-    }
-    Ok(())
+    meet(&rt, rt.alloc(), &ROWS)
 }

@@ -4,6 +4,7 @@ use crate::{Script, Turn};
 use bsp_model::{Fault, Input, Memory, OutOfMemory, Seq, SyncFault, Words};
 use bsp_run::{History, ProcessFault, Status, run_plain};
 use std::alloc::Global;
+use std::process::Abort;
 use std::test::Fail;
 
 /// How a run has to end. A fault is that of process 0, and no other has one.
@@ -28,17 +29,27 @@ pub struct Row {
     pub costs: &'static [u64],
 }
 
+fn memories_of(alloc: Global, memories: &[&[u64]]) -> Result<Seq<Memory>, OutOfMemory> {
+    let mut all = Seq::new(alloc);
+    for words in memories {
+        all.push(Memory::from_words(alloc, words)?)?;
+    }
+    Ok(all)
+}
+
+fn no_arguments(alloc: Global, nprocs: usize) -> Result<Seq<Words>, OutOfMemory> {
+    let mut all = Seq::new(alloc);
+    for _ in 0..nprocs {
+        all.push(Words::new(alloc))?;
+    }
+    Ok(all)
+}
+
 /// The input with these memories and no arguments.
 pub fn input_of(alloc: Global, memories: &[&[u64]]) -> Result<Input, OutOfMemory> {
-    let mut mems = Seq::new(alloc);
-    let mut args = Seq::new(alloc);
-    for words in memories {
-        mems.push(Memory::from_words(alloc, words)?)?;
-        args.push(Words::new(alloc))?;
-    }
     Ok(Input {
-        mems,
-        args,
+        mems: memories_of(alloc, memories)?,
+        args: no_arguments(alloc, memories.len())?,
         limit: 16,
         g: 4,
         l: 10,
@@ -80,6 +91,15 @@ pub fn has_sync_fault(history: &History, step: u64, fault: SyncFault) -> bool {
             fault: had,
         } => *at == step && *had == fault,
         _ => false,
+    }
+}
+
+/// Whether the run ended so.
+fn has_end(history: &History, ends: Ends) -> bool {
+    match ends {
+        Ends::Halted => has_halted(history),
+        Ends::Faulted(step, fault) => has_fault(history, step, fault),
+        Ends::SyncFaulted(step, fault) => has_sync_fault(history, step, fault),
     }
 }
 
@@ -149,17 +169,32 @@ pub fn has_costs(history: &History, want: &[u64]) -> bool {
     history.total() == sum
 }
 
-/// Whether the run of a row's script gives what the row says.
-pub fn is_met(alloc: Global, row: Row) -> Result<bool, Fail> {
-    let history = history_of(alloc, row.memories, row.supersteps)?;
-    let ends = match row.ends {
-        Ends::Halted => has_halted(&history),
-        Ends::Faulted(step, fault) => has_fault(&history, step, fault),
-        Ends::SyncFaulted(step, fault) => has_sync_fault(&history, step, fault),
-    };
-    Ok(
-        ends && has_memories(&history, row.after)
-            && has_all_lines(&history, row.lines)
-            && has_costs(&history, row.costs),
-    )
+/// Runs the script of each row, and finds that the run gives what the row says.
+pub fn meet(rt: &impl Abort, alloc: Global, rows: &[Row]) -> Result<(), Fail> {
+    for (number, row) in rows.iter().enumerate() {
+        let history = history_of(alloc, row.memories, row.supersteps)?;
+        find_as(rt, &history, number, row);
+    }
+    Ok(())
+}
+
+fn find_as(rt: &impl Abort, history: &History, number: usize, row: &Row) {
+    assert!(rt;
+        has_end(history, row.ends),
+        "row {number}: {:?}",
+        history.status()
+    );
+    assert!(rt;
+        has_memories(history, row.after),
+        "row {number}: the memories"
+    );
+    assert!(rt;
+        has_all_lines(history, row.lines),
+        "row {number}: the lines"
+    );
+    assert!(rt;
+        has_costs(history, row.costs),
+        "row {number}: {:?}",
+        history.costs()
+    );
 }

@@ -4,13 +4,14 @@ use super::failing::{sink, source};
 use crate::engine::engine;
 use crate::errors::EngineError;
 use crate::reading::read_all;
+use bsp_pool::Open;
 use std::test::Fail;
 
 const DOCUMENT: &[u8] =
     b"program = \"broadcast\"\nlimit = 16\ng = 4\nl = 10\nmemory = [[7], [0], [0], [0]]\nargs = [[0], [0], [0], [0]]\n";
 
 const REPORT: &[u8] =
-    b"run 0\nstatus halted\nmemory 0 7\nmemory 1 7\nmemory 2 7\nmemory 3 7\nprint 0 7\nprint 1 7\nprint 2 7\nprint 3 7\ncost 0 0 0 10\ncost 1 0 3 22\ncost 2 0 0 0\ntotal 32\n";
+    b"run 0\nstatus halted\nmemory 0 7\nmemory 1 7\nmemory 2 7\nmemory 3 7\nprint 0 7\nprint 1 7\nprint 2 7\nprint 3 7\ncost 0 0 0 10\ncost 1 0 3 22\ncost 2 0 0 0\ntotal 32\nexecuted 12 redelivered 8\n";
 
 #[test]
 fn the_report_of_a_document(rt: HostRuntime) {
@@ -19,7 +20,10 @@ fn the_report_of_a_document(rt: HostRuntime) {
         let mut writer = sink(&rt);
         reader.at_once = at_once;
         writer.at_once = at_once;
-        assert_eq!(rt; engine(rt.alloc(), &mut reader, &mut writer), Ok(()));
+        assert_eq!(rt;
+            engine(&rt, rt.alloc(), &mut reader, &mut writer, 1, false, &Open),
+            Ok(())
+        );
         assert_eq!(rt; writer.bytes.as_slice(), REPORT);
         assert_eq!(rt; reader.bytes.len(), 0);
     }
@@ -33,7 +37,7 @@ fn each_failing_read(rt: HostRuntime) {
         let mut writer = sink(&rt);
         reader.reads_left = reads_left;
         assert_eq!(rt;
-            engine(rt.alloc(), &mut reader, &mut writer),
+            engine(&rt, rt.alloc(), &mut reader, &mut writer, 1, false, &Open),
             Err(EngineError::Read),
             "{reads_left}"
         );
@@ -51,7 +55,7 @@ fn each_failing_write(rt: HostRuntime) {
             writer.room = room;
             writer.takes_none = takes_none;
             assert_eq!(rt;
-                engine(rt.alloc(), &mut reader, &mut writer),
+                engine(&rt, rt.alloc(), &mut reader, &mut writer, 1, false, &Open),
                 Err(EngineError::Write),
                 "{room}"
             );
@@ -78,7 +82,7 @@ fn the_limit_of_a_document(rt: HostRuntime) -> Result<(), Fail> {
     let mut writer = sink(&rt);
     reader.at_once = usize::MAX;
     assert_eq!(rt;
-        engine(rt.alloc(), &mut reader, &mut writer),
+        engine(&rt, rt.alloc(), &mut reader, &mut writer, 1, false, &Open),
         Err(EngineError::TooLong)
     );
     assert_eq!(rt; writer.bytes.len(), 0);

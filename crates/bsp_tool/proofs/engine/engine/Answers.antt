@@ -9,31 +9,31 @@ use Rattle.bsp_tool.proofs.engine.engine.Goals as goal
 
 pub returns-in_err-text-clause-job : goal.returns-in_err-text-clause-job
 returns-in_err-text-clause-job g c = λ fault is.
-    refused _ c.as_slice.result.now c.in_ok-bytes.bytes.items (Err (Job fault)) c.as_slice.ensures.value c.in_ok-bytes.ensures.all
-    (refused_so _ c.in_err-text.field-0.0 fault (λ (f : JobFault). report_of c.as_slice.result.now ≡ Err (Job f)) is c.from_residual-in_err-text.ensures.1 c.in_err-text.ensures.fault)
+    refused c.args.scratch _ c.as_slice.result.now c.in_ok-bytes.bytes.items (Err (Job fault)) c.as_slice.ensures.value c.in_ok-bytes.ensures.all
+    (refused_so _ c.in_err-text.field-0.0 fault (λ (f : JobFault). report_of c.args.scratch c.as_slice.result.now ≡ Err (Job f)) is c.from_residual-in_err-text.ensures.1 c.in_err-text.ensures.fault)
 
 pub returns-in-Ok-clause-ok : goal.returns-in-Ok-clause-ok
 returns-in-Ok-clause-ok g c =
-    reported _ c.as_slice.result.now c.in_ok-bytes.bytes.items c.in_ok-text.text.items (λ (text : List ℕ). Appends (g.K.Sink.contents c.args.writer.now) (g.K.Sink.contents c.write_text.new.sink) text)
+    reported c.args.scratch _ c.as_slice.result.now c.in_ok-bytes.bytes.items c.in_ok-text.text.items (λ (text : List ℕ). Appends (g.K.Sink.contents c.args.writer.now) (g.K.Sink.contents c.write_text.new.sink) text)
     c.as_slice.ensures.value c.in_ok-bytes.ensures.all c.in_ok-text.ensures.ok (rw (← c.as_slice-2.ensures.value) c.in-Ok.ensures.ok)
 
 pub returns-clause-write : goal.returns-clause-write
 returns-clause-write g c = λ _.
-    reported _ c.as_slice.result.now c.in_ok-bytes.bytes.items c.in_ok-text.text.items (λ (text : List ℕ). AppendsPrefix (g.K.Sink.contents c.args.writer.now) (g.K.Sink.contents c.write_text.new.sink) text)
+    reported c.args.scratch _ c.as_slice.result.now c.in_ok-bytes.bytes.items c.in_ok-text.text.items (λ (text : List ℕ). AppendsPrefix (g.K.Sink.contents c.args.writer.now) (g.K.Sink.contents c.write_text.new.sink) text)
     c.as_slice.ensures.value c.in_ok-bytes.ensures.all c.in_ok-text.ensures.ok (rw (← c.as_slice-2.ensures.value) c.in-Err.ensures.err)
 
 pub returns-in_err-bytes-clause-refused : goal.returns-in_err-bytes-clause-refused
 returns-in_err-bytes-clause-refused g c =
-    refuses_read _ c.read_all.result c.in_err-bytes.field-0.0 _ c.in_err-bytes.was c.read_all.ensures.long c.from_residual.ensures.1
+    refuses_read c.args.scratch _ c.read_all.result c.in_err-bytes.field-0.0 _ c.in_err-bytes.was c.read_all.ensures.long c.from_residual.ensures.1
 
 pub returns-in_err-text-clause-refused : goal.returns-in_err-text-clause-refused
 returns-in_err-text-clause-refused g c =
-    refuses_job _ c.as_slice.result.now c.in_ok-bytes.bytes.items c.in_err-text.field-0.0 _ c.as_slice.ensures.value c.in_ok-bytes.ensures.all c.from_residual-in_err-text.ensures.1 c.in_err-text.ensures.fault
+    refuses_job c.args.scratch _ c.as_slice.result.now c.in_ok-bytes.bytes.items c.in_err-text.field-0.0 _ c.as_slice.ensures.value c.in_ok-bytes.ensures.all c.from_residual-in_err-text.ensures.1 c.in_err-text.ensures.fault
 
 pub returns-in-Ok-clause-refused : goal.returns-in-Ok-clause-refused
 returns-in-Ok-clause-refused g c =
-    refuses_none _ c.as_slice.result.now c.in_ok-bytes.bytes.items c.in_ok-text.text.items _ c.as_slice.ensures.value c.in_ok-bytes.ensures.all c.in_ok-text.ensures.ok
+    refuses_none c.args.scratch _ c.as_slice.result.now c.in_ok-bytes.bytes.items c.in_ok-text.text.items _ c.as_slice.ensures.value c.in_ok-bytes.ensures.all c.in_ok-text.ensures.ok
 
 pub returns-clause-refused : goal.returns-clause-refused
 returns-clause-refused g c =
-    refuses_none _ c.as_slice.result.now c.in_ok-bytes.bytes.items c.in_ok-text.text.items _ c.as_slice.ensures.value c.in_ok-bytes.ensures.all c.in_ok-text.ensures.ok
+    refuses_none c.args.scratch _ c.as_slice.result.now c.in_ok-bytes.bytes.items c.in_ok-text.text.items _ c.as_slice.ensures.value c.in_ok-bytes.ensures.all c.in_ok-text.ensures.ok
