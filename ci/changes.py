@@ -1,0 +1,54 @@
+"""Which crates a working tree changes against a commit."""
+import subprocess
+
+
+def lines_of(root, *words):
+    return subprocess.run(words, cwd=root, check=True, stdout=subprocess.PIPE, text=True).stdout.splitlines()
+
+
+def needs_in(lines):
+    """The libraries of each crate, by the lines of a crates.txt."""
+    rows = [line.partition("#")[0].partition(":") for line in lines]
+    return {name.split()[0]: needs.split() for name, _, needs in rows if name.strip()}
+
+
+def needs(root):
+    with open(f"{root}/crates.txt", encoding="utf-8") as file:
+        return needs_in(file)
+
+
+def crates_by_level(root):
+    """All crates, each after those that it stands on."""
+    below, crates = needs(root), []
+
+    def add(crate):
+        if crate in below and crate not in crates:
+            for it in below[crate]:
+                add(it)
+            crates.append(crate)
+
+    for crate in below:
+        add(crate)
+    return crates
+
+
+def crates_above(root, changed):
+    """These crates and all that stand on one of them, the lowest first."""
+    below, found = needs(root), set(changed)
+    ordered = crates_by_level(root)
+    for crate in ordered:
+        if found.intersection(below[crate]):
+            found.add(crate)
+    return [crate for crate in ordered if crate in found]
+
+
+def changed_crates(root, commit):
+    """The crates whose proofs may have changed since a commit, and those with another file changed too: the latter's edits are to be tried."""
+    paths = lines_of(root, "git", "diff", "--name-only", commit)
+    paths += lines_of(root, "git", "ls-files", "--others", "--exclude-standard")
+    parts = [path.split("/") for path in paths if path.startswith("crates/") and path.count("/") > 1]
+    now, before = needs(root), needs_in(lines_of(root, "git", "show", f"{commit}:crates.txt"))
+    moved = {crate for crate in now if now[crate] != before.get(crate)}
+    proofs = moved | {part[1] for part in parts if part[2] in ("src", "specs", "proofs")}
+    edits = proofs | {part[1] for part in parts if part[2] == "must-fail"}
+    return proofs, [crate for crate in crates_by_level(root) if crate in edits]
