@@ -4,5 +4,9 @@ pub mod Queues
 pub mod EndTests
 pub mod Counts
 pub mod Comparing
-pub mod SameParts
 pub mod Unmarked
+pub mod Aligned
+pub mod Formers
+pub mod SameParts
+pub mod SameDelivery
+pub mod TouchedMarks

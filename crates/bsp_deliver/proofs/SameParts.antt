@@ -1,163 +1,94 @@
 -- Deliveries that depend on the same in two lists of outcomes.
-use Rattle.std.proofs.Common.{◌≡◌, ◌≢◌, ℕ, ◌+◌, ◌<◌, ◌==◌, Bool, true, false, List, [], ◌∷◌, map, filter, cond, length, All, refl, sym, ◌∙◌, ap, arith, get_or, inl, inr, below_more}
-use Rattle.std.proofs.lemmas.Bool.{cases_Bool, cases_lt, ne_eqb, false≢true}
-use Rattle.std.proofs.lemmas.List.{get_or_past}
-use Rattle.std.proofs.lemmas.List.Elements.{All-head, All-tail}
+use Rattle.std.proofs.Common.{◌≡◌, ℕ, ◌+◌, ◌<◌, ◌==◌, Bool, List, map, length, All, refl, sym, ◌∙◌, ap, arith, get_or, subst, inl, inr, below_more}
+use Rattle.std.specs.Prelude.{◌↔◌}
+use Rattle.std.proofs.lemmas.List.{get_or_default}
+use Rattle.std.proofs.lemmas.Bool.{cases_lt}
 use Rattle.bsp_model.specs.declared.request.Put.{Put}
 use Rattle.bsp_model.specs.declared.request.Get.{Get}
 use Rattle.bsp_model.specs.declared.request.Send.{Send}
 use Rattle.bsp_step.specs.OutcomeParts.{OutcomeParts}
-use Rattle.bsp_deliver.specs.Requests.{each_below, all_puts, all_sends, no_outcome, outcome_of, words_read}
-use Rattle.bsp_deliver.specs.Delivery.{delivery_parts}
-use Rattle.bsp_deliver.specs.Comparison.{HasSameParcel}
+use Rattle.bsp_deliver.specs.Requests.{all_puts, all_sends, no_outcome, outcome_of, words_read}
+use Rattle.bsp_deliver.specs.Delivery.{DeliveryParts, delivery_parts}
+use Rattle.bsp_deliver.specs.Comparison.{HasSameParcel, HasSameOwn, IsReadable}
 use Rattle.bsp_deliver.specs.Condition.{sizes_of, AreRequestsInside, AreDeliverable}
-use Rattle.bsp_deliver.specs.Marks.{AreMoreMarks, AreToKnown}
-use Rattle.bsp_deliver.proofs.Senders.{at_item, length-sizes_of}
-use Rattle.bsp_deliver.proofs.Comparing.{same_from_senders, pairs_from}
-use Rattle.bsp_deliver.proofs.Unmarked.{more_twice, unmarked_before}
+use Rattle.bsp_deliver.specs.Marks.{AreMarkedUnless, AreToKnown}
+use Rattle.bsp_deliver.proofs.Senders.{at_item, length-sizes_of, readable_gets}
+use Rattle.bsp_deliver.proofs.Comparing.{same_from_senders, senders_from_same, pairs_from, pairs_apart}
+use Rattle.bsp_deliver.proofs.Unmarked.{marked_twice}
 
--- All that a delivery to d depends on is the same, place by place.
-pub record HasSameSources (os us : List OutcomeParts) (d : ℕ) : Type 0 where
-  pub memory : (outcome_of os d).memory ≡ (outcome_of us d).memory
-  pub gets : (outcome_of os d).gets ≡ (outcome_of us d).gets
-  pub owners : All (λ g. (outcome_of os g.owner).memory ≡ (outcome_of us g.owner).memory) (outcome_of us d).gets
-  pub senders : (k : ℕ) → k < length us → HasSameParcel d (outcome_of os k) (outcome_of us k)
+-- what a process keeps and reads itself
+pub same_own : (os us : List OutcomeParts) (p : ℕ)
+    → HasSameOwn os us p ↔ (((outcome_of os p).memory ≡ (outcome_of us p).memory) × ((outcome_of os p).gets ≡ (outcome_of us p).gets)) × (map (words_read os) (outcome_of us p).gets ≡ map (words_read us) (outcome_of us p).gets)
+unfolding delivery_parts
+same_own os us p =
+    let f = words_read os in let h = words_read us in
+    let G = (outcome_of os p).gets in let H = (outcome_of us p).gets in (
+      λ s. let parts = pairs_apart f h G H s.gets in ((s.memory, parts.0), ap (map f) (sym parts.0) ∙ parts.1),
+      λ e. record { memory = e.0.0; gets = pairs_from f h G H e.0.1 (ap (map f) e.0.1 ∙ e.1 ∙ ap (map h) (sym e.0.1)) },
+    )
 
-same_words : (os us : List OutcomeParts) (gets : List Get) → All (λ g. (outcome_of os g.owner).memory ≡ (outcome_of us g.owner).memory) gets → map (words_read us) gets ≡ map (words_read os) gets
-same_words os us [] h = refl
-same_words os us (g ∷ gets) h =
-    let P : Get → Type 0 = λ x. (outcome_of os x.owner).memory ≡ (outcome_of us x.owner).memory in
-    let words : List ℕ → List ℕ = λ m. each_below g.len (λ i. get_or m (g.start + i) 0) in
-    let first : words_read us g ≡ words_read os g = sym (ap words (All-head P g gets h)) in
-    λ i. first i ∷ same_words os us gets (All-tail P g gets h) i
+-- The processes below n put and send the same to d, and d itself, if it is one of them, keeps and reads the same.
+pub record IsSameBelow (os us : List OutcomeParts) (n d : ℕ) : Type 0 where
+  pub parcels : (k : ℕ) → k < n → HasSameParcel d (outcome_of os k) (outcome_of us k)
+  pub own : d < n → HasSameOwn os us d
+
+same_to_parts : (os us : List OutcomeParts) (d : ℕ) → length os ≡ length us → IsSameBelow os us (length us) d → d < length us → delivery_parts os d ≡ delivery_parts us d
+unfolding delivery_parts all_puts all_sends
+same_to_parts os us d long h l =
+    let own = h.own l in
+    let puts = same_from_senders (λ (o : OutcomeParts). o.puts) (λ (p : Put). p.target == d) os us long (λ k m. (h.parcels k (omega (arith, m, long))).puts) in
+    let sends = same_from_senders (λ (o : OutcomeParts). o.sends) (λ (p : Send). p.target == d) os us long (λ k m. (h.parcels k (omega (arith, m, long))).sends) in
+    λ i. record { memory = own.memory i; gets = own.gets i; puts = puts i; sends = sends i }
+
+parts_to_parcel : (os us : List OutcomeParts) (d k : ℕ) → length os ≡ length us → k < length us → (delivery_parts os d).puts ≡ (delivery_parts us d).puts → (delivery_parts os d).sends ≡ (delivery_parts us d).sends
+    → HasSameParcel d (outcome_of os k) (outcome_of us k)
+unfolding delivery_parts all_puts all_sends
+parts_to_parcel os us d k long l puts sends = record {
+  puts = senders_from_same (λ (o : OutcomeParts). o.puts) (λ (p : Put). p.target == d) os us k (omega (arith, l, long)) l puts;
+  sends = senders_from_same (λ (o : OutcomeParts). o.sends) (λ (p : Send). p.target == d) os us k (omega (arith, l, long)) l sends;
+}
 
 -- A delivery depends on nothing else.
-pub same_parts : (os us : List OutcomeParts) (d : ℕ) → length os ≡ length us → HasSameSources os us d → delivery_parts os d ≡ delivery_parts us d
-unfolding delivery_parts all_puts all_sends
-same_parts os us d as_many h =
-    let gets = sym (pairs_from (words_read us) (words_read os) (outcome_of us d).gets (outcome_of os d).gets (sym h.gets) (same_words os us (outcome_of us d).gets h.owners)) in
-    let puts = same_from_senders (λ (o : OutcomeParts). o.puts) (λ (p : Put). p.target == d) os us as_many (λ k l. (h.senders k (omega (arith, l, as_many))).puts) in
-    let sends = same_from_senders (λ (o : OutcomeParts). o.sends) (λ (m : Send). m.target == d) os us as_many (λ k l. (h.senders k (omega (arith, l, as_many))).sends) in
-    λ i. record { memory = h.memory i; gets = gets i; puts = puts i; sends = sends i }
+pub same_parts : (os us : List OutcomeParts) (d : ℕ) → length os ≡ length us → d < length us → (delivery_parts os d ≡ delivery_parts us d) ↔ IsSameBelow os us (length us) d
+same_parts os us d long l = (
+  λ e. record {
+    parcels = λ k m. parts_to_parcel os us d k long m (ap (λ (x : DeliveryParts). x.puts) e) (ap (λ (x : DeliveryParts). x.sends) e);
+    own = λ _. record { memory = ap (λ (x : DeliveryParts). x.memory) e; gets = ap (λ (x : DeliveryParts). x.gets) e };
+  },
+  λ h. same_to_parts os us d long h l,
+)
 
--- the puts and messages of an outcome are to marked processes
-pub record AreAddresseesMarked (marks : List Bool) (o : OutcomeParts) : Type 0 where
-  pub puts : All (λ p. get_or marks p.target true ≡ true) o.puts
-  pub sends : All (λ m. get_or marks m.target true ≡ true) o.sends
+pub same_below-none : (os us : List OutcomeParts) (d : ℕ) → IsSameBelow os us 0 d
+same_below-none os us d = record { parcels = λ k l. absurd (omega (arith, l)); own = λ l. absurd (omega (arith, l)) }
 
--- Outcomes changed nowhere else, and marked are the processes where they changed, those that these address before or after, and those that read
--- them. What is past the end of a list of marks is marked.
-pub record AreMarked (os us : List OutcomeParts) (changed marks : List Bool) : Type 0 where
-  pub as_many : length os ≡ length us
-  pub unchanged : (p : ℕ) → p < length us → get_or changed p true ≡ false → outcome_of os p ≡ outcome_of us p
-  pub own : (p : ℕ) → p < length us → get_or changed p true ≡ true → get_or marks p true ≡ true
-  pub before : (p : ℕ) → p < length us → get_or changed p true ≡ true → AreAddresseesMarked marks (outcome_of os p)
-  pub after : (p : ℕ) → p < length us → get_or changed p true ≡ true → AreAddresseesMarked marks (outcome_of us p)
-  pub readers : (d : ℕ) → d < length us → get_or marks d true ≡ false → All (λ g. get_or changed g.owner true ≡ false) (outcome_of us d).gets
-
--- no request to an unmarked process
-pub none_unmarked : {R : Type 0} (addressee : R → ℕ) (marks : List Bool) (d : ℕ) (rs : List R) → get_or marks d true ≡ false → All (λ r. get_or marks (addressee r) true ≡ true) rs → filter (λ r. addressee r == d) rs ≡ []
-none_unmarked addressee marks d [] f h = refl
-none_unmarked {R = R} addressee marks d (r ∷ rs) f h =
-    let P : R → Type 0 = λ x. get_or marks (addressee x) true ≡ true in
-    let rest = filter (λ (x : R). addressee x == d) rs in
-    let other : addressee r ≢ d = λ e. false≢true (sym f ∙ ap (λ n. get_or marks n true) (sym e) ∙ All-head P r rs h) in
-    ap (λ b. cond b (r ∷ rest) rest) (ne_eqb (addressee r) d other) ∙ none_unmarked addressee marks d rs f (All-tail P r rs h)
-
--- where the marks of changes are false, or past all processes, the outcomes are the same
-unchanged_anywhere : (os us : List OutcomeParts) (changed : List Bool) → length os ≡ length us
-    → ((p : ℕ) → p < length us → get_or changed p true ≡ false → outcome_of os p ≡ outcome_of us p) → (p : ℕ) → get_or changed p true ≡ false → outcome_of os p ≡ outcome_of us p
-unchanged_anywhere os us changed as_many h p f =
-    elim (cases_lt p (length us)) [ inl l ↦ h p l f | inr l ↦ get_or_past os p no_outcome (omega arith) ∙ sym (get_or_past us p no_outcome l) ]
-
-pub unread_change : (os us : List OutcomeParts) (changed : List Bool) (gets : List Get) → length os ≡ length us
-    → ((p : ℕ) → p < length us → get_or changed p true ≡ false → outcome_of os p ≡ outcome_of us p)
-    → All (λ g. get_or changed g.owner true ≡ false) gets → All (λ g. (outcome_of os g.owner).memory ≡ (outcome_of us g.owner).memory) gets
-unread_change os us changed gets as_many h readers =
-    λ k g l. ap (λ (o : OutcomeParts). o.memory) (unchanged_anywhere os us changed as_many h (get_or gets k g).owner (readers k g l))
-
--- the requests of an unchanged outcome are the same
-pub parcel_unchanged : (o u : OutcomeParts) (d : ℕ) → o ≡ u → HasSameParcel d o u
-parcel_unchanged o u d e = record {
-  puts = ap (λ (x : OutcomeParts). filter (λ (p : Put). p.target == d) x.puts) e;
-  sends = ap (λ (x : OutcomeParts). filter (λ (m : Send). m.target == d) x.sends) e;
-}
-
-same_parcel : (os us : List OutcomeParts) (changed marks : List Bool) (d k : ℕ) → AreMarked os us changed marks → get_or marks d true ≡ false → k < length us
-    → HasSameParcel d (outcome_of os k) (outcome_of us k)
-same_parcel os us changed marks d k h f l =
-    elim (cases_Bool (get_or changed k true)) [
-      | inl t ↦ record {
-        puts =
-            none_unmarked (λ (p : Put). p.target) marks d (outcome_of os k).puts f (h.before k l t).puts
-            ∙ sym (none_unmarked (λ (p : Put). p.target) marks d (outcome_of us k).puts f (h.after k l t).puts);
-        sends =
-            none_unmarked (λ (m : Send). m.target) marks d (outcome_of os k).sends f (h.before k l t).sends
-            ∙ sym (none_unmarked (λ (m : Send). m.target) marks d (outcome_of us k).sends f (h.after k l t).sends);
-      }
-      | inr u ↦ parcel_unchanged (outcome_of os k) (outcome_of us k) d (h.unchanged k l u)
-    ]
-
--- a process that is not marked did not change itself
-own_unchanged : (os us : List OutcomeParts) (changed marks : List Bool) (d : ℕ) → (get_or changed d true ≡ false → outcome_of os d ≡ outcome_of us d)
-    → (get_or changed d true ≡ true → get_or marks d true ≡ true) → get_or marks d true ≡ false → outcome_of os d ≡ outcome_of us d
-own_unchanged os us changed marks d unchanged own f =
-    elim (cases_Bool (get_or changed d true)) [ inl t ↦ absurd (false≢true (sym f ∙ own t)) | inr u ↦ unchanged u ]
-
--- A delivery can only change where something that it depends on has changed.
-pub unmarked_same : (os us : List OutcomeParts) (changed marks : List Bool) (d : ℕ) → AreMarked os us changed marks → d < length us → get_or marks d true ≡ false
-    → delivery_parts os d ≡ delivery_parts us d
-unmarked_same os us changed marks d h l f =
-    let own = own_unchanged os us changed marks d (h.unchanged d l) (h.own d l) f in
-    same_parts os us d h.as_many (record {
-      memory = ap (λ (o : OutcomeParts). o.memory) own;
-      gets = ap (λ (o : OutcomeParts). o.gets) own;
-      owners = unread_change os us changed (outcome_of us d).gets h.as_many h.unchanged (h.readers d l f);
-      senders = λ k m. same_parcel os us changed marks d k h f m;
-    })
-
--- What the marks say after the processes below n: those that are not marked get the same from them, and those of them that are not marked read no
--- change.
-pub record AreMarkedBelow (os us : List OutcomeParts) (changed marks : List Bool) (n : ℕ) : Type 0 where
-  pub more : AreMoreMarks changed marks
-  pub parcels : (k : ℕ) → k < n → (d : ℕ) → get_or marks d true ≡ false → HasSameParcel d (outcome_of os k) (outcome_of us k)
-  pub readers : (k : ℕ) → k < n → get_or marks k true ≡ false → All (λ g. get_or changed g.owner true ≡ false) (outcome_of us k).gets
-
-pub none_below : (os us : List OutcomeParts) (changed : List Bool) → AreMarkedBelow os us changed changed 0
-none_below os us changed = record { more = record { count = refl; kept = λ d t. t }; parcels = λ k l. absurd (omega (arith, l)); readers = λ k l. absurd (omega (arith, l)) }
-
--- one process more, with more marks
-pub one_more_below : (os us : List OutcomeParts) (changed marks after : List Bool) (n : ℕ) → AreMarkedBelow os us changed marks n → AreMoreMarks marks after
-    → ((d : ℕ) → get_or after d true ≡ false → HasSameParcel d (outcome_of os n) (outcome_of us n))
-    → (get_or after n true ≡ false → All (λ g. get_or changed g.owner true ≡ false) (outcome_of us n).gets)
-    → AreMarkedBelow os us changed after (n + 1)
-one_more_below os us changed marks after n h more parcel reader = record {
-  more = more_twice changed marks after h.more more;
-  parcels =
-      below_more (λ k. (d : ℕ) → get_or after d true ≡ false → HasSameParcel d (outcome_of os k) (outcome_of us k)) n
-      (λ k l d f. h.parcels k l d (unmarked_before marks after d more f)) parcel;
-  readers =
-      below_more (λ k. get_or after k true ≡ false → All (λ g. get_or changed g.owner true ≡ false) (outcome_of us k).gets) n
-      (λ k l f. h.readers k l (unmarked_before marks after k more f)) reader;
-}
-
-pub unmarked_same_below : (os us : List OutcomeParts) (changed marks : List Bool) (d : ℕ) → length os ≡ length us
-    → ((p : ℕ) → p < length us → get_or changed p true ≡ false → outcome_of os p ≡ outcome_of us p)
-    → AreMarkedBelow os us changed marks (length us) → d < length us → get_or marks d true ≡ false → delivery_parts os d ≡ delivery_parts us d
-unmarked_same_below os us changed marks d as_many unchanged h l f =
-    let own = own_unchanged os us changed marks d (unchanged d l) (h.more.kept d) f in
-    same_parts os us d as_many (record {
-      memory = ap (λ (o : OutcomeParts). o.memory) own;
-      gets = ap (λ (o : OutcomeParts). o.gets) own;
-      owners = unread_change os us changed (outcome_of us d).gets as_many unchanged (h.readers d l f);
-      senders = λ k m. h.parcels k m d f;
-    })
+-- one process more
+pub same_below-more : (os us : List OutcomeParts) (n : ℕ) (xs ys zs ws : List Bool) → AreMarkedUnless (IsSameBelow os us n) xs ys
+    → AreMarkedUnless (λ d. HasSameParcel d (outcome_of os n) (outcome_of us n)) ys zs → AreMarkedUnless (λ d. d ≡ n → HasSameOwn os us d) zs ws → AreMarkedUnless (IsSameBelow os us (n + 1)) xs ws
+same_below-more os us n xs ys zs ws h k own =
+    let P : ℕ → Type 0 = λ d. HasSameParcel d (outcome_of os n) (outcome_of us n) in
+    let Q : ℕ → Type 0 = λ d. d ≡ n → HasSameOwn os us d in
+    marked_twice (IsSameBelow os us n) (λ d. P d × Q d) (IsSameBelow os us (n + 1)) xs ys ws h
+    (marked_twice P Q (λ d. P d × Q d) ys zs ws k own (λ d f. (λ both. both, λ both. both)))
+    (λ d f. (
+      λ s. (
+        record { parcels = λ j l. s.parcels j (omega (arith, l)); own = λ l. s.own (omega (arith, l)) },
+        (s.parcels n (omega arith), λ e. s.own (omega (arith, e))),
+      ),
+      λ s. record {
+        parcels = below_more (λ j. HasSameParcel d (outcome_of os j) (outcome_of us j)) n s.0.parcels s.1.0;
+        own = λ l. elim (cases_lt d n) [ inl w ↦ s.0.own w | inr w ↦ s.1.1 (omega (arith, l, w)) ];
+      },
+    ))
 
 -- the requests of a deliverable outcome are to processes that there are
-pub to_known : (os : List OutcomeParts) (k : ℕ) (o : OutcomeParts) (n : ℕ) → AreDeliverable os → k < length os → o ≡ get_or os k o → n ≡ length os → AreToKnown n o
-to_known os k o n h l e m =
-    let inside = at_item (AreRequestsInside (sizes_of os)) os k o h.inside l e in
+pub to_known : (os : List OutcomeParts) (k n : ℕ) → AreDeliverable os → k < length os → n ≡ length os → AreToKnown n (outcome_of os k)
+to_known os k n h l e =
+    let inside = h.inside k no_outcome l in
     record {
-      puts = λ i p j. omega (arith, (inside.puts i p j).known, length-sizes_of os, m);
-      sends = λ i s j. omega (arith, inside.sends i s j, length-sizes_of os, m);
+      puts = λ i p j. omega (arith, (inside.puts i p j).known, length-sizes_of os, e);
+      sends = λ i s j. omega (arith, inside.sends i s j, length-sizes_of os, e);
     }
+
+-- the words that the gets of a process read are there
+pub readable_of : (os : List OutcomeParts) (p : ℕ) → AreDeliverable os → p < length os → All (IsReadable os) (outcome_of os p).gets
+readable_of os p h l = readable_gets os p (outcome_of os p) h l (get_or_default os p no_outcome (outcome_of os p) l)

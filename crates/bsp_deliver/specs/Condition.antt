@@ -1,5 +1,6 @@
 -- What the end of a superstep asks of the outcomes.
 use Rattle.std.specs.Prelude.{ℕ, ◌+◌, ◌<◌, ◌≤◌, All, List, map, length, slice_index}
+use Rattle.bsp_model.specs.declared.limits.TheConstants.{MOST_MEMORY_WORDS, MOST_PROCESSES}
 use Rattle.bsp_model.specs.declared.request.Put.{Put}
 use Rattle.bsp_model.specs.declared.request.Get.{Get}
 use Rattle.bsp_step.specs.OutcomeParts.{OutcomeParts}
@@ -24,9 +25,9 @@ pub record AreRequestsInside (sizes : List ℕ) (o : OutcomeParts) : Type 0 wher
   pub gets : All (IsGetInside sizes (length o.memory)) o.gets
   pub sends : All (λ m. m.target < length sizes) o.sends
 
--- One outcome for each of 1 to 64 processes, with memories of at most 4,096 words, and every request inside the memories concerned.
+-- One outcome for each process, with memories within the limit, and every request inside the memories concerned.
 pub record AreDeliverable (os : List OutcomeParts) : Type 0 where
   pub some : 1 ≤ length os
-  pub few : length os ≤ 64
-  pub short : All (λ o. length o.memory ≤ 4096) os
+  pub few : length os ≤ MOST_PROCESSES
+  pub short : All (λ o. length o.memory ≤ MOST_MEMORY_WORDS) os
   pub inside : All (AreRequestsInside (sizes_of os)) os

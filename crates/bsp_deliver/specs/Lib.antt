@@ -7,4 +7,6 @@ pub mod SyncFault
 pub mod Cost
 pub mod Sums
 pub mod Comparison
+pub mod SameDelivery
+pub mod Touched
 pub mod Marks

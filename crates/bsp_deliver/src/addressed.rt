@@ -7,6 +7,7 @@ ghost use Rattle.bsp_deliver.specs.Delivery.{delivery_parts, message_of};
 ghost use Rattle.bsp_deliver.specs.Inbox.{inbox_of};
 
 use crate::Inbox;
+use bsp_model::limits::MOST_PROCESSES;
 use bsp_model::{OutOfMemory, Put, Same, Send, Seq, TryCopy};
 use bsp_step::Outcome;
 use std::alloc::Global;
@@ -68,7 +69,7 @@ fn puts_to(alloc: Global, d: u64, outcomes: &[Outcome]) -> Result<Seq<(u64, Put)
 
 /// The messages to `d`, each with its sender.
 fn sends_to(alloc: Global, d: u64, outcomes: &[Outcome]) -> Result<Seq<(u64, Send)>, OutOfMemory>
-    requires { length outcomes.now ≤ 64 }
+    requires { length outcomes.now ≤ MOST_PROCESSES }
     ensures sends { IfOk result (λ sends. sends ≡ filter (λ m. m.1.target == d) (all_sends outcomes.now)) }
     ensures limits { IfOk result (λ sends. IsQueue (map (λ m. message_of m.1) sends)) }
 {
@@ -79,9 +80,9 @@ fn sends_to(alloc: Global, d: u64, outcomes: &[Outcome]) -> Result<Seq<(u64, Sen
     Ok(sends)
 }
 
-/// The inbox of process `d`: copies of all puts and messages to it, each with its sender, by sender, then by issue. There are at most 64 outcomes.
+/// The inbox of process `d`: copies of all puts and messages to it, each with its sender, by sender, then by issue. There are at most `MOST_PROCESSES` outcomes.
 pub fn inbox(alloc: Global, d: usize, outcomes: &[Outcome]) -> Result<Inbox, OutOfMemory>
-    requires { length outcomes.now ≤ 64 }
+    requires { length outcomes.now ≤ MOST_PROCESSES }
     ensures { IfOk result (λ inbox. inbox ≡ inbox_of (delivery_parts outcomes.now d)) }
 {
     let puts = puts_to(alloc, d as u64, outcomes)?;

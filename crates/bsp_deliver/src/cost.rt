@@ -5,14 +5,15 @@ ghost use Rattle.bsp_deliver.specs.Requests.{outcome_of};
 ghost use Rattle.bsp_deliver.specs.Condition.{AreDeliverable};
 ghost use Rattle.bsp_deliver.specs.Cost.{put_transfer, get_transfer, send_transfer, largest, h_relation};
 
+use bsp_model::limits::{MOST_PROCESSES, MOST_REQUESTS};
 use bsp_model::{Get, Put, Send};
 use bsp_step::Outcome;
 
-/// The words that each of 64 processes sends to and receives from others.
+/// The words that each process sends to and receives from others.
 #[derive(Clone, Copy)]
 pub(crate) struct Sums {
-    sent: [u64; 64],
-    received: [u64; 64],
+    sent: [u64; MOST_PROCESSES],
+    received: [u64; MOST_PROCESSES],
 }
 
 impl Sums {
@@ -68,9 +69,9 @@ impl Sums {
     fn count_requests(&mut self, outcomes: &[Outcome], p: usize)
         requires known { p < length outcomes.now }
         requires deliverable { AreDeliverable outcomes.now }
-        requires room { HasRoom self.old 1024 }
+        requires room { HasRoom self.old MOST_REQUESTS }
         ensures sums { self.new ≡ fold counted self.old (transfers_of p (outcome_of outcomes.now p)) }
-        ensures room { (n : ℕ) → HasRoom self.old (1024 + n) → HasRoom self.new n }
+        ensures room { (n : ℕ) → HasRoom self.old (MOST_REQUESTS + n) → HasRoom self.new n }
     {
         let own = &outcomes[p];
         self.count_puts(p as u64, own.puts.as_slice());
@@ -85,8 +86,8 @@ impl Sums {
         ensures room { HasRoom result 0 }
     {
         let mut sums = Sums {
-            sent: [0; 64],
-            received: [0; 64],
+            sent: [0; MOST_PROCESSES],
+            received: [0; MOST_PROCESSES],
         };
         for p in 0..outcomes.len() {
             sums.count_requests(outcomes, p);

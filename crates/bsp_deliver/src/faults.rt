@@ -6,6 +6,7 @@ ghost use Rattle.bsp_table.specs.NextTable.{AreSlots};
 ghost use Rattle.bsp_deliver.specs.SyncFault.{is_sync, same_tag, sync_fault, next_tag_size};
 
 use bsp_model::SyncFault;
+use bsp_model::limits::MOST_TAG_WORDS;
 use bsp_step::{Ended, Outcome};
 use bsp_table::Table;
 
@@ -58,7 +59,7 @@ pub fn sync_fault(outcomes: &[Outcome], table: &Table) -> Option<SyncFault>
 pub fn next_tag_size(old: u64, outcomes: &[Outcome]) -> u64
     requires { 1 ≤ length outcomes.now }
     ensures choice { result ≡ next_tag_size old outcomes.now }
-    ensures small { old ≤ 16 → result ≤ 16 }
+    ensures small { old ≤ MOST_TAG_WORDS → result ≤ MOST_TAG_WORDS }
 {
     let first = &outcomes[0];
     first.tag.unwrap_or(old)

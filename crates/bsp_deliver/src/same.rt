@@ -7,6 +7,7 @@ ghost use Rattle.bsp_deliver.specs.Condition.{AreDeliverable};
 ghost use Rattle.bsp_deliver.specs.Comparison.{HasSameParcel, IsReadable};
 
 use crate::addressed::Addressed;
+use bsp_model::limits::MOST_MEMORY_WORDS;
 use bsp_model::{Get, Memory, Same};
 use bsp_step::Outcome;
 
@@ -27,7 +28,7 @@ fn next_to<R: Addressed>(requests: &[R], d: u64, from: usize) -> usize
 }
 
 /// Whether the requests of one sender to `d` are equal lists.
-fn are_same_to<R: Addressed>(old: &[R], new: &[R], d: u64) -> bool
+pub(crate) fn are_same_to<R: Addressed>(old: &[R], new: &[R], d: u64) -> bool
     ensures { IsTrue result ↔ (filter (λ r. R.addressee r == d) old.now ≡ filter (λ r. R.addressee r == d) new.now) }
 {
     let mut i = next_to(old, d, 0);
@@ -64,10 +65,10 @@ pub fn parcel_same(old: &[Outcome], new: &[Outcome], d: usize) -> bool
 }
 
 /// Whether the words of two memories from an address on are equal.
-fn are_same_words(old: &Memory, new: &Memory, start: u64, len: u64) -> bool
+pub(crate) fn are_same_words(old: &Memory, new: &Memory, start: u64, len: u64) -> bool
     requires old { start + len ≤ length old.now }
     requires new { start + len ≤ length new.now }
-    requires short { length old.now ≤ 4096 }
+    requires short { length old.now ≤ MOST_MEMORY_WORDS }
     ensures { IsTrue result ↔ (each_below len (λ i. slice_index old.now (start + i)) ≡ each_below len (λ i. slice_index new.now (start + i))) }
 {
     for i in 0..len {

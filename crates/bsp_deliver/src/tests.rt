@@ -3,3 +3,4 @@
 mod exchange;
 mod inboxes;
 mod outcomes;
+mod touched;

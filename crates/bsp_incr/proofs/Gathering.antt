@@ -23,7 +23,7 @@ filter_from f g a (suc n) same =
     ap (λ b. cond b (a ∷ filter f (range_with_len (a + 1) n)) (filter f (range_with_len (a + 1) n))) (same a (omega arith) (omega arith))
     ∙ ap (λ ks. cond (g a) (a ∷ ks) ks) (filter_from f g (a + 1) n (λ k low high. same k (omega arith) (omega arith)))
 
-map_from : (f g : ℕ → Bool) (a n : ℕ) → ((k : ℕ) → a < k + 1 → k < a + n → f k ≡ g k) → map f (range_with_len a n) ≡ map g (range_with_len a n)
+pub map_from : (f g : ℕ → Bool) (a n : ℕ) → ((k : ℕ) → a < k + 1 → k < a + n → f k ≡ g k) → map f (range_with_len a n) ≡ map g (range_with_len a n)
 map_from f g a zero same = refl
 map_from f g a (suc n) same =
     ap (λ b. b ∷ map f (range_with_len (a + 1) n)) (same a (omega arith) (omega arith))

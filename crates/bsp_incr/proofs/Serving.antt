@@ -9,9 +9,11 @@ use Rattle.std.proofs.lemmas.List.FromFn.{length-range_with_len, get_or-range_wi
 use Rattle.std.proofs.lemmas.Option.{slice_get-get_or}
 use Rattle.bsp_step.specs.ViewParts.{ViewParts}
 use Rattle.bsp_step.specs.Footprint.{AreAlike, AreAlikeButForWords}
-use Rattle.bsp_incr.specs.Comparing.{same_words, same_table, same_message}
+use Rattle.bsp_deliver.specs.SameDelivery.{same_words}
+use Rattle.bsp_incr.specs.Comparing.{same_table, same_message}
 use Rattle.bsp_incr.specs.Reuse.{same_but_for_words, same_where_looked_at, serves}
-use Rattle.bsp_incr.proofs.Comparing.{Decides-words, Decides-table, Decides-message, Decides-pointwise}
+use Rattle.bsp_deliver.proofs.SameDelivery.{Decides-words, Decides-pointwise}
+use Rattle.bsp_incr.proofs.Comparing.{Decides-table, Decides-message}
 
 pub Decides-but_for_words : (v w : ViewParts) → Decides (same_but_for_words v w) (AreAlikeButForWords v w)
 Decides-but_for_words v w =

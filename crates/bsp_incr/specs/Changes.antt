@@ -10,7 +10,7 @@ use Rattle.bsp_run.specs.Supersteps.{supersteps_of, superstep_at}
 use Rattle.bsp_run.specs.Condition.{no_view}
 use Rattle.bsp_incr.specs.declared.reply.Place.{Place}
 use Rattle.bsp_incr.specs.declared.reply.Update.{Update}
-use Rattle.bsp_incr.specs.Comparing.{same_delivery}
+use Rattle.bsp_deliver.specs.SameDelivery.{same_delivery}
 use Rattle.bsp_incr.specs.Reuse.{needs_turn}
 
 -- the supersteps of a run whose turns were taken

@@ -31,11 +31,6 @@ pub record AreUnchanged (old new : List OutcomeParts) (known : List Bool) : Type
   pub count : length known ≡ length new
   pub same : (p : ℕ) → p < length old → slice_index_or known p false ≡ true → outcome_of old p ≡ outcome_of new p
 
--- an outcome that is not changed is the old one
-pub record AreChanged (old new : List OutcomeParts) (changed : List Bool) : Type 0 where
-  pub count : length changed ≡ length new
-  pub same : (p : ℕ) → p < length new → slice_index_or changed p true ≡ false → outcome_of old p ≡ outcome_of new p
-
 -- the processes of a superstep all see one table and one tag size
 pub record HaveOneTable (views : List ViewParts) : Type 0 where
   pub table : (p : ℕ) → p < length views → (slice_index_or views p no_view).table ≡ (slice_index_or views 0 no_view).table

@@ -5,7 +5,8 @@ use Rattle.std.specs.Cmp.Lexicographic.{pointwise}
 use Rattle.bsp_model.specs.declared.request.Store.{Store}
 use Rattle.bsp_step.specs.ViewParts.{ViewParts}
 use Rattle.bsp_step.specs.OutcomeParts.{OutcomeParts}
-use Rattle.bsp_incr.specs.Comparing.{same_words, same_table, same_message}
+use Rattle.bsp_deliver.specs.SameDelivery.{same_words}
+use Rattle.bsp_incr.specs.Comparing.{same_table, same_message}
 
 -- The memory on which these stores are made again, in order (this profile).
 abbrev pub made_again : List ℕ → List Store → List ℕ

@@ -4,17 +4,18 @@
 ghost use Rattle.std.specs.Prelude.{◌≡◌, ◌<◌, ◌↔◌, ◌++◌, ◌||◌, [], IsTrue, IfOk, OnOk, length, map, slice_index_or, true, false};
 ghost use Rattle.bsp_deliver.specs.Requests.{each_below, outcome_of};
 ghost use Rattle.bsp_deliver.specs.Delivery.{delivery_parts, next_memory, next_queue};
+ghost use Rattle.bsp_deliver.specs.Touched.{former_or, outcomes_before};
 ghost use Rattle.bsp_deliver.specs.Condition.{AreDeliverable};
 ghost use Rattle.bsp_run.specs.Condition.{deliveries_of, no_view};
 ghost use Rattle.bsp_run.specs.Shares.{deliveries_to};
 ghost use Rattle.bsp_incr.specs.Changes.{is_touched, touched_in, processes_where};
-ghost use Rattle.bsp_incr.specs.Marks.{AreDelivered, AreComparable, AreUnchanged, AreChanged};
+ghost use Rattle.bsp_incr.specs.Marks.{AreDelivered, AreComparable, AreUnchanged};
 
 use crate::Place;
 use crate::counts::Counts;
 use crate::places::{add_places, processes_where, take_next};
 use crate::workers::Workers;
-use bsp_deliver::{answers_same, considered, parcel_same};
+use bsp_deliver::touched_by_changes;
 use bsp_model::{Memory, OutOfMemory, Same, Seq, TryCopy};
 use bsp_pool::Gate;
 use bsp_run::wide_deliveries;
@@ -22,84 +23,38 @@ use bsp_step::{Outcome, Queue, View};
 use std::alloc::Global;
 use std::thread::Threads;
 
-/// Whether a process has the same memory after these turns as after those.
-fn is_same_memory(old: &[Outcome], new: &[Outcome], d: usize) -> bool
-    requires old { d < length old.now }
-    requires new { d < length new.now }
-    ensures { IsTrue result ↔ ((delivery_parts old.now d).memory ≡ (delivery_parts new.now d).memory) }
+/// The outcome of a process in the run before, where it is another one now.
+fn former<'a>(old: &'a Outcome, new: &Outcome, known: bool) -> Option<&'a Outcome>
+    requires { known ≡ true → old.now ≡ new.now }
+    ensures { former_or new.now result ≡ old.now }
 {
-    let before = &old[d];
-    let after = &new[d];
-    before.memory.same(&after.memory)
+    if known || old.same(new) {
+        None
+    } else {
+        Some(old)
+    }
 }
 
-/// Whether the delivery to a process depends on the same after these outcomes as after those. It takes no memory.
-fn is_same_delivery(old: &[Outcome], new: &[Outcome], d: usize) -> bool
-    requires known { d < length old.now }
-    requires count { length old.now ≡ length new.now }
-    requires old { AreDeliverable old.now }
-    requires new { AreDeliverable new.now }
-    ensures { IsTrue result ↔ (delivery_parts old.now d ≡ delivery_parts new.now d) }
-{
-    if !is_same_memory(old, new, d) {
-        return false;
-    }
-    if !answers_same(old, new, d) {
-        return false;
-    }
-    parcel_same(old, new, d)
-}
-
-/// Whether the outcome of a process is another one.
-fn is_changed(old: &[Outcome], new: &[Outcome], p: usize, known: bool) -> bool
-    requires old { p < length old.now }
-    requires new { p < length new.now }
-    requires known { known ≡ true → outcome_of old.now p ≡ outcome_of new.now p }
-    ensures { result ≡ false → outcome_of old.now p ≡ outcome_of new.now p }
-{
-    if known {
-        return false;
-    }
-    let before = &old[p];
-    let after = &new[p];
-    !before.same(after)
-}
-
-/// Which outcomes are other ones, by process.
-fn changed(
+/// The outcomes in the run before that are other ones now, by process.
+fn formers<'a>(
     alloc: Global,
-    old: &[Outcome],
+    old: &'a [Outcome],
     new: &[Outcome],
     known: &[bool],
-) -> Result<Vec<bool>, OutOfMemory>
+) -> Result<Vec<Option<&'a Outcome>>, OutOfMemory>
     requires count { length old.now ≡ length new.now }
     requires known { AreUnchanged old.now new.now known.now }
-    ensures { IfOk result (λ all. AreChanged old.now new.now all.items) }
+    ensures count { IfOk result (λ formers. length formers.items ≡ length new.now) }
+    ensures before { IfOk result (λ formers. outcomes_before formers.items new.now ≡ old.now) }
 {
-    let mut changed = Vec::new(alloc);
+    let mut formers = Vec::new(alloc);
     for p in 0..new.len() {
-        let is_changed = is_changed(old, new, p, known[p]);
-        changed.push(is_changed)?;
+        formers.push(former(&old[p], &new[p], known[p]))?;
     }
-    Ok(changed)
+    Ok(formers)
 }
 
-/// Whether the delivery to a process has to be made, where the run before made it too. One that no changed outcome may reach is not compared.
-fn is_touched(old: &[Outcome], new: &[Outcome], d: usize, is_considered: bool) -> bool
-    requires known { d < length old.now }
-    requires count { length old.now ≡ length new.now }
-    requires old { AreDeliverable old.now }
-    requires new { AreDeliverable new.now }
-    requires considered { is_considered ≡ false → delivery_parts old.now d ≡ delivery_parts new.now d }
-    ensures { result ≡ is_touched old.now new.now d }
-{
-    if !is_considered {
-        return false;
-    }
-    !is_same_delivery(old, new, d)
-}
-
-/// Which deliveries have to be made, by process, where the run before made them too. Only those are compared that a changed outcome may reach.
+/// Which deliveries have to be made, by process, where the run before made them too.
 fn touched_again(
     alloc: Global,
     old: &[Outcome],
@@ -112,15 +67,8 @@ fn touched_again(
     requires known { AreUnchanged old.now new.now known.now }
     ensures { IfOk result (λ all. all.items ≡ each_below (length new.now) (is_touched old.now new.now)) }
 {
-    let changed = changed(alloc, old, new, known)?;
-    let considered = considered(alloc, old, new, changed.as_slice())?;
-    let mut touched = Vec::new(alloc);
-    for d in 0..new.len() {
-        let is_considered = considered[d];
-        let is_touched = is_touched(old, new, d, is_considered);
-        touched.push(is_touched)?;
-    }
-    Ok(touched)
+    let formers = formers(alloc, old, new, known)?;
+    Ok(touched_by_changes(alloc, formers.as_slice(), new)?)
 }
 
 /// Which deliveries have to be made, where the run before made none.

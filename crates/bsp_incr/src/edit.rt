@@ -27,9 +27,9 @@ pub enum EditFault {
     NoSuchWord,
     /// E3: the process has no argument with this index.
     NoSuchArg,
-    /// E4: the limit is not 1 to 1,024.
+    /// E4: the limit is not 1 to `MOST_SUPERSTEPS`.
     BadLimit,
-    /// E5: a price is over 1,000,000.
+    /// E5: a price is over `HIGHEST_PRICE`.
     BadPrice,
 }
 

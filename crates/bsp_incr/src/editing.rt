@@ -4,6 +4,7 @@ ghost use Rattle.std.specs.Prelude.{◌≡◌, ℕ, OnOk, IfOk};
 ghost use Rattle.bsp_incr.specs.Edits.{edit_fault, refusal_of, edited_by, edited};
 
 use crate::{Edit, EditFault, EditRefusal};
+use bsp_model::limits::{HIGHEST_PRICE, MOST_SUPERSTEPS};
 use bsp_model::{Input, OutOfMemory, TryCopy};
 
 /// Why an edit of a word is refused, if it is.
@@ -50,8 +51,10 @@ fn edit_fault(input: &Input, edit: &Edit) -> Option<EditFault>
             index,
             value: _,
         } => arg_fault(input, pid, index),
-        Edit::Limit(n) if n < 1 || n > 1024 => Some(EditFault::BadLimit),
-        Edit::Prices { g, l } if g > 1_000_000 || l > 1_000_000 => Some(EditFault::BadPrice),
+        Edit::Limit(n) if n < 1 || n > MOST_SUPERSTEPS => Some(EditFault::BadLimit),
+        Edit::Prices { g, l } if g > HIGHEST_PRICE || l > HIGHEST_PRICE => Some(
+            EditFault::BadPrice,
+        ),
         _ => None,
     }
 }

@@ -28,15 +28,15 @@ pub enum Fault {
     TagLength,
     /// F7: no message is left.
     EmptyQueue,
-    /// F8: 1,024 requests stand already.
+    /// F8: `MOST_REQUESTS` requests stand already.
     TooManyRequests,
-    /// F9: the work would exceed 4,294,967,295.
+    /// F9: the work would exceed `MOST_WORK`.
     WorkLimit,
-    /// F10: 64 lines stand already.
+    /// F10: `MOST_LINES` lines stand already.
     LineLimit,
-    /// F11: a payload of over 4,096 words, or a line of over 64.
+    /// F11: a payload of over `MOST_PAYLOAD_WORDS` words, or a line of over `MOST_LINE_WORDS`.
     TooLong,
-    /// F12: a tag size of over 16 words.
+    /// F12: a tag size of over `MOST_TAG_WORDS` words.
     BadTagSize,
 }
 
@@ -51,7 +51,7 @@ pub enum SyncFault {
     PopMismatch,
     /// S4: the processes' numbers of pushes are not all equal.
     PushMismatch,
-    /// S5: more than 256 slots would stand.
+    /// S5: more than `MOST_SLOTS` slots would stand.
     TooManySlots,
 }
 
@@ -60,16 +60,16 @@ pub enum SyncFault {
 pub enum InputFault {
     /// I1: there is no memory.
     NoProcess,
-    /// I2: there are over 64 memories.
+    /// I2: there are over `MOST_PROCESSES` memories.
     TooMany,
     /// I3: there are not as many argument lists as memories.
     LengthsDiffer,
-    /// I4: a memory has over 4,096 words.
+    /// I4: a memory has over `MOST_MEMORY_WORDS` words.
     MemoryTooLong,
-    /// I5: an argument list has over 64 words.
+    /// I5: an argument list has over `MOST_ARGUMENTS` words.
     ArgsTooLong,
-    /// I6: the superstep limit is not 1 to 1,024.
+    /// I6: the superstep limit is not 1 to `MOST_SUPERSTEPS`.
     BadLimit,
-    /// I7: a price is over 1,000,000.
+    /// I7: a price is over `HIGHEST_PRICE`.
     BadPrice,
 }

@@ -4,20 +4,23 @@ ghost use Rattle.std.specs.Prelude.{◌≡◌, OnOk, IfErr, None, Some, length, 
 ghost use Rattle.std.specs.List.{list_all};
 ghost use Rattle.bsp_model.specs.Input.{input_fault};
 
+use crate::limits::{
+    HIGHEST_PRICE, MOST_ARGUMENTS, MOST_MEMORY_WORDS, MOST_PROCESSES, MOST_SUPERSTEPS,
+};
 use crate::{InputFault, Memory, OutOfMemory, Seq, TryCopy, Words};
 
 /// The input of a run: what each process starts with, and the limit and prices of the whole (Hill et al. 1998; limits are this profile's).
 #[derive(Drop)]
 pub struct Input {
-    /// A memory for each process: 1 to 64 memories of at most 4,096 words.
+    /// A memory for each process: 1 to `MOST_PROCESSES` memories of at most `MOST_MEMORY_WORDS` words.
     pub mems: Seq<Memory>,
-    /// An argument list for each process, of at most 64 words.
+    /// An argument list for each process, of at most `MOST_ARGUMENTS` words.
     pub args: Seq<Words>,
-    /// The largest number of supersteps: 1 to 1,024.
+    /// The largest number of supersteps: 1 to `MOST_SUPERSTEPS`.
     pub limit: u64,
-    /// The price of a word of the h-relation: 0 to 1,000,000.
+    /// The price of a word of the h-relation: 0 to `HIGHEST_PRICE`.
     pub g: u64,
-    /// The price of a synchronisation: 0 to 1,000,000.
+    /// The price of a synchronisation: 0 to `HIGHEST_PRICE`.
     pub l: u64,
 }
 
@@ -34,15 +37,15 @@ impl TryCopy for Input {
 }
 
 fn are_short_memories(mems: &[Memory]) -> bool
-    ensures { result ≡ list_all (λ m. nat_le (length m) 4096) mems.now }
+    ensures { result ≡ list_all (λ m. nat_le (length m) MOST_MEMORY_WORDS) mems.now }
 {
-    mems.iter().all(|memory| memory.len() <= 4096)
+    mems.iter().all(|memory| memory.len() <= MOST_MEMORY_WORDS)
 }
 
 fn are_short_arguments(args: &[Words]) -> bool
-    ensures { result ≡ list_all (λ a. nat_le (length a) 64) args.now }
+    ensures { result ≡ list_all (λ a. nat_le (length a) MOST_ARGUMENTS) args.now }
 {
-    args.iter().all(|words| words.len() <= 64)
+    args.iter().all(|words| words.len() <= MOST_ARGUMENTS)
 }
 
 impl Input {
@@ -54,7 +57,7 @@ impl Input {
         if self.mems.is_empty() {
             return Err(InputFault::NoProcess);
         }
-        if self.mems.len() > 64 {
+        if self.mems.len() > MOST_PROCESSES {
             return Err(InputFault::TooMany);
         }
         if self.args.len() != self.mems.len() {
@@ -66,10 +69,10 @@ impl Input {
         if !are_short_arguments(self.args.as_slice()) {
             return Err(InputFault::ArgsTooLong);
         }
-        if self.limit < 1 || self.limit > 1024 {
+        if self.limit < 1 || self.limit > MOST_SUPERSTEPS {
             return Err(InputFault::BadLimit);
         }
-        if self.g > 1_000_000 || self.l > 1_000_000 {
+        if self.g > HIGHEST_PRICE || self.l > HIGHEST_PRICE {
             return Err(InputFault::BadPrice);
         }
         Ok(())

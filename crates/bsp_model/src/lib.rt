@@ -5,9 +5,13 @@ mod copying;
 mod cost;
 mod fault;
 mod input;
+pub mod limits;
 mod memory;
+mod page;
+mod paging;
 mod request;
 mod seq;
+mod shared;
 
 pub use copying::{Same, TryCopy};
 pub use cost::CostRow;
@@ -16,6 +20,7 @@ pub use input::Input;
 pub use memory::Memory;
 pub use request::{Get, Message, Put, Send, Store};
 pub use seq::Seq;
+pub use shared::SharedSeq;
 pub use std::alloc::AllocError as OutOfMemory;
 
 /// A list of 64-bit words.

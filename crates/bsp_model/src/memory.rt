@@ -3,22 +3,35 @@
 ghost use Rattle.std.specs.Prelude.{◌≡◌, ◌+◌, length, IfOk, nat_lt, nat_le, slice_set, slice_get, OnErr};
 ghost use Rattle.bsp_model.specs.Memory.{memory_written};
 
+#[cfg(test)]
+mod tests;
+
+use crate::page::{Page, WORDS_OF_A_PAGE, replace_words};
+use crate::paging::{are_same_pages, full_pages, write_pages};
 use crate::{OutOfMemory, Same, TryCopy};
 use std::alloc::Global;
 use std::marker::Model;
 
-/// The memory of a process: a list of 64-bit words at the addresses 0, 1, ..
+/// The memory of a process: a list of 64-bit words at the addresses 0, 1, .. Its copies share the pages that are full.
 #[derive(Debug, Drop)]
 pub struct Memory {
-    words: Vec<u64>,
+    /// The pages that are full.
+    pages: Vec<Page>,
+    /// The words behind them, fewer than a page has. They are this memory's alone.
+    last: Vec<u64>,
+    /// The number of all words.
+    len: usize,
 }
 
 impl Model for Memory {
-    ghost use Rattle.std.specs.Prelude.{List, ℕ};
+    ghost use Rattle.std.specs.Prelude.{List, ℕ, ◌++◌, ◌∷◌, []};
+    ghost use Rattle.bsp_model.specs.Memory.{words_of, HasPages};
 
     ghost Value = { List ℕ };
 
-    ghost view = { λ m. m.words.items };
+    ghost view = { λ m. words_of (m.pages.items ++ m.last.items ∷ []) m.len };
+
+    ghost invariant = { λ m. HasPages m.pages.items m.last.items m.len };
 }
 
 impl Memory {
@@ -26,8 +39,11 @@ impl Memory {
     pub fn from_words(alloc: Global, words: &[u64]) -> Result<Memory, OutOfMemory>
         ensures { IfOk result (λ m. m ≡ words.now) }
     {
+        let (full, last) = words.as_chunks::<WORDS_OF_A_PAGE>();
         Ok(Memory {
-            words: words.to_vec(alloc)?,
+            pages: full_pages(alloc, full)?,
+            last: last.to_vec(alloc)?,
+            len: words.len(),
         })
     }
 
@@ -35,21 +51,30 @@ impl Memory {
     pub fn len(&self) -> usize
         ensures { result ≡ length self.now }
     {
-        self.words.len()
+        self.len
     }
 
     /// Whether there is no word.
     pub fn is_empty(&self) -> bool
         ensures { result ≡ nat_le (length self.now) 0 }
     {
-        self.words.is_empty()
+        self.len == 0
     }
 
     /// The word at `address`, if there is one.
     pub fn load(&self, address: u64) -> Option<u64>
         ensures { result ≡ slice_get self.now address }
     {
-        self.words.get(address as usize).copied()
+        let number = address as usize / WORDS_OF_A_PAGE;
+        let place = address as usize % WORDS_OF_A_PAGE;
+        if number < self.pages.len() {
+            let page = &self.pages[number];
+            return Some(page.load(place));
+        }
+        if address >= self.len as u64 {
+            return None;
+        }
+        Some(self.last[place])
     }
 
     /// Makes `value` the word at `address`. False, and nothing changes, where there is no such word; after `OutOfMemory` nothing has changed.
@@ -58,13 +83,19 @@ impl Memory {
         ensures stored { IfOk result (λ found. self.new ≡ slice_set self.old address value) }
         ensures err { OnErr result (self.new ≡ self.old) }
     {
-        match self.words.get_mut(address as usize) {
-            Some(word) => {
-                *word = value;
-                Ok(true)
-            }
-            None => Ok(false),
+        if address >= self.len as u64 {
+            return Ok(false);
         }
+        let number = address as usize / WORDS_OF_A_PAGE;
+        let place = address as usize % WORDS_OF_A_PAGE;
+        if number == self.pages.len() {
+            self.last[place] = value;
+            return Ok(true);
+        }
+        let alloc = *self.pages.allocator();
+        let page = &mut self.pages[number];
+        page.store(alloc, place, value)?;
+        Ok(true)
     }
 
     /// Makes `words` the words from `start` on. False, and nothing changes, where they pass the end; after `OutOfMemory` nothing has changed.
@@ -73,26 +104,42 @@ impl Memory {
         ensures written { IfOk result (λ found. self.new ≡ memory_written self.old start words.now) }
         ensures err { OnErr result (self.new ≡ self.old) }
     {
-        let len = self.words.len();
-        if start > len as u64 || words.len() > len - start as usize {
+        if start > self.len as u64 || words.len() > self.len - start as usize {
             return Ok(false);
         }
-        let first = start as usize;
-        self.words[first..first + words.len()].copy_from_slice(words);
+        let start = start as usize;
+        let full = self.len - self.last.len();
+        let (front, behind) = words.split_at(words.len().min(full.saturating_sub(start)));
+        let alloc = *self.pages.allocator();
+        write_pages(alloc, self.pages.as_mut_slice(), start.min(full), front)?;
+        let place = (start + front.len()).saturating_sub(full);
+        replace_words(self.last.as_mut_slice(), place, behind);
         Ok(true)
     }
 }
 
 impl TryCopy for Memory {
     fn copy(&self) -> Result<Memory, OutOfMemory> {
+        let mut pages = Vec::with_capacity(*self.pages.allocator(), self.pages.len())?;
+        for page in &self.pages {
+            pages.push_reserved(page.copy()?);
+        }
         Ok(Memory {
-            words: self.words.clone()?,
+            pages,
+            last: self.last.clone()?,
+            len: self.len,
         })
     }
 }
 
 impl Same for Memory {
     fn same(&self, other: &Memory) -> bool {
-        self.words == other.words
+        if self.len != other.len {
+            return false;
+        }
+        if !are_same_pages(self.pages.as_slice(), other.pages.as_slice()) {
+            return false;
+        }
+        self.last == other.last
     }
 }

@@ -31,18 +31,18 @@ pub struct Get {
 pub struct Send {
     /// The process that gets it.
     pub target: u64,
-    /// The tag, of at most 16 words.
+    /// The tag, of at most `MOST_TAG_WORDS` words.
     pub tag: Words,
-    /// The payload, of at most 4,096 words.
+    /// The payload, of at most `MOST_PAYLOAD_WORDS` words.
     pub words: Words,
 }
 
 /// A message in a queue.
 #[derive(Debug, Drop)]
 pub struct Message {
-    /// The tag, of at most 16 words.
+    /// The tag, of at most `MOST_TAG_WORDS` words.
     pub tag: Words,
-    /// The payload, of at most 4,096 words.
+    /// The payload, of at most `MOST_PAYLOAD_WORDS` words.
     pub words: Words,
 }
 

@@ -1,8 +1,8 @@
 //! A list of values, kept in a `Vec`.
 
-ghost use Rattle.std.specs.Prelude.{◌≡◌, ◌++◌, ◌-◌, ◌∷◌, [], length, take, IfOk, OnErr, OnOk, nat_eq, option_to_list, slice_set};
+ghost use Rattle.std.specs.Prelude.{◌≡◌, ◌++◌, ◌-◌, ◌∷◌, [], length, take, IfOk, OnErr, OnOk, nat_eq, option_to_list, slice_set, IsTrue, ◌↔◌};
 
-use crate::{OutOfMemory, Same, TryCopy};
+use crate::{OutOfMemory, Same, SharedSeq, TryCopy};
 use std::alloc::Global;
 use std::marker::Model;
 
@@ -28,6 +28,15 @@ impl<T> Seq<T> {
         Seq {
             items: Vec::new(alloc),
         }
+    }
+
+    /// The empty list, with room for so many items, or `OutOfMemory`.
+    pub fn with_capacity(alloc: Global, capacity: usize) -> Result<Seq<T>, OutOfMemory>
+        ensures { IfOk result (λ s. s ≡ []) }
+    {
+        Ok(Seq {
+            items: Vec::with_capacity(alloc, capacity)?,
+        })
     }
 
     /// The list of these items.
@@ -72,6 +81,13 @@ impl<T> Seq<T> {
 }
 
 impl<T: Drop> Seq<T> {
+    /// The same list, which its copies share from now on. It takes no memory where the list is empty.
+    pub fn share(self) -> Result<SharedSeq<T>, OutOfMemory>
+        ensures { IfOk result (λ s. s ≡ self) }
+    {
+        SharedSeq::from_vec(self.items)
+    }
+
     /// Puts an item at the end. After `OutOfMemory` nothing has changed, and the item is dropped.
     pub fn push(&mut self, item: T) -> Result<(), OutOfMemory>
         ensures ok { OnOk result (self.new ≡ self.old ++ item ∷ []) }
@@ -111,18 +127,23 @@ impl<T: TryCopy> TryCopy for Seq<T> {
 
 impl<T: Same> Same for Seq<T> {
     fn same(&self, other: &Seq<T>) -> bool {
-        let items = self.items.as_slice();
-        let others = other.items.as_slice();
-        if items.len() != others.len() {
+        are_same(self.as_slice(), other.as_slice())
+    }
+}
+
+/// Whether two lists have the same items, in the same order.
+pub(crate) fn are_same<T: Same>(items: &[T], others: &[T]) -> bool
+    ensures { IsTrue result ↔ (items.now ≡ others.now) }
+{
+    if items.len() != others.len() {
+        return false;
+    }
+    for i in 0..items.len() {
+        if !items[i].same(&others[i]) {
             return false;
         }
-        for i in 0..items.len() {
-            if !items[i].same(&others[i]) {
-                return false;
-            }
-        }
-        true
     }
+    true
 }
 
 impl Seq<u64> {

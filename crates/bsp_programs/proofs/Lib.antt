@@ -1,4 +1,2 @@
-pub mod Continuing
-pub mod Ranges
 pub mod Telling
 pub mod Multiplying

@@ -8,9 +8,9 @@ use Rattle.std.specs.Option.{option_map, option_and_then}
 use Rattle.bsp_model.specs.declared.request.Message.{Message}
 use Rattle.bsp_step.specs.Act.{send, move_into}
 use Rattle.bsp_step.specs.Queue.{first_message, first_words}
-use Rattle.bsp_programs.specs.Plan.{after}
+use Rattle.bsp_step.specs.Plan.{after}
 use Rattle.bsp_programs.specs.MatVec.{words_at, sends_to_all, stores, stored, vector_start, sender_of, matvec_receiving, inner_product, product_of}
-use Rattle.bsp_programs.proofs.Ranges.{range_with_len-first}
+use Rattle.bsp_step.proofs.Ranges.{range_with_len-first}
 
 option_map-append : (words : List ℕ) (word : ℕ) (o : Option (List ℕ)) → option_map (λ rest. words ++ rest) (option_map (λ rest. word ∷ rest) o) ≡ option_map (λ rest. (words ++ word ∷ []) ++ rest) o
 option_map-append words word None = refl

@@ -3,7 +3,7 @@ use Rattle.std.proofs.Common.{◌≡◌, ◌≢◌, ◌<◌, ◌-◌, ◌+◌, �
 use Rattle.std.specs.List.{range_with_len}
 use Rattle.std.proofs.lemmas.Grind.{common_steps}
 use Rattle.bsp_step.specs.Act.{put}
-use Rattle.bsp_programs.proofs.Ranges.{range_with_len-first}
+use Rattle.bsp_step.proofs.Ranges.{range_with_len-first}
 use Rattle.bsp_programs.specs.Broadcast.{puts_to_others}
 
 pub puts_to_others-other : (own word q n : ℕ) → q < n → q ≢ own → puts_to_others own word (range_with_len q (n - q)) ≡ put q (word ∷ []) 0 0 ∷ puts_to_others own word (range_with_len (q + 1) (n - (q + 1)))

@@ -4,7 +4,7 @@ use Rattle.std.specs.List.{range_with_len}
 use Rattle.bsp_model.specs.declared.fault.End.TheVariants.{Sync, Halt}
 use Rattle.bsp_step.specs.ViewParts.{ViewParts}
 use Rattle.bsp_step.specs.Act.{Act, push_reg, put, print}
-use Rattle.bsp_programs.specs.Plan.{Plan, does, given_argument, given_word}
+use Rattle.bsp_step.specs.Plan.{Plan, does, given_argument, given_word}
 
 -- a put of the word to word 0 of each of these processes but the own
 abbrev pub puts_to_others : ℕ → ℕ → List ℕ → List Act

@@ -4,7 +4,7 @@ use Rattle.std.specs.List.{slice_get}
 use Rattle.bsp_step.specs.ViewParts.{ViewParts}
 use Rattle.bsp_step.specs.Footprint.{IsFootprint}
 use Rattle.bsp_programs.specs.Broadcast.{broadcast_plan, broadcast_looks}
-use Rattle.bsp_programs.specs.Footprints.{if-alike, given_word-alike, given_argument-alike, AreAlike-words, IsFootprint-of_plan}
+use Rattle.bsp_step.specs.Footprints.{if-alike, given_word-alike, given_argument-alike, AreAlike-words, IsFootprint-of_plan}
 
 broadcast_plan-alike : (v : ViewParts) (m n : List ℕ) → ((a : ℕ) → broadcast_looks v a ≡ true → slice_get m a ≡ slice_get n a) → broadcast_plan v m ≡ broadcast_plan v n
 broadcast_plan-alike v m n same =

@@ -4,7 +4,7 @@ use Rattle.std.specs.Str.{bytes_eq}
 use Rattle.bsp_step.specs.ViewParts.{ViewParts}
 use Rattle.bsp_programs.specs.declared.bundled.Bundled.{Bundled as Programs}
 use Rattle.bsp_programs.specs.declared.bundled.Bundled.TheVariants.{Broadcast, Prefix, MatVec, Rank}
-use Rattle.bsp_programs.specs.Plan.{Plan}
+use Rattle.bsp_step.specs.Plan.{Plan}
 use Rattle.bsp_programs.specs.Broadcast.{broadcast_plan, broadcast_looks}
 use Rattle.bsp_programs.specs.Prefix.{prefix_plan, prefix_looks}
 use Rattle.bsp_programs.specs.MatVec.{matvec_plan, matvec_looks}

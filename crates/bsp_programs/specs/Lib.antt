@@ -1,5 +1,3 @@
-pub mod Plan
-pub mod Footprints
 pub mod Doubling
 pub mod Broadcast
 pub mod BroadcastFootprint

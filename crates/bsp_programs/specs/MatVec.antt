@@ -5,7 +5,7 @@ use Rattle.bsp_model.specs.declared.request.Message.{Message}
 use Rattle.bsp_model.specs.declared.fault.End.TheVariants.{Sync, Halt, Abort}
 use Rattle.bsp_step.specs.ViewParts.{ViewParts}
 use Rattle.bsp_step.specs.Act.{Act, set_tagsize, send, move_into, store, charge, print}
-use Rattle.bsp_programs.specs.Plan.{Plan, does, after, given_argument, given_word}
+use Rattle.bsp_step.specs.Plan.{Plan, does, after, given_argument, given_word}
 
 -- how many columns the matrix has: b for each process
 abbrev pub columns : ℕ → ℕ → ℕ

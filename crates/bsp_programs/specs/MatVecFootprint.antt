@@ -7,9 +7,9 @@ use Rattle.bsp_model.specs.declared.request.Message.{Message}
 use Rattle.bsp_step.specs.Act.{move_into}
 use Rattle.bsp_step.specs.ViewParts.{ViewParts}
 use Rattle.bsp_step.specs.Footprint.{IsFootprint}
-use Rattle.bsp_programs.specs.Plan.{Plan, after, given_word}
+use Rattle.bsp_step.specs.Plan.{Plan, after, given_word}
 use Rattle.bsp_programs.specs.MatVec.{columns, block_start, vector_start, product_start, words_at, given_words, stores, stored, sender_of, given_sender, is_within, matvec_multiplying, matvec_receiving, matvec_plan, matvec_looks}
-use Rattle.bsp_programs.specs.Footprints.{if-alike, given_argument-alike, AreAlike-words, IsFootprint-of_plan, slice_get-set_alike}
+use Rattle.bsp_step.specs.Footprints.{if-alike, given_argument-alike, AreAlike-words, IsFootprint-of_plan, slice_get-set_alike}
 
 words_at-alike : (m n : List ℕ) (start len : ℕ) → ((a : ℕ) → start ≤ a → a < start + len → slice_get m a ≡ slice_get n a) → words_at m (range_with_len start len) ≡ words_at n (range_with_len start len)
 words_at-alike m n start zero same = refl

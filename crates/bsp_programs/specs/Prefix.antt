@@ -3,7 +3,7 @@ use Rattle.std.specs.Prelude.{ℕ, Bool, false, List, [], ◌∷◌, ◌+◌, �
 use Rattle.bsp_model.specs.declared.fault.End.TheVariants.{Sync, Halt}
 use Rattle.bsp_step.specs.ViewParts.{ViewParts}
 use Rattle.bsp_step.specs.Act.{push_reg, put, print, store, charge}
-use Rattle.bsp_programs.specs.Plan.{Plan, does, after, given_word}
+use Rattle.bsp_step.specs.Plan.{Plan, does, after, given_word}
 use Rattle.bsp_programs.specs.Doubling.{distance}
 
 -- whether a word came to the process at the end of the superstep before

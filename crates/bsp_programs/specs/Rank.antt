@@ -3,7 +3,7 @@ use Rattle.std.specs.Prelude.{ℕ, Bool, false, List, [], ◌∷◌, ◌+◌, �
 use Rattle.bsp_model.specs.declared.fault.End.TheVariants.{Sync, Halt}
 use Rattle.bsp_step.specs.ViewParts.{ViewParts}
 use Rattle.bsp_step.specs.Act.{push_reg, get, print, store, charge}
-use Rattle.bsp_programs.specs.Plan.{Plan, does, after, given_word}
+use Rattle.bsp_step.specs.Plan.{Plan, does, after, given_word}
 use Rattle.bsp_programs.specs.Doubling.{distance}
 
 -- While the distance is below the number of processes, the successor's words 0 and 1 are asked for, into words 2 and 3. After that the own rank is printed.

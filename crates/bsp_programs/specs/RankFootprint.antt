@@ -5,10 +5,10 @@ use Rattle.std.specs.List.{slice_get, slice_set}
 use Rattle.bsp_step.specs.ViewParts.{ViewParts}
 use Rattle.bsp_step.specs.Act.{store, charge}
 use Rattle.bsp_step.specs.Footprint.{IsFootprint}
-use Rattle.bsp_programs.specs.Plan.{after}
+use Rattle.bsp_step.specs.Plan.{after}
 use Rattle.bsp_programs.specs.Doubling.{distance}
 use Rattle.bsp_programs.specs.Rank.{rank_plan, rank_asking, rank_looks}
-use Rattle.bsp_programs.specs.Footprints.{if-alike, given_word-alike, AreAlike-words, IsFootprint-of_plan, slice_get-set_alike}
+use Rattle.bsp_step.specs.Footprints.{if-alike, given_word-alike, AreAlike-words, IsFootprint-of_plan, slice_get-set_alike}
 
 rank_asking-alike : (v : ViewParts) (m n : List ℕ) → (nat_lt (distance v.step) v.nprocs ≡ true → slice_get m 0 ≡ slice_get n 0) → (nat_lt (distance v.step) v.nprocs ≡ false → slice_get m 1 ≡ slice_get n 1) → rank_asking v m ≡ rank_asking v n
 rank_asking-alike v m n asks prints =

@@ -3,8 +3,8 @@
 ghost use Rattle.std.specs.Prelude.{◌≤◌, ◌<◌, length};
 
 use crate::{Broadcast, Bundled, MatVec, Prefix, Rank};
-use bsp_model::{Memory, OutOfMemory, Seq, Words};
-use bsp_step::{Ended, Outcome, View, turn};
+use bsp_model::{Memory, OutOfMemory, Words};
+use bsp_step::{Ended, Outcome, Queue, View, turn};
 use bsp_table::Table;
 use std::alloc::Global;
 use std::process::Abort;
@@ -82,11 +82,11 @@ fn printed_in(
         nprocs,
         pid: nprocs - 1,
         step,
-        args: Words::from_slice(alloc, &[1])?,
+        args: Words::from_slice(alloc, &[1])?.share()?,
         memory: Memory::from_words(alloc, memory)?,
         table: Table::new(alloc, nprocs as usize)?,
         tag_size: 1,
-        queue: Seq::new(alloc),
+        queue: Queue::new(),
     };
     let outcome = turn(alloc, &program, &view)?;
     Ok(printed_by(&outcome))

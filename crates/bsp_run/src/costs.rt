@@ -6,6 +6,7 @@ ghost use Rattle.bsp_run.specs.Result.{largest_work, cost_of_delivery, cost_of_e
 
 use crate::Superstep;
 use bsp_deliver::h_of;
+use bsp_model::limits::{HIGHEST_PRICE, MOST_SUPERSTEPS};
 use bsp_model::{CostRow, OutOfMemory, Seq};
 use bsp_step::Outcome;
 use std::alloc::Global;
@@ -25,8 +26,8 @@ fn largest_work(outcomes: &[Outcome]) -> u64
 /// The cost of a superstep that ended by delivery.
 fn cost_of_delivery(g: u64, l: u64, outcomes: &[Outcome]) -> CostRow
     requires deliverable { AreDeliverable outcomes.now }
-    requires small_g { g ≤ 1000000 }
-    requires small_l { l ≤ 1000000 }
+    requires small_g { g ≤ HIGHEST_PRICE }
+    requires small_l { l ≤ HIGHEST_PRICE }
     ensures value { result ≡ cost_of_delivery g l outcomes.now }
     ensures small { result.cost < 2 ^ 50 }
 {
@@ -60,8 +61,8 @@ fn costs_of_past(
     past: &[Superstep],
 ) -> Result<Seq<CostRow>, OutOfMemory>
     requires deliverable { All (λ s. AreDeliverable s.outcomes) past.now }
-    requires small_g { g ≤ 1000000 }
-    requires small_l { l ≤ 1000000 }
+    requires small_g { g ≤ HIGHEST_PRICE }
+    requires small_l { l ≤ HIGHEST_PRICE }
     ensures rows { IfOk result (λ rows. rows ≡ map (cost_of_delivery g l) (map (λ s. s.outcomes) past.now)) }
     ensures small { IfOk result (λ rows. All (λ row. row.cost < 2 ^ 50) rows) }
 {
@@ -81,8 +82,8 @@ pub fn all_costs(
     last: Option<&[Outcome]>,
 ) -> Result<Seq<CostRow>, OutOfMemory>
     requires deliverable { All (λ s. AreDeliverable s.outcomes) past.now }
-    requires small_g { g ≤ 1000000 }
-    requires small_l { l ≤ 1000000 }
+    requires small_g { g ≤ HIGHEST_PRICE }
+    requires small_l { l ≤ HIGHEST_PRICE }
     ensures rows { IfOk result (λ rows. rows ≡ map (cost_of_delivery g l) (map (λ s. s.outcomes) past.now) ++ map cost_of_end (turns_in (option_map (λ o. o.now) last.entry))) }
     ensures small { IfOk result (λ rows. All (λ row. row.cost < 2 ^ 50) rows) }
 {
@@ -95,7 +96,7 @@ pub fn all_costs(
 
 /// The sum of the costs.
 pub fn total_of(rows: &[CostRow]) -> u64
-    requires few { length rows.now ≤ 1024 }
+    requires few { length rows.now ≤ MOST_SUPERSTEPS }
     requires small { All (λ row. row.cost < 2 ^ 50) rows.now }
     ensures { result ≡ total_of rows.now }
 {

@@ -5,7 +5,7 @@ ghost use Rattle.bsp_step.specs.ViewParts.{IsView};
 ghost use Rattle.bsp_run.specs.State.{views_of, no_messages};
 ghost use Rattle.bsp_run.specs.Opening.{CanOpen, state_of, view_with};
 
-use bsp_model::{Memory, OutOfMemory, Seq, TryCopy, Words};
+use bsp_model::{Memory, OutOfMemory, Seq, SharedSeq, TryCopy, Words};
 use bsp_step::{Queue, View};
 use bsp_table::Table;
 use std::alloc::Global;
@@ -16,9 +16,20 @@ pub fn first_cells(alloc: Global, mems: &[Memory]) -> Result<Vec<(Memory, Queue)
 {
     let mut cells = Vec::new(alloc);
     for memory in mems {
-        cells.push((memory.copy()?, Seq::new(alloc)))?;
+        cells.push((memory.copy()?, Queue::new()))?;
     }
     Ok(cells)
+}
+
+/// The arguments of each process, for views that share them.
+pub fn shared_args(args: &Seq<Words>) -> Result<Seq<SharedSeq<u64>>, OutOfMemory>
+    ensures { IfOk result (λ shared. shared ≡ args.now) }
+{
+    let mut shared = Seq::new(args.allocator());
+    for words in args.as_slice() {
+        shared.push(words.copy()?.share()?)?;
+    }
+    Ok(shared)
 }
 
 /// One view, of parts within the limits.
@@ -26,7 +37,7 @@ fn view_at(
     nprocs: usize,
     pid: usize,
     step: u64,
-    args: &Words,
+    args: &SharedSeq<u64>,
     cell: (Memory, Queue),
     table: &Table,
     tag_size: u64,
@@ -52,7 +63,7 @@ fn view_at(
 /// What the processes may see in a superstep.
 pub fn open_views(
     alloc: Global,
-    args: &[Words],
+    args: &[SharedSeq<u64>],
     step: u64,
     mut cells: Vec<(Memory, Queue)>,
     table: &Table,

@@ -11,10 +11,10 @@ ghost use Rattle.bsp_run.specs.RunErrors.{input_fault_of};
 
 use crate::ending::end_of;
 use crate::keeping::{keep_superstep, next_table, phase_after, phase_at};
-use crate::opening::{first_cells, open_views};
+use crate::opening::{first_cells, open_views, shared_args};
 use crate::{Phase, RunError, Status, Superstep};
 use bsp_deliver::next_tag_size;
-use bsp_model::{Input, Memory, OutOfMemory, Seq, TryCopy, Words};
+use bsp_model::{Input, Memory, OutOfMemory, Seq, SharedSeq};
 use bsp_step::{Outcome, Queue, View};
 use bsp_table::Table;
 use std::alloc::Global;
@@ -23,7 +23,7 @@ use std::marker::Model;
 /// A run while it is recorded: the turns and the deliveries are handed in, superstep by superstep.
 #[derive(Drop)]
 pub struct Tape {
-    pub(crate) args: Seq<Words>,
+    pub(crate) args: Seq<SharedSeq<u64>>,
     pub(crate) limit: u64,
     pub(crate) g: u64,
     pub(crate) l: u64,
@@ -64,7 +64,7 @@ impl Tape {
         ensures input { IfErr result (λ e. input_fault input.now ≡ input_fault_of e) }
     {
         checked(input)?;
-        let args = input.args.copy()?;
+        let args = shared_args(&input.args)?;
         let cells = first_cells(alloc, input.mems.as_slice())?;
         let table = Table::new(alloc, cells.len())?;
         let views = open_views(alloc, args.as_slice(), 0, cells, &table, 0)?;

@@ -1,5 +1,7 @@
 -- Laws of acts in order.
-use Rattle.std.proofs.Common.{◌≡◌, List, [], ◌∷◌, ◌++◌, Option, None, Some, refl, ap, sym, ◌∙◌}
+use Rattle.std.proofs.Common.{◌≡◌, ℕ, List, [], ◌∷◌, ◌++◌, Option, None, Some, length, refl, ap, sym, ◌∙◌, arith}
+use Rattle.std.specs.Prelude.{slice_set}
+use Rattle.std.proofs.lemmas.Grind.{common_steps}
 use Rattle.bsp_model.specs.declared.fault.Fault.{Fault}
 use Rattle.bsp_step.specs.declared.stop.Stop.{Stop}
 use Rattle.bsp_step.specs.declared.stop.Stop.TheVariants.{Fault as Faulted, OutOfMemory}
@@ -57,9 +59,40 @@ performed-view None (Some f) c d e = refl
 performed-view None None c d e = e
 
 -- no act changes the view
+pub perform-view : (c : Context) (a : Act) → (perform c a).view ≡ c.view
+perform-view c a = performed-view c.fault (refusal c a) c (done c a) (done-view c a)
+
 pub perform_all-view : (c : Context) (acts : List Act) → (perform_all c acts).view ≡ c.view
 perform_all-view c [] = refl
-perform_all-view c (a ∷ acts) = perform_all-view (perform c a) acts ∙ performed-view c.fault (refusal c a) c (done c a) (done-view c a)
+perform_all-view c (a ∷ acts) = perform_all-view (perform c a) acts ∙ perform-view c a
+
+length-stored : (memory : List ℕ) (address value : ℕ) → length (slice_set memory address value) ≡ length memory
+length-stored memory address value = grind (arith, common_steps)
+
+done-length : (c : Context) (a : Act) → length (done c a).memory ≡ length c.memory
+done-length c (store a v) = length-stored c.memory a v
+done-length c (charge n) = refl
+done-length c (put pid words area offset) = refl
+done-length c (push_reg start len) = refl
+done-length c (print words) = refl
+done-length c (get pid area offset into len) = refl
+done-length c (send pid tag words) = refl
+done-length c (move_into room) = refl
+done-length c (pop_reg start) = refl
+done-length c (set_tagsize size) = refl
+
+performed-length : (f r : Option Fault) (c d : Context) → length d.memory ≡ length c.memory → length (performed f r c d).memory ≡ length c.memory
+performed-length (Some f) r c d e = refl
+performed-length None (Some f) c d e = refl
+performed-length None None c d e = e
+
+-- no act changes the length of the memory
+pub perform-length : (c : Context) (a : Act) → length (perform c a).memory ≡ length c.memory
+perform-length c a = performed-length c.fault (refusal c a) c (done c a) (done-length c a)
+
+pub perform_all-length : (c : Context) (acts : List Act) → length (perform_all c acts).memory ≡ length c.memory
+perform_all-length c [] = refl
+perform_all-length c (a ∷ acts) = perform_all-length (perform c a) acts ∙ perform-length c a
 
 -- nor does a step
 pub Follows-view : {old new : Context} {acts : List Act} {ending how : End} → Follows old acts ending new how → new.view ≡ old.view

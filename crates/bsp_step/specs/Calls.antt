@@ -7,16 +7,16 @@ use Rattle.bsp_step.specs.declared.stop.Stop.{Stop}
 use Rattle.bsp_step.specs.declared.stop.Stop.TheVariants.{Fault, OutOfMemory}
 use Rattle.bsp_step.specs.Context.{Context}
 use Rattle.bsp_step.specs.Act.{Act}
-use Rattle.bsp_step.specs.Perform.{perform, perform_all, refusal}
+use Rattle.bsp_step.specs.Perform.{perform, perform_all, refusal, done}
 
 -- The act is performed and this fault is kept; or memory is wanted, no check fails, and nothing changes.
 abbrev pub Stops : Context → Act → Context → Stop → Type 0
 Stops old act new (Fault f) = (new ≡ perform old act) × (new.fault ≡ Some f)
 Stops old act new OutOfMemory = (new ≡ old) × (old.fault ≡ None) × (refusal old act ≡ None)
 
--- The act is performed, and the answer is the fault that is kept, if there is one; or memory is wanted.
+-- The act is performed: it is done, and no fault is kept; or the answer is the fault that is kept; or memory is wanted.
 abbrev pub Performs : {T : Type 0} → Context → Act → Context → Result T Stop → Type 0
-Performs old act new (Ok _) = (new ≡ perform old act) × (new.fault ≡ None)
+Performs old act new (Ok _) = (new ≡ perform old act) × (new.fault ≡ None) × (new ≡ done old act)
 Performs old act new (Err e) = Stops old act new e
 
 -- The same of a call that takes no memory.
@@ -25,7 +25,7 @@ StopsByFault old act new (Fault f) = (new ≡ perform old act) × (new.fault ≡
 StopsByFault old act new OutOfMemory = ⊥
 
 abbrev pub PerformsAlways : {T : Type 0} → Context → Act → Context → Result T Stop → Type 0
-PerformsAlways old act new (Ok _) = (new ≡ perform old act) × (new.fault ≡ None)
+PerformsAlways old act new (Ok _) = (new ≡ perform old act) × (new.fault ≡ None) × (new ≡ done old act)
 PerformsAlways old act new (Err e) = StopsByFault old act new e
 
 -- The acts are performed in order, up to the fault that is kept; or memory is wanted.

@@ -10,6 +10,8 @@ pub mod OutcomeInside
 pub mod Turn
 pub mod Calls
 pub mod Footprint
+pub mod Plan
+pub mod Footprints
 pub mod LooksEverywhere
 pub mod SameOutcome
 pub mod Queue

@@ -11,7 +11,7 @@ use Rattle.bsp_step.specs.Act.{Act}
 use Rattle.bsp_step.specs.Footprint.{IsFootprint, AreAlike, AreAlikeButForWords}
 
 -- two memories with equal words at each address are equal
-same_memories : (m n : List ℕ) → length m ≡ length n → ((a : ℕ) → a < length m → slice_get m a ≡ slice_get n a) → m ≡ n
+pub same_memories : (m n : List ℕ) → length m ≡ length n → ((a : ℕ) → a < length m → slice_get m a ≡ slice_get n a) → m ≡ n
 same_memories m n e h =
     same_lists m n e (λ k d within.
     let f : Some (get_or m k d) ≡ Some (get_or n k d) = sym (slice_get-get_or m k d within) ∙ h k within ∙ slice_get-get_or n k d (omega arith) in

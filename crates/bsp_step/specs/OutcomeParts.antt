@@ -1,5 +1,6 @@
 -- What a turn leaves.
 use Rattle.std.specs.Prelude.{ℕ, List, Option, None, Some, ◌≤◌, ◌+◌, ◌≡◌, length, All}
+use Rattle.bsp_model.specs.declared.limits.TheConstants.{MOST_LINES, MOST_LINE_WORDS, MOST_MEMORY_WORDS, MOST_PAYLOAD_WORDS, MOST_REQUESTS, MOST_TAG_WORDS, MOST_WORK}
 use Rattle.bsp_model.specs.declared.request.Put.{Put}
 use Rattle.bsp_model.specs.declared.request.Get.{Get}
 use Rattle.bsp_model.specs.declared.request.Send.{Send}
@@ -33,31 +34,31 @@ IsHaltOnFault (Some f) ended = ended ≡ Halt
 
 -- a message within the limits
 pub record IsShortSend (m : Send) : Type 0 where
-  pub tag : length m.tag ≤ 16
-  pub words : length m.words ≤ 4096
+  pub tag : length m.tag ≤ MOST_TAG_WORDS
+  pub words : length m.words ≤ MOST_PAYLOAD_WORDS
 
 pub record AreShortSends (sends : List Send) : Type 0 where
   pub each : All IsShortSend sends
 
 -- lines within the limits
 pub record AreLines (lines : List (List ℕ)) : Type 0 where
-  pub few : length lines ≤ 64
-  pub short : All (λ line. length line ≤ 64) lines
+  pub few : length lines ≤ MOST_LINES
+  pub short : All (λ line. length line ≤ MOST_LINE_WORDS) lines
 
--- a choice of at most 16 words, or none
+-- a choice within the limit, or none
 abbrev pub IsTagChoice : Option ℕ → Type 0
 IsTagChoice None = Unit {0}
-IsTagChoice (Some n) = n ≤ 16
+IsTagChoice (Some n) = n ≤ MOST_TAG_WORDS
 
 -- The limits that every outcome keeps (this profile).
 pub record IsOutcome (o : OutcomeParts) : Type 0 where
   pub halts : IsHaltOnFault o.fault o.ended
-  pub short_memory : length o.memory ≤ 4096
-  pub few_requests : length o.puts + length o.gets + length o.sends + length o.pops + length o.pushes ≤ 1024
+  pub short_memory : length o.memory ≤ MOST_MEMORY_WORDS
+  pub few_requests : length o.puts + length o.gets + length o.sends + length o.pops + length o.pushes ≤ MOST_REQUESTS
   pub sends : AreShortSends o.sends
   pub tag : IsTagChoice o.tag
   pub lines : AreLines o.lines
-  pub little_work : o.work ≤ 4294967295
+  pub little_work : o.work ≤ MOST_WORK
 
 -- What an outcome of a view's turn keeps: a memory of the view's length, and requests inside the areas of the view's table (this profile).
 pub record IsOutcomeOf (v : ViewParts) (o : OutcomeParts) : Type 0 where

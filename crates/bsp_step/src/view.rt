@@ -1,30 +1,30 @@
 //! What a process sees in a superstep.
 
-use bsp_model::{Memory, Message, OutOfMemory, Same, Seq, TryCopy, Words};
+use bsp_model::{Memory, Message, OutOfMemory, Same, SharedSeq, TryCopy};
 use bsp_table::Table;
 use std::marker::Model;
 
 /// A message queue: the messages that were sent to a process in the superstep before, by sender, then by issue.
-pub type Queue = Seq<Message>;
+pub type Queue = SharedSeq<Message>;
 
-/// What a process may see in a superstep (Hill et al. 1998).
+/// What a process may see in a superstep (Hill et al. 1998). Its copies share the arguments, the table, the queue and the full pages of the memory.
 #[derive(Drop)]
 pub struct View {
-    /// The number of processes, 1 to 64.
+    /// The number of processes, 1 to `MOST_PROCESSES`.
     pub nprocs: u64,
     /// The own number, below `nprocs`.
     pub pid: u64,
     /// The number of the superstep, from 0.
     pub step: u64,
-    /// The own arguments: at most 64 words.
-    pub args: Words,
-    /// The own memory: at most 4,096 words.
+    /// The own arguments: at most `MOST_ARGUMENTS` words.
+    pub args: SharedSeq<u64>,
+    /// The own memory: at most `MOST_MEMORY_WORDS` words.
     pub memory: Memory,
-    /// The registration table: at most 256 slots.
+    /// The registration table: at most `MOST_SLOTS` slots.
     pub table: Table,
-    /// The tag size in force: at most 16 words.
+    /// The tag size in force: at most `MOST_TAG_WORDS` words.
     pub tag_size: u64,
-    /// The messages that came: at most 65,536.
+    /// The messages that came: at most `MOST_MESSAGES`.
     pub queue: Queue,
 }
 

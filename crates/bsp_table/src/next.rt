@@ -9,6 +9,7 @@ ghost use Rattle.bsp_table.specs.TableFault.{sync_fault_of};
 
 use crate::table::Slot;
 use crate::{Area, Table};
+use bsp_model::limits::{MOST_PROCESSES, MOST_SLOTS};
 use bsp_model::{OutOfMemory, Seq, SyncFault, TryCopy};
 use std::alloc::{AllocError, Global};
 
@@ -71,7 +72,7 @@ fn pushed<R: Registers>(alloc: Global, all: &[R], k: usize) -> Result<Slot, OutO
     for member in all {
         areas.push(member.pushes()[k])?;
     }
-    Ok(areas)
+    areas.share()
 }
 
 impl Table {
@@ -89,7 +90,7 @@ impl Table {
             return Some(SyncFault::PushMismatch);
         }
         let kept = self.len() - first.pops().len();
-        if kept.saturating_add(first.pushes().len()) > 256 {
+        if kept.saturating_add(first.pushes().len()) > MOST_SLOTS {
             return Some(SyncFault::TooManySlots);
         }
         None
@@ -100,7 +101,7 @@ impl Table {
         ensures { IfOk result (λ slots. slots ≡ kept_slots self.now (popped.now ∷ [])) }
     {
         let slots = self.slots.as_slice();
-        let mut kept = Seq::new(self.slots.allocator());
+        let mut kept = Seq::new(self.alloc);
         for slot in 0..slots.len() {
             if !popped.contains(&slot) {
                 kept.push(slots[slot].copy()?)?;
@@ -116,7 +117,7 @@ impl Table {
     /// The first of S3 `PopMismatch`, S4 `PushMismatch` and S5 `TooManySlots` that holds, before any memory is taken; then `OutOfMemory`.
     pub fn synced<R: Registers>(&self, all: &[R]) -> Result<Table, TableFault>
         requires some { 1 ≤ length all.now }
-        requires few { length all.now ≤ 64 }
+        requires few { length all.now ≤ MOST_PROCESSES }
         requires full { AreFull (length all.now) self.now }
         requires slots { All (λ r. AreSlots self.now (R.pops r)) all.now }
         ensures next { IfOk result (λ t. t ≡ next_table self.now (map R.pops all.now) (map R.pushes all.now)) }
@@ -125,7 +126,7 @@ impl Table {
 
         // What callers keep of their tables.
         ensures full_after { IfOk result (AreFull (length all.now)) }
-        ensures few_after { IfOk result (λ t. length t ≤ 256) }
+        ensures few_after { IfOk result (λ t. length t ≤ MOST_SLOTS) }
         ensures inside { (sizes : List ℕ) → AreSlotsInside sizes self.now → ArePushesInside sizes (map R.pushes all.now) → IfOk result (AreSlotsInside sizes) }
         ensures within { (bound : ℕ) → AreSlotsWithin bound self.now → All (λ r. AreWithin bound (R.pushes r)) all.now → IfOk result (AreSlotsWithin bound) }
     {
@@ -135,8 +136,11 @@ impl Table {
         let first = &all[0];
         let mut slots = self.kept(first.pops())?;
         for k in 0..first.pushes().len() {
-            slots.push(pushed(self.slots.allocator(), all, k)?)?;
+            slots.push(pushed(self.alloc, all, k)?)?;
         }
-        Ok(Table { slots })
+        Ok(Table {
+            alloc: self.alloc,
+            slots: slots.share()?,
+        })
     }
 }

@@ -4,17 +4,19 @@ ghost use Rattle.std.specs.Prelude.{◌≡◌, ◌≤◌, ◌<◌, Some, [], len
 ghost use Rattle.bsp_table.specs.Table.{newest, newest_under, area_at, is_slot_named};
 
 use crate::Area;
-use bsp_model::{OutOfMemory, Same, Seq, TryCopy};
+use bsp_model::limits::MOST_PROCESSES;
+use bsp_model::{OutOfMemory, Same, SharedSeq, TryCopy};
 use std::alloc::Global;
 use std::marker::Model;
 
 /// A registration that all processes made together: one area for each process.
-pub type Slot = Seq<Area>;
+pub type Slot = SharedSeq<Area>;
 
-/// The registration table: slots, oldest first (Hill et al. 1998). A run keeps at most 256 of them.
+/// The registration table: slots, oldest first (Hill et al. 1998). A run keeps at most `MOST_SLOTS` of them. Its copies share them.
 #[derive(Drop)]
 pub struct Table {
-    pub(crate) slots: Seq<Slot>,
+    pub(crate) alloc: Global,
+    pub(crate) slots: SharedSeq<Slot>,
 }
 
 impl Model for Table {
@@ -27,14 +29,15 @@ impl Model for Table {
 }
 
 impl Table {
-    /// The table without slots, for 1 to 64 processes.
+    /// The table without slots, for 1 to `MOST_PROCESSES` processes.
     pub fn new(alloc: Global, _nprocs: usize) -> Result<Table, OutOfMemory>
         requires some { 1 ≤ _nprocs }
-        requires few { _nprocs ≤ 64 }
+        requires few { _nprocs ≤ MOST_PROCESSES }
         ensures { IfOk result (λ t. t ≡ []) }
     {
         Ok(Table {
-            slots: Seq::new(alloc),
+            alloc,
+            slots: SharedSeq::new(),
         })
     }
 
@@ -91,6 +94,7 @@ impl Table {
 impl TryCopy for Table {
     fn copy(&self) -> Result<Table, OutOfMemory> {
         Ok(Table {
+            alloc: self.alloc,
             slots: self.slots.copy()?,
         })
     }

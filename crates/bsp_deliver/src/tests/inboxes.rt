@@ -1,10 +1,9 @@
-ghost use Rattle.std.specs.Prelude.{◌≡◌, ℕ, ◌<◌, ◌≤◌, false, true, IfOk, length, slice_index_or};
-ghost use Rattle.bsp_deliver.specs.Requests.{outcome_of};
+ghost use Rattle.std.specs.Prelude.{◌<◌, length};
 ghost use Rattle.bsp_deliver.specs.Condition.{AreDeliverable};
 
 use crate::tests::outcomes::{Process, outcomes_of};
-use crate::{considered, deliver_inbox, inbox};
-use bsp_model::{Memory, OutOfMemory, Same};
+use crate::{deliver_inbox, inbox};
+use bsp_model::{Memory, Same};
 use bsp_step::Outcome;
 use std::alloc::Global;
 use std::process::Abort;
@@ -48,43 +47,4 @@ fn what_others_put_is_in_the_inbox(rt: HostRuntime) -> Result<(), Fail> {
     assert_eq!(&rt; outcomes.len(), 2);
     assert_inbox(&rt, alloc, &outcomes, 0, 1, &[77], &[77, 21])?;
     assert_inbox(&rt, alloc, &outcomes, 1, 0, &[88, 89], &[88, 89])
-}
-
-/// Marks the processes whose outcomes differ.
-fn changes(alloc: Global, old: &[Outcome], new: &[Outcome]) -> Result<Vec<bool>, OutOfMemory>
-    requires { length old.now ≡ length new.now }
-    ensures count { IfOk result (λ marks. length marks.items ≡ length new.now) }
-    ensures rest { IfOk result (λ marks. (p : ℕ) → p < length new.now → slice_index_or marks.items p true ≡ false → outcome_of old.now p ≡ outcome_of new.now p) }
-{
-    let mut marks = Vec::new(alloc);
-    for p in 0..new.len() {
-        marks.push(!old[p].same(&new[p]))?;
-    }
-    Ok(marks)
-}
-
-#[test]
-fn few_deliveries_are_considered(rt: HostRuntime) -> Result<(), Fail> {
-    let alloc = rt.alloc();
-    let memories: [&[u64]; 5] = [&[1], &[2], &[3], &[4], &[5]];
-    let old = [
-        Process(0).put(1, 0, &[6]),
-        Process(0).put(2, 0, &[7]),
-        Process(3).get(0, 0, 1, 0),
-    ];
-    let new = [
-        Process(0).put(1, 0, &[6]),
-        Process(0).put(2, 0, &[8]),
-        Process(3).get(0, 0, 1, 0),
-    ];
-    let old = outcomes_of(&rt, alloc, &memories, &old)?;
-    let new = outcomes_of(&rt, alloc, &memories, &new)?;
-    assert_eq!(&rt; old.len(), new.len());
-    let changed = changes(alloc, &old, &new)?;
-    let marks = considered(alloc, &old, &new, &changed)?;
-    assert_eq!(&rt;
-        marks.as_slice(),
-        [true, false, true, true, false].as_slice()
-    );
-    Ok(())
 }

@@ -19,7 +19,7 @@ pub(super) fn load_words(
     requires { start + len < 2 ^ 64 }
     ensures { IfOk result (λ found. found ≡ words_at ctx.now.memory (range_with_len start len)) }
 {
-    let mut words = Words::new(alloc);
+    let mut words = Words::with_capacity(alloc, len as usize)?;
     for address in start..start + len {
         let Some(word) = ctx.load(address) else {
             return Ok(None);

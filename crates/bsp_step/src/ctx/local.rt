@@ -5,6 +5,7 @@ ghost use Rattle.bsp_step.specs.Act as act;
 ghost use Rattle.bsp_step.specs.Calls.{Performs, PerformsAlways};
 
 use crate::{Ctx, Stop};
+use bsp_model::limits::{MOST_LINE_WORDS, MOST_LINES, MOST_WORK};
 use bsp_model::{Fault, Store, Words};
 
 impl<'v> Ctx<'v> {
@@ -33,14 +34,14 @@ impl<'v> Ctx<'v> {
 
     /// Adds to the work of this superstep, in operations on local words. It takes no memory.
     ///
-    /// Faults: F9 `WorkLimit` where the work would exceed 4,294,967,295.
+    /// Faults: F9 `WorkLimit` where the work would exceed `MOST_WORK`.
     pub fn charge(&mut self, amount: u64) -> Result<(), Stop>
         ensures { PerformsAlways self.old (act.charge amount) self.new result }
     {
         if let Some(fault) = self.fault {
             return Err(Stop::Fault(fault));
         }
-        if amount > 4_294_967_295 - self.work {
+        if amount > MOST_WORK - self.work {
             return self.refuse(Fault::WorkLimit);
         }
         self.work += amount;
@@ -49,17 +50,17 @@ impl<'v> Ctx<'v> {
 
     /// Prints a line of words.
     ///
-    /// Faults, in order: F10 `LineLimit` where 64 lines stand; F11 `TooLong` for more than 64 words.
+    /// Faults, in order: F10 `LineLimit` where `MOST_LINES` lines stand; F11 `TooLong` for more than `MOST_LINE_WORDS` words.
     pub fn print(&mut self, words: &[u64]) -> Result<(), Stop>
         ensures { Performs self.old (act.print words.now) self.new result }
     {
         if let Some(fault) = self.fault {
             return Err(Stop::Fault(fault));
         }
-        if self.lines.len() >= 64 {
+        if self.lines.len() >= MOST_LINES {
             return self.refuse(Fault::LineLimit);
         }
-        if words.len() > 64 {
+        if words.len() > MOST_LINE_WORDS {
             return self.refuse(Fault::TooLong);
         }
         let line = Words::from_slice(self.alloc, words)?;

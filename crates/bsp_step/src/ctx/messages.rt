@@ -1,17 +1,18 @@
 //! The acts and readings of messages.
 
-ghost use Rattle.std.specs.Prelude.{◌≡◌, ◌≤◌, ◌++◌, ◌*◌, All, IfOk, OnErr, length, min, take, drop, sum_by, option_map};
+ghost use Rattle.std.specs.Prelude.{◌≡◌, ◌≤◌, ◌++◌, ◌*◌, All, IfOk, IfSome, OnErr, length, min, take, drop, sum_by, option_map};
 ghost use Rattle.bsp_step.specs.Act as act;
 ghost use Rattle.bsp_step.specs.ViewParts.{IsShortMessage};
 ghost use Rattle.bsp_step.specs.Queue.{first_words, first_message, heading};
 ghost use Rattle.bsp_step.specs.Calls.{Performs, PerformsAlways};
 
 use crate::{Ctx, Stop};
+use bsp_model::limits::{MOST_MESSAGES, MOST_PAYLOAD_WORDS, MOST_REQUESTS, MOST_TAG_WORDS};
 use bsp_model::{Fault, Message, Send, Words};
 
 /// The words of all payloads together.
 fn count_of_words(messages: &[Message]) -> usize
-    requires few { length messages.now ≤ 65536 }
+    requires few { length messages.now ≤ MOST_MESSAGES }
     requires short { All IsShortMessage messages.now }
     ensures { result ≡ sum_by (λ m. length m.words) messages.now }
 {
@@ -23,18 +24,21 @@ fn count_of_words(messages: &[Message]) -> usize
 }
 
 impl<'v> Ctx<'v> {
-    /// How many messages are left, and how many words their payloads have together (`bsp_qsize`).
+    /// How many messages are left, at most `MOST_MESSAGES`, and how many words their payloads have together (`bsp_qsize`).
     pub fn qsize(&self) -> (usize, usize)
         ensures messages { result.0 ≡ length self.now.left }
+        ensures few { result.0 ≤ MOST_MESSAGES }
         ensures words { result.1 ≡ sum_by (λ m. length m.words) self.now.left }
     {
         let left = self.left;
         (left.len(), count_of_words(left))
     }
 
-    /// The length of the first message's payload, and its tag, if a message is left (`bsp_get_tag`).
+    /// The length of the first message's payload, at most `MOST_PAYLOAD_WORDS` words, and its tag, of at most `MOST_TAG_WORDS`, if a message is left (`bsp_get_tag`).
     pub fn get_tag(&self) -> Option<(usize, &[u64])>
-        ensures { option_map (λ t. (t.0, t.1.now)) result ≡ heading (first_message self.now.left) }
+        ensures first { option_map (λ t. (t.0, t.1.now)) result ≡ heading (first_message self.now.left) }
+        ensures payload { IfSome result (λ t. t.0 ≤ MOST_PAYLOAD_WORDS) }
+        ensures tag { IfSome result (λ t. length t.1.now ≤ MOST_TAG_WORDS) }
     {
         let message = self.left.first()?;
         Some((message.words.len(), message.tag.as_slice()))
@@ -42,15 +46,15 @@ impl<'v> Ctx<'v> {
 
     /// Sends a message with a tag of the size in force to process `pid` (`bsp_send`). It is in the queue there in the next superstep alone.
     ///
-    /// Faults, in order: F8 `TooManyRequests` where 1,024 stand; F2 `BadPid`; F6 `TagLength` where the tag is not of the size in force;
-    /// F11 `TooLong` for more than 4,096 words.
+    /// Faults, in order: F8 `TooManyRequests` where `MOST_REQUESTS` stand; F2 `BadPid`; F6 `TagLength` where the tag is not of the size in force;
+    /// F11 `TooLong` for more than `MOST_PAYLOAD_WORDS` words.
     pub fn send(&mut self, pid: u64, tag: &[u64], words: &[u64]) -> Result<(), Stop>
         ensures { Performs self.old (act.send pid tag.now words.now) self.new result }
     {
         if let Some(fault) = self.fault {
             return Err(Stop::Fault(fault));
         }
-        if self.count_of_requests() >= 1024 {
+        if self.count_of_requests() >= MOST_REQUESTS {
             return self.refuse(Fault::TooManyRequests);
         }
         if pid >= self.nprocs() {
@@ -59,7 +63,7 @@ impl<'v> Ctx<'v> {
         if tag.len() as u64 != self.tag_size() {
             return self.refuse(Fault::TagLength);
         }
-        if words.len() > 4096 {
+        if words.len() > MOST_PAYLOAD_WORDS {
             return self.refuse(Fault::TooLong);
         }
         let tag = Words::from_slice(self.alloc, tag)?;
@@ -98,7 +102,7 @@ impl<'v> Ctx<'v> {
     /// Chooses the tag size of the next superstep, in words; the last call counts. Answers the size in force in this superstep
     /// (`bsp_set_tagsize`). It takes no memory.
     ///
-    /// Faults: F12 `BadTagSize` for more than 16.
+    /// Faults: F12 `BadTagSize` for more than `MOST_TAG_WORDS`.
     pub fn set_tagsize(&mut self, size: u64) -> Result<u64, Stop>
         ensures acted { PerformsAlways self.old (act.set_tagsize size) self.new result }
         ensures answer { IfOk result (λ n. n ≡ self.old.view.tag_size) }
@@ -106,7 +110,7 @@ impl<'v> Ctx<'v> {
         if let Some(fault) = self.fault {
             return Err(Stop::Fault(fault));
         }
-        if size > 16 {
+        if size > MOST_TAG_WORDS {
             return self.refuse(Fault::BadTagSize);
         }
         self.tag = Some(size);

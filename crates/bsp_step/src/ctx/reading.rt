@@ -1,14 +1,17 @@
-//! The reading calls of a context. They take no memory and never fault.
+//! The reading calls of a context. They take no memory and never fault. What they promise holds in the whole turn, since no act changes the
+//! view or the length of the memory.
 
-ghost use Rattle.std.specs.Prelude.{◌≡◌, ◌≤◌, slice_get};
+ghost use Rattle.std.specs.Prelude.{◌≡◌, ◌≤◌, ◌<◌, ◌↔◌, length, slice_get, IsSome};
 
 use crate::Ctx;
+use bsp_model::limits::{MOST_ARGUMENTS, MOST_MEMORY_WORDS, MOST_PROCESSES, MOST_TAG_WORDS};
 
 impl<'v> Ctx<'v> {
-    /// The number of processes, 1 to 64 (`bsp_nprocs`).
+    /// The number of processes, 1 to `MOST_PROCESSES` (`bsp_nprocs`).
     pub fn nprocs(&self) -> u64
         ensures count { result ≡ self.now.view.nprocs }
-        ensures few { result ≤ 64 }
+        ensures some { 1 ≤ result }
+        ensures few { result ≤ MOST_PROCESSES }
     {
         let view = self.view;
         view.nprocs
@@ -16,7 +19,9 @@ impl<'v> Ctx<'v> {
 
     /// The own number, below the number of processes (`bsp_pid`).
     pub fn pid(&self) -> u64
-        ensures { result ≡ self.now.view.pid }
+        ensures number { result ≡ self.now.view.pid }
+        ensures below { result < self.now.view.nprocs }
+        ensures few { self.now.view.nprocs ≤ MOST_PROCESSES }
     {
         let view = self.view;
         view.pid
@@ -30,25 +35,38 @@ impl<'v> Ctx<'v> {
         view.step
     }
 
-    /// The own argument with this index, if there is one.
+    /// The own argument with this index, if there is one. There are at most `MOST_ARGUMENTS`.
     pub fn arg(&self, index: u64) -> Option<u64>
-        ensures { result ≡ slice_get self.now.view.args index }
+        ensures value { result ≡ slice_get self.now.view.args index }
+        ensures within { IsSome result ↔ (index < length self.now.view.args) }
+        ensures few { length self.now.view.args ≤ MOST_ARGUMENTS }
     {
         let view = self.view;
         view.args.as_slice().get(index as usize).copied()
     }
 
-    /// The word at `address` of the own memory as it is now, if there is one.
+    /// The number of 64-bit words of the own memory: at most `MOST_MEMORY_WORDS`, and the same in each superstep.
+    pub fn memory_len(&self) -> u64
+        ensures len { result ≡ length self.now.memory }
+        ensures same { result ≡ length self.now.view.memory }
+        ensures short { result ≤ MOST_MEMORY_WORDS }
+    {
+        self.memory.len() as u64
+    }
+
+    /// The word at `address` of the own memory as it is now, if there is one: exactly below `memory_len`.
     pub fn load(&self, address: u64) -> Option<u64>
-        ensures { result ≡ slice_get self.now.memory address }
+        ensures value { result ≡ slice_get self.now.memory address }
+        ensures within { IsSome result ↔ (address < length self.now.memory) }
+        ensures short { length self.now.memory ≤ MOST_MEMORY_WORDS }
     {
         self.memory.load(address)
     }
 
-    /// The tag size in force in this superstep, in words.
+    /// The tag size in force in this superstep: at most `MOST_TAG_WORDS` words.
     pub fn tag_size(&self) -> u64
         ensures size { result ≡ self.now.view.tag_size }
-        ensures small { result ≤ 16 }
+        ensures small { result ≤ MOST_TAG_WORDS }
     {
         let view = self.view;
         view.tag_size

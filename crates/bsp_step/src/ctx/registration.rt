@@ -6,19 +6,20 @@ ghost use Rattle.bsp_step.specs.Calls.{Performs};
 
 use crate::{Ctx, Stop};
 use bsp_model::Fault;
+use bsp_model::limits::MOST_REQUESTS;
 use bsp_table::Area;
 
 impl<'v> Ctx<'v> {
     /// Registers `len` words of the own memory from `start` on (`bsp_push_reg`). The k-th pushes of all processes form one slot at the end of the superstep.
     ///
-    /// Faults, in order: F8 `TooManyRequests` where 1,024 stand; F5 `BadLocal` where `start` plus `len` exceeds the own memory.
+    /// Faults, in order: F8 `TooManyRequests` where `MOST_REQUESTS` stand; F5 `BadLocal` where `start` plus `len` exceeds the own memory.
     pub fn push_reg(&mut self, start: u64, len: u64) -> Result<(), Stop>
         ensures { Performs self.old (act.push_reg start len) self.new result }
     {
         if let Some(fault) = self.fault {
             return Err(Stop::Fault(fault));
         }
-        if self.count_of_requests() >= 1024 {
+        if self.count_of_requests() >= MOST_REQUESTS {
             return self.refuse(Fault::TooManyRequests);
         }
         let words = self.memory.len() as u64;
@@ -32,14 +33,14 @@ impl<'v> Ctx<'v> {
     /// Takes the newest slot whose own area starts at `start`, and that was not popped in this turn, out of the table, at the end of the
     /// superstep (`bsp_pop_reg`). It never takes out what is pushed in the same superstep.
     ///
-    /// Faults, in order: F8 `TooManyRequests` where 1,024 stand; F3 `NotRegistered` where there is no such slot.
+    /// Faults, in order: F8 `TooManyRequests` where `MOST_REQUESTS` stand; F3 `NotRegistered` where there is no such slot.
     pub fn pop_reg(&mut self, start: u64) -> Result<(), Stop>
         ensures { Performs self.old (act.pop_reg start) self.new result }
     {
         if let Some(fault) = self.fault {
             return Err(Stop::Fault(fault));
         }
-        if self.count_of_requests() >= 1024 {
+        if self.count_of_requests() >= MOST_REQUESTS {
             return self.refuse(Fault::TooManyRequests);
         }
         let view = self.view;

@@ -6,6 +6,7 @@ ghost use Rattle.bsp_step.specs.Perform.{target_area};
 ghost use Rattle.bsp_step.specs.Calls.{Performs};
 
 use crate::{Ctx, Stop};
+use bsp_model::limits::MOST_REQUESTS;
 use bsp_model::{Fault, Get, Put, Words};
 use bsp_table::Area;
 
@@ -23,7 +24,7 @@ impl<'v> Ctx<'v> {
     /// Asks that the words be written to process `pid`, at `offset` of its area in the newest slot whose own area starts at `area` (`bsp_put`).
     /// They are copied now, and arrive at the end of the superstep.
     ///
-    /// Faults, in order: F8 `TooManyRequests` where 1,024 stand; F2 `BadPid`; F3 `NotRegistered` where no slot has `area` as own start;
+    /// Faults, in order: F8 `TooManyRequests` where `MOST_REQUESTS` stand; F2 `BadPid`; F3 `NotRegistered` where no slot has `area` as own start;
     /// F4 `OutOfArea` where `offset` plus the number of words exceeds the target's area.
     pub fn put(&mut self, pid: u64, words: &[u64], area: u64, offset: u64) -> Result<(), Stop>
         ensures { Performs self.old (act.put pid words.now area offset) self.new result }
@@ -31,7 +32,7 @@ impl<'v> Ctx<'v> {
         if let Some(fault) = self.fault {
             return Err(Stop::Fault(fault));
         }
-        if self.count_of_requests() >= 1024 {
+        if self.count_of_requests() >= MOST_REQUESTS {
             return self.refuse(Fault::TooManyRequests);
         }
         if pid >= self.nprocs() {
@@ -63,7 +64,7 @@ impl<'v> Ctx<'v> {
         if let Some(fault) = self.fault {
             return Err(Stop::Fault(fault));
         }
-        if self.count_of_requests() >= 1024 {
+        if self.count_of_requests() >= MOST_REQUESTS {
             return self.refuse(Fault::TooManyRequests);
         }
         if pid >= self.nprocs() {

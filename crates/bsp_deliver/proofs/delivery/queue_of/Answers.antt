@@ -1,6 +1,8 @@
 use Rattle.std.proofs.Common.{◌≡◌, ◌==◌, ◌+◌, ◌++◌, ◌∙◌, ap, sym, arith, map, filter, List, subst}
+use Rattle.std.proofs.lemmas.Result.{IfOk-weaker}
 use Rattle.bsp_model.specs.declared.request.Send.{Send}
 use Rattle.bsp_model.specs.declared.request.Message.{Message}
+use Rattle.bsp_step.specs.ViewParts.{IsQueue}
 use Rattle.bsp_step.specs.OutcomeParts.{OutcomeParts, IsOutcome}
 use Rattle.bsp_deliver.specs.Requests.{all_sends}
 use Rattle.bsp_deliver.specs.Delivery.{message_of}
@@ -9,7 +11,9 @@ use Rattle.bsp_deliver.proofs.Queues.{IsQueueOf, no_senders, sender_more, queue_
 use Rattle.bsp_deliver.proofs.delivery.queue_of.Goals as goal
 
 pub returns-clause-limits : goal.returns-clause-limits
-returns-clause-limits c = queue_of_few c.loop-outcome.outcome-index c.loop-outcome.queue (omega (arith, c.requires)) c.loop-outcome.invariant.limits
+returns-clause-limits c =
+    let few = queue_of_few c.loop-outcome.outcome-index c.loop-outcome.queue (omega (arith, c.requires)) c.loop-outcome.invariant.limits in
+    IfOk-weaker c.share.result (λ (q : List Message). q ≡ c.loop-outcome.queue) IsQueue (λ q same. subst IsQueue (sym same) few) c.share.ensures
 
 pub loop-outcome-init : goal.loop-outcome-init
 unfolding all_sends

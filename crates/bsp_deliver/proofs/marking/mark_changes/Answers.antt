@@ -1,17 +1,20 @@
-use Rattle.std.proofs.Common.{◌≡◌, ◌==◌, Bool, take, filter, ap, sym, ◌∙◌, arith}
+use Rattle.std.proofs.Common.{◌≡◌, ℕ, ◌-◌, length, ◌==◌, Bool, List, filter, take, drop, ap, sym, ◌∙◌, subst}
 use Rattle.std.proofs.lemmas.List.{take_rest}
-use Rattle.bsp_deliver.proofs.Unmarked.{unmarked_before, same_up_to}
+use Rattle.bsp_deliver.specs.Marks.{AreMarkedUnless}
+use Rattle.bsp_deliver.proofs.Aligned.{aligned_apart}
+use Rattle.bsp_deliver.proofs.Unmarked.{marked_twice}
 use Rattle.bsp_deliver.proofs.marking.mark_changes.Goals as goal
 
-pub returns-clause-marked : goal.returns-clause-marked
-returns-clause-marked g c d f =
-    let to : g.row.R.Denot → Bool = λ r. g.R.Addressed.addressee r == d in
-    let n = c.min-shared.result in
+pub returns : goal.returns
+returns g c =
+    let to = g.R.Addressed.addressee in
     let old = c.args.old.now in let new = c.args.new.now in
-    let all : c.loop-i.i ≡ n = omega (arith, c.loop-i-test.false, c.loop-i.auto.i-end) in
-    let halfway = unmarked_before c.mark_addressees.new.marks c.mark_addressees-2.new.marks d c.mark_addressees-2.ensures.more f in
-    let early = unmarked_before c.loop-i.marks c.mark_addressees.new.marks d c.mark_addressees.ensures.more halfway in
-    same_up_to to old new n
-    (ap (λ k. filter to (take k old)) (sym all) ∙ c.loop-i.invariant.marked d early ∙ ap (λ k. filter to (take k new)) all)
-    (ap (filter to) (sym (take_rest old n)) ∙ c.mark_addressees.ensures.marked d halfway)
-    (ap (filter to) (sym (take_rest new n)) ∙ c.mark_addressees-2.ensures.marked d f)
+    let n : ℕ = c.mark_aligned-aligned.result in
+    let first = c.mark_aligned-aligned.new.marks in
+    let both = c.mark_unaligned.new.marks in
+    let rest =
+    subst (λ ns. AreMarkedUnless (λ d. filter (λ r. to r == d) (drop n old) ≡ filter (λ r. to r == d) ns) first both) (take_rest new n)
+    (subst (λ os. AreMarkedUnless (λ d. filter (λ r. to r == d) os ≡ filter (λ r. to r == d) (take (length new - n) (drop n new))) first both) (take_rest old n) c.mark_unaligned.ensures) in
+    marked_twice (λ d. filter (λ r. to r == d) (take n old) ≡ filter (λ r. to r == d) (take n new)) (λ d. filter (λ r. to r == d) (drop n old) ≡ filter (λ r. to r == d) (drop n new))
+    (λ d. filter (λ r. to r == d) old ≡ filter (λ r. to r == d) new) c.args.marks.now first both
+    c.mark_aligned-aligned.ensures.marked rest (λ d f. aligned_apart to d n old new c.mark_aligned-aligned.ensures.aligned)

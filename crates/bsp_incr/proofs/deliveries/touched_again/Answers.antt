@@ -1,24 +1,23 @@
-use Rattle.std.proofs.Common.{◌≡◌, ◌<◌, ◌∙◌, ◌++◌, ◌∷◌, [], ℕ, Bool, true, false, List, length, get_or, sym, ap, arith}
-use Rattle.std.proofs.lemmas.List.{get_or_default}
+use Rattle.std.proofs.Common.{◌≡◌, ◌<◌, ◌∙◌, ℕ, List, length, ap, arith}
+use Rattle.bsp_step.specs.OutcomeParts.{OutcomeParts}
 use Rattle.bsp_deliver.specs.Requests.{each_below}
-use Rattle.bsp_run.proofs.Lists.{each_below_more}
+use Rattle.bsp_deliver.specs.Delivery.{delivery_parts}
+use Rattle.bsp_deliver.specs.SameDelivery.{same_delivery}
+use Rattle.bsp_deliver.specs.Touched.{outcomes_before, depends_on_other}
+use Rattle.bsp_deliver.proofs.SameDelivery.{Decides-delivery}
 use Rattle.bsp_incr.specs.Changes.{is_touched}
+use Rattle.bsp_incr.proofs.Gathering.{map_from}
+use Rattle.bsp_incr.proofs.Propagation.{touched_from_decides}
 use Rattle.bsp_incr.proofs.deliveries.touched_again.Goals as goal
 
-pub is_touched-is_touched-requires-clause-considered : goal.is_touched-is_touched-requires-clause-considered
-is_touched-is_touched-requires-clause-considered c = λ h.
-    let marks : List Bool = c.in_ok-considered.considered.items in
-    let d : ℕ = c.loop-d.d in
-    let here : d < length c.args.new.now = c.loop-d-test.true in
-    let long : length marks ≡ length c.args.new.now = c.in_ok-considered.ensures.count in
-    let clean : get_or marks d true ≡ false = get_or_default marks d true c.index-is_considered.result.now (omega arith) ∙ sym c.index-is_considered.ensures ∙ h in
-    c.in_ok-considered.ensures.rest d here clean
+-- where each process had a delivery before, it is touched where that depended on something else
+touched_where_other : (old new : List OutcomeParts) → length old ≡ length new → each_below (length new) (depends_on_other old new) ≡ each_below (length new) (is_touched old new)
+touched_where_other old new long =
+    map_from (depends_on_other old new) (is_touched old new) 0 (length new)
+    (λ d low high. touched_from_decides old new d (same_delivery (delivery_parts old d) (delivery_parts new d)) (omega (arith, high, long)) (Decides-delivery (delivery_parts old d) (delivery_parts new d)))
 
-pub loop-d-preserved : goal.loop-d-preserved
-loop-d-preserved c =
-    let test : ℕ → Bool = is_touched c.args.old.now c.args.new.now in
-    let d : ℕ = c.loop-d.d in
-    c.in_ok-push.ensures.items
-    ∙ ap (λ (bs : List Bool). bs ++ c.is_touched-is_touched.result ∷ []) c.loop-d.invariant
-    ∙ ap (λ (b : Bool). each_below d test ++ b ∷ []) c.is_touched-is_touched.ensures
-    ∙ sym (each_below_more test d)
+pub returns : goal.returns
+returns c =
+    let old = c.args.old.now in let new = c.args.new.now in
+    let before = ap (λ fs. outcomes_before fs new) c.as_slice.ensures.value ∙ c.in_ok-formers.ensures.before in
+    c.in_ok-touched_by_changes.ensures ∙ ap (λ os. each_below (length new) (depends_on_other os new)) before ∙ touched_where_other old new c.requires.count

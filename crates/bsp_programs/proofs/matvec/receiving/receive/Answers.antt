@@ -5,7 +5,7 @@ use Rattle.bsp_step.specs.Act.{move_into}
 use Rattle.bsp_step.specs.Queue.{first_words}
 use Rattle.bsp_programs.specs.MatVec.{matvec_receiving, stores, stored}
 use Rattle.bsp_step.proofs.Running.{RunStops-left_part}
-use Rattle.bsp_programs.proofs.Continuing.{Continues-same, Continues-after}
+use Rattle.bsp_step.proofs.Continuing.{Continues-same, Continues-after}
 use Rattle.bsp_programs.proofs.Multiplying.{matvec_receiving-block}
 use Rattle.bsp_programs.proofs.matvec.receiving.receive.Goals as goal
 

@@ -1,6 +1,6 @@
 use Rattle.std.proofs.Common.{length}
 use Rattle.bsp_programs.specs.MatVec.{matvec_receiving}
-use Rattle.bsp_programs.proofs.Continuing.{Continues}
+use Rattle.bsp_step.proofs.Continuing.{Continues}
 use Rattle.bsp_programs.proofs.matvec.receiving.receive.Given as goal
 
 abbrev pub invariant-loop-ctx : goal.invariant-loop-ctx

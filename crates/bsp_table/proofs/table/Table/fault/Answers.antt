@@ -15,8 +15,8 @@ overflow_sub-kept g c =
     let here : AreSlots c.args.self.now (g.R.Registers.pops x) = subst (λ r. AreSlots c.args.self.now (g.R.Registers.pops r)) (sym c.index-all-0.is) (c.requires.slots 0 x c.requires.some) in
     omega (arith, length-kept_slots c.args.self.now (g.R.Registers.pops x) here, ap length c.pops.ensures, c.len.ensures)
 
-pub returns-then-saturating_add-gt256 : goal.returns-then-saturating_add-gt256
-returns-then-saturating_add-gt256 g c =
+pub returns-then-saturating_add-gt-MOST_SLOTS : goal.returns-then-saturating_add-gt-MOST_SLOTS
+returns-then-saturating_add-gt-MOST_SLOTS g c =
     let x = c.index-all-0.result in
     let here : AreSlots c.args.self.now (g.R.Registers.pops x) = subst (λ r. AreSlots c.args.self.now (g.R.Registers.pops r)) (sym c.index-all-0.is) (c.requires.slots 0 x c.requires.some) in
     counts_agree c.args.self.now g.R.Registers.pops g.R.Registers.pushes c.args.all.now x true c.requires.some c.index-all-0.is here

@@ -1,0 +1,7 @@
+use Rattle.std.proofs.Common.{◌≡◌, ◌<◌, ◌==◌, filter}
+use Rattle.bsp_deliver.specs.Marks.{AreMarkedUnless}
+use Rattle.bsp_deliver.proofs.marking.mark_unaligned.Given as goal
+
+-- of the processes so far those are marked to which the requests differ
+abbrev pub invariant-loop-d : goal.invariant-loop-d
+invariant-loop-d g l = AreMarkedUnless (λ k. k < l.d → filter (λ r. g.R.Addressed.addressee r == k) l.old ≡ filter (λ r. g.R.Addressed.addressee r == k) l.new) l.initial.marks l.marks

@@ -1,0 +1,22 @@
+use Rattle.std.proofs.Common.{◌≡◌, ℕ, List, Bool, false, length, replicate, sym, ap, ◌∙◌, subst}
+use Rattle.std.proofs.lemmas.List.{with_items_is, length-replicate}
+use Rattle.bsp_deliver.specs.Delivery.{delivery_parts}
+use Rattle.bsp_deliver.specs.Marks.{AreMarkedUnless}
+use Rattle.bsp_deliver.specs.Touched.{outcomes_before}
+use Rattle.bsp_deliver.proofs.TouchedMarks.{marks_decide}
+use Rattle.bsp_deliver.proofs.touched.touched_by_changes.Goals as goal
+
+pub mark_touched-requires-clause-marks : goal.mark_touched-requires-clause-marks
+mark_touched-requires-clause-marks c =
+    let n = length c.args.outcomes.now in
+    ap (λ (bs : List Bool). length bs) (c.as_mut_slice.ensures.value ∙ c.in_ok-touched.ensures.items_if_clones_equal (λ y h. h)) ∙ length-replicate n false
+
+pub returns : goal.returns
+returns c =
+    let us = c.args.outcomes.now in
+    let os = outcomes_before c.args.formers.now us in
+    let marks = c.mark_touched.new.marks in
+    let none : c.as_mut_slice.result.now ≡ replicate (length us) false = c.as_mut_slice.ensures.value ∙ c.in_ok-touched.ensures.items_if_clones_equal (λ y h. h) in
+    let long = c.mark_touched.ensures.count ∙ c.as_mut_slice.ensures.len in
+    with_items_is c.in_ok-touched.touched marks long
+    ∙ marks_decide os us (length us) marks (subst (λ (bs : List Bool). AreMarkedUnless (λ d. delivery_parts os d ≡ delivery_parts us d) bs marks) none c.mark_touched.ensures)

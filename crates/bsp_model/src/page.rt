@@ -1,0 +1,149 @@
+//! A page of a memory, which several memories may share.
+
+ghost use Rattle.std.specs.Prelude.{◌≡◌, ◌+◌, ◌≤◌, ◌<◌, ◌++◌, ◌↔◌, IsTrue, IfOk, OnOk, OnErr, length, take, drop, slice_index, slice_set};
+
+use crate::{OutOfMemory, TryCopy};
+use std::alloc::{AllocError, Global};
+use std::marker::Model;
+use std::sync::Arc;
+
+/// How many words a page has.
+pub const WORDS_OF_A_PAGE: usize = 64;
+
+/// A page of 64 words. Its copies share them.
+#[derive(Debug, Drop)]
+pub struct Page {
+    words: Arc<[u64; WORDS_OF_A_PAGE], Global>,
+}
+
+impl Model for Page {
+    ghost use Rattle.std.specs.Prelude.{◌≡◌, List, ℕ, length};
+    ghost use Rattle.std.specs.Arc.{arc_value};
+
+    ghost Value = { List ℕ };
+
+    ghost view = { λ p. arc_value p.words };
+
+    ghost invariant = { λ p. length (arc_value p.words) ≡ 64 };
+}
+
+/// Makes `words` the words of a list from `start` on.
+pub fn replace_words(all: &mut [u64], start: usize, words: &[u64])
+    requires { start + length words.now ≤ length all.old }
+    ensures { all.new ≡ take start all.old ++ words.now ++ drop (start + length words.now) all.old }
+{
+    all[start..start + words.len()].copy_from_slice(words);
+}
+
+impl Page {
+    /// A page of these words.
+    pub fn new(alloc: Global, words: [u64; WORDS_OF_A_PAGE]) -> Result<Page, OutOfMemory>
+        ensures { IfOk result (λ p. p ≡ words) }
+    {
+        match Arc::new(alloc, words) {
+            Ok(words) => Ok(Page { words }),
+            Err(_) => Err(AllocError),
+        }
+    }
+
+    /// The words.
+    fn as_slice(&self) -> &[u64]
+        ensures words { result.now ≡ self.now }
+        ensures len { length self.now ≡ WORDS_OF_A_PAGE }
+    {
+        let words: &[u64; WORDS_OF_A_PAGE] = &self.words;
+        words.as_slice()
+    }
+
+    /// Whether two pages have the same words.
+    pub fn is_same(&self, other: &Page) -> bool
+        ensures same { IsTrue result ↔ (self.now ≡ other.now) }
+        ensures len { length self.now ≡ WORDS_OF_A_PAGE }
+        ensures other_len { length other.now ≡ WORDS_OF_A_PAGE }
+    {
+        self.as_slice() == other.as_slice()
+    }
+
+    /// The word at a place.
+    pub fn load(&self, place: usize) -> u64
+        requires { place < WORDS_OF_A_PAGE }
+        ensures { result ≡ slice_index self.now place }
+    {
+        let words: &[u64; WORDS_OF_A_PAGE] = &self.words;
+        words[place]
+    }
+
+    /// A page of these words, but for one.
+    #[inline(never)]
+    fn with_word(&self, alloc: Global, place: usize, value: u64) -> Result<Page, OutOfMemory>
+        requires { place < WORDS_OF_A_PAGE }
+        ensures word { IfOk result (λ p. p ≡ slice_set self.now place value) }
+        ensures len { length self.now ≡ WORDS_OF_A_PAGE }
+    {
+        let mut words: [u64; WORDS_OF_A_PAGE] = *self.words;
+        words[place] = value;
+        Page::new(alloc, words)
+    }
+
+    /// A page of these words, but for those from `start` on, which are `words`.
+    #[inline(never)]
+    pub fn with_words(
+        &self,
+        alloc: Global,
+        start: usize,
+        words: &[u64],
+    ) -> Result<Page, OutOfMemory>
+        requires { start + length words.now ≤ WORDS_OF_A_PAGE }
+        ensures words { IfOk result (λ p. p ≡ take start self.now ++ words.now ++ drop (start + length words.now) self.now) }
+        ensures len { length self.now ≡ WORDS_OF_A_PAGE }
+    {
+        let mut all: [u64; WORDS_OF_A_PAGE] = *self.words;
+        replace_words(&mut all, start, words);
+        Page::new(alloc, all)
+    }
+
+    /// Makes `value` the word at a place: in place where nobody shares the page, else in a new page. After `OutOfMemory` nothing has changed.
+    pub fn store(&mut self, alloc: Global, place: usize, value: u64) -> Result<(), OutOfMemory>
+        requires { place < WORDS_OF_A_PAGE }
+        ensures ok { OnOk result (self.new ≡ slice_set self.old place value) }
+        ensures err { OnErr result (self.new ≡ self.old) }
+        ensures len { length self.old ≡ WORDS_OF_A_PAGE }
+    {
+        match Arc::get_mut(&mut self.words) {
+            Some(words) => {
+                words[place] = value;
+            }
+            None => {
+                *self = self.with_word(alloc, place, value)?;
+            }
+        }
+        Ok(())
+    }
+
+    /// Makes `words` the words from `start` on: in place where nobody shares the page, else in a new page. After `OutOfMemory` nothing has
+    /// changed.
+    pub fn write(&mut self, alloc: Global, start: usize, words: &[u64]) -> Result<(), OutOfMemory>
+        requires { start + length words.now ≤ WORDS_OF_A_PAGE }
+        ensures ok { OnOk result (self.new ≡ take start self.old ++ words.now ++ drop (start + length words.now) self.old) }
+        ensures err { OnErr result (self.new ≡ self.old) }
+        ensures len { length self.old ≡ WORDS_OF_A_PAGE }
+    {
+        match Arc::get_mut(&mut self.words) {
+            Some(all) => {
+                replace_words(all, start, words);
+            }
+            None => {
+                *self = self.with_words(alloc, start, words)?;
+            }
+        }
+        Ok(())
+    }
+}
+
+impl TryCopy for Page {
+    fn copy(&self) -> Result<Page, OutOfMemory> {
+        Ok(Page {
+            words: Arc::try_clone(&self.words)?,
+        })
+    }
+}
