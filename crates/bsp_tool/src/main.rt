@@ -1,100 +1,57 @@
-//! Runs the job of a document on standard input, and writes the report to standard output.
-//!
-//! Where there is no report, a fault line goes to standard error, and the exit status is 1 (the machine failed), 2 (the command line is refused)
-//! or 3 (the document is refused).
+//! Runs the job of a document on standard input, whose program is one of the bundled programs, and writes the report to standard output.
 #![tactic(auto)]
 
-ghost use Rattle.std.specs.Prelude.{◌≤◌, IfOk};
-
-mod counting;
-mod engine;
-mod errors;
-mod flow;
-mod jobs;
-mod lines;
-mod options;
-mod reading;
-mod reporting;
-mod running;
-#[cfg(test)]
-mod tests;
-mod writing;
-
-use bsp_pool::Open;
-use counting::Counted;
-use errors::EngineError;
-use options::{Options, read_options, words_status};
-use std::alloc::Global;
-use std::env::Env;
+use bsp_engine::{ByName, Named, Tool, run_tool};
+use bsp_programs::Bundled;
 use std::process::ExitCode;
-use std::{env, io};
 
-/// The words of the command line, the program's name first.
-fn given_words<R: Env + Alloc<A = Global>>(rt: &R) -> io::Result<Vec<String>> {
-    Ok(env::args(rt)?.collect(rt.alloc())?)
-}
+/// The bundled programs by their names.
+struct BundledPrograms;
 
-/// What they ask for.
-fn wanted_options(alloc: Global, words: &[String]) -> Result<Options, clap::Error>
-    ensures least { IfOk result (λ o. 1 ≤ o.workers) }
-    ensures most { IfOk result (λ o. o.workers ≤ 16) }
-{
-    let mut texts = Vec::with_capacity(alloc, words.len())?;
-    for word in words {
-        texts.push(word.as_str())?;
+impl ByName for BundledPrograms {
+    ghost use Rattle.bsp_programs.specs.Bundled.{program_named};
+
+    type Program = Bundled;
+
+    ghost named = { program_named };
+
+    fn by_name(name: &str) -> Option<Bundled> {
+        Bundled::by_name(name)
     }
-    read_options(alloc, texts.as_slice())
 }
 
-/// Says on standard error that memory was refused.
-fn out_of_memory<R: Eprint>(rt: &R) -> ExitCode {
-    let _ = eprintln!(rt; "{}", EngineError::OutOfMemory.line());
-    ExitCode::from(EngineError::OutOfMemory.status())
-}
+const ABOUT: &str =
+    "Runs a BSP program on the input of a document, and again after each batch of edits";
 
-/// Says why no words could be read: memory was refused, or one of them is not UTF-8.
-fn unread<R: Eprint>(rt: &R, error: io::Error) -> ExitCode {
-    if error.kind() == io::ErrorKind::OutOfMemory {
-        return out_of_memory(rt);
-    }
-    let _ = eprintln!(rt; "error: {error}");
-    ExitCode::from(2)
-}
+const AFTER_HELP: &str = "\
+It reads a TOML document from standard input, and writes a report to standard output: for the input, and
+for each batch, the memories at the end, the printed lines and the costs.
 
-/// Says why the words were refused, or what the help says.
-fn refused<R: Print + Eprint>(rt: &R, error: clap::Error) -> ExitCode {
-    let status = words_status(&error);
-    if status == 1 {
-        return out_of_memory(rt);
-    }
-    let _ = error.print(rt);
-    ExitCode::from(status)
-}
+Keys of the document:
+  program      broadcast, prefix, matvec or rank
+  limit, g, l  the most supersteps, the price of a word, the price of a synchronisation
+  memory       an array of words for each process
+  args         an array of arguments for each process (may be left out)
+  batches      batches of edits [\"word\", pid, addr, value], [\"arg\", pid, index, value],
+               [\"limit\", n], [\"prices\", g, l] (may be left out)
+
+Example:
+  program = \"prefix\"
+  limit = 16
+  g = 4
+  l = 10
+  memory = [[1, 0], [2, 0], [3, 0], [4, 0]]
+  batches = [[[\"word\", 3, 0, 5]]]
+
+The exit status is 0, or 1 after `fault read`, `fault write` or `fault memory`, 2 where the command line is
+refused, and 3 after `fault long` or `fault J1` to `fault J7`, where the document is.";
+
+const TOOL: Tool = Tool {
+    name: "bsp_tool",
+    about: ABOUT,
+    after_help: AFTER_HELP,
+};
 
 fn main(rt: HostRuntime) -> ExitCode {
-    let words = match given_words(&rt) {
-        Ok(words) => words,
-        Err(error) => return unread(&rt, error),
-    };
-    let options = match wanted_options(rt.alloc(), words.as_slice()) {
-        Ok(options) => options,
-        Err(error) => return refused(&rt, error),
-    };
-    let mut reader = Counted::new(rt.reader());
-    let mut writer = Counted::new(io::writer(&rt));
-    match engine::engine(
-        &rt,
-        rt.alloc(),
-        &mut reader,
-        &mut writer,
-        options.workers,
-        options.scratch,
-        &Open,
-    ) {
-        Ok(()) => ExitCode::SUCCESS,
-        Err(error) => {
-            let _ = eprintln!(rt; "{}", error.line());
-            ExitCode::from(error.status())
-        }
-    }
+    run_tool::<Named<BundledPrograms>, _>(&rt, &TOOL)
 }

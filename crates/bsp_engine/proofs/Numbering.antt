@@ -1,0 +1,40 @@
+-- Texts that grow by a piece for each item.
+use Rattle.std.proofs.Common.{◌≡◌, ℕ, ◌+◌, ◌<◌, List, [], ◌∷◌, ◌++◌, length, take, get_or, Some, Result, Ok, Err, OnOk, sym, ap, ◌∙◌, append_assoc, arith}
+use Rattle.std.specs.List.{flat_map, slice_get}
+use Rattle.std.proofs.lemmas.List.{append-nil, take_more, length-take-le, flat_map_more}
+use Rattle.std.proofs.lemmas.Option.{get_or_from_slice_get}
+use Rattle.bsp_engine.specs.Lines.{numbered}
+
+numbered-snoc : {A : Type 0} (piece : ℕ → A → List ℕ) (n : ℕ) (xs : List A) (x : A) → numbered piece n (xs ++ x ∷ []) ≡ numbered piece n xs ++ piece (n + length xs) x
+numbered-snoc piece n [] x = let here : n + 0 ≡ n = omega arith in rw here (append-nil (piece n x))
+numbered-snoc piece n (y ∷ xs) x =
+    let count : n + length (y ∷ xs) ≡ (n + 1) + length xs = omega arith in
+    rw count (ap (λ l. piece n y ++ l) (numbered-snoc piece (n + 1) xs x)
+    ∙ sym (append_assoc (piece n y) (numbered piece (n + 1) xs) (piece ((n + 1) + length xs) x)))
+
+-- a text that has a piece for each numbered item so far, and then one for the next
+pub numbered_grows : {A : Type 0} (piece : ℕ → A → List ℕ) (text old new : List ℕ) (xs : List A) (i : ℕ) (x : A) → i < length xs → x ≡ get_or xs i x → old ≡ text ++ numbered piece 0 (take i xs) → new ≡ old ++ piece i x → new ≡ text ++ numbered piece 0 (take (i + 1) xs)
+numbered_grows piece text old new xs i x h is so_far next =
+    let count : 0 + length (take i xs) ≡ i = omega (arith, length-take-le i xs (omega arith)) in
+    let more : numbered piece 0 (take (i + 1) xs) ≡ numbered piece 0 (take i xs) ++ piece i x =
+    ap (numbered piece 0) (take_more xs i x h ∙ ap (λ y. take i xs ++ y ∷ []) (sym is))
+    ∙ (numbered-snoc piece 0 (take i xs) x ∙ ap (λ (k : ℕ). numbered piece 0 (take i xs) ++ piece k x) count) in
+    next ∙ (ap (λ l. l ++ piece i x) so_far ∙ (append_assoc text (numbered piece 0 (take i xs)) (piece i x) ∙ ap (λ l. text ++ l) (sym more)))
+
+-- the same for pieces without a number
+pub pieces_grow : {A : Type 0} (piece : A → List ℕ) (text old new : List ℕ) (xs : List A) (i : ℕ) (x : A) → i < length xs → x ≡ get_or xs i x → old ≡ text ++ flat_map piece (take i xs) → new ≡ old ++ piece x → new ≡ text ++ flat_map piece (take (i + 1) xs)
+pieces_grow piece text old new xs i x h is so_far next =
+    next ∙ (ap (λ l. l ++ piece x) so_far ∙ (flat_map_more piece text (take i xs) x ∙ ap (λ l. text ++ flat_map piece l) (ap (λ y. take i xs ++ y ∷ []) is ∙ sym (take_more xs i x h))))
+
+-- what a list has at an index below its length
+pub found_at : {A : Type 0} (xs : List A) (i : ℕ) (x : A) → i < length xs → slice_get xs i ≡ Some x → x ≡ get_or xs i x
+found_at xs i x h is = sym (get_or_from_slice_get xs i x x is)
+
+-- two pieces, of which the last comes only at an `Ok`
+pub two_pieces : {X E : Type 0} (r : Result X E) (old a b one two : List ℕ) → one ≡ old ++ a → OnOk r (two ≡ one ++ b) → OnOk r (two ≡ old ++ (a ++ b))
+two_pieces (Ok x) old a b one two e f = f ∙ (ap (λ l. l ++ b) e ∙ append_assoc old a b)
+two_pieces (Err x) old a b one two e f = tt
+
+-- the same for three
+pub three_pieces : {X E : Type 0} (r : Result X E) (old a b c one two three : List ℕ) → one ≡ old ++ a → two ≡ one ++ b → OnOk r (three ≡ two ++ c) → OnOk r (three ≡ old ++ ((a ++ b) ++ c))
+three_pieces r old a b c one two three e f g = two_pieces r old (a ++ b) c two three (f ∙ (ap (λ l. l ++ b) e ∙ append_assoc old a b)) g

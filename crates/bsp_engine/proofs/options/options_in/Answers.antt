@@ -1,0 +1,12 @@
+use Rattle.std.proofs.Common.{◌∙◌, ap, codes}
+use Rattle.clap.specs.Words.{found_of}
+use Rattle.clap.proofs.WalkLemmas.{one_text-rows}
+use Rattle.bsp_engine.specs.Options.{workers_of, is_given}
+use Rattle.bsp_engine.proofs.options.options_in.Goals as goal
+
+pub returns : goal.returns
+returns c =
+    let found = found_of c.args.matches.now in
+    let workers = c.workers_in.ensures ∙ ap workers_of (one_text-rows found (codes "workers")) in
+    let scratch = c.scratch_in.ensures ∙ ap is_given (one_text-rows found (codes "scratch")) in
+    rw (workers, scratch)

@@ -1,0 +1,10 @@
+use Rattle.std.proofs.Common.{◌≡◌, subst, map, true}
+use Rattle.std.specs.Prelude.{IfErr}
+use Rattle.clap.specs.Words.{App, kind_of, takes}
+use Rattle.clap.specs.declared.error.kind.ErrorKind.TheVariants.{OutOfMemory}
+use Rattle.bsp_engine.proofs.options.read_matches.Goals as goal
+
+pub returns-clause-refused : goal.returns-clause-refused
+returns-clause-refused c =
+    subst (λ (a : App). IfErr c.try_get_matches_from.result (λ e. takes a (map (λ w. w.now) c.args.words.now) ≡ true → kind_of e ≡ OutOfMemory))
+    c.in_ok-command.ensures c.try_get_matches_from.ensures.passes

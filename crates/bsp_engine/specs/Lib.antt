@@ -1,0 +1,17 @@
+pub mod Catalogue
+pub mod Counting
+pub mod Faults
+pub mod Flow
+pub mod JobOf
+pub mod Keys
+pub mod Lines
+pub mod Naming
+pub mod Options
+pub mod Refusal
+pub mod Replies
+pub mod Report
+pub mod Signs
+pub mod Sizes
+pub mod Text
+pub mod Tree
+pub mod Values

@@ -1,0 +1,49 @@
+-- What the words of the command line ask for (this profile).
+use Rattle.std.specs.Prelude.{ℕ, Bool, false, ◌&&◌, nat_le, List, [], ◌∷◌, Option, Some, None, codes, pos, if◌then◌else◌}
+use Rattle.std.specs.Str.{bytes_eq}
+use Rattle.std.specs.Str.Parse.{digits_value, without_leading_plus}
+use Rattle.clap.specs.ValueTests.{is_numeral}
+use Rattle.clap.specs.Words.{App, Row, Rule, Text, new_app, new_rule, one_of, with_rule}
+use Rattle.clap.specs.declared.builder.action.ArgAction.TheVariants.{SetTrue}
+use Rattle.clap.specs.declared.builder.value_parser.ValueParser.TheVariants.{Signed}
+use Rattle.bsp_engine.specs.declared.options.Options.{Options}
+
+-- `--workers N`, from 1 to 16, 1 where absent
+abbrev pub workers_rule : Rule
+workers_rule = record (new_rule (codes "workers")) { long = Some (codes "workers"); value_names = 1; defaults = codes "1" ∷ []; parser = Some (Signed (pos 1) (pos 16)) }
+
+-- `--scratch`
+abbrev pub scratch_rule : Rule
+scratch_rule = record (new_rule (codes "scratch")) { long = Some (codes "scratch"); action = Some SetTrue }
+
+-- the command of a tool with this name: these two options
+abbrev pub tool_app : List ℕ → App
+tool_app name = with_rule (with_rule (new_app name) workers_rule) scratch_rule
+
+-- the number that a text writes
+abbrev pub number_of : Text → ℕ
+number_of text = digits_value 10 (without_leading_plus text)
+
+-- the text writes a number from 1 to 16
+abbrev pub is_workers_text : Text → Bool
+is_workers_text text = is_numeral (without_leading_plus text) && (nat_le 1 (number_of text) && nat_le (number_of text) 16)
+
+-- The number of workers that a text asks for, 1 where there is none. So counts any other text too, which the rule refuses.
+abbrev pub workers_of : Option Text → ℕ
+workers_of None = 1
+workers_of (Some text) = if is_workers_text text then number_of text else 1
+
+-- a number from 1 to 16, else 1
+abbrev pub number_or_1 : Option ℕ → ℕ
+number_or_1 None = 1
+number_or_1 (Some n) = if nat_le 1 n && nat_le n 16 then n else 1
+
+-- whether a flag was given
+abbrev pub is_given : Option Text → Bool
+is_given None = false
+is_given (Some text) = bytes_eq text (codes "true")
+
+-- the options that the matches of the words name, 1 and false where absent
+abbrev pub options_of : List Row → Options
+options_of rows =
+    record { workers = workers_of (one_of (codes "workers") rows); scratch = is_given (one_of (codes "scratch") rows) }

@@ -1,0 +1,25 @@
+-- What the engine writes for the bytes that it reads (this profile).
+use Rattle.std.specs.Prelude.{ℕ, Bool, List, length, Result, Ok, Err, nat_lt, if◌then◌else◌}
+use Rattle.bsp_model.specs.declared.fault.End.{End}
+use Rattle.bsp_step.specs.ViewParts.{ViewParts}
+use Rattle.bsp_step.specs.Act.{Act}
+use Rattle.bsp_engine.specs.declared.errors.JobFault.{JobFault}
+use Rattle.bsp_engine.specs.declared.errors.EngineError.{EngineError}
+use Rattle.bsp_engine.specs.declared.errors.EngineError.TheVariants.{TooLong, Job as Refused}
+use Rattle.bsp_engine.specs.declared.jobs.Job.{Job}
+use Rattle.bsp_engine.specs.declared.reading.TheConstants.{LIMIT}
+use Rattle.bsp_engine.specs.Catalogue.{Meaning}
+use Rattle.bsp_engine.specs.JobOf.{job_of}
+use Rattle.bsp_engine.specs.Replies.{replies_of}
+use Rattle.bsp_engine.specs.Text.{text_of}
+
+-- the text of the replies to a job
+abbrev pub job_report : {P : Type 0} → (P → ViewParts → List Act) → (P → ViewParts → End) → (P → ViewParts → ℕ → Bool) → Bool → Result (Job P) JobFault → Result (List ℕ) EngineError
+job_report acts ending looks scratch (Ok job) = Ok (text_of (replies_of acts ending looks scratch job))
+job_report acts ending looks scratch (Err fault) = Err (Refused fault)
+
+-- The report of a document, with or without updates, or why it has none: it is too long, or the first of J1 to J7. The catalogue's meaning says
+-- which program it names, and the acts, the endings and the footprints of programs what that does.
+abbrev pub report_of : {P : Type 0} → Meaning P → (P → ViewParts → List Act) → (P → ViewParts → End) → (P → ViewParts → ℕ → Bool) → Bool → List ℕ → Result (List ℕ) EngineError
+report_of meaning acts ending looks scratch bytes =
+    if nat_lt LIMIT (length bytes) then Err TooLong else job_report acts ending looks scratch (job_of meaning bytes)

@@ -1,0 +1,90 @@
+//! From the bytes of a document to the bytes of its report.
+
+ghost use Rattle.std.specs.Prelude.{◌≡◌, ◌≢◌, ◌<◌, ◌≤◌, ◌+◌, ◌-◌, ◌^◌, length, IfOk, OnOk, IfErr, IfSome, IsOkAnd, Ok, Err};
+ghost use Rattle.std.specs.Io.KnownBytes.{Appends, IsAtEnd};
+ghost use Rattle.bsp_engine.specs.Flow.{AppendsPrefix, TakesAtMost};
+ghost use Rattle.bsp_engine.specs.Refusal.{IfFault, IsErrorUnlessFailed};
+ghost use Rattle.bsp_engine.specs.Report.{report_of};
+
+use crate::catalogue::Catalogue;
+use crate::errors::{EngineError, JobError, JobFault};
+use crate::flow::{Sink, Source};
+use crate::jobs::read_job;
+use crate::reading::{LIMIT, read_all};
+use crate::reporting::report;
+use crate::running::replies_to;
+use crate::writing::write_text;
+use bsp_pool::Gate;
+use std::alloc::Global;
+use std::thread::Threads;
+
+/// The text of the report of a document, or why it has none.
+fn answer<C: Catalogue, R: Threads + Sync, G: Gate>(
+    rt: &R,
+    alloc: Global,
+    bytes: &[u8],
+    workers: usize,
+    scratch: bool,
+    gate: &G,
+) -> Result<Vec<u8>, JobError>
+    requires short { length bytes.now ≤ LIMIT }
+    requires workers { (0 < workers) × (workers ≤ 16) }
+    ensures ok { IfOk result (λ text. report_of C.meaning C.Program.acts C.Program.ending C.Program.looks scratch bytes.now ≡ Ok text.items) }
+    ensures fault { IfErr result (λ e. IfFault e (λ f. report_of C.meaning C.Program.acts C.Program.ending C.Program.looks scratch bytes.now ≡ Err (EngineError.Job f))) }
+{
+    let job = read_job::<C>(alloc, bytes)?;
+    let replies = replies_to(rt, alloc, job, workers, scratch, gate)?;
+    Ok(report(alloc, replies.as_slice())?)
+}
+
+/// Reads a document to its end, runs its job by 1 to 16 workers, and writes the report: all of it is made before the first write.
+///
+/// From scratch each input is run from its start on the calling thread, and the report has no updates.
+/// At most 16,777,217 bytes are taken from the reader, and more than 16,777,216 are `TooLong`.
+/// `Job` is answered where the bytes are no job, `Read` where a read failed, `Write` where a write failed or took no byte; then a beginning of
+/// the report went out. After every other error nothing was written.
+pub fn engine<C: Catalogue, R: Threads + Sync, S: Source, K: Sink, G: Gate>(
+    rt: &R,
+    alloc: Global,
+    reader: &mut S,
+    writer: &mut K,
+    workers: usize,
+    scratch: bool,
+    gate: &G,
+) -> Result<(), EngineError>
+    requires workers { (0 < workers) × (workers ≤ 16) }
+    requires source { S.failures reader.old < 2 ^ 64 - 1 }
+    requires sink { K.failures writer.old < 2 ^ 64 - 1 }
+
+    // The document's report went out, and nothing else.
+    ensures ok { OnOk result (IfSome (S.remaining reader.old) (λ bytes.
+        IsOkAnd (report_of C.meaning C.Program.acts C.Program.ending C.Program.looks scratch bytes) (λ text. Appends (K.contents writer.old) (K.contents writer.new) text))) }
+    ensures write { result ≡ Err EngineError.Write → IfSome (S.remaining reader.old) (λ bytes.
+        IsOkAnd (report_of C.meaning C.Program.acts C.Program.ending C.Program.looks scratch bytes) (λ text. AppendsPrefix (K.contents writer.old) (K.contents writer.new) text)) }
+    ensures nothing { IfErr result (λ e. e ≢ EngineError.Write → writer.new ≡ writer.old) }
+
+    // The document has none, for this very reason; and each document that has none is refused so, unless a read failed or memory was refused.
+    ensures long { result ≡ Err EngineError.TooLong → IfSome (S.remaining reader.old) (λ bytes.
+        report_of C.meaning C.Program.acts C.Program.ending C.Program.looks scratch bytes ≡ Err EngineError.TooLong) }
+    ensures job { (fault : JobFault) → result ≡ Err (EngineError.Job fault) → IfSome (S.remaining reader.old) (λ bytes.
+        report_of C.meaning C.Program.acts C.Program.ending C.Program.looks scratch bytes ≡ Err (EngineError.Job fault)) }
+    ensures refused { IfSome (S.remaining reader.old) (λ bytes.
+        (error : EngineError) → report_of C.meaning C.Program.acts C.Program.ending C.Program.looks scratch bytes ≡ Err error → IsErrorUnlessFailed result error) }
+
+    // All was read, and never more than one byte past the limit.
+    ensures end { OnOk result (IsAtEnd (S.remaining reader.new)) }
+    ensures taken { TakesAtMost (LIMIT + 1) (S.remaining reader.old) (S.remaining reader.new) }
+
+    // Failures are counted where they are answered.
+    ensures read_failed { result ≡ Err EngineError.Read → S.failures reader.new ≡ S.failures reader.old + 1 }
+    ensures read_calm { result ≢ Err EngineError.Read → S.failures reader.new ≡ S.failures reader.old }
+    ensures write_failed { result ≡ Err EngineError.Write → K.failures writer.new ≡ K.failures writer.old + 1 }
+    ensures write_calm { result ≢ Err EngineError.Write → K.failures writer.new ≡ K.failures writer.old }
+{
+    let bytes = read_all(alloc, reader)?;
+    let text = answer::<C, _, _>(rt, alloc, bytes.as_slice(), workers, scratch, gate)?;
+    match write_text(writer, text.as_slice()) {
+        Ok(()) => Ok(()),
+        Err(_) => Err(EngineError::Write),
+    }
+}

@@ -1,0 +1,139 @@
+//! Why a document has no report.
+
+ghost use Rattle.std.specs.Prelude.{◌≡◌};
+ghost use Rattle.bsp_engine.specs.declared.errors.JobError.TheVariants.{OutOfMemory as RefusedMemory};
+ghost use Rattle.bsp_engine.specs.Faults.{fault_line, exit_status};
+ghost use Rattle.bsp_engine.specs.Refusal.{job_error_of, read_error_of};
+
+use crate::reading::ReadError;
+use bsp_model::{InputFault, OutOfMemory};
+use thiserror::Error;
+
+/// Why a document is not a job: the first that holds, in this order (this profile).
+#[derive(Clone, Copy, Debug, PartialEq, Eq)]
+pub enum JobFault {
+    /// J1: the bytes are not a TOML document.
+    NotToml,
+    /// J2: a key that each document needs is absent.
+    MissingKey,
+    /// J3: a known key has a value of another shape, as an edit of another word or length.
+    WrongType,
+    /// J4: another key stands at the top.
+    UnknownKey,
+    /// J5: no program has this name.
+    UnknownProgram,
+    /// J6: a run may not start with the input, for this reason.
+    Input(InputFault),
+    /// J7: a word, an argument or a number of an edit is negative.
+    BadWord,
+}
+
+/// Why a document was not read as a job.
+#[derive(Clone, Copy, Debug, PartialEq, Eq, Error)]
+#[error("{}", EngineError::from(*self).line())]
+pub enum JobError {
+    /// It is none.
+    Fault(JobFault),
+    /// Memory was refused.
+    OutOfMemory,
+}
+
+impl From<OutOfMemory> for JobError {
+    ghost from_gives = { λ _ e. e ≡ RefusedMemory };
+
+    fn from(_error: OutOfMemory) -> JobError {
+        JobError::OutOfMemory
+    }
+}
+
+/// Why no report was written, or not all of it.
+#[derive(Clone, Copy, Debug, PartialEq, Eq, Error)]
+#[error("{}", self.line())]
+pub enum EngineError {
+    /// A read failed; nothing was written.
+    Read,
+    /// The document has more than 16,777,216 bytes; nothing was written.
+    TooLong,
+    /// The document is not a job; nothing was written.
+    Job(JobFault),
+    /// A write failed or took no byte; a beginning of the report was written.
+    Write,
+    /// Memory was refused; nothing was written.
+    OutOfMemory,
+}
+
+impl From<JobError> for EngineError {
+    ghost from_gives = { λ e r. r ≡ job_error_of e };
+
+    fn from(error: JobError) -> EngineError {
+        match error {
+            JobError::Fault(fault) => EngineError::Job(fault),
+            JobError::OutOfMemory => EngineError::OutOfMemory,
+        }
+    }
+}
+
+impl From<ReadError> for EngineError {
+    ghost from_gives = { λ e r. r ≡ read_error_of e };
+
+    fn from(error: ReadError) -> EngineError {
+        match error {
+            ReadError::Failed => EngineError::Read,
+            ReadError::TooLong => EngineError::TooLong,
+            ReadError::OutOfMemory => EngineError::OutOfMemory,
+        }
+    }
+}
+
+fn input_fault_line(fault: InputFault) -> &'static str
+    ensures { result.now ≡ fault_line (EngineError.Job (JobFault.Input fault)) }
+{
+    match fault {
+        InputFault::NoProcess => "fault J6 I1",
+        InputFault::TooMany => "fault J6 I2",
+        InputFault::LengthsDiffer => "fault J6 I3",
+        InputFault::MemoryTooLong => "fault J6 I4",
+        InputFault::ArgsTooLong => "fault J6 I5",
+        InputFault::BadLimit => "fault J6 I6",
+        InputFault::BadPrice => "fault J6 I7",
+    }
+}
+
+fn job_fault_line(fault: JobFault) -> &'static str
+    ensures { result.now ≡ fault_line (EngineError.Job fault) }
+{
+    match fault {
+        JobFault::NotToml => "fault J1",
+        JobFault::MissingKey => "fault J2",
+        JobFault::WrongType => "fault J3",
+        JobFault::UnknownKey => "fault J4",
+        JobFault::UnknownProgram => "fault J5",
+        JobFault::Input(fault) => input_fault_line(fault),
+        JobFault::BadWord => "fault J7",
+    }
+}
+
+impl EngineError {
+    /// The fault line, without its LF.
+    pub fn line(&self) -> &'static str
+        ensures { result.now ≡ fault_line self.now }
+    {
+        match *self {
+            EngineError::Read => "fault read",
+            EngineError::TooLong => "fault long",
+            EngineError::Job(fault) => job_fault_line(fault),
+            EngineError::Write => "fault write",
+            EngineError::OutOfMemory => "fault memory",
+        }
+    }
+
+    /// The exit status: 1 where the machine failed, 3 where the document is refused.
+    pub fn status(&self) -> u8
+        ensures { result ≡ exit_status self.now }
+    {
+        match self {
+            EngineError::Read | EngineError::Write | EngineError::OutOfMemory => 1,
+            EngineError::TooLong | EngineError::Job(_) => 3,
+        }
+    }
+}

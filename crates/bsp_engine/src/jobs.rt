@@ -1,0 +1,76 @@
+//! The job of a document.
+//!
+//! A document is read in this order: its tree (`tree`, J1), the keys and the shapes of their values (`keys`, `shapes`; J2 to J4), whether its
+//! keys say a program (J5), the sizes of the input (`sizes`, J6), and the signs of the numbers (`signs`, J7). Where it has no fault, and only
+//! then, its values are made (the catalogue's program, `inputs`, `batches`).
+
+mod batches;
+mod inputs;
+mod keys;
+mod shapes;
+mod signs;
+mod sizes;
+
+ghost use Rattle.std.specs.Prelude.{◌≡◌, IfOk, IfErr, None, Some, Ok, Err};
+ghost use Rattle.toml.specs.View.{table_view};
+ghost use Rattle.bsp_model.specs.Input.{input_fault};
+ghost use Rattle.bsp_engine.specs.Refusal.{IfFault};
+ghost use Rattle.bsp_engine.specs.JobOf.{job_of_tree, job_of};
+
+use crate::catalogue::Catalogue;
+use crate::errors::{JobError, JobFault};
+use crate::tree::read_tree;
+use batches::read_batches;
+use bsp_incr::Batch;
+use bsp_model::{Input, Seq};
+use inputs::read_input;
+use keys::key_fault;
+use signs::has_negative_word;
+use sizes::described_fault;
+use std::alloc::Global;
+use toml::Table;
+
+/// A program, its input, over which a run may start, and batches of edits.
+#[derive(Drop)]
+pub struct Job<P> {
+    /// The program.
+    pub program: P,
+    /// The input, which has none of the faults I1 to I7.
+    pub input: Input,
+    /// The batches of edits, in their order. What they name need not be there.
+    pub batches: Seq<Batch>,
+}
+
+fn job_in<C: Catalogue>(alloc: Global, table: &Table) -> Result<Job<C::Program>, JobError>
+    ensures ok { IfOk result (λ j. job_of_tree C.meaning (Some (table_view table.now)) ≡ Ok j) }
+    ensures lawful { IfOk result (λ j. input_fault j.input ≡ None) }
+    ensures fault { IfErr result (λ e. IfFault e (λ f. job_of_tree C.meaning (Some (table_view table.now)) ≡ Err f)) }
+{
+    if let Some(fault) = key_fault::<C>(table) {
+        return Err(JobError::Fault(fault));
+    }
+    if !C::names_program(table) {
+        return Err(JobError::Fault(JobFault::UnknownProgram));
+    }
+    if let Some(fault) = described_fault(table) {
+        return Err(JobError::Fault(JobFault::Input(fault)));
+    }
+    if has_negative_word::<C>(table) {
+        return Err(JobError::Fault(JobFault::BadWord));
+    }
+    Ok(Job {
+        program: C::program(alloc, table)?,
+        input: read_input(alloc, table)?,
+        batches: read_batches(alloc, table)?,
+    })
+}
+
+/// The job of a document, or the first of J1 to J7 that it has.
+pub fn read_job<C: Catalogue>(alloc: Global, bytes: &[u8]) -> Result<Job<C::Program>, JobError>
+    ensures ok { IfOk result (λ j. job_of C.meaning bytes.now ≡ Ok j) }
+    ensures lawful { IfOk result (λ j. input_fault j.input ≡ None) }
+    ensures fault { IfErr result (λ e. IfFault e (λ f. job_of C.meaning bytes.now ≡ Err f)) }
+{
+    let table = read_tree(alloc, bytes)?;
+    job_in::<C>(alloc, &table)
+}

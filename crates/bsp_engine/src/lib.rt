@@ -1,0 +1,32 @@
+//! From the bytes of a document to the bytes of its report, for any catalogue of programs, and the whole of a tool that does so.
+#![tactic(auto)]
+
+mod catalogue;
+mod counting;
+mod documents;
+mod errors;
+mod flow;
+mod jobs;
+mod lines;
+mod naming;
+mod options;
+mod reading;
+mod reporting;
+mod running;
+mod tool;
+pub mod tree;
+mod writing;
+
+pub use catalogue::Catalogue;
+pub use counting::Counted;
+pub use documents::engine;
+pub use errors::{EngineError, JobError, JobFault};
+pub use flow::{Failed, Sink, Source};
+pub use jobs::{Job, read_job};
+pub use naming::{ByName, Named};
+pub use options::{Options, Tool, read_options, words_status};
+pub use reporting::report;
+pub use tool::run_tool;
+
+#[cfg(test)]
+mod tests;

@@ -1,0 +1,128 @@
+//! The words of the command line.
+
+ghost use Rattle.std.specs.Prelude.{◌≡◌, ◌≢◌, ◌≤◌, IfOk, IfErr, codes, true, false, map};
+ghost use Rattle.clap.specs.Words.{app_of, found_of, kind_of, matches_of, one_text, rows_of, rule_of, takes};
+ghost use Rattle.bsp_engine.specs.Options.{is_given, number_or_1, options_of, scratch_rule, tool_app, workers_of, workers_rule};
+
+use clap::error::ErrorKind;
+use clap::{Arg, ArgAction, ArgMatches, Command, Error, value_parser};
+use std::alloc::{AllocError, Global};
+
+/// What the words ask for.
+#[derive(Clone, Copy, Debug, PartialEq, Eq)]
+pub struct Options {
+    /// How many workers share a session's work, 1 to 16.
+    pub workers: usize,
+    /// Whether each input is run from its start, on one thread.
+    pub scratch: bool,
+}
+
+/// A tool: how its command line is called, and what the help tells. The options are those of every tool.
+#[derive(Clone, Copy, Debug)]
+pub struct Tool {
+    /// The name of the program.
+    pub name: &'static str,
+    /// What the tool does, in a line.
+    pub about: &'static str,
+    /// What the help says below the options: what a document of the tool has, for example.
+    pub after_help: &'static str,
+}
+
+fn workers_arg<'a>(alloc: Global) -> Arg<'a>
+    ensures own { result.global ≡ false }
+    ensures rule { rule_of result ≡ workers_rule }
+{
+    Arg::new(alloc, "workers")
+        .long("workers")
+        .value_name("N")
+        .help("How many workers share the work, 1 to 16")
+        .value_parser(value_parser!(u8).range(1..=16))
+        .default_value("1")
+}
+
+fn scratch_arg<'a>(alloc: Global) -> Arg<'a>
+    ensures own { result.global ≡ false }
+    ensures rule { rule_of result ≡ scratch_rule }
+{
+    Arg::new(alloc, "scratch")
+        .long("scratch")
+        .help("Runs each edited input from its start, on one thread")
+        .action(ArgAction::SetTrue)
+}
+
+fn command<'a>(alloc: Global, tool: &Tool) -> Result<Command<'a>, AllocError>
+    ensures { IfOk result (λ c. app_of c ≡ tool_app tool.now.name.now) }
+{
+    Command::new(alloc, tool.name)
+        .about(tool.about)
+        .after_help(tool.after_help)
+        .arg(workers_arg(alloc))?
+        .arg(scratch_arg(alloc))
+}
+
+/// The number, if it is from 1 to 16, else 1.
+fn number_or_1(number: Option<u8>) -> usize
+    ensures { result ≡ number_or_1 number }
+{
+    match number {
+        Some(workers) if 1 <= workers && workers <= 16 => usize::from(workers),
+        _ => 1,
+    }
+}
+
+fn workers_in(matches: &ArgMatches<'_>) -> usize
+    ensures { result ≡ workers_of (one_text (found_of matches.now) (codes "workers")) }
+{
+    number_or_1(matches.get_one::<u8>("workers"))
+}
+
+fn scratch_in(matches: &ArgMatches<'_>) -> bool
+    ensures { result ≡ is_given (one_text (found_of matches.now) (codes "scratch")) }
+{
+    matches.get_one::<bool>("scratch").unwrap_or(false)
+}
+
+fn options_in(matches: &ArgMatches<'_>) -> Options
+    ensures { result ≡ options_of (rows_of (found_of matches.now)) }
+{
+    Options {
+        workers: workers_in(matches),
+        scratch: scratch_in(matches),
+    }
+}
+
+fn read_matches<'a>(
+    alloc: Global,
+    tool: &Tool,
+    words: &'a [&'a str],
+) -> Result<ArgMatches<'a>, Error>
+    ensures rows { IfOk result (λ m. rows_of (found_of m) ≡ matches_of (tool_app tool.now.name.now) (map (λ w. w.now) words.entry.now)) }
+    ensures refused { IfErr result (λ e. takes (tool_app tool.now.name.now) (map (λ w. w.now) words.entry.now) ≡ true → kind_of e ≡ ErrorKind.OutOfMemory) }
+{
+    command(alloc, tool)?.try_get_matches_from(words)
+}
+
+/// What the words ask for; the first word is the program's name. Words that the tool's options take are refused for want of memory alone. Others
+/// are refused as `clap` refuses them, and `--help` is such a refusal.
+pub fn read_options<'a>(alloc: Global, tool: &Tool, words: &'a [&'a str]) -> Result<Options, Error>
+    ensures options { IfOk result (λ o. o ≡ options_of (matches_of (tool_app tool.now.name.now) (map (λ w. w.now) words.entry.now))) }
+    ensures least { IfOk result (λ o. 1 ≤ o.workers) }
+    ensures most { IfOk result (λ o. o.workers ≤ 16) }
+    ensures refused { IfErr result (λ e. takes (tool_app tool.now.name.now) (map (λ w. w.now) words.entry.now) ≡ true → kind_of e ≡ ErrorKind.OutOfMemory) }
+{
+    let matches = read_matches(alloc, tool, words)?;
+    Ok(options_in(&matches))
+}
+
+/// The exit status where the words were refused: 0 where that is the help, 1 where memory was refused, else 2. It takes no memory.
+pub fn words_status(error: &Error) -> u8
+    ensures help { kind_of error.now ≡ ErrorKind.DisplayHelp → result ≡ 0 }
+    ensures memory { kind_of error.now ≡ ErrorKind.OutOfMemory → result ≡ 1 }
+    ensures refused { kind_of error.now ≢ ErrorKind.DisplayHelp → kind_of error.now ≢ ErrorKind.OutOfMemory → result ≡ 2 }
+{
+    match error.kind() {
+        ErrorKind::DisplayHelp => 0,
+        ErrorKind::OutOfMemory => 1,
+        _ => 2,
+    }
+}

@@ -1,0 +1,238 @@
+//! The text of a report.
+
+ghost use Rattle.std.specs.Prelude.{◌≡◌, ◌++◌, OnOk, IfOk};
+ghost use Rattle.std.specs.List.{flat_map};
+ghost use Rattle.bsp_engine.specs.Lines.{line, numbered};
+ghost use Rattle.bsp_engine.specs.Text.{fault_word, fault_numbers, process_fault_line, sync_fault_word, status_lines, memory_line, print_lines, cost_line, result_lines, counts_line, update_line, edit_fault_word, refusal_line, reply_lines, reply_block, text_of};
+
+use crate::lines::{push_field, push_line, push_long_line, push_memory};
+use bsp_incr::{EditFault, EditRefusal, Reply, Update};
+use bsp_model::{CostRow, Fault, Memory, OutOfMemory, SyncFault, Words};
+use bsp_run::{Lines, ProcessFault, RunResult, Status};
+use std::alloc::Global;
+
+fn fault_word(fault: Fault) -> &'static str
+    ensures { result.now ≡ fault_word fault }
+{
+    match fault {
+        Fault::Abort(_) => "F1",
+        Fault::BadPid(_) => "F2",
+        Fault::NotRegistered(_) => "F3",
+        Fault::OutOfArea => "F4",
+        Fault::BadLocal => "F5",
+        Fault::TagLength => "F6",
+        Fault::EmptyQueue => "F7",
+        Fault::TooManyRequests => "F8",
+        Fault::WorkLimit => "F9",
+        Fault::LineLimit => "F10",
+        Fault::TooLong => "F11",
+        Fault::BadTagSize => "F12",
+    }
+}
+
+/// Appends the fault's word, the number that belongs to it, and LF.
+fn end_fault_line(text: &mut Vec<u8>, fault: Fault) -> Result<(), OutOfMemory>
+    ensures { OnOk result (text.new.items ≡ text.old.items ++ line (fault_word fault) (fault_numbers fault)) }
+{
+    let word = fault_word(fault);
+    match fault {
+        Fault::Abort(number) | Fault::BadPid(number) | Fault::NotRegistered(number) => {
+            push_line(text, word, &[number])
+        }
+        _ => push_line(text, word, &[]),
+    }
+}
+
+fn push_fault(text: &mut Vec<u8>, fault: ProcessFault) -> Result<(), OutOfMemory>
+    ensures { OnOk result (text.new.items ≡ text.old.items ++ process_fault_line fault) }
+{
+    text.extend_from_slice(b"fault")?;
+    push_field(text, fault.pid)?;
+    text.push(b' ')?;
+    end_fault_line(text, fault.fault)
+}
+
+fn push_faults(text: &mut Vec<u8>, faults: &[ProcessFault]) -> Result<(), OutOfMemory>
+    ensures { OnOk result (text.new.items ≡ text.old.items ++ flat_map process_fault_line faults.now) }
+{
+    for fault in faults {
+        push_fault(text, *fault)?;
+    }
+    Ok(())
+}
+
+fn push_faulted(text: &mut Vec<u8>, step: u64, faults: &[ProcessFault]) -> Result<(), OutOfMemory>
+    ensures { OnOk result (text.new.items ≡ text.old.items ++ status_lines (Status.Faulted step faults.now)) }
+{
+    push_line(text, "status faulted", &[step])?;
+    push_faults(text, faults)
+}
+
+fn sync_fault_word(fault: SyncFault) -> &'static str
+    ensures { result.now ≡ sync_fault_word fault }
+{
+    match fault {
+        SyncFault::MixedEnd => "S1",
+        SyncFault::TagMismatch => "S2",
+        SyncFault::PopMismatch => "S3",
+        SyncFault::PushMismatch => "S4",
+        SyncFault::TooManySlots => "S5",
+    }
+}
+
+fn push_sync_fault(text: &mut Vec<u8>, step: u64, fault: SyncFault) -> Result<(), OutOfMemory>
+    ensures { OnOk result (text.new.items ≡ text.old.items ++ status_lines (Status.SyncFaulted step fault)) }
+{
+    text.extend_from_slice(b"status syncfault")?;
+    push_field(text, step)?;
+    text.push(b' ')?;
+    push_line(text, sync_fault_word(fault), &[])
+}
+
+fn push_status(text: &mut Vec<u8>, status: &Status) -> Result<(), OutOfMemory>
+    ensures { OnOk result (text.new.items ≡ text.old.items ++ status_lines status.now) }
+{
+    match status {
+        Status::Halted => text.extend_from_slice(b"status halted\n"),
+        Status::Limit => text.extend_from_slice(b"status limit\n"),
+        Status::Faulted { step, faults } => push_faulted(text, *step, faults.as_slice()),
+        Status::SyncFaulted { step, fault } => push_sync_fault(text, *step, *fault),
+    }
+}
+
+fn push_memory_line(text: &mut Vec<u8>, pid: u64, memory: &Memory) -> Result<(), OutOfMemory>
+    ensures { OnOk result (text.new.items ≡ text.old.items ++ memory_line pid memory.now) }
+{
+    text.extend_from_slice(b"memory")?;
+    push_field(text, pid)?;
+    push_memory(text, memory)?;
+    text.extend_from_slice(b"\n")
+}
+
+fn push_memories(text: &mut Vec<u8>, memories: &[Memory]) -> Result<(), OutOfMemory>
+    ensures { OnOk result (text.new.items ≡ text.old.items ++ numbered memory_line 0 memories.now) }
+{
+    for (pid, memory) in memories.iter().enumerate() {
+        push_memory_line(text, pid as u64, memory)?;
+    }
+    Ok(())
+}
+
+fn push_lines(text: &mut Vec<u8>, pid: u64, lines: &[Words]) -> Result<(), OutOfMemory>
+    ensures { OnOk result (text.new.items ≡ text.old.items ++ print_lines pid lines.now) }
+{
+    for words in lines {
+        push_long_line(text, "print", pid, words.as_slice())?;
+    }
+    Ok(())
+}
+
+fn push_all_lines(text: &mut Vec<u8>, lines: &[Lines]) -> Result<(), OutOfMemory>
+    ensures { OnOk result (text.new.items ≡ text.old.items ++ numbered print_lines 0 lines.now) }
+{
+    for (pid, lines) in lines.iter().enumerate() {
+        push_lines(text, pid as u64, lines.as_slice())?;
+    }
+    Ok(())
+}
+
+fn push_cost(text: &mut Vec<u8>, step: u64, row: &CostRow) -> Result<(), OutOfMemory>
+    ensures { OnOk result (text.new.items ≡ text.old.items ++ cost_line step row.now) }
+{
+    push_line(text, "cost", &[step, row.work, row.h, row.cost])
+}
+
+fn push_costs(text: &mut Vec<u8>, costs: &[CostRow]) -> Result<(), OutOfMemory>
+    ensures { OnOk result (text.new.items ≡ text.old.items ++ numbered cost_line 0 costs.now) }
+{
+    for (step, row) in costs.iter().enumerate() {
+        push_cost(text, step as u64, row)?;
+    }
+    Ok(())
+}
+
+fn push_result(text: &mut Vec<u8>, run: &RunResult) -> Result<(), OutOfMemory>
+    ensures { OnOk result (text.new.items ≡ text.old.items ++ result_lines run.now) }
+{
+    push_status(text, &run.status)?;
+    push_memories(text, run.memories.as_slice())?;
+    push_all_lines(text, run.lines.as_slice())?;
+    push_costs(text, run.costs.as_slice())?;
+    push_line(text, "total", &[run.total])
+}
+
+fn push_counts(text: &mut Vec<u8>, executed: u64, redelivered: u64) -> Result<(), OutOfMemory>
+    ensures { OnOk result (text.new.items ≡ text.old.items ++ counts_line executed redelivered) }
+{
+    text.extend_from_slice(b"executed")?;
+    push_field(text, executed)?;
+    text.push(b' ')?;
+    push_line(text, "redelivered", &[redelivered])
+}
+
+fn push_update(text: &mut Vec<u8>, update: &Update) -> Result<(), OutOfMemory>
+    ensures { OnOk result (text.new.items ≡ text.old.items ++ update_line (Some update.now)) }
+{
+    push_counts(
+        text,
+        update.executed.len() as u64,
+        update.redelivered.len() as u64,
+    )
+}
+
+fn edit_fault_word(fault: EditFault) -> &'static str
+    ensures { result.now ≡ edit_fault_word fault }
+{
+    match fault {
+        EditFault::NoSuchProcess => "E1",
+        EditFault::NoSuchWord => "E2",
+        EditFault::NoSuchArg => "E3",
+        EditFault::BadLimit => "E4",
+        EditFault::BadPrice => "E5",
+    }
+}
+
+fn push_refusal(text: &mut Vec<u8>, refusal: EditRefusal) -> Result<(), OutOfMemory>
+    ensures { OnOk result (text.new.items ≡ text.old.items ++ refusal_line refusal) }
+{
+    text.extend_from_slice(b"refused ")?;
+    text.extend_from_slice(edit_fault_word(refusal.fault).as_bytes())?;
+    text.push(b' ')?;
+    push_line(text, "at", &[refusal.place as u64])
+}
+
+fn push_reply(text: &mut Vec<u8>, reply: &Reply) -> Result<(), OutOfMemory>
+    ensures { OnOk result (text.new.items ≡ text.old.items ++ reply_lines reply.now) }
+{
+    match reply {
+        Reply::Done {
+            result: run,
+            update,
+        } => {
+            push_result(text, run)?;
+            match update {
+                Some(update) => push_update(text, update),
+                None => Ok(()),
+            }
+        }
+        Reply::Refused(refusal) => push_refusal(text, *refusal),
+    }
+}
+
+fn push_block(text: &mut Vec<u8>, number: u64, reply: &Reply) -> Result<(), OutOfMemory>
+    ensures { OnOk result (text.new.items ≡ text.old.items ++ reply_block number reply.now) }
+{
+    push_line(text, "run", &[number])?;
+    push_reply(text, reply)
+}
+
+/// The text of a report: for each reply a block of lines, which ends with LF.
+pub fn report(alloc: Global, replies: &[Reply]) -> Result<Vec<u8>, OutOfMemory>
+    ensures { IfOk result (λ text. text.items ≡ text_of replies.now) }
+{
+    let mut text = Vec::new(alloc);
+    for (number, reply) in replies.iter().enumerate() {
+        push_block(&mut text, number as u64, reply)?;
+    }
+    Ok(text)
+}

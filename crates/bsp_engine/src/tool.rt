@@ -1,0 +1,91 @@
+//! A whole tool: its command line, standard input, standard output and exit status.
+//!
+//! Where there is no report, a fault line goes to standard error, and the exit status is 1 (the machine failed), 2 (the command line is refused)
+//! or 3 (the document is refused).
+
+ghost use Rattle.std.specs.Prelude.{◌≤◌, IfOk};
+
+use crate::catalogue::Catalogue;
+use crate::counting::Counted;
+use crate::documents::engine;
+use crate::errors::EngineError;
+use crate::options::{Options, Tool, read_options, words_status};
+use bsp_pool::Open;
+use std::alloc::Global;
+use std::env::Env;
+use std::process::ExitCode;
+use std::thread::Threads;
+use std::{env, io};
+
+/// The words of the command line, the program's name first.
+fn given_words<R: Env + Alloc<A = Global>>(rt: &R) -> io::Result<Vec<String>> {
+    Ok(env::args(rt)?.collect(rt.alloc())?)
+}
+
+/// What they ask for.
+fn wanted_options(alloc: Global, tool: &Tool, words: &[String]) -> Result<Options, clap::Error>
+    ensures least { IfOk result (λ o. 1 ≤ o.workers) }
+    ensures most { IfOk result (λ o. o.workers ≤ 16) }
+{
+    let mut texts = Vec::with_capacity(alloc, words.len())?;
+    for word in words {
+        texts.push(word.as_str())?;
+    }
+    read_options(alloc, tool, texts.as_slice())
+}
+
+/// Says on standard error why there is no report, or not all of it.
+fn failed<R: Eprint>(rt: &R, error: EngineError) -> ExitCode {
+    let _ = eprintln!(rt; "{}", error.line());
+    ExitCode::from(error.status())
+}
+
+/// Says why no words could be read: memory was refused, or one of them is not UTF-8.
+fn unread<R: Eprint>(rt: &R, error: io::Error) -> ExitCode {
+    if error.kind() == io::ErrorKind::OutOfMemory {
+        return failed(rt, EngineError::OutOfMemory);
+    }
+    let _ = eprintln!(rt; "error: {error}");
+    ExitCode::from(2)
+}
+
+/// Says why the words were refused, or what the help says.
+fn refused<R: Print + Eprint>(rt: &R, error: clap::Error) -> ExitCode {
+    let status = words_status(&error);
+    if status == 1 {
+        return failed(rt, EngineError::OutOfMemory);
+    }
+    let _ = error.print(rt);
+    ExitCode::from(status)
+}
+
+/// All that a tool does: it reads the words of its command line, and then runs the job of the document on standard input, of which the report
+/// goes to standard output. The `main` of a tool hands on its runtime, and what this answers.
+pub fn run_tool<C: Catalogue, R: Env + Alloc<A = Global> + Input + Print + Eprint + Threads + Sync>(
+    rt: &R,
+    tool: &Tool,
+) -> ExitCode {
+    let words = match given_words(rt) {
+        Ok(words) => words,
+        Err(error) => return unread(rt, error),
+    };
+    let options = match wanted_options(rt.alloc(), tool, words.as_slice()) {
+        Ok(options) => options,
+        Err(error) => return refused(rt, error),
+    };
+    let mut reader = Counted::new(rt.reader());
+    let mut writer = Counted::new(io::writer(rt));
+    let Options { workers, scratch } = options;
+    match engine::<C, R, _, _, _>(
+        rt,
+        rt.alloc(),
+        &mut reader,
+        &mut writer,
+        workers,
+        scratch,
+        &Open,
+    ) {
+        Ok(()) => ExitCode::SUCCESS,
+        Err(error) => failed(rt, error),
+    }
+}

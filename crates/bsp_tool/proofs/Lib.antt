@@ -1,6 +1,0 @@
-pub mod Answering
-pub mod Described
-pub mod Flowing
-pub mod Numbering
-pub mod Optional
-pub mod Trees

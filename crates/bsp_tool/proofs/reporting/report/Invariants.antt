@@ -1,7 +1,0 @@
-use Rattle.std.proofs.Common.{◌≡◌, take}
-use Rattle.bsp_tool.specs.Lines.{numbered}
-use Rattle.bsp_tool.specs.Text.{reply_block}
-use Rattle.bsp_tool.proofs.reporting.report.Given as goal
-
-abbrev pub invariant-loop-number : goal.invariant-loop-number
-invariant-loop-number l = l.text.items ≡ numbered reply_block 0 (take l.number l.replies)
