@@ -1,0 +1,4 @@
+pub mod Heat
+pub mod Cells
+pub mod HeatFootprint
+pub mod Programs

@@ -1,0 +1,55 @@
+//! Runs the job of a document on standard input, whose program is heat in a rod, and writes the report to standard output.
+#![tactic(auto)]
+
+mod kernel;
+
+use bsp_engine::{ByName, Named, Tool, run_tool};
+use kernel::Heat;
+use std::process::ExitCode;
+
+/// The programs of this tool by their names.
+struct Programs;
+
+impl ByName for Programs {
+    ghost use Rattle.heat.specs.Programs.{program_named};
+
+    type Program = Heat;
+
+    ghost named = { program_named };
+
+    fn by_name(name: &str) -> Option<Heat> {
+        match name {
+            "heat" => Some(Heat),
+            _ => None,
+        }
+    }
+}
+
+const AFTER_HELP: &str = "\
+It reads a TOML document from standard input, and writes a report to standard output: for the input, and
+for each batch, the memories at the end, the printed lines and the costs.
+
+Keys of the document:
+  program      heat
+  limit, g, l  the most supersteps, the price of a word, the price of a synchronisation
+  memory       an array of words for each process: the word before its cells, its cells, the word after them
+  args         an array of one argument for each process: the number of time steps
+  batches      batches of edits (may be left out)
+
+Example:
+  program = \"heat\"
+  limit = 16
+  g = 4
+  l = 10
+  memory = [[100, 0, 0, 0, 0], [0, 0, 0, 0, 400]]
+  args = [[6], [6]]";
+
+const TOOL: Tool = Tool {
+    name: "heat",
+    about: "Spreads heat in a rod of cells, and does so again after each batch of edits",
+    after_help: AFTER_HELP,
+};
+
+fn main(rt: HostRuntime) -> ExitCode {
+    run_tool::<Named<Programs>, _>(&rt, &TOOL)
+}
