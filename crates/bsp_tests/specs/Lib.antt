@@ -1,1 +1,3 @@
-pub mod Script
+pub mod Asks
+pub mod Clash
+pub mod Ring

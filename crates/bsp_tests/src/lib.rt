@@ -1,15 +1,17 @@
-//! Programs that are given as lists of calls, a gate, and tests that cross crates.
+//! Small programs, a gate, and tests that cross crates.
 #![tactic(auto)]
 
-mod call;
+mod asks;
+mod clash;
 mod hello;
 mod pairs;
-mod script;
+mod ring;
 
-pub use call::Call;
+pub use asks::{Ask, Asks};
+pub use clash::Clash;
 pub use hello::Hello;
 pub use pairs::Pairs;
-pub use script::{Script, Turn};
+pub use ring::Ring;
 
 #[cfg(test)]
 mod tests;

@@ -1,11 +1,10 @@
-//! Worked rows of the calls, run as scripts.
+//! Runs of small programs, runs by workers, and what a run records.
 
-mod communication;
+mod answers;
 mod copies;
-mod faults;
 mod hello;
-mod messages;
-mod registration;
+mod refusals;
+mod ring;
 mod running;
 mod sessions;
 mod wide;

@@ -1,13 +1,10 @@
 //! Copies of what a run records.
 
-use super::running::{Ends, Row, history_of, input_of, meet};
-use crate::Call::{
-    Charge, Get, PopReg, Print, PrintSetTagsize, PrintWord, PushReg, Put, Send, Store,
-};
-use crate::Turn;
-use bsp_model::End::{Abort, Sync};
-use bsp_model::{Fault, Input, OutOfMemory, Same, TryCopy};
+use super::running::{has_fault, has_memories, history_of, input_of};
+use bsp_model::{Fault, Input, OutOfMemory, Same, Seq, TryCopy};
 use bsp_run::History;
+use bsp_scripts::Operand::Number;
+use bsp_scripts::{Call, Operand, Script, Turn};
 use std::alloc::Global;
 use std::test::Fail;
 
@@ -28,45 +25,70 @@ fn has_equal_copies(history: &History, step: u64) -> Result<bool, Fail> {
     Ok(have_equal_copies(views)? && have_equal_copies(outcomes)?)
 }
 
-/// Each act once.
-const ROW: Row = Row {
-    memories: &[&[1, 2, 3]],
-    supersteps: &[
-        &[Turn(&[PushReg(0, 2), PrintSetTagsize(1)], Sync)],
-        &[Turn(
-            &[
-                Store(2, 9),
-                Charge(5),
-                Put(0, &[7], 0, 1),
-                Get(0, 0, 0, 2, 1),
-                Send(0, &[4], &[5, 6]),
-                PopReg(0),
-                Print(&[8]),
-            ],
-            Sync,
-        )],
-        &[Turn(&[PrintWord(1), PrintWord(2)], Abort(3))],
-    ],
-    ends: Ends::Faulted(2, Fault::Abort(3)),
-    after: &[&[1, 7, 1]],
-    lines: &[&[&[0], &[8], &[7], &[1]]],
-    costs: &[10, 15, 0],
-};
+fn words(alloc: Global, words: &[u64]) -> Result<Seq<Operand>, OutOfMemory> {
+    let mut operands = Seq::new(alloc);
+    for word in words {
+        operands.push(Number(*word))?;
+    }
+    Ok(operands)
+}
 
-/// Finds that the three supersteps of the row's run have equal copies, and that there is no fourth.
-fn find_copies(rt: &impl std::process::Abort, alloc: Global, row: &Row) -> Result<(), Fail> {
-    let history = history_of(alloc, row.memories, row.supersteps)?;
+fn registering(alloc: Global) -> Result<Seq<Call>, OutOfMemory> {
+    let mut calls = Seq::new(alloc);
+    calls.push(Call::PushReg(Number(0), Number(2)))?;
+    calls.push(Call::SetTagsize(Number(1)))?;
+    Ok(calls)
+}
+
+/// Each act but those of `registering`, once.
+fn issuing(alloc: Global) -> Result<Seq<Call>, OutOfMemory> {
+    let mut calls = Seq::new(alloc);
+    calls.push(Call::Store(Number(2), Number(9)))?;
+    calls.push(Call::Charge(Number(5)))?;
+    calls.push(Call::Put(Number(0), words(alloc, &[7])?, Number(0), Number(1)))?;
+    calls.push(Call::Get(Number(0), Number(0), Number(0), Number(2), Number(1)))?;
+    calls.push(Call::Send(Number(0), words(alloc, &[4])?, words(alloc, &[5, 6])?))?;
+    calls.push(Call::PopReg(Number(0)))?;
+    calls.push(Call::Print(words(alloc, &[8])?))?;
+    Ok(calls)
+}
+
+fn aborting(alloc: Global) -> Result<Seq<Call>, OutOfMemory> {
+    let mut calls = Seq::new(alloc);
+    calls.push(Call::Abort(Number(3)))?;
+    Ok(calls)
+}
+
+fn push_turn(
+    alloc: Global,
+    supersteps: &mut Seq<Seq<Turn>>,
+    calls: Seq<Call>,
+) -> Result<(), OutOfMemory> {
+    let mut turns = Seq::new(alloc);
+    turns.push(Turn { calls })?;
+    supersteps.push(turns)
+}
+
+/// One process makes each act, and aborts.
+fn script(alloc: Global) -> Result<Script, OutOfMemory> {
+    let mut supersteps = Seq::new(alloc);
+    push_turn(alloc, &mut supersteps, registering(alloc)?)?;
+    push_turn(alloc, &mut supersteps, issuing(alloc)?)?;
+    push_turn(alloc, &mut supersteps, aborting(alloc)?)?;
+    Ok(Script { supersteps })
+}
+
+#[test]
+fn views_and_outcomes(rt: HostRuntime) -> Result<(), Fail> {
+    let script = script(rt.alloc())?;
+    let history = history_of(rt.alloc(), &script, &[&[1, 2, 3]])?;
+    assert!(rt; has_fault(&history, 2, Fault::Abort(3)));
+    assert!(rt; has_memories(&history, &[&[1, 7, 1]]));
     for step in 0..3 {
         assert!(rt; has_equal_copies(&history, step)?, "superstep {step}");
     }
     assert!(rt; history.steps() == 3 && history.views(3).is_none());
     Ok(())
-}
-
-#[test]
-fn views_and_outcomes(rt: HostRuntime) -> Result<(), Fail> {
-    meet(&rt, rt.alloc(), &[ROW])?;
-    find_copies(&rt, rt.alloc(), &ROW)
 }
 
 /// Whether an input has the parts of its copy.

@@ -1,33 +1,10 @@
-//! Runs of scripts, and what they have to give.
+//! Runs, and what they have to give.
 
-use crate::{Script, Turn};
-use bsp_model::{Fault, Input, Memory, OutOfMemory, Seq, SyncFault, Words};
+use bsp_model::{Fault, Input, Memory, OutOfMemory, Seq, Words};
 use bsp_run::{History, ProcessFault, Status, run_plain};
+use bsp_step::Program;
 use std::alloc::Global;
-use std::process::Abort;
 use std::test::Fail;
-
-/// How a run has to end. A fault is that of process 0, and no other has one.
-#[derive(Clone, Copy)]
-pub enum Ends {
-    Halted,
-    Faulted(u64, Fault),
-    SyncFaulted(u64, SyncFault),
-}
-
-/// A script with its first memories, and what its run has to give, with the limit 16 and the prices 4 and 10.
-#[derive(Clone, Copy)]
-pub struct Row {
-    pub memories: &'static [&'static [u64]],
-    pub supersteps: &'static [&'static [Turn<'static>]],
-    pub ends: Ends,
-    /// The memories at the end, by process.
-    pub after: &'static [&'static [u64]],
-    /// The lines, by process.
-    pub lines: &'static [&'static [&'static [u64]]],
-    /// The cost of each superstep.
-    pub costs: &'static [u64],
-}
 
 fn memories_of(alloc: Global, memories: &[&[u64]]) -> Result<Seq<Memory>, OutOfMemory> {
     let mut all = Seq::new(alloc);
@@ -56,15 +33,14 @@ pub fn input_of(alloc: Global, memories: &[&[u64]]) -> Result<Input, OutOfMemory
     })
 }
 
-/// The history of a script's run.
-pub fn history_of(
+/// The history of a program's run.
+pub fn history_of<P: Program>(
     alloc: Global,
+    program: &P,
     memories: &[&[u64]],
-    supersteps: &[&[Turn<'_>]],
 ) -> Result<History, Fail> {
     let input = input_of(alloc, memories)?;
-    let history = run_plain(alloc, &Script { supersteps }, &input);
-    Ok(history.ok().ok_or("no run")?)
+    Ok(run_plain(alloc, program, &input).ok().ok_or("no run")?)
 }
 
 /// Whether all processes halted.
@@ -80,26 +56,6 @@ pub fn has_fault(history: &History, step: u64, fault: Fault) -> bool {
             *at == step && faults.len() == 1 && faults.as_slice().first() == Some(&want)
         }
         _ => false,
-    }
-}
-
-/// Whether the end of this superstep had this fault.
-pub fn has_sync_fault(history: &History, step: u64, fault: SyncFault) -> bool {
-    match history.status() {
-        Status::SyncFaulted {
-            step: at,
-            fault: had,
-        } => *at == step && *had == fault,
-        _ => false,
-    }
-}
-
-/// Whether the run ended so.
-fn has_end(history: &History, ends: Ends) -> bool {
-    match ends {
-        Ends::Halted => has_halted(history),
-        Ends::Faulted(step, fault) => has_fault(history, step, fault),
-        Ends::SyncFaulted(step, fault) => has_sync_fault(history, step, fault),
     }
 }
 
@@ -143,16 +99,6 @@ fn are_lines(lines: &[Words], want: &[&[u64]]) -> bool {
     true
 }
 
-/// Whether these are the lines of all processes.
-fn has_all_lines(history: &History, want: &[&[&[u64]]]) -> bool {
-    for pid in 0..want.len() {
-        if !has_lines(history, pid as u64, want[pid]) {
-            return false;
-        }
-    }
-    history.lines(want.len() as u64).is_none()
-}
-
 /// Whether these are the costs of the supersteps, and the total their sum.
 pub fn has_costs(history: &History, want: &[u64]) -> bool {
     let rows = history.costs();
@@ -167,34 +113,4 @@ pub fn has_costs(history: &History, want: &[u64]) -> bool {
         sum = sum.wrapping_add(want[step]);
     }
     history.total() == sum
-}
-
-/// Runs the script of each row, and finds that the run gives what the row says.
-pub fn meet(rt: &impl Abort, alloc: Global, rows: &[Row]) -> Result<(), Fail> {
-    for (number, row) in rows.iter().enumerate() {
-        let history = history_of(alloc, row.memories, row.supersteps)?;
-        find_as(rt, &history, number, row);
-    }
-    Ok(())
-}
-
-fn find_as(rt: &impl Abort, history: &History, number: usize, row: &Row) {
-    assert!(rt;
-        has_end(history, row.ends),
-        "row {number}: {:?}",
-        history.status()
-    );
-    assert!(rt;
-        has_memories(history, row.after),
-        "row {number}: the memories"
-    );
-    assert!(rt;
-        has_all_lines(history, row.lines),
-        "row {number}: the lines"
-    );
-    assert!(rt;
-        has_costs(history, row.costs),
-        "row {number}: {:?}",
-        history.costs()
-    );
 }

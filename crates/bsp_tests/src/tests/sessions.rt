@@ -16,7 +16,7 @@ use std::process::Abort;
 use std::test::Fail;
 use std::thread::Threads;
 
-fn word(pid: u64, addr: u64, value: u64) -> Edit {
+pub fn word(pid: u64, addr: u64, value: u64) -> Edit {
     Edit::Word { pid, addr, value }
 }
 
@@ -71,7 +71,19 @@ fn edited<'s, P: Program + Drop, R: Threads + Sync>(
     }
 }
 
-fn are_sums(history: &History) -> bool {
+/// Whether these are the sums of 1, 2, 3, 4.
+pub fn are_sums(history: &History) -> bool {
+    has_halted(history)
+        && has_memories(history, &[&[1, 0], &[3, 1], &[6, 1], &[10, 3]])
+        && has_lines(history, 0, &[&[1]])
+        && has_lines(history, 1, &[&[3]])
+        && has_lines(history, 2, &[&[6]])
+        && has_lines(history, 3, &[&[10]])
+        && has_costs(history, &[10, 14, 15, 1])
+}
+
+/// Whether these are the sums of 2, 2, 3, 4.
+pub fn are_other_sums(history: &History) -> bool {
     has_halted(history)
         && has_memories(history, &[&[2, 0], &[4, 2], &[7, 2], &[11, 4]])
         && has_lines(history, 0, &[&[2]])
@@ -95,7 +107,7 @@ fn change_sums<R: Threads + Sync>(
     match Session::open(rt, alloc, Prefix, input, opening, &Open) {
         Ok((mut session, _opening)) => {
             match edited(rt, alloc, &mut session, 2, 7, changing) {
-                Some(history) => Ok(are_sums(history)),
+                Some(history) => Ok(are_other_sums(history)),
                 None => Ok(false),
             }
         }
@@ -111,7 +123,8 @@ fn any_numbers_of_workers_change_the_sums(rt: HostRuntime) -> Result<(), Fail> {
     Ok(())
 }
 
-fn is_fault(history: &History) -> bool {
+/// Whether the ranks ended by the fault of an element 0 whose successor is 9.
+pub fn is_fault(history: &History) -> bool {
     has_fault(history, 1, Fault::BadPid(9))
         && has_memories(
             history,
@@ -121,7 +134,8 @@ fn is_fault(history: &History) -> bool {
         && has_costs(history, &[10, 0])
 }
 
-fn are_ranks(history: &History) -> bool {
+/// Whether these are the ranks of the list 2, 0, 3, 1.
+pub fn are_ranks(history: &History) -> bool {
     has_halted(history)
         && has_memories(
             history,

@@ -22,7 +22,8 @@ pub fn product(alloc: Global) -> Result<Input, OutOfMemory> {
     Ok(input)
 }
 
-fn is_the_product(history: &History) -> bool {
+/// Whether it is the run of the product.
+pub fn is_the_product(history: &History) -> bool {
     has_halted(history)
         && has_memories(history, &[&[1, 2, 5, 5, 6, 17], &[3, 4, 6, 5, 6, 39]])
         && has_lines(history, 0, &[&[17]])

@@ -1,0 +1,27 @@
+-- The catalogue whose documents write their program as a script, at the key `script` (this profile).
+use Rattle.std.specs.Prelude.{map, codes, Some}
+use Rattle.std.specs.List.{list_any}
+use Rattle.std.specs.Str.{bytes_eq}
+use Rattle.toml.specs.Data.{Members, get_member}
+use Rattle.bsp_scripts.specs.declared.script.Script.{Script}
+use Rattle.bsp_engine.specs.Catalogue.{Meaning}
+use Rattle.bsp_engine.specs.Tree.{has, elements_at}
+use Rattle.bsp_engine.specs.Keys.{passes}
+use Rattle.bsp_script.specs.Shapes.{is_script}
+use Rattle.bsp_script.specs.Signs.{has_negative_turn}
+use Rattle.bsp_script.specs.Calls.{turns_of}
+
+-- the script of a document
+abbrev pub script_of : Members → Script
+script_of t = record { supersteps = map turns_of (elements_at (codes "script") t) }
+
+-- What the key `script` means. It is required; any well-formed script is a program.
+abbrev pub script_meaning : Meaning Script
+script_meaning =
+    record {
+      is_key = λ key. bytes_eq key (codes "script");
+      has_required_keys = λ t. has (codes "script") t;
+      has_right_shapes = λ t. passes is_script (get_member (codes "script") t);
+      has_negative_word = λ t. list_any has_negative_turn (elements_at (codes "script") t);
+      program_of = λ t. Some (script_of t);
+    }

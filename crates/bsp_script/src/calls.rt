@@ -1,0 +1,134 @@
+//! The script that a value is.
+
+ghost use Rattle.std.specs.Prelude.{◌≡◌, IfOk, map, drop};
+ghost use Rattle.toml.specs.View.{view};
+ghost use Rattle.bsp_script.specs.Calls.{operand_of, operand_at, operands_at, call_with, call_of, turn_of, turns_of};
+
+use crate::names::{Name, name_in};
+use crate::references::reference_in;
+use bsp_engine::tree::{elements, natural_of, number_at};
+use bsp_model::{OutOfMemory, Seq};
+use bsp_scripts::{Call, Operand, Turn};
+use std::alloc::Global;
+use toml::Value;
+
+/// A reference, or else a number.
+fn operand_of(value: &Value) -> Operand
+    ensures { result ≡ operand_of (view value.now) }
+{
+    match reference_in(value) {
+        Some(reference) => reference,
+        None => Operand::Number(natural_of(value.as_integer())),
+    }
+}
+
+fn operand_at(values: &[Value], place: usize) -> Operand
+    ensures { result ≡ operand_at place (map view values.now) }
+{
+    match values.get(place) {
+        Some(value) => operand_of(value),
+        None => Operand::Number(0),
+    }
+}
+
+fn operands_of(alloc: Global, values: &[Value]) -> Result<Seq<Operand>, OutOfMemory>
+    ensures { IfOk result (λ operands. operands ≡ map operand_of (map view values.now)) }
+{
+    let mut operands = Seq::new(alloc);
+    for value in values {
+        operands.push(operand_of(value))?;
+    }
+    Ok(operands)
+}
+
+fn operands_at(alloc: Global, values: &[Value], place: usize) -> Result<Seq<Operand>, OutOfMemory>
+    ensures { IfOk result (λ operands. operands ≡ operands_at place (map view values.now)) }
+{
+    match values.get(place) {
+        Some(value) => operands_of(alloc, elements(value)),
+        None => Ok(Seq::new(alloc)),
+    }
+}
+
+/// The operands of a call that has any number of them.
+fn all_operands(alloc: Global, values: &[Value]) -> Result<Seq<Operand>, OutOfMemory>
+    ensures { IfOk result (λ operands. operands ≡ map operand_of (drop 1 (map view values.now))) }
+{
+    match values.split_first() {
+        Some((_name, operands)) => operands_of(alloc, operands),
+        None => Ok(Seq::new(alloc)),
+    }
+}
+
+/// The call with this name and these operands; the name stands at place 0.
+fn call_with(alloc: Global, name: Name, values: &[Value]) -> Result<Call, OutOfMemory>
+    ensures { IfOk result (λ call. call ≡ call_with name (map view values.now)) }
+{
+    let first = operand_at(values, 1);
+    let second = operand_at(values, 2);
+    let third = operand_at(values, 3);
+    let fourth = operand_at(values, 4);
+    Ok(match name {
+        Name::Store => Call::Store(first, second),
+        Name::Charge => Call::Charge(first),
+        Name::Put => Call::Put(first, operands_at(alloc, values, 2)?, third, fourth),
+        Name::Get => Call::Get(first, second, third, fourth, operand_at(values, 5)),
+        Name::Send => {
+            let tag = operands_at(alloc, values, 2)?;
+            Call::Send(first, tag, operands_at(alloc, values, 3)?)
+        }
+        Name::PushReg => Call::PushReg(first, second),
+        Name::PopReg => Call::PopReg(first),
+        Name::SetTagsize => Call::SetTagsize(first),
+        Name::Print => Call::Print(all_operands(alloc, values)?),
+        Name::Add => Call::Add(number_at(values, 1), second),
+        Name::MoveInto => Call::MoveInto(number_at(values, 1), number_at(values, 2)),
+        Name::PrintQsize => Call::PrintQsize,
+        Name::PrintGetTag => Call::PrintGetTag,
+        Name::PrintTagSize => Call::PrintTagSize,
+        Name::Sync => Call::Sync,
+        Name::Halt => Call::Halt,
+        Name::Abort => Call::Abort(first),
+    })
+}
+
+fn call_in(alloc: Global, value: &Value) -> Result<Call, OutOfMemory>
+    ensures { IfOk result (λ call. call ≡ call_of (view value.now)) }
+{
+    let values = elements(value);
+    match name_in(values) {
+        Some(name) => call_with(alloc, name, values),
+        None => Ok(Call::Halt),
+    }
+}
+
+fn turn_in(alloc: Global, value: &Value) -> Result<Turn, OutOfMemory>
+    ensures { IfOk result (λ turn. turn ≡ turn_of (view value.now)) }
+{
+    let mut calls = Seq::new(alloc);
+    for call in elements(value) {
+        calls.push(call_in(alloc, call)?)?;
+    }
+    Ok(Turn { calls })
+}
+
+fn turns_in(alloc: Global, value: &Value) -> Result<Seq<Turn>, OutOfMemory>
+    ensures { IfOk result (λ turns. turns ≡ turns_of (view value.now)) }
+{
+    let mut turns = Seq::new(alloc);
+    for turn in elements(value) {
+        turns.push(turn_in(alloc, turn)?)?;
+    }
+    Ok(turns)
+}
+
+/// The turns, by superstep and then by process.
+pub fn supersteps_in(alloc: Global, values: &[Value]) -> Result<Seq<Seq<Turn>>, OutOfMemory>
+    ensures { IfOk result (λ supersteps. supersteps ≡ map turns_of (map view values.now)) }
+{
+    let mut supersteps = Seq::new(alloc);
+    for superstep in values {
+        supersteps.push(turns_in(alloc, superstep)?)?;
+    }
+    Ok(supersteps)
+}

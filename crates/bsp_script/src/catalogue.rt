@@ -1,0 +1,52 @@
+//! The catalogue whose documents write their program as a script.
+
+ghost use Rattle.std.specs.Prelude.{◌≡◌};
+
+use crate::calls::supersteps_in;
+use crate::shapes::is_script;
+use crate::signs::is_any_superstep_negative;
+use bsp_engine::Catalogue;
+use bsp_engine::tree::{elements_at, has, value_at};
+use bsp_model::OutOfMemory;
+use bsp_scripts::Script;
+use std::alloc::Global;
+use toml::Table;
+
+/// The programs of this tool: the script at the key `script` of a document.
+pub struct Scripts;
+
+impl Catalogue for Scripts {
+    ghost use Rattle.bsp_script.specs.Catalogue.{script_meaning};
+
+    type Program = Script;
+
+    ghost meaning = { script_meaning };
+
+    fn is_key(key: &str) -> bool {
+        key == "script"
+    }
+
+    fn has_required_keys(document: &Table) -> bool {
+        has(document, "script")
+    }
+
+    fn has_right_shapes(document: &Table) -> bool {
+        match value_at(document, "script") {
+            Some(value) => is_script(value),
+            None => true,
+        }
+    }
+
+    fn names_program(_document: &Table) -> bool {
+        true
+    }
+
+    fn has_negative_word(document: &Table) -> bool {
+        is_any_superstep_negative(elements_at(document, "script"))
+    }
+
+    fn program(alloc: Global, document: &Table) -> Result<Script, OutOfMemory> {
+        let supersteps = supersteps_in(alloc, elements_at(document, "script"))?;
+        Ok(Script { supersteps })
+    }
+}

@@ -1,0 +1,98 @@
+//! The calls on messages and their tags.
+
+ghost use Rattle.std.specs.Prelude.{◌≡◌, IfOk};
+ghost use Rattle.bsp_step.specs.Queue.{first_message, heading};
+ghost use Rattle.bsp_scripts.specs.declared.call.Call.TheVariants.{Send, SetTagsize, MoveInto, PrintQsize, PrintGetTag, PrintTagSize};
+ghost use Rattle.bsp_scripts.specs.Calls.{call_plan, makes, stores, heading_line};
+ghost use Rattle.bsp_scripts.specs.Making.{Makes};
+
+use crate::Operand;
+use crate::exit::Exit;
+use crate::operand::read_all;
+use bsp_model::limits::MOST_PAYLOAD_WORDS;
+use bsp_model::{OutOfMemory, Words};
+use bsp_step::Ctx;
+use std::alloc::Global;
+
+pub(super) fn send(
+    alloc: Global,
+    ctx: &mut Ctx<'_>,
+    pid: Operand,
+    tag: &[Operand],
+    words: &[Operand],
+) -> Result<(), Exit>
+    ensures { Makes ctx.old (call_plan ctx.old (Send pid tag.now words.now)) ctx.new result }
+{
+    let pid = pid.read(ctx)?;
+    let tag = read_all(alloc, ctx, tag)?;
+    let words = read_all(alloc, ctx, words)?;
+    ctx.send(pid, tag.as_slice(), words.as_slice())?;
+    Ok(())
+}
+
+pub(super) fn set_tagsize(ctx: &mut Ctx<'_>, size: Operand) -> Result<(), Exit>
+    ensures { Makes ctx.old (call_plan ctx.old (SetTagsize size)) ctx.new result }
+{
+    let size = size.read(ctx)?;
+    ctx.set_tagsize(size)?;
+    Ok(())
+}
+
+/// Moves the first message into a buffer of `room` words, at most 4,096, and stores what was copied.
+pub(super) fn move_into(alloc: Global, ctx: &mut Ctx<'_>, room: u64, into: u64) -> Result<(), Exit>
+    ensures { Makes ctx.old (call_plan ctx.old (MoveInto room into)) ctx.new result }
+{
+    let mut buffer = vec![in alloc; 0; room.min(MOST_PAYLOAD_WORDS as u64) as usize]?;
+    let count = ctx.move_into(buffer.as_mut_slice())?;
+    store_all(ctx, into, &buffer[..count])
+}
+
+/// Stores the words from `start` on, in ascending order. Past the largest address it stays there.
+fn store_all(ctx: &mut Ctx<'_>, start: u64, words: &[u64]) -> Result<(), Exit>
+    ensures { Makes ctx.old (makes (stores start words.now)) ctx.new result }
+{
+    let mut address = start;
+    for word in words {
+        ctx.store(address, *word)?;
+        address = address.saturating_add(1);
+    }
+    Ok(())
+}
+
+pub(super) fn print_qsize(ctx: &mut Ctx<'_>) -> Result<(), Exit>
+    ensures { Makes ctx.old (call_plan ctx.old PrintQsize) ctx.new result }
+{
+    let (messages, words) = ctx.qsize();
+    ctx.print(&[messages as u64, words as u64])?;
+    Ok(())
+}
+
+pub(super) fn print_get_tag(alloc: Global, ctx: &mut Ctx<'_>) -> Result<(), Exit>
+    ensures { Makes ctx.old (call_plan ctx.old PrintGetTag) ctx.new result }
+{
+    let line = heading_line(alloc, ctx)?;
+    ctx.print(line.as_slice())?;
+    Ok(())
+}
+
+/// The length of the first message's payload and the words of its tag; no words where no message is left.
+fn heading_line(alloc: Global, ctx: &Ctx<'_>) -> Result<Words, OutOfMemory>
+    ensures { IfOk result (λ line. line ≡ heading_line (heading (first_message ctx.now.left))) }
+{
+    let mut line = Words::new(alloc);
+    let Some((len, tag)) = ctx.get_tag() else {
+        return Ok(line);
+    };
+    line.push(len as u64)?;
+    for word in tag {
+        line.push(*word)?;
+    }
+    Ok(line)
+}
+
+pub(super) fn print_tag_size(ctx: &mut Ctx<'_>) -> Result<(), Exit>
+    ensures { Makes ctx.old (call_plan ctx.old PrintTagSize) ctx.new result }
+{
+    ctx.print(&[ctx.tag_size()])?;
+    Ok(())
+}

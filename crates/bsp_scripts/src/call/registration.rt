@@ -1,0 +1,26 @@
+//! The calls on the registration table.
+
+ghost use Rattle.bsp_scripts.specs.declared.call.Call.TheVariants.{PushReg, PopReg};
+ghost use Rattle.bsp_scripts.specs.Calls.{call_plan};
+ghost use Rattle.bsp_scripts.specs.Making.{Makes};
+
+use crate::Operand;
+use crate::exit::Exit;
+use bsp_step::Ctx;
+
+pub(super) fn push_reg(ctx: &mut Ctx<'_>, start: Operand, len: Operand) -> Result<(), Exit>
+    ensures { Makes ctx.old (call_plan ctx.old (PushReg start len)) ctx.new result }
+{
+    let start = start.read(ctx)?;
+    let len = len.read(ctx)?;
+    ctx.push_reg(start, len)?;
+    Ok(())
+}
+
+pub(super) fn pop_reg(ctx: &mut Ctx<'_>, start: Operand) -> Result<(), Exit>
+    ensures { Makes ctx.old (call_plan ctx.old (PopReg start)) ctx.new result }
+{
+    let start = start.read(ctx)?;
+    ctx.pop_reg(start)?;
+    Ok(())
+}
