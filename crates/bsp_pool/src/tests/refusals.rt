@@ -51,21 +51,22 @@ fn a_work_that_refuses_memory(rt: HostRuntime) -> Result<(), Fail> {
     Ok(())
 }
 
-/// How many allocations are tried after the call. One of them is refused where the call met no refusal, since the
-/// number of its allocations differs by fewer than that from run to run.
-const LATER_ALLOCATIONS: u32 = 64;
-
-/// `ci/refuse_allocations` runs this with the Nth allocation refused, for N = 1, 2, .., until it ends by the error.
+/// `ci/refuse_allocations` runs this with each allocation refused in turn that is made between the lines `begin` and `end` of its output. The
+/// answer is whole, unless the calling thread was the one that found no memory.
 #[test]
 fn phase_with_an_allocation_refused(rt: HostRuntime) -> Result<(), Fail> {
-    let inputs = [0, 1, 2, 3, 4, 5, 6, 7];
-    if let Ok(outputs) = phase(&rt, rt.alloc(), &Doubling, &inputs, 3, &Open) {
+    println!(rt; "begin")?;
+    let outputs = phase(
+        &rt,
+        rt.alloc(),
+        &Doubling,
+        &[0, 1, 2, 3, 4, 5, 6, 7],
+        3,
+        &Open,
+    );
+    println!(rt; "end")?;
+    if let Ok(outputs) = outputs {
         assert_eq!(rt; outputs.as_slice(), [0, 2, 4, 6, 8, 10, 12, 14].as_slice());
-    }
-    for _ in 0..LATER_ALLOCATIONS {
-        if Box::new(rt.alloc(), 0u8).is_err() {
-            return Err("no allocation was refused")?;
-        }
     }
     Ok(())
 }

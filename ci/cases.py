@@ -1,0 +1,100 @@
+"""Runs of a program on documents, and what must come of them."""
+import os
+import resource
+import subprocess
+from dataclasses import dataclass, replace
+
+ROOT = os.path.dirname(os.path.dirname(os.path.realpath(__file__)))
+EXAMPLES_OF = "bsp_tool"
+SECONDS = 120
+WORKERS = ("1", "3", "16")
+
+
+@dataclass
+class Case:
+    """A run of a program: the file on standard input, and what must come of it."""
+
+    name: str
+    document: str
+    report: bytes
+    status: int = 0
+    error: bytes = b""
+    words: tuple = ()  # of the command line
+    output: str = ""  # where standard output goes, if it is not to be compared
+    memory: int = 0  # the most bytes of address space, if not 0
+
+
+def bytes_of(path):
+    with open(path, "rb") as file:
+        return file.read()
+
+
+def examples():
+    """The documents of examples/ with their reports."""
+    folder = f"{ROOT}/examples"
+    names = sorted(name[: -len(".toml")] for name in os.listdir(folder) if name.endswith(".toml"))
+    return [Case(f"examples/{name}", f"{folder}/{name}.toml", bytes_of(f"{folder}/{name}.txt")) for name in names]
+
+
+def without_updates(report):
+    """The report of the same document from scratch."""
+    return b"".join(line for line in report.splitlines(True) if not line.startswith(b"executed "))
+
+
+def built_program(crate, *of_tests):
+    """The path of the program of a crate, or with "tests" of its tests, which is built where it is absent or older than its sources. None where it can't
+    be built."""
+    built = subprocess.run([f"{ROOT}/ci/program", crate, *of_tests], stdout=subprocess.PIPE, text=True)
+    return None if built.returncode else built.stdout.strip()
+
+
+def with_words(case):
+    """A case that has no words of its own, with each number of workers and with --scratch too."""
+    if isinstance(case, str) or case.words:
+        return [case]
+    return [
+        case,
+        *(replace(case, name=f"{case.name} --workers {count}", words=("--workers", count)) for count in WORKERS),
+        replace(case, name=f"{case.name} --scratch", report=without_updates(case.report), words=("--scratch",)),
+    ]
+
+
+def run(program, case):
+    limit = (lambda: resource.setrlimit(resource.RLIMIT_AS, (case.memory, case.memory))) if case.memory else None
+    with open(case.output or os.devnull, "wb") as sink:
+        given = os.open(case.document, os.O_RDONLY)
+        try:
+            return subprocess.run(
+                [program, *case.words],
+                stdin=given,
+                stdout=sink if case.output else subprocess.PIPE,
+                stderr=subprocess.PIPE,
+                timeout=SECONDS,
+                preexec_fn=limit,
+            )
+        finally:
+            os.close(given)
+
+
+def difference(what, found, wanted):
+    """The first line in which two texts differ."""
+    if found == wanted:
+        return []
+    rows, others = found.splitlines(True), wanted.splitlines(True)
+    at = next((n for n, (row, other) in enumerate(zip(rows, others)) if row != other), min(len(rows), len(others)))
+    row, other = (lines[at][:80] if at < len(lines) else None for lines in (rows, others))
+    return [f"{what}, line {at + 1}: {row!r} in place of {other!r}"]
+
+
+def differences(program, case):
+    if isinstance(case, str):
+        return [case]
+    try:
+        ended = run(program, case)
+    except subprocess.TimeoutExpired:
+        return [f"{case.name}: no end after {SECONDS} seconds"]
+    found = difference("standard output", ended.stdout or b"", case.report)
+    found += difference("standard error", ended.stderr, case.error)
+    if ended.returncode != case.status:
+        found.append(f"status {ended.returncode} in place of {case.status}")
+    return [f"{case.name}: {it}" for it in found]

@@ -1,0 +1,180 @@
+"""Random documents, each a function of its tool and its seed: jobs mostly, and some that are none."""
+import json
+import random
+
+from drawn_scripts import draw_script
+
+LARGEST = 2**63 - 1
+
+
+class Draw(random.Random):
+    """A source of random values."""
+
+    def happens(self, rate):
+        return self.random() < rate
+
+    def small(self):
+        """A word that is small mostly."""
+        return self.choice((LARGEST, LARGEST - 1, 2**62, 1000)) if self.happens(0.05) else self.randrange(5)
+
+    def words(self, count):
+        return [self.small() for _ in range(count)]
+
+
+def draw_bundled(draw):
+    """A bundled program with memories and arguments that mostly suit it."""
+    program = draw.choice(("broadcast", "prefix", "matvec", "rank"))
+    nprocs = draw.choice((1, 2, 2, 3, 4, 5, 7))
+    args = [[] for _ in range(nprocs)]
+    if program == "broadcast":
+        lengths = [draw.choice((1, 1, 1, 2, 3)) for _ in range(nprocs)]
+        root = draw.randrange(nprocs)
+        args = [[draw.randrange(nprocs + 1) if draw.happens(0.1) else root] for _ in range(nprocs)]
+    elif program == "matvec":
+        b = draw.randrange(3)
+        args = [[b] for _ in range(nprocs)]
+        lengths = [b * nprocs * b + b + nprocs * b + b] * nprocs
+    else:
+        lengths = [2 if program == "prefix" else 4] * nprocs
+    memories = [draw.words(length) for length in lengths]
+    if program == "rank":
+        for memory in memories:
+            memory[0] = draw.randrange(nprocs + draw.happens(0.05))
+    return program, memories, args
+
+
+def draw_heat(draw):
+    """Rods of few cells, mostly of one length, for few time steps."""
+    nprocs, length, steps = draw.randint(1, 5), 2 if draw.happens(0.03) else draw.randint(3, 6), draw.randrange(5)
+    lengths = [length + (draw.choice((-1, 1)) if draw.happens(0.05) else 0) for _ in range(nprocs)]
+    memories = [[draw.choice((0, 0, 0, 10, 100, 1000, LARGEST)) for _ in range(count)] for count in lengths]
+    args = [[steps + draw.happens(0.02)] for _ in range(nprocs)]
+    return "heat", memories, args
+
+
+def draw_edit(draw, memories, args):
+    """An edit of a part that mostly exists."""
+    kind = draw.choice(("word",) * 6 + ("arg", "arg") * any(args) + ("limit", "prices"))
+    if kind == "limit":
+        return [kind, draw.choice((0, 1025)) if draw.happens(0.05) else draw.randint(1, 9)]
+    if kind == "prices":
+        return [kind, 1_000_001 if draw.happens(0.05) else draw.randrange(5), draw.randrange(20)]
+    lists = memories if kind == "word" else args
+    known = [pid for pid, words in enumerate(lists) if words] or [0]
+    pid = len(lists) if draw.happens(0.02) else draw.choice(known)
+    count = len(lists[pid]) if pid < len(lists) else 1
+    return [kind, pid, count if draw.happens(0.03) else draw.randrange(max(count, 1)), draw.small()]
+
+
+def draw_batch(draw, memories, args):
+    """Some edits, or one that all processes get."""
+    if all(args) and draw.happens(0.15):
+        value = draw.randrange(3)
+        return [["arg", pid, 0, value] for pid in range(len(args))]
+    return [draw_edit(draw, memories, args) for _ in range(draw.choice((0, 1, 1, 1, 2, 3)))]
+
+
+def draw_values(draw, tool):
+    """The values of a document's keys. Now and then an argument list or a memory loses its last word."""
+    if tool == "bsp_script":
+        key, (at_key, memories, args) = "script", draw_script(draw)
+    else:
+        key, (at_key, memories, args) = "program", draw_bundled(draw) if tool == "bsp_tool" else draw_heat(draw)
+    for words in memories + args:
+        if words and draw.happens(0.01):
+            words.pop()
+    limit = draw.randint(1, 5) if draw.happens(0.3) else draw.randint(6, 1024)
+    values = {key: at_key, "limit": limit, "g": draw.randrange(5), "l": draw.randrange(20), "memory": memories, "args": args}
+    if not any(args) and draw.happens(0.5):
+        del values["args"]
+    if draw.happens(0.9):
+        values["batches"] = [draw_batch(draw, memories, args) for _ in range(draw.randrange(6))]
+    return values
+
+
+def places_in(value, place=()):
+    """The places of all that stands in arrays."""
+    for index, each in enumerate(value if isinstance(value, list) else ()):
+        yield (*place, index)
+        yield from places_in(each, (*place, index))
+
+
+OTHERS = (-1, -(2**63), 2**63, LARGEST, 0, 1, 1.5, True, "", "word", "@0", "@00", "$1", "$-1", "@9223372036854775808", [], [1], [[]], [[[]]], {})
+
+
+def change_a_value(draw, values):
+    """Another value somewhere, or one that is gone."""
+    key = draw.choice(list(values))
+    places = list(places_in(values[key]))
+    if not places or draw.happens(0.1):
+        values[key] = draw.choice(OTHERS)
+        return
+    *outer, last = draw.choice(places)
+    value = values[key]
+    for index in outer:
+        value = value[index]
+    if draw.happens(0.2):
+        value.pop(last)
+    else:
+        value[last] = -1 if draw.happens(0.4) else draw.choice(OTHERS)
+
+
+def change_a_key(draw, values):
+    """A key that is gone, or one more."""
+    if draw.happens(0.5):
+        del values[draw.choice(list(values))]
+    else:
+        values[draw.choice(("colour", "Limit", "program", "script"))] = draw.choice(OTHERS)
+
+
+def change_a_size(draw, values):
+    """An input that is past a limit, or at it."""
+    key, value = draw.choice(
+        (
+            ("memory", []),
+            ("memory", [[1]] * 64),
+            ("memory", [[1]] * 65),
+            ("memory", [[1] * 4097]),
+            ("args", []),
+            ("args", values.get("args", []) + [[0]]),
+            ("args", [[1] * 65] * len(values["memory"])),
+            ("limit", draw.choice((0, 1025, -1, LARGEST))),
+            ("g", draw.choice((-1, 1_000_000, 1_000_001))),
+            ("l", draw.choice((-1, 1_000_000, 1_000_001))),
+        )
+    )
+    values[key] = value
+
+
+def text_of(values):
+    return "".join(f"{key} = {json.dumps(value)}\n" for key, value in values.items())
+
+
+def change_the_text(draw, text):
+    """A text that is cut, or has other bytes, or says the same in another form."""
+    at = draw.randrange(len(text) + 1)
+    byte = draw.choice(b'[]",=#. \n\r\t0123456789-+_eax\'\x00\x7f\x80\xc3\xff').to_bytes(1, "big")
+    return draw.choice(
+        (
+            text[:at],
+            text[:at] + byte + text[at:],
+            text[:at] + byte + text[at + 1 :],
+            text[:at] + text[at + 1 :],
+            text + text[:at],
+            text.replace(b"\n", b"\r\n"),
+            text.replace(b", ", b",\n  # more\n  "),
+            b"\xef\xbb\xbf" + text,
+            text.rstrip(b"\n"),
+        )
+    )
+
+
+def drawn_document(tool, seed):
+    """The document of a seed. Most are jobs; some have another value, key or size, and some another text."""
+    draw = Draw(f"{tool} {seed}")
+    values = draw_values(draw, tool)
+    for change, rate in ((change_a_size, 0.08), (change_a_value, 0.1), (change_a_key, 0.05)):
+        if draw.happens(rate):
+            change(draw, values)
+    text = text_of(values).encode()
+    return change_the_text(draw, text) if draw.happens(0.1) else text

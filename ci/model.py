@@ -1,0 +1,98 @@
+#!/usr/bin/env python3
+"""A plain model of the programs, written from docs/ and the definitions of specs/ alone, with which ci/random compares what was built.
+
+usage: ci/model.py TOOL [--workers N] [--scratch] < DOCUMENT
+
+TOOL is bsp_tool, heat or bsp_script. Report, standard error and exit status are those of the program of that name; the number of workers counts for
+nothing. Every process of every superstep is run, what is delivered is said word by word, and two whole runs are compared: nothing is reused, so the
+model is for small inputs. It reads TOML 1.0 by `tomllib`: what TOML 1.1 added (newlines in inline tables, `\\e`, `\\x`, times without seconds) is
+refused here and not by the programs.
+"""
+from __future__ import annotations
+
+import sys
+from dataclasses import dataclass
+
+sys.dont_write_bytecode = True
+
+from modelled.documents import TOOLS, Job, Refused, job_of  # noqa: E402
+from modelled.runs import Input, Run, Superstep, h_relation, run  # noqa: E402
+from modelled.sessions import count_executed, count_redelivered  # noqa: E402
+
+MOST_BYTES = 16_777_216  # of a document
+
+
+def cost_row(superstep: Superstep, given: Input) -> tuple[int, int, int]:
+    """Work, h and cost of a superstep."""
+    work = max(o.work for o in superstep.outcomes)
+    if not superstep.is_delivered:
+        return work, 0, work
+    h = h_relation(superstep.outcomes)
+    return work, h, work + h * given.g + given.l
+
+
+def line(*fields) -> str:
+    return " ".join(str(each) for each in fields)
+
+
+def result_lines(made: Run) -> list[str]:
+    """What a run gives: its status, the memories, what was printed, and the costs."""
+    lines = [*made.status]
+    lines += [line("memory", pid, *memory) for pid, memory in enumerate(made.memories)]
+    for pid in range(len(made.memories)):
+        lines += [line("print", pid, *words) for s in made.supersteps for words in s.outcomes[pid].lines]
+    rows = [cost_row(superstep, made.input) for superstep in made.supersteps]
+    lines += [line("cost", step, *row) for step, row in enumerate(rows)]
+    return [*lines, line("total", sum(cost for _, _, cost in rows))]
+
+
+def report_of(job: Job, scratch: bool) -> str:
+    """The reply to the input, and then one to each batch, which is made on what the accepted batches before it left."""
+    made: Run | None = None
+    given = job.input
+    lines = []
+    for number, batch in enumerate([[], *job.batches]):
+        lines.append(line("run", number))
+        refusals = [(edit.fault(given), place) for place, edit in enumerate(batch) if edit.fault(given)]
+        if refusals:
+            lines.append(line("refused", refusals[0][0], "at", refusals[0][1]))
+            continue
+        for edit in batch:
+            given = edit.make(given)
+        old, made = made, run(job.program, given)
+        lines += result_lines(made)
+        if not scratch:
+            lines.append(line("executed", count_executed(job.program, old, made), "redelivered", count_redelivered(old, made)))
+    return "".join(f"{each}\n" for each in lines)
+
+
+@dataclass(frozen=True)
+class Answer:
+    """What a tool writes to standard output and to standard error, and its exit status."""
+
+    report: str
+    error: str
+    status: int
+
+
+def answer(tool: str, document: bytes, scratch: bool = False) -> Answer:
+    if len(document) > MOST_BYTES:
+        return Answer("", "fault long\n", 3)
+    try:
+        return Answer(report_of(job_of(TOOLS[tool], document), scratch), "", 0)
+    except Refused as fault:
+        return Answer("", f"fault {fault}\n", 3)
+
+
+def main(words: list[str]) -> int:
+    if not words or words[0] not in TOOLS:
+        print(__doc__, end="", file=sys.stderr)
+        return 2
+    given = answer(words[0], sys.stdin.buffer.read(), "--scratch" in words)
+    sys.stdout.write(given.report)
+    sys.stderr.write(given.error)
+    return given.status
+
+
+if __name__ == "__main__":
+    sys.exit(main(sys.argv[1:]))
