@@ -1,18 +1,17 @@
 -- Deliveries that depend on the same in two lists of outcomes.
-use Rattle.std.proofs.Common.{◌≡◌, ℕ, ◌+◌, ◌<◌, ◌==◌, Bool, List, map, length, All, refl, sym, ◌∙◌, ap, arith, get_or, subst, inl, inr, below_more}
+use Rattle.std.proofs.Common.{◌≡◌, ℕ, ◌+◌, ◌<◌, ◌==◌, Bool, List, map, length, All, sym, ◌∙◌, ap, arith, inl, inr, below_more}
 use Rattle.std.specs.Prelude.{◌↔◌}
 use Rattle.std.proofs.lemmas.List.{get_or_default}
 use Rattle.std.proofs.lemmas.Bool.{cases_lt}
 use Rattle.bsp_model.specs.declared.request.Put.{Put}
-use Rattle.bsp_model.specs.declared.request.Get.{Get}
 use Rattle.bsp_model.specs.declared.request.Send.{Send}
 use Rattle.bsp_step.specs.OutcomeParts.{OutcomeParts}
 use Rattle.bsp_deliver.specs.Requests.{all_puts, all_sends, no_outcome, outcome_of, words_read}
 use Rattle.bsp_deliver.specs.Delivery.{DeliveryParts, delivery_parts}
 use Rattle.bsp_deliver.specs.Comparison.{HasSameParcel, HasSameOwn, IsReadable}
-use Rattle.bsp_deliver.specs.Condition.{sizes_of, AreRequestsInside, AreDeliverable}
+use Rattle.bsp_deliver.specs.Condition.{AreDeliverable}
 use Rattle.bsp_deliver.specs.Marks.{AreMarkedUnless, AreToKnown}
-use Rattle.bsp_deliver.proofs.Senders.{at_item, length-sizes_of, readable_gets}
+use Rattle.bsp_deliver.proofs.Senders.{length-sizes_of, readable_gets}
 use Rattle.bsp_deliver.proofs.Comparing.{same_from_senders, senders_from_same, pairs_from, pairs_apart}
 use Rattle.bsp_deliver.proofs.Unmarked.{marked_twice}
 

@@ -8,7 +8,7 @@ ghost use Rattle.bsp_deliver.specs.Inbox.{inbox_of};
 
 use crate::Inbox;
 use bsp_model::limits::MOST_PROCESSES;
-use bsp_model::{OutOfMemory, Put, Same, Send, Seq, TryCopy};
+use bsp_model::{OutOfMemory, Put, Same, Send, Seq, Shared, TryCopy};
 use bsp_step::Outcome;
 use std::alloc::Global;
 
@@ -57,7 +57,11 @@ fn add_addressed<R: Addressed + TryCopy>(
 }
 
 /// The puts to `d`, each with its sender.
-fn puts_to(alloc: Global, d: u64, outcomes: &[Outcome]) -> Result<Seq<(u64, Put)>, OutOfMemory>
+fn puts_to(
+    alloc: Global,
+    d: u64,
+    outcomes: &[Shared<Outcome>],
+) -> Result<Seq<(u64, Put)>, OutOfMemory>
     ensures { IfOk result (λ puts. puts ≡ filter (λ p. p.1.target == d) (all_puts outcomes.now)) }
 {
     let mut puts = Seq::new(alloc);
@@ -68,7 +72,11 @@ fn puts_to(alloc: Global, d: u64, outcomes: &[Outcome]) -> Result<Seq<(u64, Put)
 }
 
 /// The messages to `d`, each with its sender.
-fn sends_to(alloc: Global, d: u64, outcomes: &[Outcome]) -> Result<Seq<(u64, Send)>, OutOfMemory>
+fn sends_to(
+    alloc: Global,
+    d: u64,
+    outcomes: &[Shared<Outcome>],
+) -> Result<Seq<(u64, Send)>, OutOfMemory>
     requires { length outcomes.now ≤ MOST_PROCESSES }
     ensures sends { IfOk result (λ sends. sends ≡ filter (λ m. m.1.target == d) (all_sends outcomes.now)) }
     ensures limits { IfOk result (λ sends. IsQueue (map (λ m. message_of m.1) sends)) }
@@ -81,7 +89,7 @@ fn sends_to(alloc: Global, d: u64, outcomes: &[Outcome]) -> Result<Seq<(u64, Sen
 }
 
 /// The inbox of process `d`: copies of all puts and messages to it, each with its sender, by sender, then by issue. There are at most `MOST_PROCESSES` outcomes.
-pub fn inbox(alloc: Global, d: usize, outcomes: &[Outcome]) -> Result<Inbox, OutOfMemory>
+pub fn inbox(alloc: Global, d: usize, outcomes: &[Shared<Outcome>]) -> Result<Inbox, OutOfMemory>
     requires { length outcomes.now ≤ MOST_PROCESSES }
     ensures { IfOk result (λ inbox. inbox ≡ inbox_of (delivery_parts outcomes.now d)) }
 {

@@ -6,7 +6,7 @@ ghost use Rattle.bsp_deliver.specs.Condition.{AreDeliverable};
 ghost use Rattle.bsp_deliver.specs.Cost.{put_transfer, get_transfer, send_transfer, largest, h_relation};
 
 use bsp_model::limits::{MOST_PROCESSES, MOST_REQUESTS};
-use bsp_model::{Get, Put, Send};
+use bsp_model::{Get, Put, Send, Shared};
 use bsp_step::Outcome;
 
 /// The words that each process sends to and receives from others.
@@ -66,21 +66,21 @@ impl Sums {
     }
 
     /// Counts all requests of a process.
-    fn count_requests(&mut self, outcomes: &[Outcome], p: usize)
+    fn count_requests(&mut self, outcomes: &[Shared<Outcome>], p: usize)
         requires known { p < length outcomes.now }
         requires deliverable { AreDeliverable outcomes.now }
         requires room { HasRoom self.old MOST_REQUESTS }
         ensures sums { self.new ≡ fold counted self.old (transfers_of p (outcome_of outcomes.now p)) }
         ensures room { (n : ℕ) → HasRoom self.old (MOST_REQUESTS + n) → HasRoom self.new n }
     {
-        let own = &outcomes[p];
+        let own: &Outcome = &outcomes[p];
         self.count_puts(p as u64, own.puts.as_slice());
         self.count_gets(p as u64, own.gets.as_slice());
         self.count_sends(p as u64, own.sends.as_slice());
     }
 
     /// The sums over all requests.
-    fn of(outcomes: &[Outcome]) -> Sums
+    fn of(outcomes: &[Shared<Outcome>]) -> Sums
         requires { AreDeliverable outcomes.now }
         ensures sums { result ≡ fold counted no_words (transfers_from 0 outcomes.now) }
         ensures room { HasRoom result 0 }
@@ -110,7 +110,7 @@ fn largest(numbers: &[u64]) -> u64
 /// The h-relation of a superstep that ends by delivery: the largest number of words that a process sends or receives. A put counts its words
 /// from sender to target, a get from owner to requester, a message its tag and payload; words to oneself count nowhere (the usual additive BSP
 /// cost formula; what counts: this profile). It takes no memory.
-pub fn h_of(outcomes: &[Outcome]) -> u64
+pub fn h_of(outcomes: &[Shared<Outcome>]) -> u64
     requires { AreDeliverable outcomes.now }
     ensures value { result ≡ h_relation outcomes.now }
     ensures small { result < 2 ^ 29 }

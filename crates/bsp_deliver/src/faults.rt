@@ -5,13 +5,13 @@ ghost use Rattle.std.specs.List.{list_any, list_all};
 ghost use Rattle.bsp_table.specs.NextTable.{AreSlots};
 ghost use Rattle.bsp_deliver.specs.SyncFault.{is_sync, same_tag, sync_fault, next_tag_size};
 
-use bsp_model::SyncFault;
 use bsp_model::limits::MOST_TAG_WORDS;
+use bsp_model::{Shared, SyncFault};
 use bsp_step::{Ended, Outcome};
 use bsp_table::Table;
 
 /// Whether some process ended by sync.
-fn has_sync(outcomes: &[Outcome]) -> bool
+fn has_sync(outcomes: &[Shared<Outcome>]) -> bool
     ensures { result ≡ list_any (λ o. is_sync o.ended) outcomes.now }
 {
     outcomes
@@ -20,7 +20,7 @@ fn has_sync(outcomes: &[Outcome]) -> bool
 }
 
 /// Whether some process ended by halt.
-fn has_halt(outcomes: &[Outcome]) -> bool
+fn has_halt(outcomes: &[Shared<Outcome>]) -> bool
     ensures { result ≡ list_any (λ o. not (is_sync o.ended)) outcomes.now }
 {
     outcomes
@@ -29,7 +29,7 @@ fn has_halt(outcomes: &[Outcome]) -> bool
 }
 
 /// Whether all processes made the same choice as the first.
-fn is_same_choice(first: &Outcome, outcomes: &[Outcome]) -> bool
+fn is_same_choice(first: &Shared<Outcome>, outcomes: &[Shared<Outcome>]) -> bool
     ensures { result ≡ list_all (λ o. same_tag first.now.tag o.tag) outcomes.now }
 {
     outcomes.iter().all(|outcome| first.tag == outcome.tag)
@@ -37,7 +37,7 @@ fn is_same_choice(first: &Outcome, outcomes: &[Outcome]) -> bool
 
 /// The first of S1 `MixedEnd`, S2 `TagMismatch`, S3 `PopMismatch`, S4 `PushMismatch` and S5 `TooManySlots` that holds, and none where all
 /// processes halt (this profile). It takes no memory.
-pub fn sync_fault(outcomes: &[Outcome], table: &Table) -> Option<SyncFault>
+pub fn sync_fault(outcomes: &[Shared<Outcome>], table: &Table) -> Option<SyncFault>
     requires some { 1 ≤ length outcomes.now }
     requires slots { All (λ o. AreSlots table.now o.pops) outcomes.now }
     ensures { result ≡ sync_fault outcomes.now table.now }
@@ -56,11 +56,11 @@ pub fn sync_fault(outcomes: &[Outcome], table: &Table) -> Option<SyncFault>
 }
 
 /// The tag size of the next superstep, in words: the common choice, or the old size where none was made (Hill et al. 1998). It takes no memory.
-pub fn next_tag_size(old: u64, outcomes: &[Outcome]) -> u64
+pub fn next_tag_size(old: u64, outcomes: &[Shared<Outcome>]) -> u64
     requires { 1 ≤ length outcomes.now }
     ensures choice { result ≡ next_tag_size old outcomes.now }
     ensures small { old ≤ MOST_TAG_WORDS → result ≤ MOST_TAG_WORDS }
 {
-    let first = &outcomes[0];
+    let first: &Outcome = &outcomes[0];
     first.tag.unwrap_or(old)
 }

@@ -6,6 +6,7 @@ ghost use Rattle.bsp_deliver.specs.Marks.{AreMarkedUnless, AreToKnown};
 
 use crate::addressed::Addressed;
 use crate::same::are_same_to;
+use bsp_model::Shared;
 use bsp_step::Outcome;
 
 /// Marks the processes to which the requests at the first places differ, as far as the requests at each place are to one process in both
@@ -54,10 +55,12 @@ fn mark_changes<R: Addressed>(marks: &mut [bool], old: &[R], new: &[R])
 }
 
 /// Marks the processes to which an outcome brings other puts or messages than before.
-pub fn mark_parcels(marks: &mut [bool], old: &Outcome, new: &Outcome)
+pub fn mark_parcels(marks: &mut [bool], old: &Shared<Outcome>, new: &Shared<Outcome>)
     requires { AreToKnown (length marks.old) old.now }
     ensures { AreMarkedUnless (λ d. HasSameParcel d old.now new.now) marks.old marks.new }
 {
-    mark_changes(marks, old.puts.as_slice(), new.puts.as_slice());
-    mark_changes(marks, old.sends.as_slice(), new.sends.as_slice());
+    let earlier: &Outcome = old;
+    let later: &Outcome = new;
+    mark_changes(marks, earlier.puts.as_slice(), later.puts.as_slice());
+    mark_changes(marks, earlier.sends.as_slice(), later.sends.as_slice());
 }

@@ -8,7 +8,7 @@ ghost use Rattle.bsp_deliver.specs.Comparison.{HasSameParcel, IsReadable};
 
 use crate::addressed::Addressed;
 use bsp_model::limits::MOST_MEMORY_WORDS;
-use bsp_model::{Get, Memory, Same};
+use bsp_model::{Get, Memory, Same, Shared};
 use bsp_step::Outcome;
 
 /// The place of the next request to `d`, or the number of requests.
@@ -44,15 +44,17 @@ pub(crate) fn are_same_to<R: Addressed>(old: &[R], new: &[R], d: u64) -> bool
 }
 
 /// Whether one sender puts and sends the same to `d`.
-fn is_same_parcel(old: &Outcome, new: &Outcome, d: u64) -> bool
+fn is_same_parcel(old: &Shared<Outcome>, new: &Shared<Outcome>, d: u64) -> bool
     ensures { IsTrue result ↔ HasSameParcel d old.now new.now }
 {
-    are_same_to(old.puts.as_slice(), new.puts.as_slice(), d)
-        && are_same_to(old.sends.as_slice(), new.sends.as_slice(), d)
+    let earlier: &Outcome = old;
+    let later: &Outcome = new;
+    are_same_to(earlier.puts.as_slice(), later.puts.as_slice(), d)
+        && are_same_to(earlier.sends.as_slice(), later.sends.as_slice(), d)
 }
 
 /// Whether the puts and the sends to `d` are equal lists, senders kept. It takes no memory.
-pub fn parcel_same(old: &[Outcome], new: &[Outcome], d: usize) -> bool
+pub fn parcel_same(old: &[Shared<Outcome>], new: &[Shared<Outcome>], d: usize) -> bool
     requires as_many { length old.now ≡ length new.now }
     ensures { IsTrue result ↔ ((delivery_parts old.now d).puts ≡ (delivery_parts new.now d).puts) × ((delivery_parts old.now d).sends ≡ (delivery_parts new.now d).sends) }
 {
@@ -65,7 +67,7 @@ pub fn parcel_same(old: &[Outcome], new: &[Outcome], d: usize) -> bool
 }
 
 /// Whether the words of two memories from an address on are equal.
-pub(crate) fn are_same_words(old: &Memory, new: &Memory, start: u64, len: u64) -> bool
+fn are_same_words(old: &Memory, new: &Memory, start: u64, len: u64) -> bool
     requires old { start + len ≤ length old.now }
     requires new { start + len ≤ length new.now }
     requires short { length old.now ≤ MOST_MEMORY_WORDS }
@@ -81,19 +83,32 @@ pub(crate) fn are_same_words(old: &Memory, new: &Memory, start: u64, len: u64) -
     true
 }
 
+/// Whether the words of two memories after computing are equal from an address on.
+pub(crate) fn leave_same_words(
+    old: &Shared<Outcome>,
+    new: &Shared<Outcome>,
+    start: u64,
+    len: u64,
+) -> bool
+    requires old { start + len ≤ length old.now.memory }
+    requires new { start + len ≤ length new.now.memory }
+    ensures { IsTrue result ↔ (each_below len (λ i. slice_index old.now.memory (start + i)) ≡ each_below len (λ i. slice_index new.now.memory (start + i))) }
+{
+    are_same_words(&old.memory, &new.memory, start, len)
+}
+
 /// Whether a get reads the same words.
-fn is_same_answer(old: &[Outcome], new: &[Outcome], get: &Get) -> bool
+fn is_same_answer(old: &[Shared<Outcome>], new: &[Shared<Outcome>], get: &Get) -> bool
     requires old { IsReadable old.now get.now }
     requires new { IsReadable new.now get.now }
     ensures { IsTrue result ↔ (words_read old.now get.now ≡ words_read new.now get.now) }
 {
-    let before = &old[get.owner as usize];
-    let after = &new[get.owner as usize];
-    are_same_words(&before.memory, &after.memory, get.start, get.len)
+    let owner = get.owner as usize;
+    leave_same_words(&old[owner], &new[owner], get.start, get.len)
 }
 
 /// Whether gets read the same words.
-fn are_same_answers(old: &[Outcome], new: &[Outcome], gets: &[Get]) -> bool
+fn are_same_answers(old: &[Shared<Outcome>], new: &[Shared<Outcome>], gets: &[Get]) -> bool
     requires old { All (IsReadable old.now) gets.now }
     requires new { All (IsReadable new.now) gets.now }
     ensures { IsTrue result ↔ (map (words_read old.now) gets.now ≡ map (words_read new.now) gets.now) }
@@ -107,14 +122,14 @@ fn are_same_answers(old: &[Outcome], new: &[Outcome], gets: &[Get]) -> bool
 }
 
 /// Whether the gets of `d` are equal lists, and the words that they read are equal. It takes no memory.
-pub fn answers_same(old: &[Outcome], new: &[Outcome], d: usize) -> bool
+pub fn answers_same(old: &[Shared<Outcome>], new: &[Shared<Outcome>], d: usize) -> bool
     requires known { d < length old.now }
     requires as_many { length old.now ≡ length new.now }
     requires old { AreDeliverable old.now }
     requires new { AreDeliverable new.now }
     ensures { IsTrue result ↔ ((delivery_parts old.now d).gets ≡ (delivery_parts new.now d).gets) }
 {
-    let before = &old[d];
-    let after = &new[d];
+    let before: &Outcome = &old[d];
+    let after: &Outcome = &new[d];
     before.gets.same(&after.gets) && are_same_answers(old, new, before.gets.as_slice())
 }

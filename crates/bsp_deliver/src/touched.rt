@@ -9,25 +9,34 @@ ghost use Rattle.bsp_deliver.specs.Marks.{AreMarkedUnless, AreToKnown};
 ghost use Rattle.bsp_deliver.specs.Touched.{former_or, outcomes_before, depends_on_other};
 
 use crate::marking::mark_parcels;
-use crate::same::are_same_words;
-use bsp_model::{Get, OutOfMemory, Same};
+use crate::same::leave_same_words;
+use bsp_model::{Get, OutOfMemory, Same, Shared};
 use bsp_step::Outcome;
 use std::alloc::Global;
 
 /// Whether the words of a process's memory from an address on are those that it had before.
-fn has_same_words(former: Option<&Outcome>, outcome: &Outcome, start: u64, len: u64) -> bool
+fn has_same_words(
+    former: Option<&Shared<Outcome>>,
+    outcome: &Shared<Outcome>,
+    start: u64,
+    len: u64,
+) -> bool
     requires before { start + len ≤ length (former_or outcome.now former).memory }
     requires after { start + len ≤ length outcome.now.memory }
     ensures { IsTrue result ↔ (each_below len (λ i. slice_index (former_or outcome.now former.entry).memory (start + i)) ≡ each_below len (λ i. slice_index outcome.now.memory (start + i))) }
 {
     match former {
-        Some(former) => are_same_words(&former.memory, &outcome.memory, start, len),
+        Some(former) => leave_same_words(former, outcome, start, len),
         None => true,
     }
 }
 
 /// Whether a get reads the words that it read before. Those of an owner whose outcome has not changed are the same.
-fn reads_same_words(formers: &[Option<&Outcome>], outcomes: &[Outcome], get: &Get) -> bool
+fn reads_same_words(
+    formers: &[Option<&Shared<Outcome>>],
+    outcomes: &[Shared<Outcome>],
+    get: &Get,
+) -> bool
     requires count { length formers.now ≡ length outcomes.now }
     requires before { IsReadable (outcomes_before formers.now outcomes.now) get.now }
     requires after { IsReadable outcomes.now get.now }
@@ -38,7 +47,11 @@ fn reads_same_words(formers: &[Option<&Outcome>], outcomes: &[Outcome], get: &Ge
 }
 
 /// Whether gets read the words that they read before.
-fn read_same_words(formers: &[Option<&Outcome>], outcomes: &[Outcome], gets: &[Get]) -> bool
+fn read_same_words(
+    formers: &[Option<&Shared<Outcome>>],
+    outcomes: &[Shared<Outcome>],
+    gets: &[Get],
+) -> bool
     requires count { length formers.now ≡ length outcomes.now }
     requires before { All (IsReadable (outcomes_before formers.now outcomes.now)) gets.now }
     requires after { All (IsReadable outcomes.now) gets.now }
@@ -53,7 +66,7 @@ fn read_same_words(formers: &[Option<&Outcome>], outcomes: &[Outcome], gets: &[G
 }
 
 /// Whether an outcome has the memory and the gets that it had before.
-fn has_same_own(former: Option<&Outcome>, outcome: &Outcome) -> bool
+fn has_same_own(former: Option<&Shared<Outcome>>, outcome: &Shared<Outcome>) -> bool
     ensures { IsTrue result ↔ ((former_or outcome.now former.entry).memory ≡ outcome.now.memory) × ((former_or outcome.now former.entry).gets ≡ outcome.now.gets) }
 {
     match former {
@@ -63,7 +76,7 @@ fn has_same_own(former: Option<&Outcome>, outcome: &Outcome) -> bool
 }
 
 /// Whether the memory of `p` after computing is the same as before, and so are its gets with the words that they read.
-fn is_same_own(formers: &[Option<&Outcome>], outcomes: &[Outcome], p: usize) -> bool
+fn is_same_own(formers: &[Option<&Shared<Outcome>>], outcomes: &[Shared<Outcome>], p: usize) -> bool
     requires known { p < length outcomes.now }
     requires count { length formers.now ≡ length outcomes.now }
     requires before { AreDeliverable (outcomes_before formers.now outcomes.now) }
@@ -78,7 +91,11 @@ fn is_same_own(formers: &[Option<&Outcome>], outcomes: &[Outcome], p: usize) -> 
 }
 
 /// Marks the processes to which an outcome brings other puts or messages than before.
-fn mark_parcels_since(marks: &mut [bool], former: Option<&Outcome>, outcome: &Outcome)
+fn mark_parcels_since(
+    marks: &mut [bool],
+    former: Option<&Shared<Outcome>>,
+    outcome: &Shared<Outcome>,
+)
     requires { AreToKnown (length marks.old) (former_or outcome.now former) }
     ensures { AreMarkedUnless (λ d. HasSameParcel d (former_or outcome.now former.entry) outcome.now) marks.old marks.new }
 {
@@ -88,7 +105,11 @@ fn mark_parcels_since(marks: &mut [bool], former: Option<&Outcome>, outcome: &Ou
 }
 
 /// Marks the processes to which a delivery depends on something else than before.
-fn mark_touched(marks: &mut [bool], formers: &[Option<&Outcome>], outcomes: &[Outcome])
+fn mark_touched(
+    marks: &mut [bool],
+    formers: &[Option<&Shared<Outcome>>],
+    outcomes: &[Shared<Outcome>],
+)
     requires marks { length marks.old ≡ length outcomes.now }
     requires count { length formers.now ≡ length outcomes.now }
     requires before { AreDeliverable (outcomes_before formers.now outcomes.now) }
@@ -113,8 +134,8 @@ fn mark_touched(marks: &mut [bool], formers: &[Option<&Outcome>], outcomes: &[Ou
 /// `OutOfMemory` where there is none for the answer.
 pub fn touched_by_changes(
     alloc: Global,
-    formers: &[Option<&Outcome>],
-    outcomes: &[Outcome],
+    formers: &[Option<&Shared<Outcome>>],
+    outcomes: &[Shared<Outcome>],
 ) -> Result<Vec<bool>, OutOfMemory>
     requires count { length formers.now ≡ length outcomes.now }
     requires before { AreDeliverable (outcomes_before formers.now outcomes.now) }

@@ -12,6 +12,7 @@ mod paging;
 mod request;
 mod seq;
 mod shared;
+mod shared_seq;
 
 pub use copying::{Same, TryCopy};
 pub use cost::CostRow;
@@ -20,7 +21,8 @@ pub use input::Input;
 pub use memory::Memory;
 pub use request::{Get, Message, Put, Send, Store};
 pub use seq::Seq;
-pub use shared::SharedSeq;
+pub use shared::Shared;
+pub use shared_seq::SharedSeq;
 pub use std::alloc::AllocError as OutOfMemory;
 
 /// A list of 64-bit words.

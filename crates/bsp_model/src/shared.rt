@@ -1,90 +1,60 @@
-//! A list of values that its copies share.
+//! A value that its copies share.
 
-ghost use Rattle.std.specs.Prelude.{◌≡◌, [], length, IfOk, nat_eq};
+ghost use Rattle.std.specs.Prelude.{◌≡◌, IfOk};
 
-use crate::seq::are_same;
 use crate::{OutOfMemory, Same, TryCopy};
 use std::alloc::{AllocError, Global};
 use std::marker::Model;
+use std::ops::Deref;
 use std::sync::Arc;
 
-/// A list of values that stays as it is. Its copies share the values, so that a copy takes no memory.
+/// A value that stays as it is. Its copies share it, so that a copy takes no memory.
 #[derive(Debug, Drop)]
-pub struct SharedSeq<T> {
-    /// None where there is no value.
-    items: Option<Arc<Vec<T>, Global>>,
+pub struct Shared<T> {
+    value: Arc<T, Global>,
 }
 
-impl<T> Model for SharedSeq<T> {
-    ghost use Rattle.std.specs.Prelude.{List};
-    ghost use Rattle.bsp_model.specs.Shared.{items_of};
+impl<T> Model for Shared<T> {
+    ghost use Rattle.std.specs.Arc.{arc_value};
 
-    ghost Value = { List T };
+    ghost Value = { T };
 
-    ghost view = { λ s. items_of s.items };
+    ghost view = { λ s. arc_value s.value };
 }
 
-impl<T> SharedSeq<T> {
-    /// The empty list, which takes no memory.
-    pub fn new() -> SharedSeq<T>
-        ensures { result ≡ [] }
-    {
-        SharedSeq { items: None }
-    }
+impl<T> Deref for Shared<T> {
+    type Target = T;
 
-    /// The items.
-    pub fn as_slice(&self) -> &[T]
-        ensures { result.now ≡ self.now }
-    {
-        match &self.items {
-            Some(items) => items.as_slice(),
-            None => &[],
-        }
-    }
+    ghost deref_gives = { λ s x. x ≡ s };
 
-    /// The number of items.
-    pub fn len(&self) -> usize
-        ensures { result ≡ length self.now }
-    {
-        self.as_slice().len()
-    }
-
-    /// Whether there is no item.
-    pub fn is_empty(&self) -> bool
-        ensures { result ≡ nat_eq (length self.now) 0 }
-    {
-        self.len() == 0
+    fn deref(&self) -> &T {
+        &self.value
     }
 }
 
-impl<T: Drop> SharedSeq<T> {
-    /// The list of these items, or `OutOfMemory`. The empty list takes no memory.
-    pub fn from_vec(items: Vec<T>) -> Result<SharedSeq<T>, OutOfMemory>
-        ensures { IfOk result (λ s. s ≡ items.items) }
+impl<T: Drop> Shared<T> {
+    /// This value, or `OutOfMemory`.
+    pub fn new(alloc: Global, value: T) -> Result<Shared<T>, OutOfMemory>
+        ensures { IfOk result (λ s. s ≡ value) }
     {
-        if items.is_empty() {
-            return Ok(SharedSeq::new());
-        }
-        match Arc::new(*items.allocator(), items) {
-            Ok(items) => Ok(SharedSeq { items: Some(items) }),
+        match Arc::new(alloc, value) {
+            Ok(value) => Ok(Shared { value }),
             Err(_) => Err(AllocError),
         }
     }
 }
 
-impl<T: Drop> TryCopy for SharedSeq<T> {
-    fn copy(&self) -> Result<SharedSeq<T>, OutOfMemory> {
-        match &self.items {
-            Some(items) => Ok(SharedSeq {
-                items: Some(Arc::try_clone(items)?),
-            }),
-            None => Ok(SharedSeq { items: None }),
-        }
+impl<T: Drop> TryCopy for Shared<T> {
+    fn copy(&self) -> Result<Shared<T>, OutOfMemory> {
+        let value = Arc::try_clone(&self.value)?;
+        Ok(Shared { value })
     }
 }
 
-impl<T: Same> Same for SharedSeq<T> {
-    fn same(&self, other: &SharedSeq<T>) -> bool {
-        are_same(self.as_slice(), other.as_slice())
+impl<T: Same> Same for Shared<T> {
+    fn same(&self, other: &Shared<T>) -> bool {
+        let one: &T = &self.value;
+        let other: &T = &other.value;
+        one.same(other)
     }
 }

@@ -1,8 +1,8 @@
 -- A run that has ended is a run in the words of BSP.
-use Rattle.std.proofs.Common.{◌≡◌, ◌≤◌, ◌<◌, ◌+◌, ◌-◌, ◌↔◌, ℕ, zero, suc, Bool, true, false, cond, List, [], ◌∷◌, ◌++◌, Option, None, Some, All, map, length, get_or, unwrap_or, arith, refl, sym, ap, ◌∙◌, subst, length-append, inl, inr}
+use Rattle.std.proofs.Common.{◌≡◌, ◌≤◌, ◌<◌, ◌+◌, ◌-◌, ℕ, zero, suc, Bool, true, false, cond, List, [], ◌∷◌, ◌++◌, Option, None, Some, All, map, length, unwrap_or, arith, refl, sym, ap, ◌∙◌, subst, length-append, inl, inr}
 use Rattle.std.specs.Prelude.{IfSome, option_map, slice_get}
 use Rattle.std.proofs.lemmas.Option.{slice_get_past}
-use Rattle.std.proofs.lemmas.Bool.{cases_lt, false≢true}
+use Rattle.std.proofs.lemmas.Bool.{cases_lt}
 use Rattle.std.proofs.lemmas.Grind.{common_steps}
 use Rattle.std.proofs.lemmas.List.{append-nil, length-map}
 use Rattle.bsp_model.specs.declared.input.Input.{Input}
@@ -24,7 +24,7 @@ use Rattle.bsp_run.specs.Record.{IsRecord, IsEndIn}
 use Rattle.bsp_run.specs.Condition.{is_ended, IsRun, IsInPhase, AreOutcomesOf}
 use Rattle.bsp_deliver.specs.Condition.{AreDeliverable}
 use Rattle.bsp_run.proofs.Conditions.{AreDeliverable-from_turns}
-use Rattle.bsp_run.proofs.Runs.{IsBetween, start-between, advance-between, ended-between, times_more}
+use Rattle.bsp_run.proofs.Runs.{IsBetween, start-between, advance-between, ended-between}
 use Rattle.bsp_run.proofs.Records.{superstep, views_at-past, views_at-open, IsRecord-run}
 
 -- a place past the last of these supersteps

@@ -9,3 +9,4 @@ pub mod Records
 pub mod Laws
 pub mod Turns
 pub mod Shares
+pub mod NextViews

@@ -218,3 +218,16 @@ delivered_views r past vs next table tag cells steps h ep es en et =
     let same : length (state_of cells table tag).queues ≡ length (state_of cells table tag).memories = subst (λ (s : State). length s.queues ≡ length s.memories) (sym es) (next_counts r h) in
     let count : steps ≡ length past = et ∙ sym (ap length ep ∙ length-append r.past (record { views = vs; outcomes = r.outcomes } ∷ [])) in
     en ∙ ap (views_of r.args steps) (sym (reopened r.args steps (state_of cells table tag) next en same)) ∙ ap (λ n. views_of r.args n (state_seen next table tag)) count
+
+-- the table of the next state is that which the superstep makes
+pub next_table-is : (r : Run) (table : List (List Area)) → table ≡ (next_state r.state r.outcomes).table → table ≡ next_table r.state.table (pops_of r.outcomes) (pushes_of r.outcomes)
+unfolding next_state
+next_table-is r table e = e
+
+pub tag-next : (r : Run) (tag : ℕ) → tag ≡ next_tag_size r.state.tag_size r.outcomes → tag ≡ (next_state r.state r.outcomes).tag_size
+unfolding next_state
+tag-next r tag e = e
+
+pub next_tag-is : (r : Run) (tag : ℕ) → tag ≡ (next_state r.state r.outcomes).tag_size → tag ≡ next_tag_size r.state.tag_size r.outcomes
+unfolding next_state
+next_tag-is r tag e = e

@@ -1,7 +1,6 @@
 -- The record of a run, superstep by superstep.
 use Rattle.std.specs.Prelude.{ℕ, List, [], ◌∷◌, ◌++◌, slice_index_or}
 use Rattle.bsp_step.specs.ViewParts.{ViewParts}
-use Rattle.bsp_run.specs.declared.result.Status.{Status}
 use Rattle.bsp_run.specs.declared.result.Status.TheVariants.{Halted, Limit, Faulted, SyncFaulted}
 use Rattle.bsp_run.specs.declared.phase.Phase.{Phase}
 use Rattle.bsp_run.specs.declared.phase.Phase.TheVariants.{Open, Turned, Ended}

@@ -7,12 +7,12 @@ ghost use Rattle.bsp_run.specs.Result.{largest_work, cost_of_delivery, cost_of_e
 use crate::Superstep;
 use bsp_deliver::h_of;
 use bsp_model::limits::{HIGHEST_PRICE, MOST_SUPERSTEPS};
-use bsp_model::{CostRow, OutOfMemory, Seq};
+use bsp_model::{CostRow, OutOfMemory, Seq, Shared};
 use bsp_step::Outcome;
 use std::alloc::Global;
 
 /// The largest work that a process charged.
-fn largest_work(outcomes: &[Outcome]) -> u64
+fn largest_work(outcomes: &[Shared<Outcome>]) -> u64
     ensures value { result ≡ largest_work outcomes.now }
     ensures small { result < 2 ^ 32 }
 {
@@ -24,7 +24,7 @@ fn largest_work(outcomes: &[Outcome]) -> u64
 }
 
 /// The cost of a superstep that ended by delivery.
-fn cost_of_delivery(g: u64, l: u64, outcomes: &[Outcome]) -> CostRow
+fn cost_of_delivery(g: u64, l: u64, outcomes: &[Shared<Outcome>]) -> CostRow
     requires deliverable { AreDeliverable outcomes.now }
     requires small_g { g ≤ HIGHEST_PRICE }
     requires small_l { l ≤ HIGHEST_PRICE }
@@ -41,7 +41,7 @@ fn cost_of_delivery(g: u64, l: u64, outcomes: &[Outcome]) -> CostRow
 }
 
 /// The cost of the superstep that ended the run.
-fn cost_of_end(outcomes: &[Outcome]) -> CostRow
+fn cost_of_end(outcomes: &[Shared<Outcome>]) -> CostRow
     ensures value { result ≡ cost_of_end outcomes.now }
     ensures small { result.cost < 2 ^ 50 }
 {
@@ -79,7 +79,7 @@ pub fn all_costs(
     g: u64,
     l: u64,
     past: &[Superstep],
-    last: Option<&[Outcome]>,
+    last: Option<&[Shared<Outcome>]>,
 ) -> Result<Seq<CostRow>, OutOfMemory>
     requires deliverable { All (λ s. AreDeliverable s.outcomes) past.now }
     requires small_g { g ≤ HIGHEST_PRICE }

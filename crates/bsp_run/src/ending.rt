@@ -9,12 +9,12 @@ ghost use Rattle.bsp_run.specs.Ending.{end_of, faults_from};
 
 use crate::{ProcessFault, Status};
 use bsp_deliver::sync_fault;
-use bsp_model::{OutOfMemory, Seq};
+use bsp_model::{OutOfMemory, Seq, Shared};
 use bsp_step::{Ended, Outcome};
 use bsp_table::Table;
 use std::alloc::Global;
 
-fn has_fault(outcomes: &[Outcome]) -> bool
+fn has_fault(outcomes: &[Shared<Outcome>]) -> bool
     ensures { result ≡ list_any (λ o. is_some o.fault) outcomes.now }
 {
     for outcome in outcomes {
@@ -26,7 +26,7 @@ fn has_fault(outcomes: &[Outcome]) -> bool
 }
 
 /// The faults of all processes, by process.
-fn faults(alloc: Global, outcomes: &[Outcome]) -> Result<Seq<ProcessFault>, OutOfMemory>
+fn faults(alloc: Global, outcomes: &[Shared<Outcome>]) -> Result<Seq<ProcessFault>, OutOfMemory>
     ensures { IfOk result (λ faults. faults ≡ faults_from 0 outcomes.now) }
 {
     let mut faults = Seq::new(alloc);
@@ -42,7 +42,7 @@ fn faults(alloc: Global, outcomes: &[Outcome]) -> Result<Seq<ProcessFault>, OutO
     Ok(faults)
 }
 
-fn has_sync(outcomes: &[Outcome]) -> bool
+fn has_sync(outcomes: &[Shared<Outcome>]) -> bool
     ensures { result ≡ list_any (λ o. is_sync o.ended) outcomes.now }
 {
     outcomes
@@ -56,7 +56,7 @@ pub fn end_of(
     alloc: Global,
     step: u64,
     table: &Table,
-    outcomes: &[Outcome],
+    outcomes: &[Shared<Outcome>],
 ) -> Result<Option<Status>, OutOfMemory>
     requires some { 1 ≤ length outcomes.now }
     requires slots { All (λ o. AreSlots table.now o.pops) outcomes.now }

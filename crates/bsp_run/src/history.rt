@@ -10,7 +10,7 @@ use crate::costs::{all_costs, total_of};
 use crate::keeping::{is_limit, last_turn};
 use crate::lines::all_lines;
 use crate::{Lines, Phase, RunResult, Status, Superstep, Tape};
-use bsp_model::{CostRow, Memory, OutOfMemory, Seq, TryCopy};
+use bsp_model::{CostRow, Memory, OutOfMemory, Seq, Shared, TryCopy};
 use bsp_step::{Outcome, View};
 use std::alloc::Global;
 use std::marker::Model;
@@ -118,7 +118,7 @@ impl History {
 }
 
 /// The memories of these views.
-fn memories_of_views(alloc: Global, views: &[View]) -> Result<Seq<Memory>, OutOfMemory>
+fn memories_of_views(alloc: Global, views: &[Shared<View>]) -> Result<Seq<Memory>, OutOfMemory>
     ensures { IfOk result (λ all. all ≡ map (λ v. v.memory) views.now) }
 {
     let mut all = Seq::new(alloc);
@@ -129,7 +129,10 @@ fn memories_of_views(alloc: Global, views: &[View]) -> Result<Seq<Memory>, OutOf
 }
 
 /// The memories of these outcomes.
-fn memories_of_outcomes(alloc: Global, outcomes: &[Outcome]) -> Result<Seq<Memory>, OutOfMemory>
+fn memories_of_outcomes(
+    alloc: Global,
+    outcomes: &[Shared<Outcome>],
+) -> Result<Seq<Memory>, OutOfMemory>
     ensures { IfOk result (λ all. all ≡ map (λ o. o.memory) outcomes.now) }
 {
     let mut all = Seq::new(alloc);
@@ -141,7 +144,7 @@ fn memories_of_outcomes(alloc: Global, outcomes: &[Outcome]) -> Result<Seq<Memor
 
 impl History {
     /// The views of a superstep, by process; at `Limit` also of the superstep after the last.
-    pub fn views(&self, step: u64) -> Option<&[View]>
+    pub fn views(&self, step: u64) -> Option<&[Shared<View>]>
         ensures { option_map (λ v. v.now) result ≡ slice_get (all_views self.now) step }
     {
         let run = &self.run;
@@ -153,7 +156,7 @@ impl History {
     }
 
     /// The outcomes of a superstep, by process.
-    pub fn outcomes(&self, step: u64) -> Option<&[Outcome]>
+    pub fn outcomes(&self, step: u64) -> Option<&[Shared<Outcome>]>
         ensures outcomes { option_map (λ o. o.now) result ≡ slice_get (all_turns self.now) step }
         ensures deliverable { IfSome result (λ o. AreDeliverable o.now) }
     {
@@ -177,7 +180,7 @@ impl History {
     }
 
     /// The views of superstep `step`; none where the run took no turns of such a superstep.
-    pub fn superstep_views(&self, step: usize) -> &[View]
+    pub fn superstep_views(&self, step: usize) -> &[Shared<View>]
         ensures { result.now ≡ (superstep_at (supersteps_of self.now) step).views }
     {
         let run = &self.run;
@@ -189,7 +192,7 @@ impl History {
     }
 
     /// The outcomes of superstep `step`; none where the run took no turns of such a superstep.
-    pub fn superstep_outcomes(&self, step: usize) -> &[Outcome]
+    pub fn superstep_outcomes(&self, step: usize) -> &[Shared<Outcome>]
         ensures { result.now ≡ (superstep_at (supersteps_of self.now) step).outcomes }
     {
         let run = &self.run;

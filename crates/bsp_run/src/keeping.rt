@@ -6,11 +6,11 @@ ghost use Rattle.bsp_run.specs.State.{pops_of, pushes_of};
 ghost use Rattle.bsp_run.specs.Run.{phase_after, is_limit};
 ghost use Rattle.bsp_run.specs.Condition.{IsNextTable, CanSync};
 
-use crate::{Phase, Status, Superstep};
-use bsp_model::{OutOfMemory, Seq};
-use bsp_step::{Outcome, View};
+use crate::{Outcomes, Phase, Status, Superstep, Views};
+use bsp_model::{OutOfMemory, Shared, SharedSeq};
+use bsp_step::Outcome;
 use bsp_table::{Table, TableFault};
-use std::alloc::{AllocError, Global};
+use std::alloc::AllocError;
 use std::mem;
 
 /// What comes after the turns.
@@ -35,7 +35,7 @@ pub fn phase_at(steps: u64, limit: u64) -> Phase
 }
 
 /// The table after a superstep whose end has no fault.
-pub fn next_table(table: &Table, outcomes: &[Outcome]) -> Result<Table, OutOfMemory>
+pub fn next_table(table: &Table, outcomes: &[Shared<Outcome>]) -> Result<Table, OutOfMemory>
     requires { CanSync table.now outcomes.now }
     ensures next { IfOk result (λ t. t ≡ next_table table.now (pops_of outcomes.now) (pushes_of outcomes.now)) }
     ensures limits { IfOk result (λ t. IsNextTable (length outcomes.now) (map (λ o. length o.memory) outcomes.now) t) }
@@ -49,11 +49,10 @@ pub fn next_table(table: &Table, outcomes: &[Outcome]) -> Result<Table, OutOfMem
 
 /// Keeps the superstep that has ended, and puts the next views in its place. After `OutOfMemory` nothing has changed.
 pub fn keep_superstep(
-    alloc: Global,
     past: &mut Vec<Superstep>,
-    views: &mut Seq<View>,
-    outcomes: &mut Seq<Outcome>,
-    next: Seq<View>,
+    views: &mut Views,
+    outcomes: &mut Outcomes,
+    next: Views,
 ) -> Result<(), OutOfMemory>
     ensures past { OnOk result (past.new.items ≡ past.old.items ++ record { views = views.old; outcomes = outcomes.old } ∷ []) }
     ensures views { OnOk result (views.new ≡ next) }
@@ -64,7 +63,7 @@ pub fn keep_superstep(
 {
     let superstep = Superstep {
         views: mem::replace(views, next),
-        outcomes: mem::replace(outcomes, Seq::new(alloc)),
+        outcomes: mem::replace(outcomes, SharedSeq::new()),
     };
     match past.push(superstep) {
         Ok(()) => Ok(()),
@@ -85,7 +84,10 @@ pub fn is_limit(phase: &Phase) -> bool
 }
 
 /// The outcomes of the superstep that ended the run; at the limit there is none such.
-pub fn last_turn<'a>(phase: &Phase, outcomes: &'a [Outcome]) -> Option<&'a [Outcome]>
+pub fn last_turn<'a>(
+    phase: &Phase,
+    outcomes: &'a [Shared<Outcome>],
+) -> Option<&'a [Shared<Outcome>]>
     ensures { option_map (λ o. o.now) result ≡ (if is_limit phase.now then None else Some outcomes.now) }
 {
     if is_limit(phase) {

@@ -5,12 +5,12 @@ ghost use Rattle.bsp_deliver.specs.Requests.{each_below, outcome_of};
 ghost use Rattle.bsp_run.specs.Result.{lines_of_process, turns_in};
 
 use crate::{Lines, Superstep};
-use bsp_model::{OutOfMemory, Seq, TryCopy};
+use bsp_model::{OutOfMemory, Seq, Shared, TryCopy};
 use bsp_step::Outcome;
 use std::alloc::Global;
 
 /// The lines of a process in one superstep, at the end of the others.
-fn add_lines(lines: &mut Lines, outcomes: &[Outcome], pid: usize) -> Result<(), OutOfMemory>
+fn add_lines(lines: &mut Lines, outcomes: &[Shared<Outcome>], pid: usize) -> Result<(), OutOfMemory>
     ensures { OnOk result (lines.new ≡ lines.old ++ (outcome_of outcomes.now pid).lines) }
 {
     let Some(outcome) = outcomes.get(pid) else {
@@ -37,7 +37,7 @@ fn lines_of_past(alloc: Global, past: &[Superstep], pid: usize) -> Result<Lines,
 fn lines_of_run(
     alloc: Global,
     past: &[Superstep],
-    last: Option<&[Outcome]>,
+    last: Option<&[Shared<Outcome>]>,
     pid: usize,
 ) -> Result<Lines, OutOfMemory>
     ensures { IfOk result (λ lines. lines ≡ lines_of_process (map (λ s. s.outcomes) past.now ++ turns_in (option_map (λ o. o.now) last.entry)) pid) }
@@ -54,7 +54,7 @@ fn lines_of_run(
 pub fn all_lines(
     alloc: Global,
     past: &[Superstep],
-    last: Option<&[Outcome]>,
+    last: Option<&[Shared<Outcome>]>,
     nprocs: usize,
 ) -> Result<Seq<Lines>, OutOfMemory>
     ensures { IfOk result (λ all. all ≡ each_below nprocs (lines_of_process (map (λ s. s.outcomes) past.now ++ turns_in (option_map (λ o. o.now) last.entry)))) }

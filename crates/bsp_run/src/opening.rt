@@ -5,7 +5,9 @@ ghost use Rattle.bsp_step.specs.ViewParts.{IsView};
 ghost use Rattle.bsp_run.specs.State.{views_of, no_messages};
 ghost use Rattle.bsp_run.specs.Opening.{CanOpen, state_of, view_with};
 
-use bsp_model::{Memory, OutOfMemory, Seq, SharedSeq, TryCopy, Words};
+use crate::Views;
+use crate::taking::take_next;
+use bsp_model::{Memory, OutOfMemory, Seq, Shared, SharedSeq, TryCopy, Words};
 use bsp_step::{Queue, View};
 use bsp_table::Table;
 use std::alloc::Global;
@@ -14,7 +16,7 @@ use std::alloc::Global;
 pub fn first_cells(alloc: Global, mems: &[Memory]) -> Result<Vec<(Memory, Queue)>, OutOfMemory>
     ensures { IfOk result (λ cells. cells.items ≡ map (λ m. (m, no_messages m)) mems.now) }
 {
-    let mut cells = Vec::new(alloc);
+    let mut cells = Vec::with_capacity(alloc, mems.len())?;
     for memory in mems {
         cells.push((memory.copy()?, Queue::new()))?;
     }
@@ -33,7 +35,7 @@ pub fn shared_args(args: &Seq<Words>) -> Result<Seq<SharedSeq<u64>>, OutOfMemory
 }
 
 /// One view, of parts within the limits.
-fn view_at(
+pub fn view_at(
     nprocs: usize,
     pid: usize,
     step: u64,
@@ -65,19 +67,20 @@ pub fn open_views(
     alloc: Global,
     args: &[SharedSeq<u64>],
     step: u64,
-    mut cells: Vec<(Memory, Queue)>,
+    cells: Vec<(Memory, Queue)>,
     table: &Table,
     tag_size: u64,
-) -> Result<Seq<View>, OutOfMemory>
+) -> Result<Views, OutOfMemory>
     requires { CanOpen args.now (state_of cells.items table.now tag_size) }
     ensures { IfOk result (λ views. views ≡ views_of args.now step (state_of cells.items table.now tag_size)) }
 {
-    let mut views = Seq::new(alloc);
     let nprocs = cells.len();
+    let mut views = Vec::with_capacity(alloc, nprocs)?;
+    let mut cells = cells.into_iter();
     for pid in 0..nprocs {
-        let cell = cells.remove(0);
+        let cell = take_next(&mut cells);
         let view = view_at(nprocs, pid, step, &args[pid], cell, table, tag_size)?;
-        views.push(view)?;
+        views.push(Shared::new(alloc, view)?)?;
     }
-    Ok(views)
+    Ok(SharedSeq::from_vec(views)?)
 }

@@ -12,23 +12,34 @@ ghost use Rattle.bsp_run.specs.RunErrors.{input_fault_of};
 use crate::supersteps::run_by;
 use crate::{History, RunError};
 use bsp_deliver::deliver;
-use bsp_model::{Input, Memory, OutOfMemory};
+use bsp_model::{Input, Memory, OutOfMemory, Shared};
 use bsp_step::{Outcome, Program, Queue, View, turn};
 use std::alloc::Global;
+
+/// The turn at a view.
+fn shared_turn<P: Program>(
+    alloc: Global,
+    program: &P,
+    view: &View,
+) -> Result<Shared<Outcome>, OutOfMemory>
+    ensures { IfOk result (λ o. o ≡ turn_of (P.acts program.now) (P.ending program.now) view.now) }
+{
+    Shared::new(alloc, turn(alloc, program, view)?)
+}
 
 /// The turns of these processes, in the order of the list.
 fn turns<P: Program>(
     alloc: Global,
     program: &P,
-    views: &[View],
+    views: &[Shared<View>],
     processes: &[usize],
-) -> Result<Vec<Outcome>, OutOfMemory>
+) -> Result<Vec<Shared<Outcome>>, OutOfMemory>
     requires { All (λ p. p < length views.now) processes.now }
     ensures { IfOk result (λ all. all.items ≡ turns_of (turn_of (P.acts program.now) (P.ending program.now)) views.now processes.now) }
 {
-    let mut outcomes = Vec::new(alloc);
+    let mut outcomes = Vec::with_capacity(alloc, processes.len())?;
     for process in processes {
-        let outcome = turn(alloc, program, &views[*process])?;
+        let outcome = shared_turn(alloc, program, &views[*process])?;
         outcomes.push(outcome)?;
     }
     Ok(outcomes)
@@ -37,14 +48,14 @@ fn turns<P: Program>(
 /// The next memory and queue of each of these processes, in the order of the list.
 fn deliveries(
     alloc: Global,
-    outcomes: &[Outcome],
+    outcomes: &[Shared<Outcome>],
     processes: &[usize],
 ) -> Result<Vec<(Memory, Queue)>, OutOfMemory>
     requires deliverable { AreDeliverable outcomes.now }
     requires processes { All (λ d. d < length outcomes.now) processes.now }
     ensures { IfOk result (λ all. all.items ≡ deliveries_to outcomes.now processes.now) }
 {
-    let mut cells = Vec::new(alloc);
+    let mut cells = Vec::with_capacity(alloc, processes.len())?;
     for process in processes {
         let cell = deliver(alloc, *process, outcomes)?;
         cells.push(cell)?;
@@ -64,11 +75,17 @@ pub fn run_plain<P: Program>(alloc: Global, program: &P, input: &Input) -> Resul
         alloc,
         program,
         input,
-        &|program: &P, views: &[View], processes: &[usize]| -> Result<Vec<Outcome>, OutOfMemory>
+        &|program: &P, views: &[Shared<View>], processes: &[usize]| -> Result<
+            Vec<Shared<Outcome>>,
+            OutOfMemory,
+        >
             requires { All (λ p. p < length views.now) processes.now }
             ensures { IfOk result (λ all. all.items ≡ turns_of (turn_of (P.acts program.now) (P.ending program.now)) views.now processes.now) }
         { turns(alloc, program, views, processes) },
-        &|outcomes: &[Outcome], processes: &[usize]| -> Result<Vec<(Memory, Queue)>, OutOfMemory>
+        &|outcomes: &[Shared<Outcome>], processes: &[usize]| -> Result<
+            Vec<(Memory, Queue)>,
+            OutOfMemory,
+        >
             requires deliverable { AreDeliverable outcomes.now }
             requires processes { All (λ d. d < length outcomes.now) processes.now }
             ensures { IfOk result (λ all. all.items ≡ deliveries_to outcomes.now processes.now) }

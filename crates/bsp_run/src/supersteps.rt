@@ -12,7 +12,7 @@ ghost use Rattle.bsp_run.specs.Law.{IsBspRun};
 ghost use Rattle.bsp_run.specs.RunErrors.{input_fault_of};
 
 use crate::{History, RunError, Tape};
-use bsp_model::{Input, Memory, OutOfMemory};
+use bsp_model::{Input, Memory, OutOfMemory, Shared};
 use bsp_step::{Outcome, Program, Queue, View};
 use std::alloc::Global;
 
@@ -31,8 +31,8 @@ fn numbers(alloc: Global, count: usize) -> Result<Vec<usize>, OutOfMemory>
 /// One superstep more, if the run has not ended: its turns and, where it ends by delivery, its deliveries.
 fn advance<
     P: Program,
-    T: Fn(&P, &[View], &[usize]) -> Result<Vec<Outcome>, OutOfMemory>,
-    D: Fn(&[Outcome], &[usize]) -> Result<Vec<(Memory, Queue)>, OutOfMemory>,
+    T: Fn(&P, &[Shared<View>], &[usize]) -> Result<Vec<Shared<Outcome>>, OutOfMemory>,
+    D: Fn(&[Shared<Outcome>], &[usize]) -> Result<Vec<(Memory, Queue)>, OutOfMemory>,
 >(alloc: Global, program: &P, turns: &T, deliveries: &D, tape: &mut Tape) -> Result<(), OutOfMemory>
     requires between { is_turned tape.old.phase ≡ false }
     requires turn { (p : _) (views : _) (ps : _) → All (λ k. k < length views.now) ps.now → T.pre turns.now p views ps }
@@ -61,8 +61,8 @@ fn advance<
 /// processes that it is given, and `deliveries` makes the deliveries to them.
 pub(crate) fn run_by<
     P: Program,
-    T: Fn(&P, &[View], &[usize]) -> Result<Vec<Outcome>, OutOfMemory>,
-    D: Fn(&[Outcome], &[usize]) -> Result<Vec<(Memory, Queue)>, OutOfMemory>,
+    T: Fn(&P, &[Shared<View>], &[usize]) -> Result<Vec<Shared<Outcome>>, OutOfMemory>,
+    D: Fn(&[Shared<Outcome>], &[usize]) -> Result<Vec<(Memory, Queue)>, OutOfMemory>,
 >(alloc: Global, program: &P, input: &Input, turns: &T, deliveries: &D) -> Result<History, RunError>
     requires turn { (p : _) (views : _) (ps : _) → All (λ k. k < length views.now) ps.now → T.pre turns.now p views ps }
     requires turns { (p : _) (views : _) (ps : _) (r : _) → T.post turns.now p views ps r

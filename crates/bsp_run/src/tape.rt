@@ -1,20 +1,22 @@
 //! A run while it is recorded.
 
-ghost use Rattle.std.specs.Prelude.{◌≡◌, ◌++◌, ◌∷◌, [], IfOk, IfErr, OnOk, OnErr, None, Some, length, All};
+ghost use Rattle.std.specs.Prelude.{◌≡◌, ◌<◌, ◌+◌, ◌++◌, ◌∷◌, [], IfOk, IfErr, OnOk, OnErr, None, Some, length, map, slice_index_or, true, All};
 ghost use Rattle.bsp_model.specs.Input.{input_fault};
 ghost use Rattle.bsp_step.specs.ViewParts.{IsView};
 ghost use Rattle.bsp_deliver.specs.Condition.{AreDeliverable};
 ghost use Rattle.bsp_run.specs.Run.{start, after_turns, after_delivery, open_views};
 ghost use Rattle.bsp_run.specs.Shown.{views_shown, outcomes_shown};
-ghost use Rattle.bsp_run.specs.Condition.{AreOutcomesOf, deliveries_of, is_turned, is_open};
+ghost use Rattle.bsp_run.specs.State.{next_state, view_of, views_of};
+ghost use Rattle.bsp_run.specs.Condition.{AreOutcomesOf, IsNextTable, deliveries_of, is_turned, is_open};
 ghost use Rattle.bsp_run.specs.RunErrors.{input_fault_of};
+ghost use Rattle.bsp_run.specs.Places.{IsPlaceOf};
 
 use crate::ending::end_of;
 use crate::keeping::{keep_superstep, next_table, phase_after, phase_at};
-use crate::opening::{first_cells, open_views, shared_args};
-use crate::{Phase, RunError, Status, Superstep};
+use crate::opening::{first_cells, open_views, shared_args, view_at};
+use crate::{Outcomes, Phase, RunError, Status, Superstep, Views};
 use bsp_deliver::next_tag_size;
-use bsp_model::{Input, Memory, OutOfMemory, Seq, SharedSeq};
+use bsp_model::{Input, Memory, OutOfMemory, Same, Seq, Shared, SharedSeq, TryCopy};
 use bsp_step::{Outcome, Queue, View};
 use bsp_table::Table;
 use std::alloc::Global;
@@ -28,8 +30,8 @@ pub struct Tape {
     pub(crate) g: u64,
     pub(crate) l: u64,
     pub(crate) past: Vec<Superstep>,
-    pub(crate) views: Seq<View>,
-    pub(crate) outcomes: Seq<Outcome>,
+    pub(crate) views: Views,
+    pub(crate) outcomes: Outcomes,
     pub(crate) table: Table,
     pub(crate) tag_size: u64,
     pub(crate) phase: Phase,
@@ -75,7 +77,7 @@ impl Tape {
             l: input.l,
             past: Vec::new(alloc),
             views,
-            outcomes: Seq::new(alloc),
+            outcomes: SharedSeq::new(),
             table,
             tag_size: 0,
             phase: Phase::Open,
@@ -83,7 +85,7 @@ impl Tape {
     }
 
     /// The views of the open superstep, by process; once the run has ended, those of its last superstep. It takes no memory.
-    pub fn views(&self) -> &[View]
+    pub fn views(&self) -> &[Shared<View>]
         ensures views { result.now ≡ views_shown self.now }
         ensures limits { self.now.phase ≡ Phase.Open → All IsView result.now }
     {
@@ -98,7 +100,7 @@ impl Tape {
 
     /// The outcomes of the open superstep, by process, once they are there; once the run has ended, those of its last superstep.
     /// It takes no memory.
-    pub fn outcomes(&self) -> &[Outcome]
+    pub fn outcomes(&self) -> &[Shared<Outcome>]
         ensures outcomes { result.now ≡ outcomes_shown self.now }
         ensures deliverable { self.now.phase ≡ Phase.Turned → AreDeliverable result.now }
     {
@@ -113,7 +115,7 @@ impl Tape {
 
     /// Takes the outcomes of the open superstep, one for each view. True where the superstep ends by delivery; else the run has ended.
     /// After `OutOfMemory` nothing has changed.
-    pub fn turned(&mut self, outcomes: Vec<Outcome>) -> Result<bool, OutOfMemory>
+    pub fn turned(&mut self, outcomes: Vec<Shared<Outcome>>) -> Result<bool, OutOfMemory>
         requires open { self.old.phase ≡ Phase.Open }
         requires turns { AreOutcomesOf (open_views self.old) outcomes.items }
         ensures ok { OnOk result (self.new ≡ after_turns self.old outcomes.items) }
@@ -128,9 +130,94 @@ impl Tape {
             outcomes.as_slice(),
         )?;
         let goes_on = end.is_none();
-        self.outcomes = Seq::from_vec(outcomes);
+        let outcomes = SharedSeq::from_vec(outcomes)?;
+        self.outcomes = outcomes;
         self.phase = phase_after(end);
         Ok(goes_on)
+    }
+
+    /// The table of the next superstep.
+    pub fn next_table(&self) -> Result<Table, OutOfMemory>
+        requires { self.now.phase ≡ Phase.Turned }
+        ensures next { IfOk result (λ t. t ≡ (next_state self.now.state self.now.outcomes).table) }
+        ensures limits { IfOk result (λ t. IsNextTable (length self.now.outcomes) (map (λ o. length o.memory) self.now.outcomes) t) }
+    {
+        Ok(next_table(&self.table, self.outcomes.as_slice())?)
+    }
+
+    /// The tag size of the next superstep, in words.
+    pub fn next_tag_size(&self) -> u64
+        requires { self.now.phase ≡ Phase.Turned }
+        ensures { result ≡ (next_state self.now.state self.now.outcomes).tag_size }
+    {
+        next_tag_size(self.tag_size, self.outcomes.as_slice())
+    }
+
+    /// The view of a process in the next superstep, of its next memory and queue.
+    pub fn next_view(
+        &self,
+        table: &Table,
+        pid: usize,
+        memory: Memory,
+        queue: Queue,
+    ) -> Result<Shared<View>, OutOfMemory>
+        requires turned { self.now.phase ≡ Phase.Turned }
+        requires known { pid < length self.now.outcomes }
+        requires table { table.now ≡ (next_state self.now.state self.now.outcomes).table }
+        requires limits { IsNextTable (length self.now.outcomes) (map (λ o. length o.memory) self.now.outcomes) table.now }
+        requires memory { memory ≡ slice_index_or (next_state self.now.state self.now.outcomes).memories pid [] }
+        requires queue { queue ≡ slice_index_or (next_state self.now.state self.now.outcomes).queues pid [] }
+        ensures { IfOk result (λ v. v ≡ view_of self.now.args (length self.now.past + 1) (next_state self.now.state self.now.outcomes) pid) }
+    {
+        let alloc = *self.past.allocator();
+        let nprocs = self.views.len();
+        let step = self.past.len() as u64 + 1;
+        let tag_size = next_tag_size(self.tag_size, self.outcomes.as_slice());
+        let args = &self.args.as_slice()[pid];
+        let view = view_at(nprocs, pid, step, args, (memory, queue), table, tag_size)?;
+        Ok(Shared::new(alloc, view)?)
+    }
+
+    /// The view of a process in the next superstep, where it is given one that has its next memory and queue: that view, if all of it is the same.
+    /// `same_table` tells that the table is.
+    pub fn next_view_like(
+        &self,
+        table: &Table,
+        pid: usize,
+        view: &Shared<View>,
+        same_table: bool,
+    ) -> Result<Shared<View>, OutOfMemory>
+        requires turned { self.now.phase ≡ Phase.Turned }
+        requires known { pid < length self.now.outcomes }
+        requires table { table.now ≡ (next_state self.now.state self.now.outcomes).table }
+        requires limits { IsNextTable (length self.now.outcomes) (map (λ o. length o.memory) self.now.outcomes) table.now }
+        requires memory { view.now.memory ≡ slice_index_or (next_state self.now.state self.now.outcomes).memories pid [] }
+        requires queue { view.now.queue ≡ slice_index_or (next_state self.now.state self.now.outcomes).queues pid [] }
+        requires same_table { same_table ≡ true → view.now.table ≡ table.now }
+        ensures { IfOk result (λ v. v ≡ view_of self.now.args (length self.now.past + 1) (next_state self.now.state self.now.outcomes) pid) }
+    {
+        if same_table && self.is_place_of(pid, view) {
+            return view.copy();
+        }
+        self.next_view(table, pid, view.memory.copy()?, view.queue.copy()?)
+    }
+
+    /// Whether a view is of this process in the next superstep, with its arguments and the tag size of then.
+    fn is_place_of(&self, pid: usize, view: &View) -> bool
+        requires turned { self.now.phase ≡ Phase.Turned }
+        requires known { pid < length self.now.outcomes }
+        ensures { result ≡ true → IsPlaceOf self.now pid view.now }
+    {
+        let nprocs = self.views.len() as u64;
+        let step = self.past.len() as u64 + 1;
+        let tag_size = next_tag_size(self.tag_size, self.outcomes.as_slice());
+        if view.nprocs != nprocs || view.pid != pid as u64 {
+            return false;
+        }
+        if view.step != step || view.tag_size != tag_size {
+            return false;
+        }
+        view.args.same(&self.args.as_slice()[pid])
     }
 
     /// Takes the next memory and queue of each process. True where the next superstep opens; else the limit has ended the run.
@@ -143,17 +230,27 @@ impl Tape {
         ensures err { OnErr result (self.new ≡ self.old) }
     {
         let alloc = *self.past.allocator();
+        let table = self.next_table()?;
+        let tag_size = self.next_tag_size();
         let step = self.past.len() as u64 + 1;
-        let table = next_table(&self.table, self.outcomes.as_slice())?;
-        let tag_size = next_tag_size(self.tag_size, self.outcomes.as_slice());
         let views = open_views(alloc, self.args.as_slice(), step, cells, &table, tag_size)?;
-        keep_superstep(
-            alloc,
-            &mut self.past,
-            &mut self.views,
-            &mut self.outcomes,
-            views,
-        )?;
+        Ok(self.delivered_as(table, views)?)
+    }
+
+    /// Takes the table and the views of the next superstep. True where it opens; else the limit has ended the run. After `OutOfMemory` nothing
+    /// has changed.
+    pub fn delivered_as(&mut self, table: Table, views: Views) -> Result<bool, OutOfMemory>
+        requires turned { self.old.phase ≡ Phase.Turned }
+        requires table { table ≡ (next_state self.old.state self.old.outcomes).table }
+        requires limits { IsNextTable (length self.old.outcomes) (map (λ o. length o.memory) self.old.outcomes) table }
+        requires views { views ≡ views_of self.old.args (length self.old.past + 1) (next_state self.old.state self.old.outcomes) }
+        ensures ok { OnOk result (self.new ≡ after_delivery self.old) }
+        ensures answer { IfOk result (λ goes_on. goes_on ≡ is_open self.new.phase) }
+        ensures err { OnErr result (self.new ≡ self.old) }
+    {
+        let step = self.past.len() as u64 + 1;
+        let tag_size = next_tag_size(self.tag_size, self.outcomes.as_slice());
+        keep_superstep(&mut self.past, &mut self.views, &mut self.outcomes, views)?;
         self.table = table;
         self.tag_size = tag_size;
         self.phase = phase_at(step, self.limit);

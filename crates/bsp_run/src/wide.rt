@@ -12,7 +12,7 @@ ghost use Rattle.bsp_run.specs.RunErrors.{input_fault_of};
 use crate::supersteps::run_by;
 use crate::works::{Deliveries, Turns};
 use crate::{History, RunError};
-use bsp_model::{Input, Memory, OutOfMemory};
+use bsp_model::{Input, Memory, OutOfMemory, Shared};
 use bsp_pool::{Gate, phase};
 use bsp_step::{Outcome, Program, Queue, View};
 use std::alloc::Global;
@@ -27,11 +27,11 @@ pub fn wide_turns<P: Program, G: Gate, R: Threads + Sync>(
     rt: &R,
     alloc: Global,
     program: &P,
-    views: &[View],
+    views: &[Shared<View>],
     processes: &[usize],
     workers: usize,
     gate: &G,
-) -> Result<Vec<Outcome>, OutOfMemory>
+) -> Result<Vec<Shared<Outcome>>, OutOfMemory>
     requires processes { All (λ p. p < length views.now) processes.now }
     requires workers { (0 < workers) × (workers ≤ 16) }
     ensures { IfOk result (λ all. all.items ≡ turns_of (turn_of (P.acts program.now) (P.ending program.now)) views.now processes.now) }
@@ -49,7 +49,7 @@ pub fn wide_turns<P: Program, G: Gate, R: Threads + Sync>(
 pub fn wide_deliveries<G: Gate, R: Threads + Sync>(
     rt: &R,
     alloc: Global,
-    outcomes: &[Outcome],
+    outcomes: &[Shared<Outcome>],
     processes: &[usize],
     workers: usize,
     gate: &G,
@@ -83,12 +83,18 @@ pub fn run_wide<P: Program, G: Gate, R: Threads + Sync>(
         alloc,
         program,
         input,
-        &|program: &P, views: &[View], processes: &[usize]| -> Result<Vec<Outcome>, OutOfMemory>
+        &|program: &P, views: &[Shared<View>], processes: &[usize]| -> Result<
+            Vec<Shared<Outcome>>,
+            OutOfMemory,
+        >
             requires processes { All (λ p. p < length views.now) processes.now }
             requires workers { (0 < workers) × (workers ≤ 16) }
             ensures { IfOk result (λ all. all.items ≡ turns_of (turn_of (P.acts program.now) (P.ending program.now)) views.now processes.now) }
         { wide_turns(rt, alloc, program, views, processes, workers, gate) },
-        &|outcomes: &[Outcome], processes: &[usize]| -> Result<Vec<(Memory, Queue)>, OutOfMemory>
+        &|outcomes: &[Shared<Outcome>], processes: &[usize]| -> Result<
+            Vec<(Memory, Queue)>,
+            OutOfMemory,
+        >
             requires deliverable { AreDeliverable outcomes.now }
             requires processes { All (λ d. d < length outcomes.now) processes.now }
             requires workers { (0 < workers) × (workers ≤ 16) }

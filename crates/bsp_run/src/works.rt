@@ -7,7 +7,7 @@ ghost use Rattle.bsp_deliver.specs.Delivery.{delivery_parts, next_memory, next_q
 ghost use Rattle.bsp_run.specs.Condition.{no_view};
 
 use bsp_deliver::deliver;
-use bsp_model::{Memory, OutOfMemory};
+use bsp_model::{Memory, OutOfMemory, Shared};
 use bsp_pool::Work;
 use bsp_step::{Ctx, Outcome, Program, Queue, View};
 use std::alloc::Global;
@@ -16,13 +16,13 @@ use std::alloc::Global;
 #[derive(Drop)]
 pub struct Turns<'a, P: Program> {
     pub program: &'a P,
-    pub views: &'a [View],
+    pub views: &'a [Shared<View>],
 }
 
 impl<'a, P: Program> Work for Turns<'a, P> {
     type In = usize;
 
-    type Out = Outcome;
+    type Out = Shared<Outcome>;
 
     ghost accepts = { λ turns p. p < length turns.views.now };
 
@@ -30,17 +30,17 @@ impl<'a, P: Program> Work for Turns<'a, P> {
         turn_of (P.acts turns.program.now) (P.ending turns.program.now) (slice_index_or turns.views.now p no_view) };
 
     // The calls of `bsp_step::turn`, to which no method of a trait may pass a program.
-    fn work(&self, alloc: Global, process: &usize) -> Result<Outcome, OutOfMemory> {
+    fn work(&self, alloc: Global, process: &usize) -> Result<Shared<Outcome>, OutOfMemory> {
         let mut ctx = Ctx::open(alloc, &self.views[*process])?;
         let how = self.program.step(alloc, &mut ctx)?;
-        Ok(ctx.close(how))
+        Shared::new(alloc, ctx.close(how))
     }
 }
 
 /// The deliveries at the end of a superstep. A job is the number of a process.
 #[derive(Drop)]
 pub struct Deliveries<'a> {
-    pub outcomes: &'a [Outcome],
+    pub outcomes: &'a [Shared<Outcome>],
     ghost deliverable: { AreDeliverable outcomes.now },
 }
 

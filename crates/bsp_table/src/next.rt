@@ -10,7 +10,7 @@ ghost use Rattle.bsp_table.specs.TableFault.{sync_fault_of};
 use crate::table::Slot;
 use crate::{Area, Table};
 use bsp_model::limits::{MOST_PROCESSES, MOST_SLOTS};
-use bsp_model::{OutOfMemory, Seq, SyncFault, TryCopy};
+use bsp_model::{OutOfMemory, Seq, Shared, SyncFault, TryCopy};
 use std::alloc::{AllocError, Global};
 
 /// What a process asks of the registration table in a superstep.
@@ -29,6 +29,22 @@ pub trait Registers {
     /// The pushed areas, in issue order.
     fn pushes(&self) -> &[Area]
         ensures { result.now ≡ pushes self.now };
+}
+
+impl<T: Registers> Registers for Shared<T> {
+    ghost pops = { λ s. T.pops s };
+
+    ghost pushes = { λ s. T.pushes s };
+
+    fn pops(&self) -> &[usize] {
+        let registers: &T = self;
+        registers.pops()
+    }
+
+    fn pushes(&self) -> &[Area] {
+        let registers: &T = self;
+        registers.pushes()
+    }
 }
 
 /// Why there is no next table.

@@ -3,7 +3,7 @@ ghost use Rattle.bsp_deliver.specs.Condition.{AreDeliverable};
 
 use crate::tests::outcomes::{Process, outcomes_of};
 use crate::{answers_same, deliver, h_of, parcel_same};
-use bsp_model::OutOfMemory;
+use bsp_model::{OutOfMemory, Shared};
 use bsp_step::Outcome;
 use std::alloc::Global;
 use std::process::Abort;
@@ -15,7 +15,7 @@ fn exchange(
     alloc: Global,
     words_of_1: &[u64],
     put_by_1: &[u64],
-) -> Result<Vec<Outcome>, OutOfMemory>
+) -> Result<Vec<Shared<Outcome>>, OutOfMemory>
     ensures { IfOk result (λ outcomes. AreDeliverable outcomes.items) }
 {
     let issued = [

@@ -3,7 +3,7 @@ ghost use Rattle.bsp_deliver.specs.Condition.{AreDeliverable};
 
 use crate::tests::outcomes::{Process, outcomes_of};
 use crate::{deliver_inbox, inbox};
-use bsp_model::{Memory, Same};
+use bsp_model::{Memory, Same, Shared};
 use bsp_step::Outcome;
 use std::alloc::Global;
 use std::process::Abort;
@@ -13,7 +13,7 @@ use std::test::Fail;
 fn assert_inbox(
     rt: &impl Abort,
     alloc: Global,
-    outcomes: &[Outcome],
+    outcomes: &[Shared<Outcome>],
     d: usize,
     sender: u64,
     words: &[u64],

@@ -4,7 +4,7 @@ ghost use Rattle.std.specs.Prelude.{IsTrue, IfOk, All, ◌<◌, ◌≤◌, ◌+�
 ghost use Rattle.bsp_step.specs.OutcomeParts.{IsShortSend};
 ghost use Rattle.bsp_deliver.specs.Condition.{AreDeliverable, AreRequestsInside, IsGetInside, IsPutInside, sizes_of};
 
-use bsp_model::{Get, Memory, OutOfMemory, Put, Send, Seq, Words};
+use bsp_model::{Get, Memory, OutOfMemory, Put, Send, Seq, Shared, Words};
 use bsp_step::{Ended, Outcome};
 use std::alloc::Global;
 use std::process::Abort;
@@ -141,7 +141,7 @@ fn outcome_of(
 }
 
 /// Whether words from an address on lie in the memory of a process.
-fn are_words_of(outcomes: &[Outcome], process: u64, start: u64, len: u64) -> bool
+fn are_words_of(outcomes: &[Shared<Outcome>], process: u64, start: u64, len: u64) -> bool
     ensures { IsTrue result → process < length outcomes.now × start + len ≤ slice_index (sizes_of outcomes.now) process }
 {
     match outcomes.get(process as usize) {
@@ -159,7 +159,7 @@ fn is_room(memory: &Memory, start: u64, len: u64) -> bool
 }
 
 /// Whether all requests of an outcome name processes of the list, and words inside the memories concerned.
-fn are_requests_inside(outcome: &Outcome, outcomes: &[Outcome]) -> bool
+fn are_requests_inside(outcome: &Outcome, outcomes: &[Shared<Outcome>]) -> bool
     ensures { IsTrue result → AreRequestsInside (sizes_of outcomes.now) outcome.now }
 {
     are_puts_inside(outcome.puts.as_slice(), outcomes)
@@ -167,13 +167,13 @@ fn are_requests_inside(outcome: &Outcome, outcomes: &[Outcome]) -> bool
         && are_sends_inside(outcome.sends.as_slice(), outcomes)
 }
 
-fn are_puts_inside(puts: &[Put], outcomes: &[Outcome]) -> bool
+fn are_puts_inside(puts: &[Put], outcomes: &[Shared<Outcome>]) -> bool
     ensures { IsTrue result → All (IsPutInside (sizes_of outcomes.now)) puts.now }
 {
     puts.iter().all(|put| are_words_of(outcomes, put.target, put.start, put.words.len() as u64))
 }
 
-fn are_gets_inside(gets: &[Get], own: &Memory, outcomes: &[Outcome]) -> bool
+fn are_gets_inside(gets: &[Get], own: &Memory, outcomes: &[Shared<Outcome>]) -> bool
     ensures { IsTrue result → All (IsGetInside (sizes_of outcomes.now) (length own.now)) gets.now }
 {
     gets.iter().all(|get| {
@@ -181,13 +181,13 @@ fn are_gets_inside(gets: &[Get], own: &Memory, outcomes: &[Outcome]) -> bool
     })
 }
 
-fn are_sends_inside(sends: &[Send], outcomes: &[Outcome]) -> bool
+fn are_sends_inside(sends: &[Send], outcomes: &[Shared<Outcome>]) -> bool
     ensures { IsTrue result → All (λ m. m.target < length (sizes_of outcomes.now)) sends.now }
 {
     sends.iter().all(|send| send.target < outcomes.len() as u64)
 }
 
-fn are_all_inside(outcomes: &[Outcome]) -> bool
+fn are_all_inside(outcomes: &[Shared<Outcome>]) -> bool
     ensures { IsTrue result → All (AreRequestsInside (sizes_of outcomes.now)) outcomes.now }
 {
     outcomes
@@ -195,14 +195,14 @@ fn are_all_inside(outcomes: &[Outcome]) -> bool
         .all(|outcome| are_requests_inside(outcome, outcomes))
 }
 
-fn are_memories_short(outcomes: &[Outcome]) -> bool
+fn are_memories_short(outcomes: &[Shared<Outcome>]) -> bool
     ensures { IsTrue result → All (λ o. length o.memory ≤ 4096) outcomes.now }
 {
     outcomes.iter().all(|outcome| outcome.memory.len() <= 4096)
 }
 
 /// Whether the outcomes meet the condition of delivery.
-fn are_deliverable(outcomes: &[Outcome]) -> bool
+fn are_deliverable(outcomes: &[Shared<Outcome>]) -> bool
     ensures { IsTrue result → AreDeliverable outcomes.now }
 {
     if outcomes.is_empty() {
@@ -223,13 +223,14 @@ pub(crate) fn outcomes_of(
     alloc: Global,
     memories: &[&[u64]],
     issued: &[Issued<'_>],
-) -> Result<Vec<Outcome>, OutOfMemory>
+) -> Result<Vec<Shared<Outcome>>, OutOfMemory>
     ensures { IfOk result (λ outcomes. AreDeliverable outcomes.items) }
 {
     let mut outcomes = Vec::new(alloc);
     for process in 0..memories.len() {
         let requests = requests_of(alloc, process, issued)?;
-        outcomes.push(outcome_of(rt, alloc, memories[process], requests)?)?;
+        let outcome = outcome_of(rt, alloc, memories[process], requests)?;
+        outcomes.push(Shared::new(alloc, outcome)?)?;
     }
     assert!(rt; are_deliverable(outcomes.as_slice()));
     Ok(outcomes)

@@ -3,7 +3,7 @@ ghost use Rattle.bsp_deliver.specs.Touched.{outcomes_before};
 
 use crate::tests::outcomes::{Process, outcomes_of};
 use crate::touched_by_changes;
-use bsp_model::OutOfMemory;
+use bsp_model::{OutOfMemory, Shared};
 use bsp_step::Outcome;
 use std::alloc::Global;
 use std::test::Fail;
@@ -11,9 +11,9 @@ use std::test::Fail;
 /// Each of these outcomes as a former one.
 fn formers<'a>(
     alloc: Global,
-    old: &'a [Outcome],
-    new: &[Outcome],
-) -> Result<Vec<Option<&'a Outcome>>, OutOfMemory>
+    old: &'a [Shared<Outcome>],
+    new: &[Shared<Outcome>],
+) -> Result<Vec<Option<&'a Shared<Outcome>>>, OutOfMemory>
     requires { length old.now ≡ length new.now }
     ensures count { IfOk result (λ formers. length formers.items ≡ length new.now) }
     ensures before { IfOk result (λ formers. outcomes_before formers.items new.now ≡ old.now) }

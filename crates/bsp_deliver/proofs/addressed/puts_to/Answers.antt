@@ -17,6 +17,6 @@ loop-sender-preserved c =
     let to : Put → Bool = λ p. p.target == c.args.d in
     let sent = λ (ps : List Put). map {B = ℕ × Put} (λ (p : Put). (i, p)) (filter to ps) in
     c.in_ok-add_addressed.ensures
-    ∙ ap (λ ps. c.loop-sender.puts ++ sent ps) (c.as_slice.ensures ∙ ap (λ (x : OutcomeParts). x.puts) c.outcome.view_is)
+    ∙ ap (λ ps. c.loop-sender.puts ++ sent ps) (c.as_slice.ensures ∙ ap (λ (x : OutcomeParts). x.puts) (c.behind-outcome.view_is ∙ c.deref.ensures))
     ∙ ap (λ (ps : List (ℕ × Put)). ps ++ sent o.puts) c.loop-sender.invariant
     ∙ sym (addressed_more (λ (x : OutcomeParts). x.puts) to c.args.outcomes.now i o c.loop-sender-test.true c.index-outcomes-sender.is)

@@ -24,7 +24,7 @@ loop-sender-preserved c =
     let to : Send → Bool = λ m. m.target == c.args.d in
     let sent = λ (ms : List Send). map {B = ℕ × Send} (λ (m : Send). (i, m)) (filter to ms) in
     let grown : c.add_addressed.new.list ≡ c.loop-sender.sends ++ sent o.sends =
-    c.in_ok-add_addressed.ensures ∙ ap (λ ms. c.loop-sender.sends ++ sent ms) (c.as_slice.ensures ∙ ap (λ (x : OutcomeParts). x.sends) c.outcome.view_is) in
+    c.in_ok-add_addressed.ensures ∙ ap (λ ms. c.loop-sender.sends ++ sent ms) (c.as_slice.ensures ∙ ap (λ (x : OutcomeParts). x.sends) (c.behind-outcome.view_is ∙ c.deref.ensures)) in
     let queue : messages_of c.add_addressed.new.list ≡ messages_of c.loop-sender.sends ++ map message_of (filter to o.sends) =
     ap messages_of grown
     ∙ map-append (λ (m : ℕ × Send). message_of m.1) c.loop-sender.sends (sent o.sends)
@@ -36,7 +36,7 @@ loop-sender-preserved c =
           ∙ sym (addressed_more (λ (x : OutcomeParts). x.sends) to c.args.outcomes.now i o c.loop-sender-test.true c.index-outcomes-sender.is);
       limits =
           subst (IsQueueOf (i + 1)) (sym queue)
-          (sender_more c.args.d i (messages_of c.loop-sender.sends) o c.loop-sender.invariant.limits (subst IsOutcome c.outcome.view_is c.outcome.invariant));
+          (sender_more c.args.d i (messages_of c.loop-sender.sends) o c.loop-sender.invariant.limits (subst IsOutcome (c.behind-outcome.view_is ∙ c.deref.ensures) c.behind-outcome.invariant));
     }
 
 pub returns-clause-limits : goal.returns-clause-limits

@@ -24,7 +24,7 @@ unfolding all_sends
 loop-outcome-preserved c =
     let M = λ (ms : List Send). map message_of (filter (λ (m : Send). m.target == c.args.d) ms) in
     let o = c.outcome-item.result in
-    let grown : c.add_messages.new.queue ≡ c.loop-outcome.queue ++ M o.sends = c.in_ok-add_messages.ensures ∙ ap (λ ms. c.loop-outcome.queue ++ M ms) (c.as_slice.ensures ∙ ap (λ (x : OutcomeParts). x.sends) c.outcome.view_is) in
+    let grown : c.add_messages.new.queue ≡ c.loop-outcome.queue ++ M o.sends = c.in_ok-add_messages.ensures ∙ ap (λ ms. c.loop-outcome.queue ++ M ms) (c.as_slice.ensures ∙ ap (λ (x : OutcomeParts). x.sends) (c.behind-outcome.view_is ∙ c.deref.ensures)) in
     record {
       messages =
           grown
@@ -32,5 +32,5 @@ loop-outcome-preserved c =
           ∙ sym (passing_more (λ (x : OutcomeParts). x.sends) (λ m. m.target == c.args.d) message_of c.args.outcomes.now c.loop-outcome.outcome-index o c.loop-outcome-test.true c.outcome-item.is);
       limits =
           subst (IsQueueOf (c.loop-outcome.outcome-index + 1)) (sym grown)
-          (sender_more c.args.d c.loop-outcome.outcome-index c.loop-outcome.queue o c.loop-outcome.invariant.limits (subst IsOutcome c.outcome.view_is c.outcome.invariant));
+          (sender_more c.args.d c.loop-outcome.outcome-index c.loop-outcome.queue o c.loop-outcome.invariant.limits (subst IsOutcome (c.behind-outcome.view_is ∙ c.deref.ensures) c.behind-outcome.invariant));
     }

@@ -1,4 +1,4 @@
-use Rattle.std.proofs.Common.{◌≡◌, ℕ, ◌-◌, length, ◌==◌, Bool, List, filter, take, drop, ap, sym, ◌∙◌, subst}
+use Rattle.std.proofs.Common.{◌≡◌, ℕ, ◌-◌, length, ◌==◌, filter, take, drop, subst}
 use Rattle.std.proofs.lemmas.List.{take_rest}
 use Rattle.bsp_deliver.specs.Marks.{AreMarkedUnless}
 use Rattle.bsp_deliver.proofs.Aligned.{aligned_apart}

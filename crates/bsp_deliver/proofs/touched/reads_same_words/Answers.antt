@@ -1,9 +1,9 @@
-use Rattle.std.proofs.Common.{◌≡◌, ℕ, ◌<◌, ◌+◌, ◌≤◌, List, length, get_or, sym, ap, ◌∙◌, arith}
+use Rattle.std.proofs.Common.{ℕ, ◌<◌, ◌+◌, List, length, get_or, sym, ap, ◌∙◌, arith}
 use Rattle.bsp_step.specs.OutcomeParts.{OutcomeParts}
-use Rattle.bsp_deliver.specs.Requests.{each_below, outcome_of, words_read}
-use Rattle.bsp_deliver.specs.Touched.{former_or, outcomes_before}
+use Rattle.bsp_deliver.specs.Requests.{each_below}
+use Rattle.bsp_deliver.specs.Touched.{outcomes_before}
 use Rattle.bsp_deliver.proofs.Senders.{outcome_of-item, sizes-outcome_of}
-use Rattle.bsp_deliver.proofs.Formers.{outcome_before-item, length-outcomes_before}
+use Rattle.bsp_deliver.proofs.Formers.{outcome_before-item}
 use Rattle.bsp_deliver.proofs.touched.reads_same_words.Goals as goal
 
 pub has_same_words-requires-clause-before : goal.has_same_words-requires-clause-before

@@ -1,4 +1,4 @@
-use Rattle.std.proofs.Common.{◌≡◌, ℕ, List, Bool, false, length, replicate, sym, ap, ◌∙◌, subst}
+use Rattle.std.proofs.Common.{◌≡◌, List, Bool, false, length, replicate, ap, ◌∙◌, subst}
 use Rattle.std.proofs.lemmas.List.{with_items_is, length-replicate}
 use Rattle.bsp_deliver.specs.Delivery.{delivery_parts}
 use Rattle.bsp_deliver.specs.Marks.{AreMarkedUnless}

@@ -23,8 +23,8 @@ loop-pid-preserved c =
     let i = c.loop-pid.pid in
     let o = c.index-outcomes-pid.result in
     let more = one_more os i o c.loop-pid-test.true c.index-outcomes-pid.is in
-    let fault = ap (λ (x : OutcomeParts). x.fault) c.outcome.view_is in
-    elim c.match-outcome.branch [
+    let fault = ap (λ (x : OutcomeParts). x.fault) (c.behind-outcome.view_is ∙ c.deref.ensures) in
+    elim c.match-deref.branch [
       | in-Some+in_ok-push w ↦
           w.faults-is ∙ w.in_ok-push.ensures.ok ∙ ap (λ (fs : List ProcessFault). fs ++ record { pid = i; fault = w.in-Some.fault } ∷ []) c.loop-pid.invariant
           ∙ ap (λ (f : Option Fault). faults_from 0 (take i os) ++ fault_at i f) (sym w.in-Some.is ∙ fault) ∙ sym more

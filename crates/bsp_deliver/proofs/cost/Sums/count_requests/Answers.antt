@@ -7,12 +7,12 @@ use Rattle.bsp_deliver.proofs.cost.Sums.count_requests.Goals as goal
 
 pub count_puts-requires-clause-small : goal.count_puts-requires-clause-small
 count_puts-requires-clause-small c =
-    rw (c.as_slice.ensures ∙ ap (λ (x : OutcomeParts). x.puts) c.own.view_is)
+    rw (c.as_slice.ensures ∙ ap (λ (x : OutcomeParts). x.puts) (c.own.view_is ∙ c.deref-own.ensures))
     (small_puts c.args.outcomes.now c.args.p c.index-outcomes-p.result c.requires.deliverable c.requires.known c.index-outcomes-p.is)
 
 pub count_gets-requires-clause-small : goal.count_gets-requires-clause-small
 count_gets-requires-clause-small c =
-    rw (c.as_slice-2.ensures ∙ ap (λ (x : OutcomeParts). x.gets) c.own.view_is)
+    rw (c.as_slice-2.ensures ∙ ap (λ (x : OutcomeParts). x.gets) (c.own.view_is ∙ c.deref-own.ensures))
     (small_gets c.args.outcomes.now c.args.p c.index-outcomes-p.result c.requires.deliverable c.requires.known c.index-outcomes-p.is)
 
 pub count_gets-requires-clause-room : goal.count_gets-requires-clause-room
@@ -20,7 +20,7 @@ count_gets-requires-clause-room c =
     let os = c.args.outcomes.now in
     let p = c.args.p in
     let o = c.index-outcomes-p.result in
-    let puts = c.as_slice.ensures ∙ ap (λ (x : OutcomeParts). x.puts) c.own.view_is in
+    let puts = c.as_slice.ensures ∙ ap (λ (x : OutcomeParts). x.puts) (c.own.view_is ∙ c.deref-own.ensures) in
     room_at (put_transfer p) o.puts c.args.self.now c.count_puts.new.self 1024 (length c.as_slice-2.result.now)
     (c.count_puts.ensures ∙ ap (λ xs. fold counted c.args.self.now (map (put_transfer p) xs)) puts)
     (small_puts os p o c.requires.deliverable c.requires.known c.index-outcomes-p.is)
@@ -29,8 +29,8 @@ count_gets-requires-clause-room c =
 pub count_sends-requires-clause-small : goal.count_sends-requires-clause-small
 count_sends-requires-clause-small c =
     let o = c.index-outcomes-p.result in
-    let short : All IsShortSend o.sends = subst (λ (x : OutcomeParts). All IsShortSend x.sends) c.own.view_is c.own.invariant.sends.each in
-    rw (c.as_slice-3.ensures ∙ ap (λ (x : OutcomeParts). x.sends) c.own.view_is)
+    let short : All IsShortSend o.sends = subst (λ (x : OutcomeParts). All IsShortSend x.sends) (c.own.view_is ∙ c.deref-own.ensures) c.own.invariant.sends.each in
+    rw (c.as_slice-3.ensures ∙ ap (λ (x : OutcomeParts). x.sends) (c.own.view_is ∙ c.deref-own.ensures))
     (small_sends c.args.outcomes.now c.args.p o c.requires.deliverable c.requires.known c.index-outcomes-p.is short)
 
 pub count_sends-requires-clause-room : goal.count_sends-requires-clause-room
@@ -39,8 +39,8 @@ count_sends-requires-clause-room c =
     let p = c.args.p in
     let o = c.index-outcomes-p.result in
     let few = c.own.invariant.few_requests in
-    let puts = c.as_slice.ensures ∙ ap (λ (x : OutcomeParts). x.puts) c.own.view_is in
-    let gets = c.as_slice-2.ensures ∙ ap (λ (x : OutcomeParts). x.gets) c.own.view_is in
+    let puts = c.as_slice.ensures ∙ ap (λ (x : OutcomeParts). x.puts) (c.own.view_is ∙ c.deref-own.ensures) in
+    let gets = c.as_slice-2.ensures ∙ ap (λ (x : OutcomeParts). x.gets) (c.own.view_is ∙ c.deref-own.ensures) in
     let n = length c.as_slice-3.result.now in
     room_at (get_transfer p) o.gets c.count_puts.new.self c.count_gets.new.self (length o.gets + n) n
     (c.count_gets.ensures ∙ ap (λ xs. fold counted c.count_puts.new.self (map (get_transfer p) xs)) gets)
@@ -56,10 +56,10 @@ returns-clause-room c =
     let p = c.args.p in
     let o = c.index-outcomes-p.result in
     let few = c.own.invariant.few_requests in
-    let short : All IsShortSend o.sends = subst (λ (x : OutcomeParts). All IsShortSend x.sends) c.own.view_is c.own.invariant.sends.each in
-    let puts = c.as_slice.ensures ∙ ap (λ (x : OutcomeParts). x.puts) c.own.view_is in
-    let gets = c.as_slice-2.ensures ∙ ap (λ (x : OutcomeParts). x.gets) c.own.view_is in
-    let sends = c.as_slice-3.ensures ∙ ap (λ (x : OutcomeParts). x.sends) c.own.view_is in
+    let short : All IsShortSend o.sends = subst (λ (x : OutcomeParts). All IsShortSend x.sends) (c.own.view_is ∙ c.deref-own.ensures) c.own.invariant.sends.each in
+    let puts = c.as_slice.ensures ∙ ap (λ (x : OutcomeParts). x.puts) (c.own.view_is ∙ c.deref-own.ensures) in
+    let gets = c.as_slice-2.ensures ∙ ap (λ (x : OutcomeParts). x.gets) (c.own.view_is ∙ c.deref-own.ensures) in
+    let sends = c.as_slice-3.ensures ∙ ap (λ (x : OutcomeParts). x.sends) (c.own.view_is ∙ c.deref-own.ensures) in
     λ n room.
     room_at (send_transfer p) o.sends c.count_gets.new.self c.count_sends.new.self (length o.sends + n) n
     (c.count_sends.ensures ∙ ap (λ xs. fold counted c.count_gets.new.self (map (send_transfer p) xs)) sends)

@@ -16,14 +16,14 @@ end_of-requires-clause-slots c =
     subst (λ (os : List OutcomeParts). All (λ o. AreSlots r.state.table o.pops) os) (sym c.as_slice.ensures.value) (pops_are_slots r.args (length r.past) r.state c.args.outcomes.items turns)
 
 -- the fields make the run after these turns
-pub is_after : (c : goal.Joined-self-phase_after) → run_of (record c.self.inside { outcomes = c.from_vec.result; phase = c.phase_after.result }) ≡ after_turns (run_of c.self.inside) c.args.outcomes.items
+pub is_after : (c : goal.Joined-self-phase_after) → run_of (record c.self.inside { outcomes = c.in_ok-outcomes.outcomes; phase = c.phase_after.result }) ≡ after_turns (run_of c.self.inside) c.args.outcomes.items
 unfolding after_turns
 is_after c =
     let r : Run = run_of c.self.inside in
     let count : c.len.result ≡ length r.past = omega (arith, c.len.ensures, c.self.inside.past.ok.0) in
     let end = c.in_ok-end.ensures ∙ ap (λ n. end_of n r.state.table c.as_slice.result.now) count ∙ ap (end_of (length r.past) r.state.table) c.as_slice.ensures.value in
     let phase = c.phase_after.ensures ∙ ap phase_after end in
-    λ i. record r { outcomes = c.from_vec.ensures i; phase = phase i }
+    λ i. record r { outcomes = c.in_ok-outcomes.ensures i; phase = phase i }
 
 pub invariant_of-self : goal.invariant_of-self
 invariant_of-self c =

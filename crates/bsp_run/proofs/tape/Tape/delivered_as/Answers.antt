@@ -1,0 +1,54 @@
+use Rattle.std.proofs.Common.{◌≡◌, ◌+◌, ◌∙◌, refl, ap, sym, subst, length, map, arith}
+use Rattle.bsp_step.specs.OutcomeParts.{OutcomeParts}
+use Rattle.bsp_deliver.specs.SyncFault.{next_tag_size}
+use Rattle.bsp_run.specs.State.{State, views_of, next_state}
+use Rattle.bsp_run.specs.Opening.{state_of}
+use Rattle.bsp_run.specs.Run.{Run, after_delivery}
+use Rattle.bsp_run.specs.TapeInside.{run_of}
+use Rattle.bsp_run.specs.Condition.{IsRun, IsNextTable, deliveries_of}
+use Rattle.bsp_run.proofs.Phases.{cells_are, next_is_run, next_table-is, delivered_is, delivered_views}
+use Rattle.bsp_run.proofs.tape.Tape.delivered_as.Goals as goal
+
+next_run : (c : goal.Joined-self-phase_at) → IsRun (after_delivery (run_of c.self.inside))
+next_run c =
+    let r : Run = run_of c.self.inside in
+    let phase = ap (λ (x : Run). x.phase) c.self.view_is ∙ c.requires.turned in
+    let known = subst (λ (x : Run). IsNextTable (length x.outcomes) (map (λ (o : OutcomeParts). length o.memory) x.outcomes) c.args.table) (sym c.self.view_is) c.requires.limits in
+    next_is_run r c.args.table c.self.invariant.run phase (next_table-is r c.args.table (c.requires.table ∙ sym (ap (λ (x : Run). (next_state x.state x.outcomes).table) c.self.view_is))) known
+
+next_state_is : (c : goal.Joined-self-phase_at) → state_of (deliveries_of (run_of c.self.inside).outcomes) c.args.table c.next_tag_size-tag_size.result ≡ next_state (run_of c.self.inside).state (run_of c.self.inside).outcomes
+next_state_is c =
+    let r : Run = run_of c.self.inside in
+    let table = next_table-is r c.args.table (c.requires.table ∙ sym (ap (λ (x : Run). (next_state x.state x.outcomes).table) c.self.view_is)) in
+    let tag = c.next_tag_size-tag_size.ensures.choice ∙ ap (next_tag_size r.state.tag_size) c.as_slice.ensures in
+    cells_are r (deliveries_of r.outcomes) c.args.table c.next_tag_size-tag_size.result refl table tag
+
+steps_are : (c : goal.Joined-self-phase_at) → c.len.result + 1 ≡ length c.self.inside.past.items + 1
+steps_are c = omega (arith, c.len.ensures, c.self.inside.past.ok.0)
+
+next_views : (c : goal.Joined-self-phase_at) → c.keep_superstep.new.views ≡ views_of c.self.inside.args (c.len.result + 1) (state_of (deliveries_of (run_of c.self.inside).outcomes) c.args.table c.next_tag_size-tag_size.result)
+next_views c =
+    let r : Run = run_of c.self.inside in
+    c.in_ok-keep_superstep.ensures.views ∙ c.requires.views
+    ∙ sym (ap (λ (x : Run). views_of x.args (length x.past + 1) (next_state x.state x.outcomes)) c.self.view_is)
+    ∙ ap (λ n. views_of r.args n (next_state r.state r.outcomes)) (sym (steps_are c))
+    ∙ ap (λ (s : State). views_of r.args (c.len.result + 1) s) (sym (next_state_is c))
+
+-- the fields make the run after its delivery
+is_after : (c : goal.Joined-self-phase_at)
+    → run_of (record c.self.inside { past = c.keep_superstep.new.past; views = c.keep_superstep.new.views; outcomes = c.keep_superstep.new.outcomes; table = c.args.table; tag_size = c.next_tag_size-tag_size.result; phase = c.phase_at.result }) ≡ after_delivery (run_of c.self.inside)
+is_after c =
+    let r : Run = run_of c.self.inside in
+    delivered_is r c.keep_superstep.new.past.items c.self.inside.views c.keep_superstep.new.views c.keep_superstep.new.outcomes c.args.table c.next_tag_size-tag_size.result (deliveries_of r.outcomes) (c.len.result + 1) c.phase_at.result
+    (next_run c) c.self.invariant.views c.in_ok-keep_superstep.ensures.past c.in_ok-keep_superstep.ensures.outcomes (next_state_is c) (next_views c) (steps_are c) c.phase_at.ensures
+
+pub invariant_of-self-2 : goal.invariant_of-self-2
+invariant_of-self-2 c =
+    let r : Run = run_of c.self.inside in
+    record {
+      views = delivered_views r c.keep_superstep.new.past.items c.self.inside.views c.keep_superstep.new.views c.args.table c.next_tag_size-tag_size.result (deliveries_of r.outcomes) (c.len.result + 1) (next_run c) c.in_ok-keep_superstep.ensures.past (next_state_is c) (next_views c) (steps_are c);
+      run = subst IsRun (sym (is_after c)) (next_run c);
+    }
+
+pub returns-clause-ok : goal.returns-clause-ok
+returns-clause-ok c = is_after c ∙ ap after_delivery c.self.view_is
