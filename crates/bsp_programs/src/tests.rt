@@ -4,7 +4,7 @@ ghost use Rattle.std.specs.Prelude.{◌≤◌, ◌<◌, length};
 
 use crate::{Broadcast, Bundled, MatVec, Prefix, Rank};
 use bsp_model::{Memory, OutOfMemory, Words};
-use bsp_step::{Ended, Outcome, Queue, View, turn};
+use bsp_step::{Ended, Outcome, Program, Queue, View, turn};
 use bsp_table::Table;
 use std::alloc::Global;
 use std::process::Abort;
@@ -66,42 +66,49 @@ fn printed_by(outcome: &Outcome) -> Option<u64> {
     }
 }
 
-/// The word that the last process prints in a turn with the argument 1, an empty table and no messages.
-fn printed_in(
-    alloc: Global,
-    program: Bundled,
-    nprocs: u64,
-    step: u64,
-    memory: &[u64],
-) -> Result<Option<u64>, OutOfMemory>
+/// The view of the last process, with the argument 1, an empty table and no messages.
+fn view_of(alloc: Global, nprocs: u64, step: u64, memory: &[u64]) -> Result<View, OutOfMemory>
     requires some { 1 ≤ nprocs }
     requires few { nprocs ≤ 64 }
     requires short { length memory.now ≤ 4096 }
 {
-    let view = View {
+    Ok(View {
         nprocs,
         pid: nprocs - 1,
         step,
+        tag_size: 1,
+        table: Table::new(alloc, nprocs as usize)?,
         args: Words::from_slice(alloc, &[1])?.share()?,
         memory: Memory::from_words(alloc, memory)?,
-        table: Table::new(alloc, nprocs as usize)?,
-        tag_size: 1,
         queue: Queue::new(),
-    };
-    let outcome = turn(alloc, &program, &view)?;
-    Ok(printed_by(&outcome))
+    })
 }
 
-fn find_last_turns(rt: &impl Abort, alloc: Global, turns: &[LastTurn]) -> Result<(), OutOfMemory> {
-    for last in turns {
-        assert!(rt; last.nprocs > 0 && last.nprocs <= 64 && last.memory.len() <= 4096);
-        let printed = printed_in(alloc, last.program, last.nprocs, last.step, last.memory)?;
-        assert_eq!(rt; printed, Some(last.printed), "{:?}", last.program);
-    }
+/// The word that a program prints at a view.
+fn printed_in<P: Program>(
+    alloc: Global,
+    program: &P,
+    view: &View,
+) -> Result<Option<u64>, OutOfMemory> {
+    let outcome = turn(alloc, program, view)?;
+    let printed = printed_by(&outcome);
+    drop(outcome);
+    Ok(printed)
+}
+
+fn find_last_turn(rt: &impl Abort, alloc: Global, last: &LastTurn) -> Result<(), OutOfMemory> {
+    assert!(rt; last.nprocs > 0 && last.nprocs <= 64 && last.memory.len() <= 4096);
+    let view = view_of(alloc, last.nprocs, last.step, last.memory)?;
+    let printed = printed_in(alloc, &last.program, &view);
+    drop(view);
+    assert_eq!(rt; printed?, Some(last.printed), "{:?}", last.program);
     Ok(())
 }
 
 #[test]
 fn last_turns_print_and_halt(rt: HostRuntime) -> Result<(), Fail> {
-    Ok(find_last_turns(&rt, rt.alloc(), &LAST_TURNS)?)
+    for i in 0..LAST_TURNS.len() {
+        find_last_turn(&rt, rt.alloc(), &LAST_TURNS[i])?;
+    }
+    Ok(())
 }

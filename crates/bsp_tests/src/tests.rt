@@ -3,8 +3,10 @@
 mod answers;
 mod copies;
 mod hello;
+mod known;
 mod refusals;
 mod ring;
 mod running;
 mod sessions;
+mod switched;
 mod wide;

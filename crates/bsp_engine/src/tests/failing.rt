@@ -3,6 +3,7 @@
 ghost use Rattle.std.specs.Prelude.{◌≡◌, Some};
 
 use crate::flow::{Failed, Sink, Source};
+use std::alloc::Global;
 use std::io::Read;
 
 /// A source of bytes, at most `at_once` a read, of which a read fails once `reads_left` were made.
@@ -79,11 +80,11 @@ pub fn source(bytes: &[u8]) -> FailingSource<'_>
 }
 
 /// A sink that does not fail.
-pub fn sink(rt: &HostRuntime) -> FailingSink
+pub fn sink(alloc: Global) -> FailingSink
     ensures { result.failures ≡ 0 }
 {
     FailingSink {
-        bytes: Vec::new(rt.alloc()),
+        bytes: Vec::new(alloc),
         at_once: usize::MAX,
         room: usize::MAX,
         takes_none: false,

@@ -1,11 +1,16 @@
 //! The report of a document by two workers that have to meet, and from scratch.
 
+ghost use Rattle.std.specs.Prelude.{◌<◌, ◌≤◌};
+
 use super::bundled::run_bundled;
 use super::failing::{sink, source};
 use bsp_pool::{Gate, Open};
+use std::alloc::Global;
+use std::process::Abort;
 use std::sync::atomic::AtomicU64;
 use std::sync::atomic::Ordering::SeqCst;
 use std::thread;
+use std::thread::Threads;
 
 /// Counts its calls from 1. Each odd call waits until the next call was made, and gives up after 10,000,000 turns.
 #[derive(Drop)]
@@ -46,19 +51,39 @@ total 30
 executed 6 redelivered 4
 ";
 
+fn find_met(rt: &impl Abort, gate: &Pairs, calls: u64) {
+    assert_eq!(rt; gate.calls.load(SeqCst), calls);
+    assert_eq!(rt; gate.gave_up.load(SeqCst), 0);
+}
+
+/// Finds the report of a document.
+fn find_report<R: Threads + Sync + Abort, G: Gate>(
+    rt: &R,
+    alloc: Global,
+    document: &[u8],
+    workers: usize,
+    scratch: bool,
+    gate: &G,
+    want: &str,
+)
+    requires { (0 < workers) × (workers ≤ 16) }
+{
+    let mut reader = source(document);
+    let mut writer = sink(alloc);
+    let done = run_bundled(rt, alloc, &mut reader, &mut writer, workers, scratch, gate);
+    assert_eq!(rt; done, Ok(()));
+    assert_eq!(rt; writer.bytes.as_slice(), want.as_bytes());
+    drop(writer);
+}
+
 #[test]
 fn two_workers_meet_at_each_pair_of_turns_and_of_deliveries(rt: HostRuntime) {
     let gate = Pairs {
         calls: AtomicU64::new(0),
         gave_up: AtomicU64::new(0),
     };
-    let mut reader = source(DOCUMENT);
-    let mut writer = sink(&rt);
-    let done = run_bundled(&rt, rt.alloc(), &mut reader, &mut writer, 2, false, &gate);
-    assert_eq!(rt; done, Ok(()));
-    assert_eq!(rt; writer.bytes.as_slice(), REPORT.as_bytes());
-    assert_eq!(rt; gate.calls.load(SeqCst), 10);
-    assert_eq!(rt; gate.gave_up.load(SeqCst), 0);
+    find_report(&rt, rt.alloc(), DOCUMENT, 2, false, &gate, REPORT);
+    find_met(&rt, &gate, 10);
 }
 
 const SCRATCH_DOCUMENT: &[u8] =
@@ -80,9 +105,13 @@ refused E2 at 0
 
 #[test]
 fn a_report_from_scratch_has_no_updates(rt: HostRuntime) {
-    let mut reader = source(SCRATCH_DOCUMENT);
-    let mut writer = sink(&rt);
-    let done = run_bundled(&rt, rt.alloc(), &mut reader, &mut writer, 1, true, &Open);
-    assert_eq!(rt; done, Ok(()));
-    assert_eq!(rt; writer.bytes.as_slice(), SCRATCH_REPORT.as_bytes());
+    find_report(
+        &rt,
+        rt.alloc(),
+        SCRATCH_DOCUMENT,
+        1,
+        true,
+        &Open,
+        SCRATCH_REPORT,
+    );
 }

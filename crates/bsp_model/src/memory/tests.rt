@@ -3,6 +3,7 @@
 use super::Memory;
 use crate::{OutOfMemory, Same, TryCopy};
 use std::alloc::Global;
+use std::process::Abort;
 use std::test::Fail;
 
 /// A memory of so many zeros.
@@ -35,39 +36,107 @@ fn count_of_pages(memory: &Memory) -> usize {
     memory.pages.len() + usize::from(!memory.last.is_empty())
 }
 
+/// Numbers of words, and those of their pages.
+const PAGES: [(usize, usize); 4] = [(4096, 64), (65, 2), (64, 1), (0, 0)];
+
+fn find_pages(
+    rt: &impl Abort,
+    alloc: Global,
+    words: usize,
+    pages: usize,
+) -> Result<(), OutOfMemory> {
+    let memory = zeros(alloc, words)?;
+    assert_eq!(rt; count_of_pages(&memory), pages);
+    drop(memory);
+    Ok(())
+}
+
 #[test]
 fn pages_have_64_words(rt: HostRuntime) -> Result<(), Fail> {
-    for (words, pages) in [(4096, 64), (65, 2), (64, 1), (0, 0)] {
-        let memory = zeros(rt.alloc(), words)?;
-        assert_eq!(rt; count_of_pages(&memory), pages);
+    for i in 0..PAGES.len() {
+        let (words, pages) = PAGES[i];
+        find_pages(&rt, rt.alloc(), words, pages)?;
     }
     Ok(())
+}
+
+fn find_zeros(
+    rt: &impl Abort,
+    alloc: Global,
+    memory: &Memory,
+    count: usize,
+) -> Result<(), OutOfMemory> {
+    let zeros = zeros(alloc, count)?;
+    assert!(rt; memory.same(&zeros));
+    drop(zeros);
+    Ok(())
+}
+
+fn write_numbers(rt: &impl Abort, alloc: Global, memory: &mut Memory) -> Result<(), OutOfMemory> {
+    let numbers = first_numbers(alloc)?;
+    let is_written = memory.write(60, numbers.as_slice());
+    drop(numbers);
+    assert!(rt; is_written?);
+    Ok(())
+}
+
+fn change(rt: &impl Abort, alloc: Global, memory: &mut Memory) -> Result<(), OutOfMemory> {
+    assert!(rt; memory.store(63, 1)?);
+    assert!(rt; memory.store(4095, 2)?);
+    write_numbers(rt, alloc, memory)
+}
+
+fn find_changed(rt: &impl Abort, memory: &Memory) {
+    assert!(rt; has_first_numbers(memory));
+    assert_eq!(rt; memory.load(130), Some(0));
+    assert_eq!(rt; memory.load(4095), Some(2));
+}
+
+fn find_alone(rt: &impl Abort, alloc: Global, first: &Memory) -> Result<(), OutOfMemory> {
+    let mut copy = first.copy()?;
+    let changed = change(rt, alloc, &mut copy);
+    find_changed(rt, &copy);
+    let found = find_zeros(rt, alloc, first, 4096);
+    drop(copy);
+    changed?;
+    found
 }
 
 #[test]
 fn a_copy_changes_alone(rt: HostRuntime) -> Result<(), Fail> {
     let first = zeros(rt.alloc(), 4096)?;
-    let numbers = first_numbers(rt.alloc())?;
-    let mut copy = first.copy()?;
-    assert!(rt; copy.store(63, 1)?);
-    assert!(rt; copy.store(4095, 2)?);
-    assert!(rt; copy.write(60, numbers.as_slice())?);
-    assert!(rt; has_first_numbers(&copy));
-    assert_eq!(rt; copy.load(130), Some(0));
-    assert_eq!(rt; copy.load(4095), Some(2));
-    assert!(rt; first.same(&zeros(rt.alloc(), 4096)?));
+    let found = find_alone(&rt, rt.alloc(), &first);
+    drop(first);
+    Ok(found?)
+}
+
+fn find_past_the_end(rt: &impl Abort, memory: &mut Memory) -> Result<(), OutOfMemory> {
+    assert!(rt; !memory.write(4095, &[1, 2])?);
+    assert!(rt; !memory.store(4096, 1)?);
+    assert!(rt; !memory.write(4097, &[])?);
+    assert!(rt; memory.write(4096, &[])?);
+    Ok(())
+}
+
+fn find_unchanged(rt: &impl Abort, alloc: Global) -> Result<(), OutOfMemory> {
+    let mut memory = zeros(alloc, 4096)?;
+    let refused = find_past_the_end(rt, &mut memory);
+    let found = find_zeros(rt, alloc, &memory, 4096);
+    drop(memory);
+    refused?;
+    found
+}
+
+fn find_none(rt: &impl Abort, alloc: Global) -> Result<(), OutOfMemory> {
+    let mut none = zeros(alloc, 0)?;
+    let is_stored = none.store(0, 1);
+    drop(none);
+    assert!(rt; !is_stored?);
     Ok(())
 }
 
 #[test]
 fn nothing_is_written_past_the_end(rt: HostRuntime) -> Result<(), Fail> {
-    let mut memory = zeros(rt.alloc(), 4096)?;
-    assert!(rt; !memory.write(4095, &[1, 2])?);
-    assert!(rt; !memory.store(4096, 1)?);
-    assert!(rt; !memory.write(4097, &[])?);
-    assert!(rt; memory.write(4096, &[])?);
-    assert!(rt; memory.same(&zeros(rt.alloc(), 4096)?));
-    let mut none = zeros(rt.alloc(), 0)?;
-    assert!(rt; !none.store(0, 1)?);
-    Ok(())
+    find_unchanged(&rt, rt.alloc())?;
+    Ok(find_none(&rt, rt.alloc())?)
 }

@@ -2,6 +2,7 @@ ghost use Rattle.std.specs.Prelude.{◌*◌};
 
 use crate::{OutOfMemory, Work};
 use std::alloc::Global;
+use std::process::Abort;
 
 #[derive(Drop)]
 pub(crate) struct Doubling;
@@ -19,4 +20,8 @@ impl Work for Doubling {
         let input = *input;
         Ok(u64::from(input) * 2)
     }
+}
+
+pub(crate) fn find_outputs(rt: &impl Abort, outputs: &[u64], want: &[u64]) {
+    assert_eq!(rt; outputs, want);
 }

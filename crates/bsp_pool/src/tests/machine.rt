@@ -1,4 +1,4 @@
-use crate::tests::doubling::Doubling;
+use crate::tests::doubling::{Doubling, find_outputs};
 use crate::{Core, CoreRefusal, Event, OutOfMemory, Row};
 use std::alloc::Global;
 use std::process::Abort;
@@ -47,11 +47,18 @@ fn two_phases(alloc: Global) -> Result<Core<Doubling>, OutOfMemory> {
     Core::new(alloc, Doubling, phases, 2)
 }
 
+fn find_row(rt: &impl Abort, row: Option<&Row<u64>>, want: &[u64]) {
+    match row {
+        Some(row) => find_outputs(rt, row.as_slice(), want),
+        None => assert!(rt; false, "no row"),
+    }
+}
+
 fn find_committed(rt: &impl Abort, core: &Core<Doubling>, outputs: &[&[u64]]) {
     let rows = core.committed();
     assert_eq!(rt; rows.len(), outputs.len());
-    for (row, want) in rows.iter().zip(outputs) {
-        assert_eq!(rt; row.as_slice(), *want);
+    for number in 0..outputs.len() {
+        find_row(rt, rows.get(number), outputs[number]);
     }
 }
 
@@ -60,5 +67,6 @@ fn two_phases_event_by_event(rt: HostRuntime) -> Result<(), Fail> {
     let mut core = two_phases(rt.alloc())?;
     play(&rt, &mut core, &EVENTS);
     find_committed(&rt, &core, &[&[10, 12, 14], &[16]]);
+    drop(core);
     Ok(())
 }

@@ -1,11 +1,13 @@
-ghost use Rattle.std.specs.Prelude.{◌*◌};
+ghost use Rattle.std.specs.Prelude.{◌*◌, ◌<◌, ◌≤◌};
 
-use crate::tests::doubling::Doubling;
+use crate::tests::doubling::{Doubling, find_outputs};
 use crate::{Open, OutOfMemory, Work, phase};
 use std::alloc::{AllocError, Global};
+use std::process::Abort;
 use std::sync::atomic::AtomicU64;
 use std::sync::atomic::Ordering::SeqCst;
 use std::test::Fail;
+use std::thread::Threads;
 
 /// Doubles, and refuses memory for input 1 in its first calls with it.
 #[derive(Drop)]
@@ -32,23 +34,55 @@ impl Work for Refusing {
     }
 }
 
+/// What a phase over 0, 1, 2 answers, where memory is refused so often.
+fn refused<R: Threads + Sync>(
+    rt: &R,
+    alloc: Global,
+    refusals: u64,
+    workers: usize,
+) -> Result<Vec<u64>, OutOfMemory>
+    requires { (0 < workers) × (workers ≤ 16) }
+{
+    let work = Refusing {
+        refusals,
+        calls: AtomicU64::new(0),
+    };
+    let outputs = phase(rt, alloc, &work, &[0, 1, 2], workers, &Open);
+    drop(work);
+    outputs
+}
+
+/// Finds that a phase is made up for where memory is refused once, and gives up where it always is.
+fn find_refused<R: Threads + Sync + Abort>(
+    rt: &R,
+    alloc: Global,
+    workers: usize,
+) -> Result<(), OutOfMemory>
+    requires { (0 < workers) × (workers ≤ 16) }
+{
+    let outputs = refused(rt, alloc, 1, workers)?;
+    find_outputs(rt, outputs.as_slice(), &[0, 2, 4]);
+    drop(outputs);
+    let refuses = refused(rt, alloc, u64::MAX, workers).is_err();
+    assert!(rt; refuses, "{workers} workers");
+    Ok(())
+}
+
 #[test]
 fn a_work_that_refuses_memory(rt: HostRuntime) -> Result<(), Fail> {
-    for workers in [1, 2, 3] {
-        let once = Refusing {
-            refusals: 1,
-            calls: AtomicU64::new(0),
-        };
-        let outputs = phase(&rt, rt.alloc(), &once, &[0, 1, 2], workers, &Open)?;
-        assert_eq!(rt; outputs.as_slice(), [0, 2, 4].as_slice());
-        let always = Refusing {
-            refusals: u64::MAX,
-            calls: AtomicU64::new(0),
-        };
-        let answer = phase(&rt, rt.alloc(), &always, &[0, 1, 2], workers, &Open);
-        assert!(rt; matches!(answer, Err(AllocError)), "{workers} workers");
+    find_refused(&rt, rt.alloc(), 1)?;
+    find_refused(&rt, rt.alloc(), 2)?;
+    Ok(find_refused(&rt, rt.alloc(), 3)?)
+}
+
+const EIGHT: [u32; 8] = [0, 1, 2, 3, 4, 5, 6, 7];
+
+const DOUBLES: [u64; 8] = [0, 2, 4, 6, 8, 10, 12, 14];
+
+fn find_doubles(rt: &impl Abort, answer: &Result<Vec<u64>, OutOfMemory>) {
+    if let Ok(outputs) = answer {
+        find_outputs(rt, outputs.as_slice(), &DOUBLES);
     }
-    Ok(())
 }
 
 /// `ci/refuse_allocations` runs this with each allocation refused in turn that is made between the lines `begin` and `end` of its output. The
@@ -56,17 +90,9 @@ fn a_work_that_refuses_memory(rt: HostRuntime) -> Result<(), Fail> {
 #[test]
 fn phase_with_an_allocation_refused(rt: HostRuntime) -> Result<(), Fail> {
     println!(rt; "begin")?;
-    let outputs = phase(
-        &rt,
-        rt.alloc(),
-        &Doubling,
-        &[0, 1, 2, 3, 4, 5, 6, 7],
-        3,
-        &Open,
-    );
-    println!(rt; "end")?;
-    if let Ok(outputs) = outputs {
-        assert_eq!(rt; outputs.as_slice(), [0, 2, 4, 6, 8, 10, 12, 14].as_slice());
-    }
-    Ok(())
+    let answer = phase(&rt, rt.alloc(), &Doubling, &EIGHT, 3, &Open);
+    let ended = println!(rt; "end");
+    find_doubles(&rt, &answer);
+    drop(answer);
+    Ok(ended?)
 }

@@ -4,6 +4,8 @@ use super::running::{has_costs, has_fault, has_halted, has_lines, history_of};
 use crate::Ask::{MoveInto, Send, SetTagsize};
 use crate::Asks;
 use bsp_model::Fault;
+use bsp_run::History;
+use std::process::Abort;
 use std::test::Fail;
 
 /// Messages longer than the buffer, shorter, and empty.
@@ -14,12 +16,16 @@ const MOVES: Asks = Asks {
     ],
 };
 
-#[test]
-fn a_message_is_moved_as_far_as_it_fits(rt: HostRuntime) -> Result<(), Fail> {
-    let history = history_of(rt.alloc(), &MOVES, &[&[]])?;
+fn find_moves(rt: &impl Abort, history: History) {
     assert!(rt; has_lines(&history, 0, &[&[2, 4, 5], &[1, 4, 9], &[0, 8, 9]]));
     assert!(rt; has_fault(&history, 1, Fault::EmptyQueue));
     assert!(rt; has_costs(&history, &[10, 0]));
+    drop(history);
+}
+
+#[test]
+fn a_message_is_moved_as_far_as_it_fits(rt: HostRuntime) -> Result<(), Fail> {
+    find_moves(&rt, history_of(rt.alloc(), &MOVES, &[&[]])?);
     Ok(())
 }
 
@@ -28,11 +34,15 @@ const CHOICES: Asks = Asks {
     supersteps: &[&[SetTagsize(2), SetTagsize(1)], &[SetTagsize(0)]],
 };
 
-#[test]
-fn a_choice_answers_the_size_in_force(rt: HostRuntime) -> Result<(), Fail> {
-    let history = history_of(rt.alloc(), &CHOICES, &[&[]])?;
+fn find_choices(rt: &impl Abort, history: History) {
     assert!(rt; has_lines(&history, 0, &[&[0], &[0], &[1]]));
     assert!(rt; has_halted(&history));
     assert!(rt; has_costs(&history, &[10, 10, 0]));
+    drop(history);
+}
+
+#[test]
+fn a_choice_answers_the_size_in_force(rt: HostRuntime) -> Result<(), Fail> {
+    find_choices(&rt, history_of(rt.alloc(), &CHOICES, &[&[]])?);
     Ok(())
 }

@@ -6,6 +6,7 @@ use bsp_run::History;
 use bsp_scripts::Operand::Number;
 use bsp_scripts::{Call, Operand, Script, Turn};
 use std::alloc::Global;
+use std::process::Abort;
 use std::test::Fail;
 
 /// Whether each item is the same as its copy.
@@ -33,23 +34,51 @@ fn words(alloc: Global, words: &[u64]) -> Result<Seq<Operand>, OutOfMemory> {
     Ok(operands)
 }
 
+fn push_registering(calls: &mut Seq<Call>) -> Result<(), OutOfMemory> {
+    calls.push(Call::PushReg(Number(0), Number(2)))?;
+    calls.push(Call::SetTagsize(Number(1)))
+}
+
 fn registering(alloc: Global) -> Result<Seq<Call>, OutOfMemory> {
     let mut calls = Seq::new(alloc);
-    calls.push(Call::PushReg(Number(0), Number(2)))?;
-    calls.push(Call::SetTagsize(Number(1)))?;
+    push_registering(&mut calls)?;
     Ok(calls)
+}
+
+/// A put of the word 7 to its own area.
+fn putting(alloc: Global) -> Result<Call, OutOfMemory> {
+    Ok(Call::Put(Number(0), words(alloc, &[7])?, Number(0), Number(1)))
+}
+
+/// A message to itself.
+fn sending(alloc: Global) -> Result<Call, OutOfMemory> {
+    let tag = words(alloc, &[4])?;
+    let payload = words(alloc, &[5, 6])?;
+    Ok(Call::Send(Number(0), tag, payload))
+}
+
+fn push_computing(calls: &mut Seq<Call>) -> Result<(), OutOfMemory> {
+    calls.push(Call::Store(Number(2), Number(9)))?;
+    calls.push(Call::Charge(Number(5)))
+}
+
+fn push_requests(alloc: Global, calls: &mut Seq<Call>) -> Result<(), OutOfMemory> {
+    calls.push(putting(alloc)?)?;
+    calls.push(Call::Get(Number(0), Number(0), Number(0), Number(2), Number(1)))?;
+    calls.push(sending(alloc)?)
+}
+
+fn push_ending(alloc: Global, calls: &mut Seq<Call>) -> Result<(), OutOfMemory> {
+    calls.push(Call::PopReg(Number(0)))?;
+    calls.push(Call::Print(words(alloc, &[8])?))
 }
 
 /// Each act but those of `registering`, once.
 fn issuing(alloc: Global) -> Result<Seq<Call>, OutOfMemory> {
     let mut calls = Seq::new(alloc);
-    calls.push(Call::Store(Number(2), Number(9)))?;
-    calls.push(Call::Charge(Number(5)))?;
-    calls.push(Call::Put(Number(0), words(alloc, &[7])?, Number(0), Number(1)))?;
-    calls.push(Call::Get(Number(0), Number(0), Number(0), Number(2), Number(1)))?;
-    calls.push(Call::Send(Number(0), words(alloc, &[4])?, words(alloc, &[5, 6])?))?;
-    calls.push(Call::PopReg(Number(0)))?;
-    calls.push(Call::Print(words(alloc, &[8])?))?;
+    push_computing(&mut calls)?;
+    push_requests(alloc, &mut calls)?;
+    push_ending(alloc, &mut calls)?;
     Ok(calls)
 }
 
@@ -78,17 +107,43 @@ fn script(alloc: Global) -> Result<Script, OutOfMemory> {
     Ok(Script { supersteps })
 }
 
+fn find_end(rt: &impl Abort, history: &History) {
+    assert!(rt; has_fault(history, 2, Fault::Abort(3)));
+    assert!(rt; has_memories(history, &[&[1, 7, 1]]));
+    assert!(rt; history.steps() == 3 && history.views(3).is_none());
+}
+
+fn find_copies_of_step(rt: &impl Abort, history: &History, step: u64) -> Result<(), Fail> {
+    let is_equal = has_equal_copies(history, step)?;
+    assert!(rt; is_equal, "superstep {step}");
+    Ok(())
+}
+
+fn find_copies_of_steps(rt: &impl Abort, history: &History) -> Result<(), Fail> {
+    for step in 0..3 {
+        find_copies_of_step(rt, history, step)?;
+    }
+    Ok(())
+}
+
+fn find_copies(rt: &impl Abort, history: History) -> Result<(), Fail> {
+    find_end(rt, &history);
+    let found = find_copies_of_steps(rt, &history);
+    drop(history);
+    found
+}
+
+/// The history of the script's run on the memory 1, 2, 3.
+fn history(alloc: Global) -> Result<History, Fail> {
+    let script = script(alloc)?;
+    let history = history_of(alloc, &script, &[&[1, 2, 3]]);
+    drop(script);
+    history
+}
+
 #[test]
 fn views_and_outcomes(rt: HostRuntime) -> Result<(), Fail> {
-    let script = script(rt.alloc())?;
-    let history = history_of(rt.alloc(), &script, &[&[1, 2, 3]])?;
-    assert!(rt; has_fault(&history, 2, Fault::Abort(3)));
-    assert!(rt; has_memories(&history, &[&[1, 7, 1]]));
-    for step in 0..3 {
-        assert!(rt; has_equal_copies(&history, step)?, "superstep {step}");
-    }
-    assert!(rt; history.steps() == 3 && history.views(3).is_none());
-    Ok(())
+    find_copies(&rt, history(rt.alloc())?)
 }
 
 /// Whether an input has the parts of its copy.
@@ -103,10 +158,16 @@ fn has_equal_copy(input: &Input) -> Result<bool, OutOfMemory> {
     )
 }
 
+fn find_copy(rt: &impl Abort, input: Input) -> Result<(), OutOfMemory> {
+    let is_equal = has_equal_copy(&input);
+    assert_eq!(rt; input.check(), Ok(()));
+    drop(input);
+    assert!(rt; is_equal?);
+    Ok(())
+}
+
 #[test]
 fn inputs(rt: HostRuntime) -> Result<(), Fail> {
     let input = input_of(rt.alloc(), &[&[1, 2], &[3]])?;
-    assert!(rt; has_equal_copy(&input)?);
-    assert_eq!(rt; input.check(), Ok(()));
-    Ok(())
+    Ok(find_copy(&rt, input)?)
 }

@@ -14,23 +14,36 @@ fn memories_of(alloc: Global, memories: &[&[u64]]) -> Result<Seq<Memory>, OutOfM
     Ok(all)
 }
 
-fn no_arguments(alloc: Global, nprocs: usize) -> Result<Seq<Words>, OutOfMemory> {
+fn arguments_of(
+    alloc: Global,
+    nprocs: usize,
+    arguments: &[u64],
+) -> Result<Seq<Words>, OutOfMemory> {
     let mut all = Seq::new(alloc);
-    for _ in 0..nprocs {
-        all.push(Words::new(alloc))?;
+    for _process in 0..nprocs {
+        all.push(Words::from_slice(alloc, arguments)?)?;
     }
     Ok(all)
 }
 
-/// The input with these memories and no arguments.
-pub fn input_of(alloc: Global, memories: &[&[u64]]) -> Result<Input, OutOfMemory> {
+/// The input with these memories, and these arguments of each process.
+pub fn input_with(
+    alloc: Global,
+    memories: &[&[u64]],
+    arguments: &[u64],
+) -> Result<Input, OutOfMemory> {
     Ok(Input {
         mems: memories_of(alloc, memories)?,
-        args: no_arguments(alloc, memories.len())?,
+        args: arguments_of(alloc, memories.len(), arguments)?,
         limit: 16,
         g: 4,
         l: 10,
     })
+}
+
+/// The input with these memories and no arguments.
+pub fn input_of(alloc: Global, memories: &[&[u64]]) -> Result<Input, OutOfMemory> {
+    input_with(alloc, memories, &[])
 }
 
 /// The history of a program's run.
@@ -40,7 +53,9 @@ pub fn history_of<P: Program>(
     memories: &[&[u64]],
 ) -> Result<History, Fail> {
     let input = input_of(alloc, memories)?;
-    Ok(run_plain(alloc, program, &input).ok().ok_or("no run")?)
+    let run = run_plain(alloc, program, &input);
+    drop(input);
+    Ok(run?)
 }
 
 /// Whether all processes halted.
