@@ -1,5 +1,5 @@
 -- The tests of sameness decide equality.
-use Rattle.std.proofs.Common.{◌≡◌, ℕ, Bool, List, ◌==◌, ◌&&◌, ap}
+use Rattle.std.proofs.Common.{◌≡◌, List, ◌==◌, ap}
 use Rattle.std.specs.Bool.{Decides}
 use Rattle.std.proofs.lemmas.Bool.Decides.{Decides-eqb, Decides-and, Decides-like}
 use Rattle.bsp_model.specs.declared.request.Message.{Message}

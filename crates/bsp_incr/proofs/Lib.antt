@@ -4,5 +4,8 @@ pub mod Serving
 pub mod Propagation
 pub mod Retaking
 pub mod Gathering
+pub mod Updating
 pub mod Remaking
 pub mod Lawful
+pub mod Repeating
+pub mod Unchanged

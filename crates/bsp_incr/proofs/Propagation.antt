@@ -1,5 +1,5 @@
 -- What a process sees next depends on its delivery, its arguments, the table and the tag size alone.
-use Rattle.std.proofs.Common.{◌≡◌, ◌<◌, ◌+◌, ℕ, Bool, true, false, List, [], map, length, get_or, arith, refl, sym, ap, ◌∙◌}
+use Rattle.std.proofs.Common.{◌≡◌, ◌<◌, ◌+◌, ℕ, Bool, true, false, List, [], length, get_or, arith, refl, sym, ap, ◌∙◌}
 use Rattle.std.specs.Prelude.{nat_lt, not, ◌&&◌}
 use Rattle.std.specs.Bool.{Decides}
 use Rattle.std.proofs.lemmas.List.FromFn.{get_or-map-range_with_len}
@@ -7,7 +7,7 @@ use Rattle.std.proofs.lemmas.Bool.Decides.{nat_tests, Decides-and, Decides-ltb, 
 use Rattle.bsp_model.specs.declared.input.Input.{Input}
 use Rattle.bsp_step.specs.ViewParts.{ViewParts}
 use Rattle.bsp_step.specs.OutcomeParts.{OutcomeParts}
-use Rattle.bsp_deliver.specs.Delivery.{DeliveryParts, delivery_parts, next_memory, next_queue}
+use Rattle.bsp_deliver.specs.Delivery.{delivery_parts, next_memory, next_queue}
 use Rattle.std.proofs.lemmas.List.{get_or-map}
 use Rattle.bsp_run.specs.State.{State, no_messages, first_state, next_state, view_of}
 use Rattle.bsp_run.specs.Law.{state_at, views_in, outcomes_in}
@@ -33,11 +33,11 @@ untouched_is old new d h =
     (Decides-untouched old new d).0 (not_false (nat_lt d (length old) && same_delivery (delivery_parts old d) (delivery_parts new d)) h)
 
 -- the memory and the queue that are delivered
-memory-next : (s : State) (os : List OutcomeParts) (d : ℕ) → d < length os → get_or (next_state s os).memories d [] ≡ next_memory (delivery_parts os d)
+pub memory-next : (s : State) (os : List OutcomeParts) (d : ℕ) → d < length os → get_or (next_state s os).memories d [] ≡ next_memory (delivery_parts os d)
 unfolding next_state
 memory-next s os d l = get_or-map-range_with_len (λ d. next_memory (delivery_parts os d)) 0 (length os) d d [] l (omega arith)
 
-queue-next : (s : State) (os : List OutcomeParts) (d : ℕ) → d < length os → get_or (next_state s os).queues d [] ≡ next_queue (delivery_parts os d)
+pub queue-next : (s : State) (os : List OutcomeParts) (d : ℕ) → d < length os → get_or (next_state s os).queues d [] ≡ next_queue (delivery_parts os d)
 unfolding next_state
 queue-next s os d l = get_or-map-range_with_len (λ d. next_queue (delivery_parts os d)) 0 (length os) d d [] l (omega arith)
 

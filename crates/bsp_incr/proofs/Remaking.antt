@@ -1,9 +1,9 @@
 -- What is known of a run that is made again.
-use Rattle.std.proofs.Common.{◌≡◌, ◌≤◌, ◌<◌, ◌+◌, ℕ, Bool, true, false, cond, List, [], ◌∷◌, ◌++◌, Option, None, Some, map, length, get_or, arith, refl, sym, ap, ◌∙◌, subst, length-append, inl, inr, append_assoc}
+use Rattle.std.proofs.Common.{◌≡◌, ◌≤◌, ◌<◌, ◌+◌, ℕ, Bool, true, false, cond, List, [], ◌∷◌, ◌++◌, Option, None, Some, map, length, get_or, arith, refl, sym, ap, ◌∙◌, subst, length-append, inl, inr}
 use Rattle.std.specs.Prelude.{nat_lt, ◌||◌}
 use Rattle.std.proofs.lemmas.Bool.{cases_lt, false≢true}
 use Rattle.std.proofs.lemmas.Bool.Decides.{nat_tests}
-use Rattle.std.proofs.lemmas.List.{length-map, append-nil, get_or-map}
+use Rattle.std.proofs.lemmas.List.{length-map, get_or-map}
 use Rattle.std.proofs.lemmas.List.FromFn.{get_or-map-range_with_len, length-map-range_with_len}
 use Rattle.std.proofs.lemmas.Grind.{common_steps}
 use Rattle.bsp_model.specs.declared.input.Input.{Input}
@@ -11,24 +11,24 @@ use Rattle.bsp_model.proofs.Inputs.{lawful_input}
 use Rattle.bsp_step.specs.ViewParts.{ViewParts}
 use Rattle.bsp_step.specs.OutcomeParts.{OutcomeParts}
 use Rattle.bsp_deliver.specs.Requests.{each_below, outcome_of, no_outcome}
-use Rattle.bsp_deliver.specs.Delivery.{delivery_parts}
-use Rattle.bsp_run.specs.declared.phase.Phase.TheVariants.{Open}
+use Rattle.bsp_deliver.specs.Delivery.{delivery_parts, next_memory}
 use Rattle.bsp_run.specs.declared.superstep.Superstep.{Superstep}
 use Rattle.bsp_run.specs.Run.{Run, start, open_views, after_turns, after_delivery}
-use Rattle.bsp_run.specs.Shown.{no_superstep}
+use Rattle.bsp_run.specs.State.{next_state, views_of}
 use Rattle.bsp_run.specs.Supersteps.{supersteps_of, superstep_at, views_at}
 use Rattle.bsp_run.specs.Law.{views_in, outcomes_in}
 use Rattle.bsp_run.specs.Record.{IsRecord}
 use Rattle.bsp_run.specs.Condition.{no_view, is_open, is_turned}
 use Rattle.bsp_run.proofs.Runs.{open_phase, turns_closed}
-use Rattle.bsp_run.proofs.Records.{superstep, views_at-past, supersteps-open, supersteps-turned, supersteps-delivered, past-delivered, past-turned, open_views-in, count-views_in, count-outcomes_in, IsRecord-turned, IsRecord-goes_on, IsRecord-start, IsRecord-run}
+use Rattle.bsp_run.proofs.Records.{superstep, views_at-past, past-delivered, open_views-in, count-views_in, count-outcomes_in, IsRecord-turned, IsRecord-goes_on, IsRecord-start, IsRecord-run}
 use Rattle.bsp_run.proofs.Laws.{superstep_at-past_end, taken_views, taken_outcomes}
 use Rattle.bsp_incr.specs.declared.kept.Kept.{Kept}
-use Rattle.bsp_incr.specs.declared.reply.Place.{Place}
 use Rattle.bsp_incr.specs.declared.reply.Update.{Update}
 use Rattle.bsp_incr.specs.Marks.{AreMarked, AreAlikeButForTable, AreKnown, AreUnchanged, HaveOneTable, AreDelivered}
-use Rattle.bsp_incr.specs.Changes.{differ, differ_in, differ_from, touched, touched_in, touched_from, is_touched, supersteps_before, delivered_before, IsUpdate}
+use Rattle.bsp_incr.specs.Changes.{differ, differ_in, touched, touched_in, is_touched, supersteps_before, delivered_before}
+use Rattle.bsp_incr.specs.Next.{next_view}
 use Rattle.bsp_incr.specs.Before.{run_before, taken_before, outcomes_before, delivered_outcomes, views_after, IsBefore, IsKept, HasSameArgs, AreArgsMarked, AreFirstMarked, HasSameMemory, IsUnderWay, IsRunBefore}
+use Rattle.bsp_incr.proofs.Updating.{updated_turned, updated_delivered}
 use Rattle.bsp_incr.proofs.Propagation.{one_table, propagated, first_alike, memory-in, queue-in, untouched_is}
 
 -- The run before, superstep by superstep.
@@ -86,59 +86,6 @@ pub turns_before : (turn : ViewParts → OutcomeParts) (input : Input) (old : Op
 turns_before turn input None s h = subst (λ (x : Superstep). x.outcomes ≡ map turn x.views) (sym (superstep_at-past_end [] s (omega arith))) refl
 turns_before turn input (Some k) s h = taken_outcomes turn (supersteps_of k.history) s h.made.turns
 
--- one superstep more
-differ_from-push : (looks : ViewParts → ℕ → Bool) (n m : ℕ) (olds xs : List Superstep) (x : Superstep) → n + length xs ≡ m → differ_from looks n olds (xs ++ x ∷ []) ≡ differ_from looks n olds xs ++ differ_in looks m (superstep_at olds m).views x.views
-differ_from-push looks n m olds [] x e =
-    let at : n ≡ m = omega arith in
-    append-nil (differ_in looks n (superstep_at olds n).views x.views) ∙ ap (λ k. differ_in looks k (superstep_at olds k).views x.views) at
-differ_from-push looks n m olds (y ∷ xs) x e =
-    let here = differ_in looks n (superstep_at olds n).views y.views in
-    ap (λ (zs : List Place). here ++ zs) (differ_from-push looks (n + 1) m olds xs x (omega arith))
-    ∙ sym (append_assoc here (differ_from looks (n + 1) olds xs) (differ_in looks m (superstep_at olds m).views x.views))
-
-pub differ-push : (looks : ViewParts → ℕ → Bool) (olds xs : List Superstep) (x : Superstep) → differ looks olds (xs ++ x ∷ []) ≡ differ looks olds xs ++ differ_in looks (length xs) (superstep_at olds (length xs)).views x.views
-unfolding differ
-differ-push looks olds xs x = differ_from-push looks 0 (length xs) olds xs x (omega arith)
-
-touched_from-push : (n m : ℕ) (olds xs : List Superstep) (x : Superstep) → n + length xs ≡ m → touched_from n olds (xs ++ x ∷ []) ≡ touched_from n olds xs ++ touched_in m (superstep_at olds m).outcomes x.outcomes
-touched_from-push n m olds [] x e =
-    let at : n ≡ m = omega arith in
-    append-nil (touched_in n (superstep_at olds n).outcomes x.outcomes) ∙ ap (λ k. touched_in k (superstep_at olds k).outcomes x.outcomes) at
-touched_from-push n m olds (y ∷ xs) x e =
-    let here = touched_in n (superstep_at olds n).outcomes y.outcomes in
-    ap (λ (zs : List Place). here ++ zs) (touched_from-push (n + 1) m olds xs x (omega arith))
-    ∙ sym (append_assoc here (touched_from (n + 1) olds xs) (touched_in m (superstep_at olds m).outcomes x.outcomes))
-
-pub touched-push : (olds xs : List Superstep) (x : Superstep) → touched olds (xs ++ x ∷ []) ≡ touched olds xs ++ touched_in (length xs) (superstep_at olds (length xs)).outcomes x.outcomes
-unfolding touched
-touched-push olds xs x = touched_from-push 0 (length xs) olds xs x (omega arith)
-
-executed_more : (looks : ViewParts → ℕ → Bool) (old : Option Kept) (r : Run) (os : List OutcomeParts) (before after : List Place) (all : List Superstep) → r.phase ≡ Open → all ≡ r.past ++ superstep (open_views r) os ∷ [] → before ≡ differ looks (supersteps_before (run_before old)) (supersteps_of r)
-    → after ≡ before ++ differ_in looks (length r.past) (taken_before old (length r.past)) (open_views r) → after ≡ differ looks (supersteps_before (run_before old)) all
-executed_more looks old r os before after all e is h k =
-    let olds = supersteps_before (run_before old) in
-    k ∙ ap (λ (xs : List Place). xs ++ differ_in looks (length r.past) (taken_before old (length r.past)) (open_views r)) (h ∙ ap (differ looks olds) (supersteps-open r e))
-    ∙ sym (differ-push looks olds r.past (superstep (open_views r) os)) ∙ ap (differ looks olds) (sym is)
-
--- the update after the turns of a superstep that ends the run
-pub updated_turned : (looks : ViewParts → ℕ → Bool) (old : Option Kept) (r : Run) (os : List OutcomeParts) (u v : Update) → r.phase ≡ Open → IsUpdate looks (run_before old) r u → v.executed ≡ u.executed ++ differ_in looks (length r.past) (taken_before old (length r.past)) (open_views r) → v.redelivered ≡ u.redelivered → IsUpdate looks (run_before old) (after_turns r os) v
-updated_turned looks old r os u v e h k l =
-    record {
-      executed = executed_more looks old r os u.executed v.executed (supersteps_of (after_turns r os)) e (supersteps-turned r os) h.executed k;
-      redelivered = l ∙ h.redelivered ∙ ap (touched (delivered_before (run_before old))) (sym (past-turned r os));
-    }
-
--- the update after its deliveries
-pub updated_delivered : (looks : ViewParts → ℕ → Bool) (old : Option Kept) (r : Run) (os : List OutcomeParts) (u v : Update) → r.phase ≡ Open → IsUpdate looks (run_before old) r u → v.executed ≡ u.executed ++ differ_in looks (length r.past) (taken_before old (length r.past)) (open_views r)
-    → v.redelivered ≡ u.redelivered ++ touched_in (length r.past) (delivered_outcomes old (length r.past)) os → IsUpdate looks (run_before old) (after_delivery (after_turns r os)) v
-updated_delivered looks old r os u v e h k l =
-    record {
-      executed = executed_more looks old r os u.executed v.executed (supersteps_of (after_delivery (after_turns r os))) e (supersteps-delivered r os) h.executed k;
-      redelivered =
-          l ∙ ap (λ (xs : List Place). xs ++ touched_in (length r.past) (delivered_outcomes old (length r.past)) os) h.redelivered
-          ∙ sym (touched-push (delivered_before (run_before old)) r.past (superstep (open_views r) os)) ∙ ap (touched (delivered_before (run_before old))) (sym (past-delivered r os));
-    }
-
 -- what the run before delivered, it delivered to the same processes
 pub count_before : (turn : ViewParts → OutcomeParts) (input : Input) (old : Option Kept) (s : ℕ) → IsBefore turn input old → 0 < length (delivered_outcomes old s) → length (delivered_outcomes old s) ≡ length (outcomes_in turn input s)
 count_before turn input None s h l = absurd (nothing_delivered s 0 l)
@@ -176,6 +123,20 @@ delivered_before_is turn input (Some k) s h =
           (subst (AreDelivered (outcomes_in turn k.input s)) (sym views) (delivered_views turn k.input s))
       | inr w ↦ none_delivered (views_after (Some k) s) (delivered_outcomes (Some k) s) (views_after-none k s w) (ap (λ (x : Superstep). length x.outcomes) (superstep_at-past_end k.history.past s w))
     ]
+
+-- the processes see one table in them
+pub table_after : (turn : ViewParts → OutcomeParts) (input : Input) (old : Option Kept) (s : ℕ) → IsBefore turn input old → HaveOneTable (views_after old s)
+table_after turn input None s h = no_table
+table_after turn input (Some k) s h =
+    elim (cases_lt s (length k.history.past)) [
+      | inl w ↦ subst HaveOneTable (sym (views_after-some k s w ∙ h.made.views (s + 1) (omega arith))) (one_table turn k.input (s + 1))
+      | inr w ↦ subst HaveOneTable (sym (views_after-none k s w)) no_table
+    ]
+
+-- the next views, process by process
+pub next_views-are : (r : Run) → each_below (length r.outcomes) (next_view r) ≡ views_of r.args (length r.past + 1) (next_state r.state r.outcomes)
+unfolding views_of next_state
+next_views-are r = ap (λ n. each_below n (next_view r)) (sym (length-map-range_with_len (λ d. next_memory (delivery_parts r.outcomes d)) 0 (length r.outcomes)))
 
 -- A process that is known to see what it saw leaves what it left.
 unchanged_by : (turn : ViewParts → OutcomeParts) (vs ws : List ViewParts) (p : ℕ) → p < length vs → p < length ws → get_or vs p no_view ≡ get_or ws p no_view → outcome_of (map turn vs) p ≡ outcome_of (map turn ws) p

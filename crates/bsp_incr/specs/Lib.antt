@@ -3,5 +3,7 @@ pub mod Comparing
 pub mod Reuse
 pub mod Changes
 pub mod Marks
+pub mod Next
 pub mod Before
 pub mod Replies
+pub mod Repeats

@@ -1,6 +1,6 @@
 //! Edits, checked and made.
 
-ghost use Rattle.std.specs.Prelude.{◌≡◌, ℕ, OnOk, IfOk};
+ghost use Rattle.std.specs.Prelude.{◌≡◌, ℕ, OnOk, IfOk, true};
 ghost use Rattle.bsp_incr.specs.Edits.{edit_fault, refusal_of, edited_by, edited};
 
 use crate::{Edit, EditFault, EditRefusal};
@@ -70,6 +70,56 @@ pub fn refusal_of(input: &Input, edits: &[Edit]) -> Option<EditRefusal>
         }
     }
     None
+}
+
+/// Whether a word of a memory is this one.
+fn is_word(input: &Input, pid: u64, addr: u64, value: u64) -> bool
+    ensures { result ≡ true → edited_by input.now (Edit.Word pid addr value) ≡ input.now }
+{
+    let Some(memory) = input.mems.as_slice().get(pid as usize) else {
+        return false;
+    };
+    match memory.load(addr) {
+        Some(word) => word == value,
+        None => false,
+    }
+}
+
+/// Whether an argument is this one.
+fn is_arg(input: &Input, pid: u64, index: u64, value: u64) -> bool
+    ensures { result ≡ true → edited_by input.now (Edit.Arg pid index value) ≡ input.now }
+{
+    let Some(args) = input.args.as_slice().get(pid as usize) else {
+        return false;
+    };
+    match args.as_slice().get(index as usize) {
+        Some(arg) => *arg == value,
+        None => false,
+    }
+}
+
+/// Whether an edit gives what is there already.
+fn is_there(input: &Input, edit: &Edit) -> bool
+    ensures { result ≡ true → edited_by input.now edit.now ≡ input.now }
+{
+    match *edit {
+        Edit::Word { pid, addr, value } => is_word(input, pid, addr, value),
+        Edit::Arg { pid, index, value } => is_arg(input, pid, index, value),
+        Edit::Limit(n) => n == input.limit,
+        Edit::Prices { g, l } => g == input.g && l == input.l,
+    }
+}
+
+/// Whether each edit of a batch gives what is there already. It takes no memory.
+pub fn are_there(input: &Input, edits: &[Edit]) -> bool
+    ensures { result ≡ true → edited input.now edits.now ≡ input.now }
+{
+    for edit in edits {
+        if !is_there(input, edit) {
+            return false;
+        }
+    }
+    true
 }
 
 /// Makes an edit.

@@ -4,7 +4,7 @@ ghost use Rattle.std.specs.Prelude.{◌≡◌, ◌<◌, length, option_map};
 ghost use Rattle.bsp_deliver.specs.Condition.{AreDeliverable};
 ghost use Rattle.bsp_incr.specs.Before.{taken_before, outcomes_before, delivered_outcomes, views_after};
 
-use bsp_model::Input;
+use bsp_model::{Input, Shared};
 use bsp_run::History;
 use bsp_step::{Outcome, View};
 
@@ -16,7 +16,7 @@ pub struct Kept {
 }
 
 /// The views of a superstep of the run before; none where it took no turns of such a superstep.
-pub fn taken_before<'a>(old: Option<&'a Kept>, step: usize) -> &'a [View]
+pub fn taken_before<'a>(old: Option<&'a Kept>, step: usize) -> &'a [Shared<View>]
     ensures { result.now ≡ taken_before (option_map (λ k. k.now) old.entry) step }
 {
     match old {
@@ -26,7 +26,7 @@ pub fn taken_before<'a>(old: Option<&'a Kept>, step: usize) -> &'a [View]
 }
 
 /// The outcomes of these turns.
-pub fn outcomes_before<'a>(old: Option<&'a Kept>, step: usize) -> &'a [Outcome]
+pub fn outcomes_before<'a>(old: Option<&'a Kept>, step: usize) -> &'a [Shared<Outcome>]
     ensures { result.now ≡ outcomes_before (option_map (λ k. k.now) old.entry) step }
 {
     match old {
@@ -36,7 +36,7 @@ pub fn outcomes_before<'a>(old: Option<&'a Kept>, step: usize) -> &'a [Outcome]
 }
 
 /// The outcomes of a superstep of the run before that ended by delivery; none where there is no such superstep.
-pub fn delivered_outcomes<'a>(old: Option<&'a Kept>, step: usize) -> &'a [Outcome]
+pub fn delivered_outcomes<'a>(old: Option<&'a Kept>, step: usize) -> &'a [Shared<Outcome>]
     ensures outcomes { result.now ≡ delivered_outcomes (option_map (λ k. k.now) old.entry) step }
     ensures deliverable { 0 < length result.now → AreDeliverable result.now }
 {
@@ -50,7 +50,7 @@ pub fn delivered_outcomes<'a>(old: Option<&'a Kept>, step: usize) -> &'a [Outcom
 }
 
 /// The views after that delivery.
-pub fn views_after<'a>(old: Option<&'a Kept>, step: usize) -> &'a [View]
+pub fn views_after<'a>(old: Option<&'a Kept>, step: usize) -> &'a [Shared<View>]
     ensures { result.now ≡ views_after (option_map (λ k. k.now) old.entry) step }
 {
     let Some(kept) = old else {

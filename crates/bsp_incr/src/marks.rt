@@ -45,7 +45,7 @@ pub fn args_marks(
 ) -> Result<Vec<bool>, OutOfMemory>
     ensures { IfOk result (λ marks. AreArgsMarked (option_map (λ k. k.now) old.entry) input.now marks.items) }
 {
-    let mut marks = Vec::new(alloc);
+    let mut marks = Vec::with_capacity(alloc, input.mems.len())?;
     for p in 0..input.mems.len() {
         let mark = has_other_args(old, input, p);
         marks.push(mark)?;
@@ -61,7 +61,7 @@ pub fn first_marks(
 ) -> Result<Vec<bool>, OutOfMemory>
     ensures { IfOk result (λ marks. AreFirstMarked (option_map (λ k. k.now) old.entry) input.now marks.items) }
 {
-    let mut marks = Vec::new(alloc);
+    let mut marks = Vec::with_capacity(alloc, input.mems.len())?;
     for p in 0..input.mems.len() {
         let mark = has_other_args(old, input, p) || has_other_memory(old, input, p);
         marks.push(mark)?;

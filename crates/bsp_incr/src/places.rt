@@ -1,13 +1,11 @@
-//! Processes at which a test holds, their places, and what was made for them.
+//! Processes at which a test holds, and their places.
 
-ghost use Rattle.std.specs.Prelude.{◌≡◌, ◌<◌, ◌+◌, ◌++◌, ◌∷◌, IfOk, OnOk, length, false, slice_index_or};
-ghost use Rattle.std.specs.Vec.Iter.{into_iter_items, into_iter_len};
+ghost use Rattle.std.specs.Prelude.{◌≡◌, ◌++◌, IfOk, OnOk, length, false, slice_index_or};
 ghost use Rattle.bsp_incr.specs.Changes.{processes_where, places_of};
 
 use crate::Place;
 use bsp_model::{OutOfMemory, Seq};
 use std::alloc::Global;
-use std::vec::IntoIter;
 
 /// The numbers of the processes whose answer is true, in order.
 pub fn processes_where(alloc: Global, answers: &[bool]) -> Result<Vec<usize>, OutOfMemory>
@@ -37,13 +35,4 @@ pub fn add_places(
         })?;
     }
     Ok(())
-}
-
-/// The next of the items that were made for some processes.
-pub fn take_next<T: Drop>(made: &mut IntoIter<T>) -> T
-    requires { 0 < into_iter_len made.old }
-    ensures items { into_iter_items made.old ≡ result ∷ into_iter_items made.new }
-    ensures len { into_iter_len made.old ≡ into_iter_len made.new + 1 }
-{
-    made.next().unwrap()
 }

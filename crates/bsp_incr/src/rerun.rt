@@ -8,7 +8,7 @@ ghost use Rattle.bsp_run.specs.Run.{after_turns, after_delivery, open_views, adv
 ghost use Rattle.bsp_run.specs.RunErrors.{input_fault_of};
 ghost use Rattle.bsp_run.specs.Condition.{is_open, is_turned};
 ghost use Rattle.bsp_incr.specs.Changes.{differ_in, touched_in, is_touched, IsUpdate};
-ghost use Rattle.bsp_incr.specs.Marks.{AreMarked, AreKnown, AreDelivered, AreUnchanged};
+ghost use Rattle.bsp_incr.specs.Marks.{AreMarked, AreKnown, AreDelivered, AreUnchanged, HaveOneTable};
 ghost use Rattle.bsp_incr.specs.Before.{taken_before, delivered_outcomes, views_after, IsBefore, AreArgsMarked, IsUnderWay, IsRunBefore, IsRunOf, run_before};
 
 use crate::counts::Counts;
@@ -18,7 +18,7 @@ use crate::marks::{args_marks, first_marks};
 use crate::turns::{known_views, turns_again};
 use crate::workers::Workers;
 use crate::{Place, Update};
-use bsp_model::{Input, OutOfMemory, Seq};
+use bsp_model::{Input, OutOfMemory, Seq, SharedSeq};
 use bsp_pool::Gate;
 use bsp_run::{History, Phase, RunError, Tape};
 use bsp_step::Program;
@@ -76,6 +76,7 @@ fn make_deliveries<G: Gate, R: Threads + Sync>(
     requires turned { tape.old.phase ≡ Phase.Turned }
     requires count { 0 < length (delivered_outcomes (option_map (λ k. k.now) old) (length tape.old.past)) → length (delivered_outcomes (option_map (λ k. k.now) old) (length tape.old.past)) ≡ length tape.old.outcomes }
     requires next { AreDelivered (delivered_outcomes (option_map (λ k. k.now) old) (length tape.old.past)) (views_after (option_map (λ k. k.now) old) (length tape.old.past)) }
+    requires old_table { HaveOneTable (views_after (option_map (λ k. k.now) old) (length tape.old.past)) }
     requires known { AreUnchanged (delivered_outcomes (option_map (λ k. k.now) old) (length tape.old.past)) tape.old.outcomes known.now }
     requires always { length always.now ≡ length tape.old.outcomes }
     ensures tape { OnOk result (tape.new ≡ after_delivery tape.old) }
@@ -83,19 +84,22 @@ fn make_deliveries<G: Gate, R: Threads + Sync>(
     ensures redelivered { OnOk result (redelivered.new ≡ redelivered.old ++ touched_in (length tape.old.past) (delivered_outcomes (option_map (λ k. k.now) old.entry) (length tape.old.past)) tape.old.outcomes) }
 {
     let step = tape.step();
-    let (deliveries, marks) = deliveries_again(
+    let table = tape.next_table()?;
+    let (views, marks) = deliveries_again(
         workers,
         alloc,
         step as u64,
         delivered_outcomes(old, step),
         views_after(old, step),
+        tape,
+        &table,
         tape.outcomes(),
         known,
         always,
         redelivered,
         counts,
     )?;
-    let _ = tape.delivered(deliveries)?;
+    let _ = tape.delivered_as(table, SharedSeq::from_vec(views)?)?;
     Ok(marks)
 }
 

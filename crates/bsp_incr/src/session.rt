@@ -1,12 +1,12 @@
 //! Sessions.
 
 use crate::counts::Counts;
-use crate::editing::{edited, refusal_of};
+use crate::editing::{are_there, edited, refusal_of};
 use crate::kept::Kept;
 use crate::rerun::{rerun, rerun_after};
 use crate::workers::Workers;
 use crate::{Edit, EditError, Update};
-use bsp_model::Input;
+use bsp_model::{Input, Seq};
 use bsp_pool::Gate;
 use bsp_run::{History, RunError};
 use bsp_step::Program;
@@ -134,6 +134,12 @@ impl<P: Program + Drop> Session<P> {
         match refusal_of(&self.kept.input, edits) {
             Some(refusal) => return Err(EditError::Refused(refusal)),
             None => {}
+        }
+        if are_there(&self.kept.input, edits) {
+            return Ok(Update {
+                executed: Seq::new(alloc),
+                redelivered: Seq::new(alloc),
+            });
         }
         let input = edited(&self.kept.input, edits)?;
         let (history, update) = rerun_after(

@@ -1,7 +1,7 @@
-use Rattle.std.proofs.Common.{◌≡◌, ◌<◌, ◌∙◌, ◌++◌, ℕ, Bool, true, List, All, ap, sym, subst, length, get_or}
+use Rattle.std.proofs.Common.{◌<◌, ◌∙◌, ◌++◌, ℕ, Bool, true, List, All, ap, sym, subst, length, get_or}
 use Rattle.std.specs.Prelude.{◌||◌}
 use Rattle.std.proofs.lemmas.List.FromFn.{length-map-range_with_len}
-use Rattle.bsp_deliver.specs.Requests.{each_below}
+use Rattle.bsp_step.specs.OutcomeParts.{OutcomeParts}
 use Rattle.bsp_run.specs.Shares.{deliveries_to}
 use Rattle.bsp_incr.specs.Changes.{is_touched, processes_where, places_of}
 use Rattle.bsp_incr.proofs.Gathering.{processes_where-each_below, processes_where-below, answers_with}
@@ -20,6 +20,7 @@ gathered-requires-clause-made g c =
     let test : ℕ → Bool = is_touched c.args.old_outcomes.now c.args.outcomes.now in
     let ps = c.as_slice-3.ensures.value ∙ c.in_ok-processes.ensures ∙ processes_where-each_below n test c.as_slice.result.now (c.as_slice.ensures.value ∙ c.in_ok-touched.ensures) in
     c.in_ok-made.ensures ∙ ap (deliveries_to c.args.outcomes.now) ps
+    ∙ ap (λ (os : List OutcomeParts). deliveries_to os (processes_where (length os) (is_touched c.args.old_outcomes.now os))) c.requires.outcomes
 
 pub next_marks-requires : goal.next_marks-requires
 next_marks-requires g c =

@@ -1,4 +1,4 @@
-use Rattle.std.proofs.Common.{◌≡◌, ◌<◌, ◌∙◌, ℕ, length, get_or, None, sym, arith}
+use Rattle.std.proofs.Common.{length, get_or, None, sym, arith}
 use Rattle.std.proofs.lemmas.List.FromFn.{fill_by_all}
 use Rattle.bsp_deliver.specs.Requests.{outcome_of, no_outcome}
 use Rattle.bsp_deliver.specs.Touched.{former_or}

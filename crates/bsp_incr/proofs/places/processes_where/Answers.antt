@@ -1,4 +1,4 @@
-use Rattle.std.proofs.Common.{◌≡◌, ◌∙◌, ℕ, Bool, false, List, [], ◌∷◌, ◌++◌, ap, sym, get_or, cond}
+use Rattle.std.proofs.Common.{◌∙◌, ℕ, Bool, false, List, [], ◌∷◌, ◌++◌, ap, sym, get_or, cond}
 use Rattle.std.proofs.lemmas.List.{append-nil}
 use Rattle.bsp_incr.specs.Changes.{processes_where}
 use Rattle.bsp_incr.proofs.Gathering.{processes_more}

@@ -1,6 +1,5 @@
-use Rattle.std.proofs.Common.{◌≡◌, ◌∙◌, Option, List, None, Some, ap, sym}
+use Rattle.std.proofs.Common.{◌≡◌, ◌∙◌, List, None, Some, ap, sym}
 use Rattle.bsp_model.specs.declared.input.Input.{Input}
-use Rattle.bsp_model.specs.declared.fault.InputFault.{InputFault}
 use Rattle.bsp_model.specs.Input.{input_fault}
 use Rattle.bsp_run.specs.RunErrors.{input_fault_of}
 use Rattle.bsp_incr.specs.declared.edit.Edit.{Edit}

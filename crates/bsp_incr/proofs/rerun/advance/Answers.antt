@@ -5,8 +5,7 @@ use Rattle.bsp_step.specs.OutcomeParts.{OutcomeParts}
 use Rattle.bsp_step.specs.Turn.{turn_of}
 use Rattle.bsp_deliver.specs.Requests.{each_below}
 use Rattle.bsp_run.specs.declared.superstep.Superstep.{Superstep}
-use Rattle.bsp_run.specs.Run.{Run, after_turns, after_delivery, open_views}
-use Rattle.bsp_run.specs.Law.{outcomes_in}
+use Rattle.bsp_run.specs.Run.{Run, after_delivery, open_views}
 use Rattle.bsp_run.specs.Condition.{is_turned}
 use Rattle.bsp_run.proofs.Runs.{open_phase, advance-closed, advance-delivers, advance-ends, views_shown-open}
 use Rattle.bsp_run.proofs.Records.{past-turned, open_views-in, count-outcomes_in}
@@ -15,7 +14,7 @@ use Rattle.bsp_incr.specs.declared.reply.Place.{Place}
 use Rattle.bsp_incr.specs.Changes.{touched_in, is_touched}
 use Rattle.bsp_incr.specs.Marks.{AreMarked, AreKnown, AreUnchanged, HaveOneTable}
 use Rattle.bsp_incr.specs.Before.{taken_before, delivered_outcomes}
-use Rattle.bsp_incr.proofs.Remaking.{count_before, delivered_before_is, table_before, open_table, turns-in, known_unchanged, outcomes-turned, under_way_turned, under_way_delivered}
+use Rattle.bsp_incr.proofs.Remaking.{count_before, delivered_before_is, table_after, table_before, open_table, turns-in, known_unchanged, outcomes-turned, under_way_turned, under_way_delivered}
 use Rattle.bsp_incr.proofs.rerun.advance.Goals as goal
 
 pub returns-then-not-is_open-clause-tape : goal.returns-then-not-is_open-clause-tape
@@ -78,6 +77,10 @@ make_deliveries-requires-clause-count g c κs within =
 pub make_deliveries-requires-clause-next : goal.make_deliveries-requires-clause-next
 make_deliveries-requires-clause-next g c κs within =
     delivered_before_is (turn_of (g.P.Program.acts c.args.program.now) (g.P.Program.ending c.args.program.now)) c.args.input.now (option_map (λ k. k.now) c.args.old) (length c.take_turns.new.tape.past) c.requires.before
+
+pub make_deliveries-requires-clause-old_table : goal.make_deliveries-requires-clause-old_table
+make_deliveries-requires-clause-old_table g c κs within =
+    table_after (turn_of (g.P.Program.acts c.args.program.now) (g.P.Program.ending c.args.program.now)) c.args.input.now (option_map (λ k. k.now) c.args.old) (length c.take_turns.new.tape.past) c.requires.before
 
 pub make_deliveries-requires-clause-known : goal.make_deliveries-requires-clause-known
 make_deliveries-requires-clause-known g c κs within =

@@ -1,8 +1,7 @@
-use Rattle.std.proofs.Common.{◌≡◌, ◌∙◌, List, ap, sym, subst, map, length}
+use Rattle.std.proofs.Common.{◌∙◌, List, ap, sym, subst, length}
 use Rattle.std.specs.Prelude.{option_map}
 use Rattle.bsp_step.specs.ViewParts.{ViewParts}
-use Rattle.bsp_step.specs.Turn.{turn_of}
-use Rattle.bsp_run.specs.Run.{Run, open_views}
+use Rattle.bsp_run.specs.Run.{Run}
 use Rattle.bsp_run.specs.Condition.{AreOutcomesOf}
 use Rattle.bsp_run.proofs.Runs.{views_shown-open, open_phase}
 use Rattle.bsp_run.proofs.Turns.{AreOutcomesOf-turns}

@@ -1,15 +1,13 @@
-use Rattle.std.proofs.Common.{◌≡◌, ◌<◌, ◌-◌, ◌+◌, ◌∙◌, ◌++◌, ◌∷◌, [], ℕ, Bool, true, false, List, suc, ap, sym, map, length, take, get_or, arith}
+use Rattle.std.proofs.Common.{◌≡◌, ◌<◌, ◌-◌, ◌+◌, ◌∙◌, ◌++◌, ◌∷◌, [], ℕ, Bool, true, false, List, ap, sym, map, length, take, get_or, arith}
 use Rattle.std.specs.Prelude.{filter}
 use Rattle.std.specs.List.{range_with_len}
 use Rattle.std.proofs.lemmas.List.{map-append, take_more, take_all}
 use Rattle.std.proofs.lemmas.List.FromFn.{length-map-range_with_len}
 use Rattle.std.specs.Vec.Iter.{into_iter_items, into_iter_len}
-use Rattle.bsp_step.specs.ViewParts.{ViewParts}
 use Rattle.bsp_step.specs.OutcomeParts.{OutcomeParts}
 use Rattle.bsp_step.specs.Turn.{turn_of}
 use Rattle.bsp_run.specs.Condition.{no_view}
-use Rattle.bsp_run.specs.Shares.{turns_of}
-use Rattle.bsp_incr.specs.Changes.{differs, processes_where}
+use Rattle.bsp_incr.specs.Changes.{differs}
 use Rattle.bsp_incr.proofs.Gathering.{answer_at, left-made, left-kept, left_count, head_same, tail_same}
 use Rattle.bsp_incr.proofs.turns.gathered.Goals as goal
 use Rattle.bsp_incr.proofs.turns.gathered.Goals.{then-needed-p, else-needed-p+in_ok-outcome}
@@ -23,7 +21,7 @@ loop-p-init g c =
     let all : length views - 0 ≡ length views = omega arith in
     let left = c.into_iter-taken.ensures.rest ∙ c.requires.taken ∙ ap (λ n. map f (filter test (range_with_len 0 n))) (sym all) in
     let count : length c.args.taken.items ≡ length (filter test (range_with_len 0 (length views - 0))) = ap (λ (os : List OutcomeParts). length os) (c.requires.taken ∙ ap (λ n. map f (filter test (range_with_len 0 n))) (sym all)) ∙ left_count f test 0 (length views - 0) in
-    record { outcomes = c.new-outcomes.ensures.items; left = left; count = omega (arith, c.into_iter-taken.ensures.len, c.args.taken.ok, count) }
+    record { outcomes = c.in_ok-outcomes.ensures.items; left = left; count = omega (arith, c.into_iter-taken.ensures.len, c.args.taken.ok, count) }
 
 pub bounds-needed-p : goal.bounds-needed-p
 bounds-needed-p g c =

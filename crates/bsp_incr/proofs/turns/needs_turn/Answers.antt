@@ -1,9 +1,8 @@
-use Rattle.std.proofs.Common.{◌≡◌, ◌<◌, ◌∙◌, true, false, ap, sym, not, length, get_or, arith}
+use Rattle.std.proofs.Common.{◌<◌, ◌∙◌, ap, sym, not, length, get_or, arith}
 use Rattle.std.proofs.lemmas.List.{get_or_default}
 use Rattle.bsp_step.specs.ViewParts.{ViewParts}
 use Rattle.bsp_run.specs.Condition.{no_view}
 use Rattle.bsp_incr.specs.Reuse.{serves}
-use Rattle.bsp_incr.specs.Changes.{differs}
 use Rattle.bsp_incr.proofs.Retaking.{differs-some, differs-same, differs-none}
 use Rattle.bsp_incr.proofs.turns.needs_turn.Goals as goal
 
@@ -20,7 +19,7 @@ returns g c =
     let looks = g.P.Program.looks c.args.program.now in
     let old = c.args.old_views.now in let new = c.args.views.now in let p = c.args.p in
     let here : p < length old = omega arith in
-    let v = c.index-old_views-p.is ∙ get_or_default old p c.index-old_views-p.result no_view here in
-    let w = c.index-views-p.is ∙ get_or_default new p c.index-views-p.result no_view c.requires.place in
-    let test = c.serves.ensures ∙ ap (λ (x : ViewParts). serves looks x c.index-views-p.result) v ∙ ap (serves looks (get_or old p no_view)) w in
+    let v = c.deref.ensures ∙ c.index-old_views-p.is ∙ get_or_default old p c.index-old_views-p.result no_view here in
+    let w = c.deref-2.ensures ∙ c.index-views-p.is ∙ get_or_default new p c.index-views-p.result no_view c.requires.place in
+    let test = c.serves.ensures ∙ ap (λ (x : ViewParts). serves looks x c.deref-2.result.now) v ∙ ap (serves looks (get_or old p no_view)) w in
     ap not test ∙ sym (differs-some looks old new p here)

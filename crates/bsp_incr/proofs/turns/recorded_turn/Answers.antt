@@ -1,46 +1,22 @@
-use Rattle.std.proofs.Common.{◌≡◌, ◌<◌, ◌∙◌, List, true, ap, sym, subst, map, length, get_or, arith}
-use Rattle.std.specs.Prelude.{IfOk}
+use Rattle.std.proofs.Common.{◌≡◌, ◌∙◌, List, ap, length, get_or, arith}
 use Rattle.std.proofs.lemmas.List.{get_or_default, get_or-map, length-map}
-use Rattle.bsp_step.specs.ViewParts.{ViewParts}
 use Rattle.bsp_step.specs.OutcomeParts.{OutcomeParts}
 use Rattle.bsp_step.specs.Turn.{turn_of}
 use Rattle.bsp_deliver.specs.Requests.{no_outcome}
 use Rattle.bsp_run.specs.Condition.{no_view}
-use Rattle.bsp_incr.specs.Reuse.{serves}
-use Rattle.bsp_incr.proofs.Retaking.{unneeded}
 use Rattle.bsp_incr.proofs.turns.recorded_turn.Goals as goal
-
-pub bounds-old_views-p : goal.bounds-old_views-p
-bounds-old_views-p g c = (unneeded (g.P.Program.looks c.args.program.now) c.args.old_views.now c.args.views.now c.args.p c.requires.serves).0
 
 pub bounds-old_outcomes-p : goal.bounds-old_outcomes-p
 bounds-old_outcomes-p g c =
     let turn = turn_of (g.P.Program.acts c.args.program.now) (g.P.Program.ending c.args.program.now) in
-    let here = (unneeded (g.P.Program.looks c.args.program.now) c.args.old_views.now c.args.views.now c.args.p c.requires.serves).0 in
     let long : length c.args.old_outcomes.now ≡ length c.args.old_views.now = ap (λ (os : List OutcomeParts). length os) c.requires.recorded ∙ length-map c.args.old_views.now turn in
-    omega (arith, here)
+    omega (arith, (c.requires.known c.if-known.true).0)
 
-pub reuse-requires-clause-serves : goal.reuse-requires-clause-serves
-reuse-requires-clause-serves g c κs within =
-    let looks = g.P.Program.looks c.args.program.now in
-    let old = c.args.old_views.now in let new = c.args.views.now in let p = c.args.p in
-    let served = unneeded looks old new p c.requires.serves in
-    let v = c.index-old_views-p.is ∙ get_or_default old p c.index-old_views-p.result no_view served.0 in
-    let w = c.index-views-p.is ∙ get_or_default new p c.index-views-p.result no_view c.requires.place in
-    ap (λ (x : ViewParts). serves looks x c.index-views-p.result) v ∙ ap (serves looks (get_or old p no_view)) w ∙ served.1
-
-pub reuse-requires-clause-outcome : goal.reuse-requires-clause-outcome
-reuse-requires-clause-outcome g c κs within =
+pub returns-then-known : goal.returns-then-known
+returns-then-known g c =
     let turn = turn_of (g.P.Program.acts c.args.program.now) (g.P.Program.ending c.args.program.now) in
     let old = c.args.old_views.now in let p = c.args.p in let os = c.args.old_outcomes.now in
-    let here : p < length old = (unneeded (g.P.Program.looks c.args.program.now) old c.args.views.now p c.requires.serves).0 in
+    let seen = c.requires.known c.if-known.true in
     let long : length os ≡ length old = ap (λ (xs : List OutcomeParts). length xs) c.requires.recorded ∙ length-map old turn in
-    let v = c.index-old_views-p.is ∙ get_or_default old p c.index-old_views-p.result no_view here in
-    let o = c.index-old_outcomes-p.is ∙ get_or_default os p c.index-old_outcomes-p.result no_outcome (omega arith) in
-    o ∙ ap (λ (xs : List OutcomeParts). get_or xs p no_outcome) c.requires.recorded ∙ get_or-map turn old p no_view no_outcome here ∙ ap turn (sym v)
-
-pub returns : goal.returns
-returns g c =
-    let turn = turn_of (g.P.Program.acts c.args.program.now) (g.P.Program.ending c.args.program.now) in
-    let w = c.index-views-p.is ∙ get_or_default c.args.views.now c.args.p c.index-views-p.result no_view c.requires.place in
-    subst (λ (x : ViewParts). IfOk c.reuse.result (λ (o : OutcomeParts). o ≡ turn x)) w c.reuse.ensures
+    c.in_ok-copy.ensures ∙ c.index-old_outcomes-p.is ∙ get_or_default os p c.index-old_outcomes-p.result no_outcome (omega (arith, long, seen.0))
+    ∙ ap (λ (xs : List OutcomeParts). get_or xs p no_outcome) c.requires.recorded ∙ get_or-map turn old p no_view no_outcome seen.0 ∙ ap turn seen.1

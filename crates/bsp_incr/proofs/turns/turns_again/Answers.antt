@@ -1,9 +1,7 @@
-use Rattle.std.proofs.Common.{◌≡◌, ◌<◌, ◌∙◌, ◌++◌, ℕ, Bool, List, All, ap, sym, subst, length, get_or}
-use Rattle.bsp_step.specs.OutcomeParts.{OutcomeParts}
+use Rattle.std.proofs.Common.{◌<◌, ◌∙◌, ◌++◌, ℕ, Bool, List, All, ap, sym, subst, length}
 use Rattle.bsp_step.specs.Turn.{turn_of}
 use Rattle.bsp_run.specs.Shares.{turns_of}
-use Rattle.bsp_incr.specs.declared.reply.Place.{Place}
-use Rattle.bsp_incr.specs.Changes.{differs, differ_in, processes_where, places_of}
+use Rattle.bsp_incr.specs.Changes.{differs, places_of}
 use Rattle.bsp_incr.proofs.Gathering.{processes_where-each_below, processes_where-below, always_ok}
 use Rattle.bsp_incr.proofs.turns.turns_again.Goals as goal
 

@@ -3,6 +3,7 @@ use Rattle.bsp_model.specs.declared.input.Input.{Input}
 use Rattle.bsp_model.specs.Input.{input_fault}
 use Rattle.bsp_incr.specs.Edits.{refusal_of}
 use Rattle.bsp_incr.proofs.Lawful.{edited_lawful, edited_count}
+use Rattle.bsp_incr.proofs.Unchanged.{no-update}
 use Rattle.bsp_incr.proofs.session.Session.apply_counted.Goals as goal
 
 pub rerun_after-requires-clause-lawful : goal.rerun_after-requires-clause-lawful
@@ -21,3 +22,8 @@ invariant_of-self g c =
       lawful = subst (λ (i : Input). input_fault i ≡ None) (sym c.in_ok-input.ensures) (edited_lawful c.self.inside.kept.input c.args.edits.now none c.self.invariant.lawful);
       is = c.in_ok-history.ensures.run;
     }
+
+pub returns-then-are_there-clause-update : goal.returns-then-are_there-clause-update
+returns-then-are_there-clause-update g c =
+    let none = no-update (g.P.Program.looks c.args.self.now.program) c.args.self.now.history in
+    record { executed = c.new.ensures ∙ none.executed; redelivered = c.new-then-are_there.ensures ∙ none.redelivered }
