@@ -2,5 +2,6 @@
 
 mod exchange;
 mod inboxes;
+mod memories;
 mod outcomes;
 mod touched;

@@ -2,6 +2,7 @@
 
 mod counting;
 mod inputs;
+mod openings;
 mod programs;
 mod refusals;
 mod replies;

@@ -1,4 +1,5 @@
 ghost use Rattle.std.specs.Prelude.{◌≡◌, IfOk, length};
+ghost use Rattle.bsp_deliver.specs.Condition.{AreDeliverable};
 ghost use Rattle.bsp_deliver.specs.Touched.{outcomes_before};
 
 use crate::tests::outcomes::{Process, outcomes_of};
@@ -6,6 +7,7 @@ use crate::touched_by_changes;
 use bsp_model::{OutOfMemory, Shared};
 use bsp_step::Outcome;
 use std::alloc::Global;
+use std::process::Abort;
 use std::test::Fail;
 
 /// Each of these outcomes as a former one.
@@ -26,22 +28,54 @@ fn formers<'a>(
     Ok(formers)
 }
 
+/// Which deliveries of five processes depend on what is other.
+fn touched(
+    rt: &impl Abort,
+    alloc: Global,
+    old: &[Shared<Outcome>],
+    new: &[Shared<Outcome>],
+) -> Result<Vec<bool>, OutOfMemory>
+    requires old { AreDeliverable old.now }
+    requires new { AreDeliverable new.now }
+{
+    assert!(rt; old.len() == 5 && new.len() == 5);
+    let formers = formers(alloc, old, new)?;
+    let touched = touched_by_changes(alloc, formers.as_slice(), new);
+    drop(formers);
+    touched
+}
+
+fn find_touched(
+    rt: &impl Abort,
+    alloc: Global,
+    old: &[Shared<Outcome>],
+    new: &[Shared<Outcome>],
+) -> Result<(), OutOfMemory>
+    requires old { AreDeliverable old.now }
+    requires new { AreDeliverable new.now }
+{
+    let touched = touched(rt, alloc, old, new)?;
+    let is_right = touched.as_slice() == [true, false, true, true, true].as_slice();
+    drop(touched);
+    assert!(rt; is_right);
+    Ok(())
+}
+
+const MEMORIES: [&[u64]; 5] = [&[1], &[2], &[3], &[4], &[5]];
+
+const OTHER_MEMORIES: [&[u64]; 5] = [&[9], &[2], &[3], &[4], &[5]];
+
 /// Process 0 has another word, which process 3 reads, and puts a word to process 4 that it put to process 2 before.
 #[test]
 fn what_has_changed_touches(rt: HostRuntime) -> Result<(), Fail> {
-    let alloc = rt.alloc();
     let kept = Process(0).put(1, 0, &[6]);
     let read = Process(3).get(0, 0, 1, 0);
     let before = [kept, Process(0).put(2, 0, &[7]), read];
     let after = [kept, Process(0).put(4, 0, &[7]), read];
-    let old = outcomes_of(&rt, alloc, &[&[1], &[2], &[3], &[4], &[5]], &before)?;
-    let new = outcomes_of(&rt, alloc, &[&[9], &[2], &[3], &[4], &[5]], &after)?;
-    assert_eq!(&rt; old.len(), new.len());
-    let formers = formers(alloc, &old, &new)?;
-    let touched = touched_by_changes(alloc, &formers, &new)?;
-    assert_eq!(&rt;
-        touched.as_slice(),
-        [true, false, true, true, true].as_slice()
-    );
-    Ok(())
+    let old = outcomes_of(&rt, rt.alloc(), &MEMORIES, &before)?;
+    let new = outcomes_of(&rt, rt.alloc(), &OTHER_MEMORIES, &after)?;
+    let found = find_touched(&rt, rt.alloc(), old.as_slice(), new.as_slice());
+    drop(old);
+    drop(new);
+    Ok(found?)
 }

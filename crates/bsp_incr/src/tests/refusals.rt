@@ -1,9 +1,9 @@
 //! Batches that are refused.
 
-use super::inputs::SUMS;
+use super::openings::sums_of;
 use crate::EditFault::{BadLimit, BadPrice, NoSuchArg, NoSuchProcess, NoSuchWord};
 use crate::{Edit, EditError, EditFault, EditRefusal, Session};
-use bsp_model::{Input, Same, TryCopy};
+use bsp_model::{Input, OutOfMemory, Same, TryCopy};
 use bsp_pool::Open;
 use bsp_programs::Prefix;
 use bsp_run::RunResult;
@@ -83,55 +83,74 @@ fn is_same_result(before: &RunResult, after: &RunResult) -> bool {
         && before.lines.same(&after.lines)
 }
 
-/// Puts the row's batch, and finds that it is refused as the row says, and that the input and the history stay.
-fn find_refused<R: Threads + Sync + Abort>(
+/// Whether the row's batch is refused as the row says.
+fn is_refused<R: Threads + Sync>(
     rt: &R,
     alloc: Global,
     session: &mut Session<Prefix>,
     row: &Row,
-) -> Result<(), Fail> {
+) -> bool {
     let (batch, place, fault) = *row;
-    let input = session.input().copy()?;
-    let result = session.history().result()?;
-    let answer = session.apply(rt, alloc, batch, 1, &Open);
-    let refusal = EditRefusal { place, fault };
-    assert!(rt;
-        matches!(&answer, Err(EditError::Refused(had)) if *had == refusal),
-        "{batch:?}: {answer:?}"
-    );
-    assert!(rt;
-        is_same_input(&input, session.input()),
-        "{batch:?}: the input"
-    );
-    assert!(rt;
-        is_same_result(&result, &session.history().result()?),
-        "{batch:?}: the history"
-    );
-    Ok(())
+    match session.apply(rt, alloc, batch, 1, &Open) {
+        Err(EditError::Refused(refusal)) => refusal == EditRefusal { place, fault },
+        _ => false,
+    }
 }
 
+/// Whether the session has this input and a history with the result of this run.
+fn has(session: &Session<Prefix>, input: &Input, run: &RunResult) -> Result<bool, OutOfMemory> {
+    let now = session.history().result()?;
+    let is_same = is_same_input(input, session.input()) && is_same_result(run, &now);
+    drop(now);
+    Ok(is_same)
+}
+
+/// Finds that each row's batch is refused as the row says, and that the input and the result of the history stay as they were.
 fn find_all_refused<R: Threads + Sync + Abort>(
     rt: &R,
     alloc: Global,
     session: &mut Session<Prefix>,
-    rows: &[Row],
-) -> Result<(), Fail> {
-    for row in rows {
-        find_refused(rt, alloc, session, row)?;
+    input: &Input,
+    run: &RunResult,
+) -> Result<(), OutOfMemory> {
+    for i in 0..ROWS.len() {
+        let row = &ROWS[i];
+        assert!(rt; is_refused(rt, alloc, session, row), "{:?}", row.0);
+        assert!(rt; has(session, input, run)?, "after {:?}", row.0);
     }
     Ok(())
 }
 
+/// Finds that no refused batch changes the input or the result of the history.
+fn find_unchanged<R: Threads + Sync + Abort>(
+    rt: &R,
+    alloc: Global,
+    session: &mut Session<Prefix>,
+) -> Result<(), OutOfMemory> {
+    let input = session.input().copy()?;
+    let run = session.history().result()?;
+    let found = find_all_refused(rt, alloc, session, &input, &run);
+    drop(input);
+    drop(run);
+    found
+}
+
+/// Whether a batch of no edit is put, with an update of no place.
+fn takes_no_edit<R: Threads + Sync>(rt: &R, alloc: Global, session: &mut Session<Prefix>) -> bool {
+    match session.apply(rt, alloc, &[], 1, &Open) {
+        Ok(update) => update.executed.is_empty() && update.redelivered.is_empty(),
+        Err(_) => false,
+    }
+}
+
 #[test]
 fn refused_batches_change_nothing(rt: HostRuntime) -> Result<(), Fail> {
-    let input = SUMS.input(rt.alloc())?;
-    let opened = Session::open(&rt, rt.alloc(), Prefix, input, 1, &Open);
-    let (mut session, _opening) = opened.ok().ok_or("no session")?;
-    find_all_refused(&rt, rt.alloc(), &mut session, &ROWS)?;
-    let answer = session.apply(&rt, rt.alloc(), &[], 1, &Open);
-    assert!(rt;
-        matches!(&answer, Ok(update) if update.executed.is_empty() && update.redelivered.is_empty())
-    );
-    assert_eq!(rt; session.history().total(), 40);
-    Ok(())
+    let mut session = sums_of(&rt, rt.alloc())?;
+    let found = find_unchanged(&rt, rt.alloc(), &mut session);
+    let is_taken = takes_no_edit(&rt, rt.alloc(), &mut session);
+    let total = session.history().total();
+    drop(session);
+    assert!(rt; is_taken);
+    assert_eq!(rt; total, 40);
+    Ok(found?)
 }

@@ -1,6 +1,7 @@
 //! A session and the replies to its batches, and those of runs made afresh.
 
 use super::inputs::SUMS;
+use super::openings::{DELIVERIES, TURNS, has_counts, sums_of};
 use crate::{Batch, Edit, EditFault, Reply, Session, Update, scratch_run, session_run};
 use bsp_model::{OutOfMemory, Seq};
 use bsp_pool::Open;
@@ -21,8 +22,8 @@ struct Sums {
 
 const FIRST_SUMS: Sums = Sums {
     printed: [1, 3, 6, 10],
-    executed: 16,
-    redelivered: 12,
+    executed: TURNS,
+    redelivered: DELIVERIES,
 };
 
 const NEXT_SUMS: Sums = Sums {
@@ -84,7 +85,7 @@ fn are_sums(run: &RunResult, sums: &Sums) -> bool {
 }
 
 fn is_update(update: &Update, sums: &Sums) -> bool {
-    update.executed.len() == sums.executed && update.redelivered.len() == sums.redelivered
+    has_counts(update, sums.executed, sums.redelivered)
 }
 
 /// Whether the reply gives the sums, with their update or, where the run was made afresh, with none.
@@ -142,35 +143,46 @@ fn replies_of_runs_made_afresh(rt: HostRuntime) -> Result<(), Fail> {
     Ok(())
 }
 
+/// Whether the last process starts with this word.
+fn starts_with(session: &Session<Prefix>, word: u64) -> bool {
+    match session.input().mems.as_slice().last() {
+        Some(memory) => memory.load(0) == Some(word),
+        None => false,
+    }
+}
+
 /// Whether the last process starts with this word, and the session has the sums.
 fn has(session: &Session<Prefix>, word: u64, sums: &Sums) -> Result<bool, OutOfMemory> {
     let run = session.history().result()?;
-    let is_input = match session.input().mems.as_slice().last() {
-        Some(memory) => memory.load(0) == Some(word),
-        None => false,
-    };
-    Ok(is_input && are_sums(&run, sums))
+    let is_run = are_sums(&run, sums);
+    drop(run);
+    Ok(is_run && starts_with(session, word))
 }
 
-/// Puts the batch that changes the last word, and finds the next sums.
-fn find_next_sums<R: Threads + Sync + Abort>(
+/// Whether the batch that changes the last word is put, with the update of the next sums.
+fn updates<R: Threads + Sync>(rt: &R, alloc: Global, session: &mut Session<Prefix>) -> bool {
+    match session.apply(rt, alloc, &[LAST_WORD], 1, &Open) {
+        Ok(update) => is_update(&update, &NEXT_SUMS),
+        Err(_) => false,
+    }
+}
+
+/// Finds the first sums and, after the batch that changes the last word, the next ones.
+fn find_sums<R: Threads + Sync + Abort>(
     rt: &R,
     alloc: Global,
     session: &mut Session<Prefix>,
 ) -> Result<(), OutOfMemory> {
-    let update = session.apply(rt, alloc, &[LAST_WORD], 1, &Open);
-    assert!(rt; matches!(&update, Ok(update) if is_update(update, &NEXT_SUMS)));
+    assert!(rt; has(session, 4, &FIRST_SUMS)?);
+    assert!(rt; updates(rt, alloc, session));
     assert!(rt; has(session, 5, &NEXT_SUMS)?);
     Ok(())
 }
 
 #[test]
 fn input_and_history_of_a_session(rt: HostRuntime) -> Result<(), Fail> {
-    let input = SUMS.input(rt.alloc())?;
-    let opened = Session::open(&rt, rt.alloc(), Prefix, input, 1, &Open);
-    let (mut session, opening) = opened.ok().ok_or("no session")?;
-    assert!(rt; is_update(&opening, &FIRST_SUMS));
-    assert!(rt; has(&session, 4, &FIRST_SUMS)?);
-    find_next_sums(&rt, rt.alloc(), &mut session)?;
-    Ok(())
+    let mut session = sums_of(&rt, rt.alloc())?;
+    let found = find_sums(&rt, rt.alloc(), &mut session);
+    drop(session);
+    Ok(found?)
 }

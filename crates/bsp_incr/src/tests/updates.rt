@@ -5,6 +5,7 @@ use super::inputs::Start;
 use crate::counts::Counts;
 use crate::workers::Workers;
 use crate::{Edit, Place, Session, Update};
+use bsp_model::Input;
 use bsp_pool::Open;
 use bsp_step::Program;
 use std::alloc::Global;
@@ -57,6 +58,25 @@ fn are_counts(counts: &Counts, row: &Row) -> bool {
         && counts.delivered == row.redelivered.len() as u64
 }
 
+/// Whether the row's batch is put, and its update and its counts are the row's.
+fn updates<P: Program + Drop, R: Threads + Sync>(
+    rt: &R,
+    alloc: Global,
+    session: &mut Session<Counting<'_, P>>,
+    row: &Row,
+) -> bool {
+    let workers = Workers {
+        rt,
+        count: 1,
+        gate: &Open,
+    };
+    let mut counts = Counts::new();
+    match session.apply_counted(&workers, alloc, row.batch, &mut counts) {
+        Ok(update) => is_update(&update, row) && are_counts(&counts, row),
+        Err(_) => false,
+    }
+}
+
 /// Puts the row's batch, and finds that the update and its counts are the row's, with a step for each executed place.
 fn find_update<P: Program + Drop, R: Threads + Sync + Abort>(
     rt: &R,
@@ -64,25 +84,43 @@ fn find_update<P: Program + Drop, R: Threads + Sync + Abort>(
     session: &mut Session<Counting<'_, P>>,
     steps: &AtomicU64,
     row: &Row,
-) -> Result<(), Fail> {
-    let workers = Workers {
-        rt,
-        count: 1,
-        gate: &Open,
-    };
-    let mut counts = Counts::new();
+) {
     let before = steps.load(SeqCst);
-    let update = session.apply_counted(&workers, alloc, row.batch, &mut counts);
-    let steps = steps.load(SeqCst).wrapping_sub(before);
-    assert!(rt;
-        matches!(&update, Ok(update) if is_update(update, row)),
-        "{:?}: {update:?}",
-        row.batch
-    );
-    assert!(rt; are_counts(&counts, row), "{:?}: {counts:?}", row.batch);
-    assert_eq!(rt; steps, row.executed.len() as u64, "{:?}", row.batch);
+    let is_right = updates(rt, alloc, session, row);
+    let made = steps.load(SeqCst).wrapping_sub(before);
+    assert!(rt; is_right, "{:?}", row.batch);
+    assert_eq!(rt; made, row.executed.len() as u64, "{:?}", row.batch);
     assert_eq!(rt; session.history().total(), row.total, "{:?}", row.batch);
-    Ok(())
+}
+
+/// The session of a program that counts its steps, which are as many as the opening's executed places.
+fn opened<'a, P: Program + Drop, R: Threads + Sync + Abort>(
+    rt: &R,
+    alloc: Global,
+    program: P,
+    steps: &'a AtomicU64,
+    input: Input,
+) -> Option<Session<Counting<'a, P>>> {
+    match Session::open(rt, alloc, Counting { program, steps }, input, 1, &Open) {
+        Ok((session, opening)) => {
+            assert_eq!(rt; steps.load(SeqCst), opening.executed.len() as u64);
+            Some(session)
+        }
+        Err(_) => None,
+    }
+}
+
+/// Finds that the batches of the rows have their updates.
+fn find_rows<P: Program + Drop, R: Threads + Sync + Abort>(
+    rt: &R,
+    alloc: Global,
+    session: &mut Session<Counting<'_, P>>,
+    steps: &AtomicU64,
+    rows: &[Row],
+) {
+    for i in 0..rows.len() {
+        find_update(rt, alloc, session, steps, &rows[i]);
+    }
 }
 
 /// Opens a session, and finds that its batches have the updates of the rows.
@@ -93,16 +131,10 @@ pub fn find_updates<P: Program + Drop, R: Threads + Sync + Abort>(
     start: &Start,
     rows: &[Row],
 ) -> Result<(), Fail> {
+    let input = start.input(alloc)?;
     let steps = AtomicU64::new(0);
-    let program = Counting {
-        program,
-        steps: &steps,
-    };
-    let opened = Session::open(rt, alloc, program, start.input(alloc)?, 1, &Open);
-    let (mut session, opening) = opened.ok().ok_or("no session")?;
-    assert_eq!(rt; steps.load(SeqCst), opening.executed.len() as u64);
-    for row in rows {
-        find_update(rt, alloc, &mut session, &steps, row)?;
-    }
+    let mut session = opened(rt, alloc, program, &steps, input).ok_or("no session")?;
+    find_rows(rt, alloc, &mut session, &steps, rows);
+    drop(session);
     Ok(())
 }

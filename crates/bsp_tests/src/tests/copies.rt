@@ -19,11 +19,20 @@ fn have_equal_copies<T: TryCopy + Same>(items: &[T]) -> Result<bool, OutOfMemory
     Ok(true)
 }
 
-/// Whether all views and outcomes of a superstep are the same as their copies.
-fn has_equal_copies(history: &History, step: u64) -> Result<bool, Fail> {
-    let views = history.views(step).ok_or("no views")?;
-    let outcomes = history.outcomes(step).ok_or("no outcomes")?;
-    Ok(have_equal_copies(views)? && have_equal_copies(outcomes)?)
+/// Whether there are views of a superstep, all the same as their copies.
+fn has_equal_views(history: &History, step: u64) -> Result<bool, OutOfMemory> {
+    match history.views(step) {
+        Some(views) => have_equal_copies(views),
+        None => Ok(false),
+    }
+}
+
+/// Whether there are outcomes of a superstep, all the same as their copies.
+fn has_equal_outcomes(history: &History, step: u64) -> Result<bool, OutOfMemory> {
+    match history.outcomes(step) {
+        Some(outcomes) => have_equal_copies(outcomes),
+        None => Ok(false),
+    }
 }
 
 fn words(alloc: Global, words: &[u64]) -> Result<Seq<Operand>, OutOfMemory> {
@@ -98,12 +107,16 @@ fn push_turn(
     supersteps.push(turns)
 }
 
+fn push_turns(alloc: Global, supersteps: &mut Seq<Seq<Turn>>) -> Result<(), OutOfMemory> {
+    push_turn(alloc, supersteps, registering(alloc)?)?;
+    push_turn(alloc, supersteps, issuing(alloc)?)?;
+    push_turn(alloc, supersteps, aborting(alloc)?)
+}
+
 /// One process makes each act, and aborts.
 fn script(alloc: Global) -> Result<Script, OutOfMemory> {
     let mut supersteps = Seq::new(alloc);
-    push_turn(alloc, &mut supersteps, registering(alloc)?)?;
-    push_turn(alloc, &mut supersteps, issuing(alloc)?)?;
-    push_turn(alloc, &mut supersteps, aborting(alloc)?)?;
+    push_turns(alloc, &mut supersteps)?;
     Ok(Script { supersteps })
 }
 
@@ -113,20 +126,20 @@ fn find_end(rt: &impl Abort, history: &History) {
     assert!(rt; history.steps() == 3 && history.views(3).is_none());
 }
 
-fn find_copies_of_step(rt: &impl Abort, history: &History, step: u64) -> Result<(), Fail> {
-    let is_equal = has_equal_copies(history, step)?;
-    assert!(rt; is_equal, "superstep {step}");
+fn find_copies_of_step(rt: &impl Abort, history: &History, step: u64) -> Result<(), OutOfMemory> {
+    assert!(rt; has_equal_views(history, step)?, "superstep {step}");
+    assert!(rt; has_equal_outcomes(history, step)?, "superstep {step}");
     Ok(())
 }
 
-fn find_copies_of_steps(rt: &impl Abort, history: &History) -> Result<(), Fail> {
+fn find_copies_of_steps(rt: &impl Abort, history: &History) -> Result<(), OutOfMemory> {
     for step in 0..3 {
         find_copies_of_step(rt, history, step)?;
     }
     Ok(())
 }
 
-fn find_copies(rt: &impl Abort, history: History) -> Result<(), Fail> {
+fn find_copies(rt: &impl Abort, history: History) -> Result<(), OutOfMemory> {
     find_end(rt, &history);
     let found = find_copies_of_steps(rt, &history);
     drop(history);
@@ -143,7 +156,7 @@ fn history(alloc: Global) -> Result<History, Fail> {
 
 #[test]
 fn views_and_outcomes(rt: HostRuntime) -> Result<(), Fail> {
-    find_copies(&rt, history(rt.alloc())?)
+    Ok(find_copies(&rt, history(rt.alloc())?)?)
 }
 
 /// Whether an input has the parts of its copy.
@@ -166,8 +179,10 @@ fn find_copy(rt: &impl Abort, input: Input) -> Result<(), OutOfMemory> {
     Ok(())
 }
 
+const UNEVEN: [&[u64]; 2] = [&[1, 2], &[3]];
+
 #[test]
 fn inputs(rt: HostRuntime) -> Result<(), Fail> {
-    let input = input_of(rt.alloc(), &[&[1, 2], &[3]])?;
+    let input = input_of(rt.alloc(), &UNEVEN)?;
     Ok(find_copy(&rt, input)?)
 }

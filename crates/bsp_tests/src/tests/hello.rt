@@ -6,12 +6,20 @@ use bsp_run::History;
 use std::process::Abort;
 use std::test::Fail;
 
-fn find_numbers(rt: &impl Abort, history: History, nprocs: u64) {
-    assert!(rt; has_halted(&history) && has_costs(&history, &[0]));
+/// Whether so many processes print their numbers.
+fn are_numbers(history: &History, nprocs: u64) -> bool {
     for pid in 0..nprocs {
-        assert!(rt; has_lines(&history, pid, &[&[pid]]), "process {pid}");
+        if !has_lines(history, pid, &[&[pid]]) {
+            return false;
+        }
     }
+    has_halted(history) && has_costs(history, &[0])
+}
+
+fn find_numbers(rt: &impl Abort, history: History, nprocs: u64) {
+    let is_right = are_numbers(&history, nprocs);
     drop(history);
+    assert!(rt; is_right);
 }
 
 #[test]

@@ -118,9 +118,9 @@ fn find_opening<P: Program + Drop, R: Threads + Sync + Print + Abort>(
     let begun = begin(rt);
     let opened = Session::open(rt, alloc, program, input, 1, &Open);
     let ended = end(rt);
-    find_marked(rt, begun, ended);
     find_opened(rt, &opened);
     drop(opened);
+    find_marked(rt, begun, ended);
 }
 
 #[test]
@@ -138,18 +138,25 @@ struct Change {
     after: Known,
 }
 
-/// Finds that nothing has changed after a refused edit, and that the same call then succeeds.
-fn find_unchanged<P: Program + Drop, R: Threads + Sync + Abort>(
+/// Finds that a refused edit has changed nothing.
+fn find_unchanged<P: Program + Drop>(
+    rt: &impl Abort,
+    session: &Session<P>,
+    before: Known,
+    given: &Input,
+) {
+    find_known(rt, session.history(), before);
+    assert!(rt; is_same_input(session.input(), given));
+}
+
+/// Whether the edit is put, by 2 workers.
+fn is_put<P: Program + Drop, R: Threads + Sync>(
     rt: &R,
     alloc: Global,
     session: &mut Session<P>,
-    change: Change,
-    given: &Input,
-) {
-    find_known(rt, session.history(), change.before);
-    assert!(rt; is_same_input(session.input(), given));
-    let again = session.apply(rt, alloc, &[change.edit], 2, &Open).err();
-    assert_eq!(rt; again, None);
+    edit: Edit,
+) -> bool {
+    session.apply(rt, alloc, &[edit], 2, &Open).is_ok()
 }
 
 /// Why the edit was not put, if it was not. It is put by 2 workers.
@@ -174,14 +181,15 @@ fn find_applied<P: Program + Drop, R: Threads + Sync + Print + Abort>(
     change: Change,
 ) -> Result<(), OutOfMemory> {
     let given = session.input().copy()?;
-    match refusal_of(rt, alloc, session, change.edit) {
-        Some(refusal) => {
-            assert_eq!(rt; refusal, EditError::OutOfMemory);
-            find_unchanged(rt, alloc, session, change, &given);
-        }
-        None => {}
+    let refusal = refusal_of(rt, alloc, session, change.edit);
+    if refusal.is_some() {
+        find_unchanged(rt, session, change.before, &given);
     }
     drop(given);
+    if refusal.is_some() {
+        assert_eq!(rt; refusal, Some(EditError::OutOfMemory));
+        assert!(rt; is_put(rt, alloc, session, change.edit));
+    }
     find_known(rt, session.history(), change.after);
     Ok(())
 }

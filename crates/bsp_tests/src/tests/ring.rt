@@ -6,15 +6,20 @@ use bsp_run::History;
 use std::process::Abort;
 use std::test::Fail;
 
-fn find_neighbours(rt: &impl Abort, history: History, lines: &[u64]) {
-    assert!(rt; has_halted(&history) && has_costs(&history, &[10, 15, 1]));
-    for pid in 0..lines.len() {
-        assert!(rt;
-            has_lines(&history, pid as u64, &[&[lines[pid]]]),
-            "process {pid}"
-        );
+/// Whether each process prints one of these numbers.
+fn are_neighbours(history: &History, numbers: &[u64]) -> bool {
+    for pid in 0..numbers.len() {
+        if !has_lines(history, pid as u64, &[&[numbers[pid]]]) {
+            return false;
+        }
     }
+    has_halted(history) && has_costs(history, &[10, 15, 1])
+}
+
+fn find_neighbours(rt: &impl Abort, history: History, numbers: &[u64]) {
+    let is_right = are_neighbours(&history, numbers);
     drop(history);
+    assert!(rt; is_right);
 }
 
 #[test]

@@ -63,13 +63,18 @@ pub fn has_halted(history: &History) -> bool {
     matches!(history.status(), Status::Halted)
 }
 
+/// Whether process 0 had this fault, and no other process had one.
+fn are_faults(faults: &[ProcessFault], fault: Fault) -> bool {
+    if faults.len() != 1 {
+        return false;
+    }
+    faults[0] == ProcessFault { pid: 0, fault }
+}
+
 /// Whether process 0, and no other, had this fault in this superstep.
 pub fn has_fault(history: &History, step: u64, fault: Fault) -> bool {
     match history.status() {
-        Status::Faulted { step: at, faults } => {
-            let want = ProcessFault { pid: 0, fault };
-            *at == step && faults.len() == 1 && faults.as_slice().first() == Some(&want)
-        }
+        Status::Faulted { step: at, faults } => *at == step && are_faults(faults.as_slice(), fault),
         _ => false,
     }
 }

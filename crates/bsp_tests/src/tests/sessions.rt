@@ -64,6 +64,17 @@ fn met_in_opening<P: Program + Drop, R: Threads + Sync + Abort>(
     session
 }
 
+/// Whether edits of two words are put by 2 workers that pass a gate.
+fn takes_edits<P: Program + Drop, R: Threads + Sync>(
+    rt: &R,
+    alloc: Global,
+    session: &mut Session<P>,
+    gate: &Pairs,
+) -> bool {
+    let edits = [word(0, 2, 7), word(1, 2, 8)];
+    session.apply(rt, alloc, &edits, 2, gate).is_ok()
+}
+
 /// Finds that 2 workers meet at each pair of 8 calls of a gate, where two words are edited.
 fn find_met_in_edits<P: Program + Drop, R: Threads + Sync + Abort>(
     rt: &R,
@@ -71,9 +82,7 @@ fn find_met_in_edits<P: Program + Drop, R: Threads + Sync + Abort>(
     session: &mut Session<P>,
 ) {
     let gate = Pairs::new();
-    let edits = [word(0, 2, 7), word(1, 2, 8)];
-    let is_accepted = session.apply(rt, alloc, &edits, 2, &gate).is_ok();
-    assert!(rt; is_accepted);
+    assert!(rt; takes_edits(rt, alloc, session, &gate));
     find_met(rt, &gate, 8);
 }
 

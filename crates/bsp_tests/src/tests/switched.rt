@@ -51,17 +51,27 @@ fn is_given(alloc: Global, input: &Input) -> Result<bool, OutOfMemory> {
     Ok(is_same)
 }
 
+/// Why the edit is not put, if it is not.
+fn refusal_of<P: Program + Drop, R: Threads + Sync>(
+    rt: &R,
+    alloc: Global,
+    session: &mut Session<P>,
+) -> Option<EditError> {
+    session.apply(rt, alloc, &[word(0, 0, 2)], 2, &Open).err()
+}
+
 /// Finds that an edit is refused memory, and that nothing has changed.
 fn find_refused<P: Program + Drop, R: Threads + Sync + Abort>(
     rt: &R,
     alloc: Global,
     session: &mut Session<P>,
 ) -> Result<(), OutOfMemory> {
-    let refusal = session.apply(rt, alloc, &[word(0, 0, 2)], 2, &Open).err();
-    let is_given = is_given(alloc, session.input())?;
-    assert_eq!(rt; refusal, Some(EditError::OutOfMemory));
+    assert_eq!(rt;
+        refusal_of(rt, alloc, session),
+        Some(EditError::OutOfMemory)
+    );
     assert!(rt; are_sums(session.history()));
-    assert!(rt; is_given);
+    assert!(rt; is_given(alloc, session.input())?);
     Ok(())
 }
 
