@@ -1,9 +1,6 @@
 -- Lists of answers by process, and of the processes whose answer is true.
-use Rattle.std.proofs.Common.{◌≡◌, ◌<◌, ◌-◌, ◌+◌, ℕ, zero, suc, Bool, true, false, cond, List, [], ◌∷◌, ◌++◌, All, map, length, get_or, arith, refl, sym, ap, ◌∙◌, subst, inl, inr}
-use Rattle.std.proofs.lemmas.Bool.{cases_lt, false≢true}
-use Rattle.std.proofs.lemmas.Grind.{common_steps}
-use Rattle.std.proofs.lemmas.List.{length-map}
-use Rattle.std.specs.Prelude.{filter, Result, Ok, Err, OnOk}
+use Rattle.std.proofs.Common.{◌≡◌, ◌<◌, ◌+◌, ℕ, zero, suc, Bool, true, false, cond, List, [], ◌∷◌, ◌++◌, All, map, length, get_or, arith, refl, sym, ap, ◌∙◌, subst}
+use Rattle.std.specs.Prelude.{filter, ◌&&◌, nat_eq}
 use Rattle.std.specs.List.{range_with_len}
 use Rattle.std.proofs.lemmas.List.FromFn.{filter_of_map_range_with_len_more, get_or-map-range_with_len, length-map-range_with_len}
 use Rattle.bsp_deliver.specs.Requests.{each_below}
@@ -17,7 +14,7 @@ processes_more n test =
     ∙ filter_of_map_range_with_len_more test (λ k. k) 0 n n (omega arith)
     ∙ ap (λ ks. filter test ks ++ cond (test n) (n ∷ []) []) (map_same (range_with_len 0 n))
 
-filter_from : (f g : ℕ → Bool) (a n : ℕ) → ((k : ℕ) → a < k + 1 → k < a + n → f k ≡ g k) → filter f (range_with_len a n) ≡ filter g (range_with_len a n)
+pub filter_from : (f g : ℕ → Bool) (a n : ℕ) → ((k : ℕ) → a < k + 1 → k < a + n → f k ≡ g k) → filter f (range_with_len a n) ≡ filter g (range_with_len a n)
 filter_from f g a zero same = refl
 filter_from f g a (suc n) same =
     ap (λ b. cond b (a ∷ filter f (range_with_len (a + 1) n)) (filter f (range_with_len (a + 1) n))) (same a (omega arith) (omega arith))
@@ -54,60 +51,28 @@ below_from test m a (suc n) h k d l = below_if (filter test (range_with_len (a +
 pub processes_where-below : (n : ℕ) (test : ℕ → Bool) → All (λ p. p < n) (processes_where n test)
 processes_where-below n test = λ k d l. below_from test n 0 n (omega arith) k d l
 
-some_left : (p n : ℕ) → p < n → n - p ≡ suc (n - (p + 1))
-some_left p n l = omega arith
+twice_if : (f g : ℕ → Bool) (b : Bool) (p : ℕ) (ps : List ℕ) → filter g (filter f ps) ≡ filter (λ k. f k && g k) ps → filter g (cond b (p ∷ filter f ps) (filter f ps)) ≡ cond (b && g p) (p ∷ filter (λ k. f k && g k) ps) (filter (λ k. f k && g k) ps)
+twice_if f g true p ps h = ap (λ ks. cond (g p) (p ∷ ks) ks) h
+twice_if f g false p ps h = h
 
--- what is left to gather from process p on, where its answer is true ..
-pub left-made : {X : Type 0} (f : ℕ → X) (test : ℕ → Bool) (p n : ℕ) → p < n → test p ≡ true → map f (filter test (range_with_len p (n - p))) ≡ f p ∷ map f (filter test (range_with_len (p + 1) (n - (p + 1))))
-left-made f test p n l t =
-    let later = filter test (range_with_len (p + 1) (n - (p + 1))) in
-    ap (λ k. map f (filter test (range_with_len p k))) (some_left p n l) ∙ ap (λ b. map f (cond b (p ∷ later) later)) t
+filter_all : (ps : List ℕ) → filter (λ _. true) ps ≡ ps
+filter_all [] = refl
+filter_all (p ∷ ps) = ap (λ ks. p ∷ ks) (filter_all ps)
 
--- .. and where it is false
-pub left-kept : {X : Type 0} (f : ℕ → X) (test : ℕ → Bool) (p n : ℕ) → p < n → test p ≡ false → map f (filter test (range_with_len p (n - p))) ≡ map f (filter test (range_with_len (p + 1) (n - (p + 1))))
-left-kept f test p n l t =
-    let later = filter test (range_with_len (p + 1) (n - (p + 1))) in
-    ap (λ k. map f (filter test (range_with_len p k))) (some_left p n l) ∙ ap (λ b. map f (cond b (p ∷ later) later)) t
+pub listed_below : (n : ℕ) (test : ℕ → Bool) (ps : List ℕ) → ps ≡ processes_where n test → All (λ p. p < n) ps
+listed_below n test ps e = subst (All (λ p. p < n)) (sym e) (processes_where-below n test)
 
--- one more answer, which has its own reason where it is true
-pub true_answers-push : (Q : ℕ → Type 0) (answers : List Bool) (p : ℕ) (b : Bool) → length answers ≡ p → ((k : ℕ) → get_or answers k false ≡ true → Q k) → (b ≡ true → Q p) → (k : ℕ) → get_or (answers ++ b ∷ []) k false ≡ true → Q k
-true_answers-push Q answers p b long before here k t =
-    elim (cases_lt k (length answers)) [
-      | inl w ↦ before k (let old : get_or (answers ++ b ∷ []) k false ≡ get_or answers k false = grind (arith, common_steps) in sym old ∙ t)
-      | inr w ↦ elim (cases_lt (length answers) k) [
-        | inl v ↦ let none : get_or (answers ++ b ∷ []) k false ≡ false = grind (arith, common_steps) in absurd (false≢true (sym none ∙ t))
-        | inr v ↦
-            let at : k ≡ length answers = omega arith in
-            let last : get_or (answers ++ b ∷ []) k false ≡ b = grind (arith, common_steps) in
-            subst Q (sym (at ∙ long)) (here (sym last ∙ t))
-      ]
-    ]
+-- Of the processes at which a test holds, those at which another holds too.
+pub filter_twice : (f g : ℕ → Bool) (ps : List ℕ) → filter g (filter f ps) ≡ filter (λ p. f p && g p) ps
+filter_twice f g [] = refl
+filter_twice f g (p ∷ ps) = twice_if f g (f p) p ps (filter_twice f g ps)
 
--- one more answer, which has its own reason where it is false
-pub false_answers-push : (Q : ℕ → Type 0) (answers : List Bool) (p : ℕ) (b : Bool) → length answers ≡ p → ((k : ℕ) → k < p → get_or answers k true ≡ false → Q k) → (b ≡ false → Q p) → (k : ℕ) → k < p + 1 → get_or (answers ++ b ∷ []) k true ≡ false → Q k
-false_answers-push Q answers p b long before here k l t =
-    elim (cases_lt k p) [
-      | inl w ↦ before k w (let old : get_or (answers ++ b ∷ []) k true ≡ get_or answers k true = grind (arith, common_steps) in sym old ∙ t)
-      | inr w ↦
-          let at : k ≡ p = omega arith in
-          let last : get_or (answers ++ b ∷ []) k true ≡ b = grind (arith, common_steps) in
-          subst Q (sym at) (here (sym last ∙ t))
-    ]
+-- all processes, where the test holds everywhere
+pub all_where : (n : ℕ) (test : ℕ → Bool) → ((p : ℕ) → p < n → test p ≡ true) → processes_where n test ≡ range_with_len 0 n
+all_where n test holds = filter_from test (λ _. true) 0 n (λ k low high. holds k (omega arith)) ∙ filter_all (range_with_len 0 n)
 
 pub head_same : {X : Type 0} (x y : X) (xs ys : List X) → x ∷ xs ≡ y ∷ ys → x ≡ y
 head_same x y xs ys e = cc
-
-pub tail_same : {X : Type 0} (x y : X) (xs ys : List X) → x ∷ xs ≡ y ∷ ys → xs ≡ ys
-tail_same x y xs ys e = cc
-
--- so many are left
-pub left_count : {X : Type 0} (f : ℕ → X) (test : ℕ → Bool) (a n : ℕ) → length (map f (filter test (range_with_len a n))) ≡ length (filter test (range_with_len a n))
-left_count f test a n = length-map (filter test (range_with_len a n)) f
-
--- what holds anyway holds where a call answers Ok
-pub always_ok : {T E P : Type 0} (r : Result T E) → P → OnOk r P
-always_ok (Ok x) p = p
-always_ok (Err e) p = tt
 
 -- a list of answers, each with another one
 pub answers_with : (n : ℕ) (test : ℕ → Bool) (answers : List Bool) (more : Bool → ℕ → Bool) → answers ≡ each_below n test → each_below (length answers) (λ d. more (get_or answers d true) d) ≡ each_below n (λ d. more (test d) d)
@@ -115,3 +80,8 @@ answers_with n test answers more e =
     let long : length answers ≡ n = ap (λ (bs : List Bool). length bs) e ∙ length-map-range_with_len test 0 n in
     ap (λ k. each_below k (λ d. more (get_or answers d true) d)) long
     ∙ map_from (λ d. more (get_or answers d true) d) (λ d. more (test d) d) 0 n (λ k low high. ap (λ b. more b k) (answer_at n test answers k true e (omega arith)))
+
+-- a list that is not empty has an item
+pub not_empty : {X : Type 0} (xs : List X) → nat_eq (length xs) 0 ≡ false → 0 < length xs
+not_empty [] e = cc
+not_empty (x ∷ xs) e = omega arith

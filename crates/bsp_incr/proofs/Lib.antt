@@ -4,8 +4,11 @@ pub mod Serving
 pub mod Propagation
 pub mod Retaking
 pub mod Gathering
+pub mod Patching
 pub mod Updating
+pub mod RunBefore
 pub mod Remaking
 pub mod Lawful
-pub mod Repeating
+pub mod Carrying
+pub mod FirstViews
 pub mod Unchanged

@@ -42,7 +42,7 @@ unfolding next_state
 queue-next s os d l = get_or-map-range_with_len (λ d. next_queue (delivery_parts os d)) 0 (length os) d d [] l (omega arith)
 
 -- what process p sees in superstep s
-view-in : (turn : ViewParts → OutcomeParts) (input : Input) (s p : ℕ) → p < length input.mems → get_or (views_in turn input s) p no_view ≡ view_of input.args s (state_at turn input s) p
+pub view-in : (turn : ViewParts → OutcomeParts) (input : Input) (s p : ℕ) → p < length input.mems → get_or (views_in turn input s) p no_view ≡ view_of input.args s (state_at turn input s) p
 view-in turn input s p l = view-views_of input.args s (state_at turn input s) p (omega (arith, count-state_at turn input s))
 
 -- after a delivery it sees what was delivered

@@ -1,11 +1,9 @@
 -- What is known of a run that is made again.
-use Rattle.std.proofs.Common.{◌≡◌, ◌≤◌, ◌<◌, ◌+◌, ℕ, Bool, true, false, cond, List, [], ◌∷◌, ◌++◌, Option, None, Some, map, length, get_or, arith, refl, sym, ap, ◌∙◌, subst, length-append, inl, inr}
-use Rattle.std.specs.Prelude.{nat_lt, ◌||◌}
-use Rattle.std.proofs.lemmas.Bool.{cases_lt, false≢true}
-use Rattle.std.proofs.lemmas.Bool.Decides.{nat_tests}
+use Rattle.std.proofs.Common.{◌≡◌, ◌≤◌, ◌<◌, ◌+◌, ℕ, Bool, true, false, List, [], ◌∷◌, ◌++◌, Option, None, Some, map, length, get_or, arith, refl, sym, ap, ◌∙◌, subst, length-append}
+use Rattle.std.specs.Prelude.{◌||◌}
+use Rattle.std.proofs.lemmas.Bool.{false≢true}
 use Rattle.std.proofs.lemmas.List.{length-map, get_or-map}
 use Rattle.std.proofs.lemmas.List.FromFn.{get_or-map-range_with_len, length-map-range_with_len}
-use Rattle.std.proofs.lemmas.Grind.{common_steps}
 use Rattle.bsp_model.specs.declared.input.Input.{Input}
 use Rattle.bsp_model.proofs.Inputs.{lawful_input}
 use Rattle.bsp_step.specs.ViewParts.{ViewParts}
@@ -14,124 +12,22 @@ use Rattle.bsp_deliver.specs.Requests.{each_below, outcome_of, no_outcome}
 use Rattle.bsp_deliver.specs.Delivery.{delivery_parts, next_memory}
 use Rattle.bsp_run.specs.declared.superstep.Superstep.{Superstep}
 use Rattle.bsp_run.specs.Run.{Run, start, open_views, after_turns, after_delivery}
-use Rattle.bsp_run.specs.State.{next_state, views_of}
-use Rattle.bsp_run.specs.Supersteps.{supersteps_of, superstep_at, views_at}
-use Rattle.bsp_run.specs.Law.{views_in, outcomes_in}
+use Rattle.bsp_run.specs.State.{State, next_state, view_of, views_of}
+use Rattle.bsp_run.specs.Supersteps.{supersteps_of}
+use Rattle.bsp_run.specs.Law.{state_at, views_in, outcomes_in}
 use Rattle.bsp_run.specs.Record.{IsRecord}
 use Rattle.bsp_run.specs.Condition.{no_view, is_open, is_turned}
 use Rattle.bsp_run.proofs.Runs.{open_phase, turns_closed}
-use Rattle.bsp_run.proofs.Records.{superstep, views_at-past, past-delivered, open_views-in, count-views_in, count-outcomes_in, IsRecord-turned, IsRecord-goes_on, IsRecord-start, IsRecord-run}
-use Rattle.bsp_run.proofs.Laws.{superstep_at-past_end, taken_views, taken_outcomes}
+use Rattle.bsp_run.proofs.Records.{superstep, state_at-next, past-delivered, open_views-in, count-views_in, count-outcomes_in, IsRecord-turned, IsRecord-goes_on, IsRecord-start, IsRecord-run}
 use Rattle.bsp_incr.specs.declared.kept.Kept.{Kept}
 use Rattle.bsp_incr.specs.declared.reply.Update.{Update}
-use Rattle.bsp_incr.specs.Marks.{AreMarked, AreAlikeButForTable, AreKnown, AreUnchanged, HaveOneTable, AreDelivered}
-use Rattle.bsp_incr.specs.Changes.{differ, differ_in, touched, touched_in, is_touched, supersteps_before, delivered_before}
+use Rattle.bsp_incr.specs.Marks.{AreMarked, AreAlikeButForTable, ViewsDifferAtMost, OutcomesDifferAtMost}
+use Rattle.bsp_incr.specs.Changes.{differ, differ_in, touched, touched_in, is_touched, processes_where, supersteps_before, delivered_before}
 use Rattle.bsp_incr.specs.Next.{next_view}
-use Rattle.bsp_incr.specs.Before.{run_before, taken_before, outcomes_before, delivered_outcomes, views_after, IsBefore, IsKept, HasSameArgs, AreArgsMarked, AreFirstMarked, HasSameMemory, IsUnderWay, IsRunBefore}
+use Rattle.bsp_incr.specs.Before.{run_before, taken_before, delivered_outcomes, IsBefore, HasSameArgs, AreArgsMarked, AreAlikeAfter, AreFirstMarked, HasSameMemory, IsUnderWay, IsRunBefore}
 use Rattle.bsp_incr.proofs.Updating.{updated_turned, updated_delivered}
-use Rattle.bsp_incr.proofs.Propagation.{one_table, propagated, first_alike, memory-in, queue-in, untouched_is}
-
--- The run before, superstep by superstep.
-
-taken-in : (turn : ViewParts → OutcomeParts) (input : Input) (k : Kept) (s : ℕ) → IsKept turn input k → s < length (supersteps_of k.history) → taken_before (Some k) s ≡ views_in turn k.input s
-taken-in turn input k s h l = let taken = taken_views k.history s l in taken.1 ∙ h.made.views s taken.0
-
-none_taken : (old : Option Kept) (s : ℕ) → length (supersteps_before (run_before old)) ≤ s → length (taken_before old s) ≡ 0
-none_taken old s l = ap (λ (x : Superstep). length x.views) (superstep_at-past_end (supersteps_before (run_before old)) s l)
-
--- a view that there was is one of a superstep that was taken
-some_taken : (k : Kept) (s p : ℕ) → p < length (taken_before (Some k) s) → s < length (supersteps_of k.history)
-some_taken k s p l =
-    elim (cases_lt s (length (supersteps_of k.history))) [
-      | inl w ↦ w
-      | inr w ↦ let none = none_taken (Some k) s w in absurd (omega arith)
-    ]
-
-nothing_taken : (s p : ℕ) → p < length (taken_before None s) → ⊥
-nothing_taken s p l = let none = none_taken None s (omega arith) in omega arith
-
-delivered-in : (turn : ViewParts → OutcomeParts) (input : Input) (k : Kept) (s : ℕ) → IsKept turn input k → s < length k.history.past → delivered_outcomes (Some k) s ≡ outcomes_in turn k.input s
-delivered-in turn input k s h l =
-    let front : superstep_at (supersteps_of k.history) s ≡ superstep_at k.history.past s = grind (arith, common_steps) in
-    let turns = subst (λ (x : Superstep). x.outcomes ≡ map turn x.views) front (taken_outcomes turn (supersteps_of k.history) s h.made.turns) in
-    turns ∙ ap (map turn) (sym (views_at-past k.history s l) ∙ h.made.views s (omega arith))
-
-some_delivered : (k : Kept) (s d : ℕ) → d < length (delivered_outcomes (Some k) s) → s < length k.history.past
-some_delivered k s d l =
-    elim (cases_lt s (length k.history.past)) [
-      | inl w ↦ w
-      | inr w ↦ let none : length (delivered_outcomes (Some k) s) ≡ 0 = ap (λ (x : Superstep). length x.outcomes) (superstep_at-past_end k.history.past s w) in absurd (omega arith)
-    ]
-
-nothing_delivered : (s d : ℕ) → d < length (delivered_outcomes None s) → ⊥
-nothing_delivered s d l = let none : length (delivered_outcomes None s) ≡ 0 = ap (λ (x : Superstep). length x.outcomes) (superstep_at-past_end [] s (omega arith)) in omega arith
-
-no_table : HaveOneTable []
-no_table = record { table = λ p l. absurd (omega arith); tag_size = λ p l. absurd (omega arith) }
-
--- its processes see one table in each superstep
-pub table_before : (turn : ViewParts → OutcomeParts) (input : Input) (old : Option Kept) (s : ℕ) → IsBefore turn input old → HaveOneTable (taken_before old s)
-table_before turn input None s h = subst (λ (x : Superstep). HaveOneTable x.views) (sym (superstep_at-past_end [] s (omega arith))) no_table
-table_before turn input (Some k) s h =
-    elim (cases_lt s (length (supersteps_of k.history))) [
-      | inl w ↦ subst HaveOneTable (sym (taken-in turn input k s h w)) (one_table turn k.input s)
-      | inr w ↦ subst (λ (x : Superstep). HaveOneTable x.views) (sym (superstep_at-past_end (supersteps_of k.history) s w)) no_table
-    ]
-
-pub open_table : (turn : ViewParts → OutcomeParts) (input : Input) (r : Run) → IsRecord turn input r → HaveOneTable (open_views r)
-open_table turn input r h = subst HaveOneTable (sym (open_views-in turn input r h)) (one_table turn input (length r.past))
-
--- its outcomes are the turns of its views
-pub turns_before : (turn : ViewParts → OutcomeParts) (input : Input) (old : Option Kept) (s : ℕ) → IsBefore turn input old → outcomes_before old s ≡ map turn (taken_before old s)
-turns_before turn input None s h = subst (λ (x : Superstep). x.outcomes ≡ map turn x.views) (sym (superstep_at-past_end [] s (omega arith))) refl
-turns_before turn input (Some k) s h = taken_outcomes turn (supersteps_of k.history) s h.made.turns
-
--- what the run before delivered, it delivered to the same processes
-pub count_before : (turn : ViewParts → OutcomeParts) (input : Input) (old : Option Kept) (s : ℕ) → IsBefore turn input old → 0 < length (delivered_outcomes old s) → length (delivered_outcomes old s) ≡ length (outcomes_in turn input s)
-count_before turn input None s h l = absurd (nothing_delivered s 0 l)
-count_before turn input (Some k) s h l =
-    ap (λ (os : List OutcomeParts). length os) (delivered-in turn input k s h (some_delivered k s 0 l)) ∙ count-outcomes_in turn k.input s ∙ h.count ∙ sym (count-outcomes_in turn input s)
-
-views_after-some : (k : Kept) (s : ℕ) → s < length k.history.past → views_after (Some k) s ≡ views_at k.history (s + 1)
-views_after-some k s l = let t : nat_lt s (length k.history.past) ≡ true = grind (arith, nat_tests) in ap (λ b. cond b (views_at k.history (s + 1)) []) t
-
-views_after-none : (k : Kept) (s : ℕ) → length k.history.past ≤ s → views_after (Some k) s ≡ []
-views_after-none k s l = let t : nat_lt s (length k.history.past) ≡ false = grind (arith, nat_tests) in ap (λ b. cond b (views_at k.history (s + 1)) []) t
-
-none_delivered : (views : List ViewParts) (os : List OutcomeParts) → views ≡ [] → length os ≡ 0 → AreDelivered os views
-none_delivered views os e l =
-    record { count = ap (λ (vs : List ViewParts). length vs) e ∙ sym l; memory = λ d m. absurd (omega arith); queue = λ d m. absurd (omega arith) }
-
--- the views after a delivery are what it delivered
-delivered_views : (turn : ViewParts → OutcomeParts) (input : Input) (s : ℕ) → AreDelivered (outcomes_in turn input s) (views_in turn input (s + 1))
-delivered_views turn input s =
-    let many = count-outcomes_in turn input s in
-    record {
-      count = count-views_in turn input (s + 1) ∙ sym many;
-      memory = λ d l. memory-in turn input s d (omega arith);
-      queue = λ d l. queue-in turn input s d (omega arith);
-    }
-
--- and its next views are what it delivered
-pub delivered_before_is : (turn : ViewParts → OutcomeParts) (input : Input) (old : Option Kept) (s : ℕ) → IsBefore turn input old → AreDelivered (delivered_outcomes old s) (views_after old s)
-delivered_before_is turn input None s h = none_delivered [] (delivered_outcomes None s) refl (ap (λ (x : Superstep). length x.outcomes) (superstep_at-past_end [] s (omega arith)))
-delivered_before_is turn input (Some k) s h =
-    elim (cases_lt s (length k.history.past)) [
-      | inl w ↦
-          let views = views_after-some k s w ∙ h.made.views (s + 1) (omega arith) in
-          subst (λ (os : List OutcomeParts). AreDelivered os (views_after (Some k) s)) (sym (delivered-in turn input k s h w))
-          (subst (AreDelivered (outcomes_in turn k.input s)) (sym views) (delivered_views turn k.input s))
-      | inr w ↦ none_delivered (views_after (Some k) s) (delivered_outcomes (Some k) s) (views_after-none k s w) (ap (λ (x : Superstep). length x.outcomes) (superstep_at-past_end k.history.past s w))
-    ]
-
--- the processes see one table in them
-pub table_after : (turn : ViewParts → OutcomeParts) (input : Input) (old : Option Kept) (s : ℕ) → IsBefore turn input old → HaveOneTable (views_after old s)
-table_after turn input None s h = no_table
-table_after turn input (Some k) s h =
-    elim (cases_lt s (length k.history.past)) [
-      | inl w ↦ subst HaveOneTable (sym (views_after-some k s w ∙ h.made.views (s + 1) (omega arith))) (one_table turn k.input (s + 1))
-      | inr w ↦ subst HaveOneTable (sym (views_after-none k s w)) no_table
-    ]
+use Rattle.bsp_incr.proofs.Propagation.{propagated, view-in, first_alike, untouched_is}
+use Rattle.bsp_incr.proofs.RunBefore.{taken-in, some_taken, nothing_taken, delivered-in, some_delivered, nothing_delivered, views_after-some}
 
 -- the next views, process by process
 pub next_views-are : (r : Run) → each_below (length r.outcomes) (next_view r) ≡ views_of r.args (length r.past + 1) (next_state r.state r.outcomes)
@@ -142,19 +38,52 @@ next_views-are r = ap (λ n. each_below n (next_view r)) (sym (length-map-range_
 unchanged_by : (turn : ViewParts → OutcomeParts) (vs ws : List ViewParts) (p : ℕ) → p < length vs → p < length ws → get_or vs p no_view ≡ get_or ws p no_view → outcome_of (map turn vs) p ≡ outcome_of (map turn ws) p
 unchanged_by turn vs ws p l m e = get_or-map turn vs p no_view no_outcome l ∙ ap turn e ∙ sym (get_or-map turn ws p no_view no_outcome m)
 
-pub known_unchanged : (turn : ViewParts → OutcomeParts) (input : Input) (old : Option Kept) (s : ℕ) (ws : List ViewParts) (known : List Bool) → IsBefore turn input old → ws ≡ views_in turn input s → AreKnown (taken_before old s) ws known → AreUnchanged (delivered_outcomes old s) (map turn ws) known
-known_unchanged turn input None s ws known h is k = record { count = k.count ∙ sym (length-map ws turn); same = λ p l m. absurd (nothing_delivered s p l) }
-known_unchanged turn input (Some o) s ws known h is k =
+pub unchanged_among : (turn : ViewParts → OutcomeParts) (input : Input) (old : Option Kept) (s : ℕ) (ws : List ViewParts) (processes : List ℕ) → IsBefore turn input old → ws ≡ views_in turn input s → ViewsDifferAtMost (taken_before old s) ws processes → OutcomesDifferAtMost (delivered_outcomes old s) (map turn ws) processes
+unchanged_among turn input None s ws processes h is k =
+    record { test = k.test; listed = k.listed ∙ ap (λ n. processes_where n k.test) (sym (length-map ws turn)); same = λ p l m t. absurd (nothing_delivered s p l) }
+unchanged_among turn input (Some o) s ws processes h is k =
     record {
-      count = k.count ∙ sym (length-map ws turn);
-      same = λ p l m.
+      test = k.test;
+      listed = k.listed ∙ ap (λ n. processes_where n k.test) (sym (length-map ws turn));
+      same = λ p l m t.
           let past = some_delivered o s p l in
-          let seen = k.same p m in
+          let here : p < length ws = omega (arith, m, length-map ws turn) in
+          let seen = k.same p here t in
           let taken = taken-in turn input o s h (some_taken o s p seen.0) in
           let old : delivered_outcomes (Some o) s ≡ map turn (taken_before (Some o) s) = delivered-in turn input o s h past ∙ ap (map turn) (sym taken) in
-          let long : length ws ≡ length (taken_before (Some o) s) = ap (λ (vs : List ViewParts). length vs) is ∙ count-views_in turn input s ∙ sym h.count ∙ sym (count-views_in turn o.input s) ∙ sym (ap (λ (vs : List ViewParts). length vs) taken) in
-          ap (λ (os : List OutcomeParts). outcome_of os p) old ∙ unchanged_by turn (taken_before (Some o) s) ws p seen.0 (omega (arith, seen.0)) seen.1;
+          ap (λ (os : List OutcomeParts). outcome_of os p) old ∙ unchanged_by turn (taken_before (Some o) s) ws p seen.0 here seen.1;
     }
+
+-- A superstep that the run before took had the same processes.
+pub count_taken : (turn : ViewParts → OutcomeParts) (input : Input) (old : Option Kept) (s : ℕ) (ws : List ViewParts) → IsBefore turn input old → ws ≡ views_in turn input s → 0 < length (taken_before old s) → length (taken_before old s) ≡ length ws
+count_taken turn input None s ws h is l = absurd (nothing_taken s 0 l)
+count_taken turn input (Some k) s ws h is l =
+    ap (λ (vs : List ViewParts). length vs) (taken-in turn input k s h (some_taken k s 0 l)) ∙ count-views_in turn k.input s ∙ h.count
+    ∙ sym (count-views_in turn input s) ∙ sym (ap (λ (vs : List ViewParts). length vs) is)
+
+-- What a process sees next, once the turns are taken.
+next_view-in : (turn : ViewParts → OutcomeParts) (input : Input) (t : Run) (p : ℕ) → IsRecord turn input t → t.outcomes ≡ outcomes_in turn input (length t.past) → p < length input.mems → get_or (views_in turn input (length t.past + 1)) p no_view ≡ next_view t p
+next_view-in turn input t p h o l =
+    let s = length t.past in
+    view-in turn input (s + 1) p l
+    ∙ ap (λ (x : State). view_of input.args (s + 1) x p) (state_at-next turn input s)
+    ∙ ap (λ (os : List OutcomeParts). view_of input.args (s + 1) (next_state (state_at turn input s) os) p) (sym o)
+    ∙ ap (λ (x : State). view_of input.args (s + 1) (next_state x t.outcomes) p) (sym h.state)
+    ∙ ap (λ (args : List (List ℕ)). view_of args (s + 1) (next_state t.state t.outcomes) p) (sym h.args)
+
+-- It is what it saw in the run before, where the delivery to it stays and its arguments are the same.
+pub alike_after : (turn : ViewParts → OutcomeParts) (input : Input) (old : Option Kept) (t : Run) (always : List Bool) → IsBefore turn input old → AreArgsMarked old input always → IsRecord turn input t → t.outcomes ≡ outcomes_in turn input (length t.past) → AreAlikeAfter old t always
+alike_after turn input None t always h a made o = λ p l f c. absurd (nothing_delivered (length t.past) p (untouched_is (delivered_outcomes None (length t.past)) t.outcomes p f).0)
+alike_after turn input (Some k) t always h a made o = λ p l f c.
+    let s = length t.past in
+    let same = untouched_is (delivered_outcomes (Some k) s) t.outcomes p f in
+    let past = some_delivered k s p same.0 in
+    let here : p < length input.mems = omega (arith, l, ap (λ (os : List OutcomeParts). length os) o, count-outcomes_in turn input s) in
+    let views = views_after-some k s past ∙ h.made.views (s + 1) (omega (arith, past)) in
+    let parts = ap (λ (xs : List OutcomeParts). delivery_parts xs p) (sym (delivered-in turn input k s h past)) ∙ same.1 ∙ ap (λ (xs : List OutcomeParts). delivery_parts xs p) o in
+    subst (λ (vs : List ViewParts). AreAlikeButForTable (get_or vs p no_view) (next_view t p)) (sym views)
+    (subst (AreAlikeButForTable (get_or (views_in turn k.input (s + 1)) p no_view)) (next_view-in turn input t p made o here)
+    (propagated turn k.input input s p h.count here (a.clean p here c) parts))
 
 or_false : (a b : Bool) → (a || b) ≡ false → (a ≡ false) × (b ≡ false)
 or_false true b e = cc

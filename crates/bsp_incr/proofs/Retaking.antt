@@ -1,12 +1,22 @@
 -- Which places need their turn, one after the other.
-use Rattle.std.proofs.Common.{◌≡◌, ◌≤◌, ◌<◌, ℕ, Bool, true, false, List, Option, None, Some, length, get_or, slice_get, not, refl, sym, ap, ◌∙◌, inl, inr}
-use Rattle.std.proofs.lemmas.Bool.{cases_lt}
+use Rattle.std.proofs.Common.{◌≡◌, ◌≤◌, ◌<◌, ℕ, Bool, true, false, List, Option, None, Some, All, map, length, get_or, slice_get, not, arith, refl, sym, ap, ◌∙◌, subst, inl, inr}
+use Rattle.std.specs.Prelude.{filter, ◌&&◌}
+use Rattle.std.specs.List.{range_with_len}
+use Rattle.std.proofs.lemmas.Bool.{cases_lt, false≢true}
+use Rattle.std.proofs.lemmas.List.{get_or_default, get_or-map, length-map}
 use Rattle.std.proofs.lemmas.Option.{slice_get-get_or, slice_get_past}
 use Rattle.bsp_step.specs.ViewParts.{ViewParts}
+use Rattle.bsp_step.specs.OutcomeParts.{OutcomeParts}
+use Rattle.bsp_deliver.specs.Requests.{no_outcome}
 use Rattle.bsp_run.specs.Condition.{no_view}
+use Rattle.bsp_run.specs.Shares.{turns_of}
+use Rattle.bsp_run.proofs.Shares.{turns_of-all}
 use Rattle.bsp_incr.specs.Reuse.{needs_turn, serves}
-use Rattle.bsp_incr.specs.Changes.{differs}
-use Rattle.bsp_incr.specs.Marks.{AreMarked, HaveOneTable}
+use Rattle.bsp_incr.specs.Changes.{differs, processes_where}
+use Rattle.bsp_incr.specs.Marks.{AreMarked, ViewsDifferAtMost, HaveOneTable}
+use Rattle.bsp_incr.specs.Replaced.{replaced}
+use Rattle.bsp_incr.proofs.Gathering.{filter_from, filter_twice, all_where, processes_where-below}
+use Rattle.bsp_incr.proofs.Patching.{patched, patched_at, patched_is, put_or_there, length-replaced}
 use Rattle.bsp_incr.proofs.Serving.{serves-itself}
 use Rattle.bsp_incr.proofs.Propagation.{same_view}
 
@@ -56,3 +66,78 @@ clean_view old new marks p h g k table tag l m clean =
     same_view (get_or old p no_view) (get_or new p no_view) (h.clean p l m clean)
     (g.table p l ∙ table ∙ sym (k.table p m))
     (g.tag_size p l ∙ tag ∙ sym (k.tag_size p m))
+
+-- The processes at which views may differ have all whose turn is needed ..
+needed_if : (b d : Bool) → (b ≡ false → d ≡ false) → (b && d) ≡ d
+needed_if true d h = refl
+needed_if false d h = sym (h refl)
+
+pub needed_among : (looks : ViewParts → ℕ → Bool) (old new : List ViewParts) (processes : List ℕ) → ViewsDifferAtMost old new processes → filter (differs looks old new) processes ≡ processes_where (length new) (differs looks old new)
+needed_among looks old new processes h =
+    let test = h.test in
+    let d = differs looks old new in
+    ap (filter d) h.listed ∙ filter_twice test d (range_with_len 0 (length new))
+    ∙ filter_from (λ p. test p && d p) d 0 (length new)
+    (λ p low high. needed_if (test p) (d p) (λ t. let seen = h.same p (omega arith) t in differs-same looks old new p seen.0 seen.1))
+
+-- .. and besides them those for which the recorded turn serves.
+pub served_among : (looks : ViewParts → ℕ → Bool) (old new : List ViewParts) (processes : List ℕ) → (h : ViewsDifferAtMost old new processes) → filter (λ p. not (differs looks old new p)) processes ≡ processes_where (length new) (λ p. h.test p && not (differs looks old new p))
+served_among looks old new processes h =
+    ap (filter (λ p. not (differs looks old new p))) h.listed ∙ filter_twice h.test (λ p. not (differs looks old new p)) (range_with_len 0 (length new))
+
+unserved : (t d : Bool) → d ≡ false → (t && not d) ≡ false → t ≡ false
+unserved true true e h = cc
+unserved true false e h = cc
+unserved false d e h = refl
+
+-- The recorded outcomes, with those turns in their places, are the turns of the new views.
+pub turns_in_place : (turn : ViewParts → OutcomeParts) (looks : ViewParts → ℕ → Bool) (old new : List ViewParts) (processes : List ℕ) (os us ws : List OutcomeParts) (served needed : List ℕ) → ViewsDifferAtMost old new processes → length old ≡ length new → os ≡ map turn old
+    → served ≡ filter (λ p. not (differs looks old new p)) processes → needed ≡ filter (differs looks old new) processes → us ≡ turns_of turn new served → ws ≡ turns_of turn new needed → replaced (replaced os served us) needed ws ≡ map turn new
+turns_in_place turn looks old new processes os us ws served needed h long recorded s n u w =
+    let f : ℕ → OutcomeParts = λ p. turn (get_or new p no_view) in
+    let d = differs looks old new in
+    let kept : ℕ → Bool = λ p. h.test p && not (d p) in
+    let count = length new in
+    let served_is : served ≡ processes_where count kept = s ∙ served_among looks old new processes h in
+    let needed_is : needed ≡ processes_where count d = n ∙ needed_among looks old new processes h in
+    let first : List OutcomeParts = patched f os (processes_where count kept) in
+    let many : length os ≡ count = ap (λ (xs : List OutcomeParts). length xs) recorded ∙ length-map old turn ∙ long in
+    let there : (p : ℕ) → p < count → d p ≡ false → get_or first p no_outcome ≡ f p =
+    λ p l e.
+    patched_at f kept count p os no_outcome l (omega (arith, l, many))
+    ∙ put_or_there (kept p) (f p) (get_or os p no_outcome)
+    (λ t.
+    let seen = h.same p l (unserved (h.test p) (d p) e t) in
+    ap (λ (xs : List OutcomeParts). get_or xs p no_outcome) recorded ∙ get_or-map turn old p no_view no_outcome seen.0 ∙ ap turn seen.1) in
+    ap (replaced (replaced os served us) needed) w
+    ∙ ap (λ (xs : List OutcomeParts). patched f (replaced os served xs) needed) u
+    ∙ ap (λ (ps : List ℕ). patched f (patched f os ps) needed) served_is
+    ∙ ap (λ (ps : List ℕ). patched f first ps) needed_is
+    ∙ patched_is f d count first no_outcome (length-replaced os (processes_where count kept) (map f (processes_where count kept)) ∙ many) there
+    ∙ turns_of-all turn new
+
+-- Where the old run has no such superstep, every turn is needed.
+pub turns_of_none : (turn : ViewParts → OutcomeParts) (looks : ViewParts → ℕ → Bool) (old new : List ViewParts) (needed : List ℕ) (ws : List OutcomeParts) → length old ≡ 0 → needed ≡ processes_where (length new) (differs looks old new) → ws ≡ turns_of turn new needed → ws ≡ map turn new
+turns_of_none turn looks old new needed ws none n w =
+    w ∙ ap (turns_of turn new) (n ∙ all_where (length new) (differs looks old new) (λ p l. differs-none looks old new p (omega (arith, none)))) ∙ turns_of-all turn new
+
+-- The marked processes, where each of the others sees the same view.
+pub marked_differ : (old new : List ViewParts) (marks : List Bool) (processes : List ℕ) → AreMarked old new marks → HaveOneTable old → HaveOneTable new → (get_or old 0 no_view).table ≡ (get_or new 0 no_view).table → (get_or old 0 no_view).tag_size ≡ (get_or new 0 no_view).tag_size
+    → length old ≡ length new → processes ≡ processes_where (length marks) (λ p. get_or marks p false) → ViewsDifferAtMost old new processes
+marked_differ old new marks processes h g k table tag long listed =
+    record {
+      test = λ p. get_or marks p false;
+      listed = listed ∙ ap (λ n. processes_where n (λ p. get_or marks p false)) h.count;
+      same = λ p l t.
+          let here : p < length old = omega (arith, l, long) in
+          let marked : p < length marks = omega (arith, l, h.count) in
+          (here, clean_view old new marks p h g k table tag here l (get_or_default marks p true false marked ∙ t));
+    }
+
+-- all processes
+pub all_differ : (old new : List ViewParts) (processes : List ℕ) → processes ≡ processes_where (length new) (λ _. true) → ViewsDifferAtMost old new processes
+all_differ old new processes listed = record { test = λ _. true; listed = listed; same = λ p l t. absurd (false≢true (sym t)) }
+
+-- they are processes that there are
+pub differ_below : (old new : List ViewParts) (processes : List ℕ) → ViewsDifferAtMost old new processes → All (λ p. p < length new) processes
+differ_below old new processes h = subst (All (λ p. p < length new)) (sym h.listed) (processes_where-below (length new) h.test)

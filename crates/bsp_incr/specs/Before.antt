@@ -6,12 +6,13 @@ use Rattle.bsp_step.specs.ViewParts.{ViewParts}
 use Rattle.bsp_step.specs.OutcomeParts.{OutcomeParts}
 use Rattle.bsp_run.specs.Run.{Run, open_views, run}
 use Rattle.bsp_run.specs.Supersteps.{superstep_at, views_at}
-use Rattle.bsp_run.specs.Condition.{is_open}
+use Rattle.bsp_run.specs.Condition.{is_open, no_view}
 use Rattle.bsp_incr.specs.declared.kept.Kept.{Kept}
 use Rattle.bsp_incr.specs.declared.reply.Update.{Update}
 use Rattle.bsp_run.specs.Record.{IsRecord}
-use Rattle.bsp_incr.specs.Marks.{AreMarked}
-use Rattle.bsp_incr.specs.Changes.{supersteps_before, delivered_before, IsUpdate}
+use Rattle.bsp_incr.specs.Marks.{AreMarked, AreAlikeButForTable}
+use Rattle.bsp_incr.specs.Next.{next_view}
+use Rattle.bsp_incr.specs.Changes.{supersteps_before, delivered_before, is_touched, IsUpdate}
 
 abbrev pub run_before : Option Kept → Option Run
 run_before None = None
@@ -49,6 +50,12 @@ HasSameArgs (Some k) input p = slice_index_or k.input.args p [] ≡ slice_index_
 pub record AreArgsMarked (old : Option Kept) (input : Input) (marks : List Bool) : Type 0 where
   pub count : length marks ≡ length input.mems
   pub clean : (p : ℕ) → p < length input.mems → slice_index_or marks p true ≡ false → HasSameArgs old input p
+
+-- Once the turns of a superstep are taken, a process to which the delivery stays, and whose arguments are not marked, sees next what it saw in the run
+-- before, the table and the tag size aside.
+abbrev pub AreAlikeAfter : Option Kept → Run → List Bool → Type 0
+AreAlikeAfter old r always = (p : ℕ) → p < length r.outcomes → is_touched (delivered_outcomes old (length r.past)) r.outcomes p ≡ false → slice_index_or always p true ≡ false
+    → AreAlikeButForTable (slice_index_or (views_after old (length r.past)) p no_view) (next_view r p)
 
 -- Between the supersteps of the new run: its record, the marks of its open superstep, and the update so far.
 pub record IsUnderWay (turn : ViewParts → OutcomeParts) (looks : ViewParts → ℕ → Bool) (old : Option Kept) (input : Input) (r : Run) (marks : List Bool) (update : Update) : Type 0 where

@@ -1,11 +1,16 @@
 -- The superstep after one whose turns are taken: what the private functions of this crate ask and promise.
 use Rattle.std.specs.Prelude.{◌≡◌, ℕ, ◌+◌, List, map, length}
+use Rattle.bsp_model.specs.declared.request.Message.{Message}
 use Rattle.bsp_table.specs.declared.area.Area.{Area}
 use Rattle.bsp_step.specs.ViewParts.{ViewParts}
 use Rattle.bsp_run.specs.declared.phase.Phase.TheVariants.{Turned}
 use Rattle.bsp_run.specs.State.{next_state, view_of}
 use Rattle.bsp_run.specs.Run.{Run}
 use Rattle.bsp_run.specs.Condition.{IsNextTable}
+
+-- the memory and the queue that a process sees
+abbrev pub cell_of : ViewParts → List ℕ × List Message
+cell_of v = (v.memory, v.queue)
 
 -- the view of process p in the next superstep
 abbrev pub next_view : Run → ℕ → ViewParts

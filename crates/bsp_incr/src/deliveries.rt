@@ -1,60 +1,73 @@
 //! The deliveries of a superstep, of which those that depend on the same as in the run before are not made again. The outcomes of a run before
 //! that has no such superstep, or none that ended by delivery, are empty.
 
-ghost use Rattle.std.specs.Prelude.{◌≡◌, ◌<◌, ◌↔◌, ◌++◌, ◌||◌, [], IsTrue, IfOk, OnOk, length, map, slice_index_or, true, false};
+ghost use Rattle.std.specs.Prelude.{◌≡◌, ◌<◌, ◌||◌, ℕ, [], All, IfOk, None, length, map, slice_index_or, true, false};
 ghost use Rattle.bsp_deliver.specs.Requests.{each_below, outcome_of};
 ghost use Rattle.bsp_deliver.specs.Touched.{former_or, outcomes_before};
 ghost use Rattle.bsp_deliver.specs.Condition.{AreDeliverable};
-ghost use Rattle.bsp_run.specs.Condition.{no_view};
+ghost use Rattle.bsp_run.specs.Condition.{no_view, deliveries_of};
 ghost use Rattle.bsp_run.specs.Shares.{deliveries_to};
-ghost use Rattle.bsp_incr.specs.Changes.{is_touched, touched_in, processes_where};
-ghost use Rattle.bsp_incr.specs.Marks.{AreDelivered, AreComparable, AreUnchanged, HaveOneTable};
-ghost use Rattle.bsp_incr.specs.Next.{IsNextOf, next_view};
+ghost use Rattle.bsp_incr.specs.Changes.{is_touched, processes_where};
+ghost use Rattle.bsp_incr.specs.Marks.{AreDelivered, AreComparable, OutcomesDifferAtMost};
+ghost use Rattle.bsp_incr.specs.Next.{IsNextOf, cell_of, next_view};
 
-use crate::Place;
-use crate::counts::Counts;
-use crate::places::{add_places, processes_where};
-use crate::workers::Workers;
+use crate::places::all_processes;
+use crate::replacing::{copied, put_at};
 use bsp_deliver::touched_by_changes;
-use bsp_model::{Memory, OutOfMemory, Same, Seq, Shared};
-use bsp_pool::Gate;
-use bsp_run::{Tape, take_next, wide_deliveries};
+use bsp_model::{Memory, OutOfMemory, Same, Shared, TryCopy};
+use bsp_run::{Tape, take_next};
 use bsp_step::{Outcome, Queue, View};
 use bsp_table::Table;
 use std::alloc::Global;
-use std::thread::Threads;
 
 /// The outcome of a process in the run before, where it is another one now.
 fn former<'a>(
-    old: &'a Shared<Outcome>,
-    new: &Shared<Outcome>,
-    known: bool,
+    old: &'a [Shared<Outcome>],
+    new: &[Shared<Outcome>],
+    p: usize,
 ) -> Option<&'a Shared<Outcome>>
-    requires { known ≡ true → old.now ≡ new.now }
-    ensures { former_or new.now result ≡ old.now }
+    requires known { p < length new.now }
+    requires count { length old.now ≡ length new.now }
+    ensures { former_or (outcome_of new.now p) result ≡ outcome_of old.now p }
 {
-    if known || old.same(new) {
+    let before = &old[p];
+    if before.same(&new[p]) {
         None
     } else {
-        Some(old)
+        Some(before)
     }
 }
 
-/// The outcomes in the run before that are other ones now, by process.
+/// For so many processes, that none has another outcome.
+fn no_formers<'a>(
+    alloc: Global,
+    count: usize,
+) -> Result<Vec<Option<&'a Shared<Outcome>>>, OutOfMemory>
+    ensures count { IfOk result (λ formers. length formers.items ≡ count) }
+    ensures none { IfOk result (λ formers. (p : ℕ) → slice_index_or formers.items p None ≡ None) }
+{
+    let mut formers = Vec::with_capacity(alloc, count)?;
+    for _p in 0..count {
+        formers.push_reserved(None);
+    }
+    Ok(formers)
+}
+
+/// The outcomes in the run before that are other ones now, by process. Those of the processes that are not in `doubtful` are the same.
 fn formers<'a>(
     alloc: Global,
     old: &'a [Shared<Outcome>],
     new: &[Shared<Outcome>],
-    known: &[bool],
+    doubtful: &[usize],
 ) -> Result<Vec<Option<&'a Shared<Outcome>>>, OutOfMemory>
     requires count { length old.now ≡ length new.now }
-    requires known { AreUnchanged old.now new.now known.now }
+    requires doubtful { OutcomesDifferAtMost old.now new.now doubtful.now }
     ensures count { IfOk result (λ formers. length formers.items ≡ length new.now) }
     ensures before { IfOk result (λ formers. outcomes_before formers.items new.now ≡ old.now) }
 {
-    let mut formers = Vec::with_capacity(alloc, new.len())?;
-    for p in 0..new.len() {
-        formers.push(former(&old[p], &new[p], known[p]))?;
+    let mut formers = no_formers(alloc, new.len())?;
+    for process in doubtful {
+        formers[*process] = former(old, new, *process);
     }
     Ok(formers)
 }
@@ -64,15 +77,15 @@ fn touched_again(
     alloc: Global,
     old: &[Shared<Outcome>],
     new: &[Shared<Outcome>],
-    known: &[bool],
+    doubtful: &[usize],
 ) -> Result<Vec<bool>, OutOfMemory>
     requires count { length old.now ≡ length new.now }
     requires old { AreDeliverable old.now }
     requires new { AreDeliverable new.now }
-    requires known { AreUnchanged old.now new.now known.now }
+    requires doubtful { OutcomesDifferAtMost old.now new.now doubtful.now }
     ensures { IfOk result (λ all. all.items ≡ each_below (length new.now) (is_touched old.now new.now)) }
 {
-    let formers = formers(alloc, old, new, known)?;
+    let formers = formers(alloc, old, new, doubtful)?;
     Ok(touched_by_changes(alloc, formers.as_slice(), new)?)
 }
 
@@ -88,63 +101,117 @@ fn all_touched(alloc: Global, new: &[Shared<Outcome>]) -> Result<Vec<bool>, OutO
 }
 
 /// Which deliveries have to be made, by process.
-fn touched(
+pub fn touched(
     alloc: Global,
     old: &[Shared<Outcome>],
     new: &[Shared<Outcome>],
-    known: &[bool],
+    doubtful: &[usize],
 ) -> Result<Vec<bool>, OutOfMemory>
     requires comparable { AreComparable old.now new.now }
-    requires known { AreUnchanged old.now new.now known.now }
+    requires doubtful { OutcomesDifferAtMost old.now new.now doubtful.now }
     ensures { IfOk result (λ all. all.items ≡ each_below (length new.now) (is_touched old.now new.now)) }
 {
     if old.is_empty() {
         all_touched(alloc, new)
     } else {
-        touched_again(alloc, old, new, known)
+        touched_again(alloc, old, new, doubtful)
     }
 }
 
-/// Whether the processes of these views see a table.
-fn see_table(views: &[Shared<View>], table: &Table) -> bool
-    ensures { result ≡ true → (slice_index_or views.now 0 no_view).table ≡ table.now }
+/// The memories and the queues that some processes see.
+fn cells_of(
+    alloc: Global,
+    views: &[Shared<View>],
+    processes: &[usize],
+) -> Result<Vec<(Memory, Queue)>, OutOfMemory>
+    requires { All (λ p. p < length views.now) processes.now }
+    ensures { IfOk result (λ cells. cells.items ≡ map (λ p. cell_of (slice_index_or views.now p no_view)) processes.now) }
 {
-    match views.first() {
-        Some(view) => view.table.same(table),
-        None => false,
+    let mut cells = Vec::with_capacity(alloc, processes.len())?;
+    for process in processes {
+        let view: &View = &views[*process];
+        cells.push((view.memory.copy()?, view.queue.copy()?))?;
     }
+    Ok(cells)
 }
 
-/// The views of the next superstep: those of the deliveries that were made, and the recorded ones as far as they stay.
-fn gathered(
+/// The views of some processes in the next superstep, of their next memories and queues.
+fn views_with(
+    alloc: Global,
+    tape: &Tape,
+    table: &Table,
+    processes: &[usize],
+    cells: Vec<(Memory, Queue)>,
+) -> Result<Vec<Shared<View>>, OutOfMemory>
+    requires after { IsNextOf tape.now table.now }
+    requires known { All (λ p. p < length tape.now.outcomes) processes.now }
+    requires cells { cells.items ≡ deliveries_to tape.now.outcomes processes.now }
+    ensures { IfOk result (λ all. all.items ≡ map (next_view tape.now) processes.now) }
+{
+    let mut cells = cells.into_iter();
+    let mut views = Vec::with_capacity(alloc, processes.len())?;
+    for process in processes {
+        let (memory, queue) = take_next(&mut cells);
+        views.push(tape.next_view(table, *process, memory, queue)?)?;
+    }
+    Ok(views)
+}
+
+/// The views of the next superstep, where the table and the tag size are those of the run before: the recorded ones, but for those to which
+/// deliveries were made, and those with other arguments.
+pub fn next_views(
     alloc: Global,
     tape: &Tape,
     table: &Table,
     old_outcomes: &[Shared<Outcome>],
     old_next: &[Shared<View>],
-    touched: &[bool],
+    touched: &[usize],
     made: Vec<(Memory, Queue)>,
+    always: &[bool],
+    other_args: &[usize],
 ) -> Result<Vec<Shared<View>>, OutOfMemory>
     requires after { IsNextOf tape.now table.now }
+    requires some { 0 < length old_next.now }
+    requires comparable { AreComparable old_outcomes.now tape.now.outcomes }
     requires next { AreDelivered old_outcomes.now old_next.now }
-    requires old_table { HaveOneTable old_next.now }
-    requires touched { touched.now ≡ each_below (length tape.now.outcomes) (is_touched old_outcomes.now tape.now.outcomes) }
-    requires made { made.items ≡ deliveries_to tape.now.outcomes (processes_where (length tape.now.outcomes) (is_touched old_outcomes.now tape.now.outcomes)) }
+    requires touched { touched.now ≡ processes_where (length tape.now.outcomes) (is_touched old_outcomes.now tape.now.outcomes) }
+    requires made { made.items ≡ deliveries_to tape.now.outcomes touched.now }
+    requires always { length always.now ≡ length tape.now.outcomes }
+    requires other_args { other_args.now ≡ processes_where (length always.now) (λ p. slice_index_or always.now p false) }
+    requires stay { (p : ℕ) → p < length old_outcomes.now → is_touched old_outcomes.now tape.now.outcomes p ≡ false → slice_index_or always.now p true ≡ false → slice_index_or old_next.now p no_view ≡ next_view tape.now p }
     ensures { IfOk result (λ all. all.items ≡ each_below (length tape.now.outcomes) (next_view tape.now)) }
 {
-    let same_table = see_table(old_next, table);
-    let mut made = made.into_iter();
-    let mut views = Vec::with_capacity(alloc, touched.len())?;
-    for d in 0..touched.len() {
-        let view = if touched[d] {
-            let (memory, queue) = take_next(&mut made);
-            tape.next_view(table, d, memory, queue)?
-        } else {
-            tape.next_view_like(table, d, &old_next[d], same_table)?
-        };
-        views.push(view)?;
-    }
+    let mut views = copied(alloc, old_next)?;
+    let touched_views = views_with(alloc, tape, table, touched, made)?;
+    put_at(&mut views, touched, touched_views);
+    let cells = cells_of(alloc, views.as_slice(), other_args)?;
+    let other_views = views_with(alloc, tape, table, other_args, cells)?;
+    put_at(&mut views, other_args, other_views);
     Ok(views)
+}
+
+/// The next memories and queues of all processes: those of the deliveries that were made, and the recorded ones.
+pub fn next_cells(
+    alloc: Global,
+    old_outcomes: &[Shared<Outcome>],
+    old_next: &[Shared<View>],
+    outcomes: &[Shared<Outcome>],
+    touched: &[usize],
+    made: Vec<(Memory, Queue)>,
+) -> Result<Vec<(Memory, Queue)>, OutOfMemory>
+    requires comparable { AreComparable old_outcomes.now outcomes.now }
+    requires next { AreDelivered old_outcomes.now old_next.now }
+    requires touched { touched.now ≡ processes_where (length outcomes.now) (is_touched old_outcomes.now outcomes.now) }
+    requires made { made.items ≡ deliveries_to outcomes.now touched.now }
+    ensures { IfOk result (λ cells. cells.items ≡ deliveries_of outcomes.now) }
+{
+    if old_next.is_empty() {
+        return Ok(made);
+    }
+    let all = all_processes(alloc, old_next.len())?;
+    let mut cells = cells_of(alloc, old_next, all.as_slice())?;
+    put_at(&mut cells, touched, made);
+    Ok(cells)
 }
 
 /// Whether a process is marked for the next superstep.
@@ -156,66 +223,18 @@ fn is_marked(touched: bool, always: &[bool], d: usize) -> bool
 }
 
 /// The marks for the next superstep: a process is marked if it is touched, or if it was to be marked anyway.
-fn next_marks(alloc: Global, touched: &[bool], always: &[bool]) -> Result<Vec<bool>, OutOfMemory>
+pub fn next_marks(
+    alloc: Global,
+    touched: &[bool],
+    always: &[bool],
+) -> Result<Vec<bool>, OutOfMemory>
     requires { length always.now ≡ length touched.now }
     ensures { IfOk result (λ marks. marks.items ≡ each_below (length touched.now) (λ d. slice_index_or touched.now d true || slice_index_or always.now d true)) }
 {
     let mut marks = Vec::with_capacity(alloc, touched.len())?;
     for d in 0..touched.len() {
         let is_marked = is_marked(touched[d], always, d);
-        marks.push(is_marked)?;
+        marks.push_reserved(is_marked);
     }
     Ok(marks)
-}
-
-/// The views of the superstep after that whose turns a tape has taken, and the marks for it: the workers make the deliveries that have to be made, and
-/// their places are added. `outcomes` are those of the turns.
-pub fn deliveries_again<G: Gate, R: Threads + Sync>(
-    workers: &Workers<'_, R, G>,
-    alloc: Global,
-    step: u64,
-    old_outcomes: &[Shared<Outcome>],
-    old_next: &[Shared<View>],
-    tape: &Tape,
-    table: &Table,
-    outcomes: &[Shared<Outcome>],
-    known: &[bool],
-    always: &[bool],
-    redelivered: &mut Seq<Place>,
-    counts: &mut Counts,
-) -> Result<(Vec<Shared<View>>, Vec<bool>), OutOfMemory>
-    requires after { IsNextOf tape.now table.now }
-    requires outcomes { outcomes.now ≡ tape.now.outcomes }
-    requires old_table { HaveOneTable old_next.now }
-    requires comparable { AreComparable old_outcomes.now outcomes.now }
-    requires next { AreDelivered old_outcomes.now old_next.now }
-    requires known { AreUnchanged old_outcomes.now outcomes.now known.now }
-    requires always { length always.now ≡ length outcomes.now }
-    ensures views { IfOk result (λ r. r.0.items ≡ each_below (length tape.now.outcomes) (next_view tape.now)) }
-    ensures marks { IfOk result (λ r. r.1.items ≡ each_below (length outcomes.now) (λ d. is_touched old_outcomes.now outcomes.now d || slice_index_or always.now d true)) }
-    ensures redelivered { OnOk result (redelivered.new ≡ redelivered.old ++ touched_in step old_outcomes.now outcomes.now) }
-{
-    let touched = touched(alloc, old_outcomes, outcomes, known)?;
-    let processes = processes_where(alloc, touched.as_slice())?;
-    add_places(redelivered, step, processes.as_slice())?;
-    counts.deliver(processes.len());
-    let made = wide_deliveries(
-        workers.rt,
-        alloc,
-        outcomes,
-        processes.as_slice(),
-        workers.count,
-        workers.gate,
-    )?;
-    let views = gathered(
-        alloc,
-        tape,
-        table,
-        old_outcomes,
-        old_next,
-        touched.as_slice(),
-        made,
-    )?;
-    let marks = next_marks(alloc, touched.as_slice(), always)?;
-    Ok((views, marks))
 }

@@ -2,6 +2,7 @@
 
 ghost use Rattle.std.specs.Prelude.{◌≡◌, ◌<◌, length, option_map};
 ghost use Rattle.bsp_deliver.specs.Condition.{AreDeliverable};
+ghost use Rattle.bsp_run.specs.Supersteps.{views_at};
 ghost use Rattle.bsp_incr.specs.Before.{taken_before, outcomes_before, delivered_outcomes, views_after};
 
 use bsp_model::{Input, Shared};
@@ -60,6 +61,16 @@ pub fn views_after<'a>(old: Option<&'a Kept>, step: usize) -> &'a [Shared<View>]
         return &[];
     }
     match kept.history.views((step + 1) as u64) {
+        Some(views) => views,
+        None => &[],
+    }
+}
+
+/// What the processes saw in superstep 0.
+pub fn first_views_before(old: &Kept) -> &[Shared<View>]
+    ensures { result.now ≡ views_at old.now.history 0 }
+{
+    match old.history.views(0) {
         Some(views) => views,
         None => &[],
     }

@@ -10,11 +10,14 @@ mod kept;
 mod looking;
 mod marks;
 mod places;
+mod reopening;
+mod replacing;
 mod replies;
 mod reply;
 mod rerun;
 mod reuse;
 mod session;
+mod superstep;
 mod turns;
 mod workers;
 

@@ -38,7 +38,7 @@ fn is_alike_where_looked_at<P: Program>(program: &P, old: &View, new: &View) -> 
     ensures { result ≡ same_where_looked_at (P.looks program.now old.now) old.now.memory new.now.memory }
 {
     for address in 0..old.memory.len() as u64 {
-        if program.looks(old, address) && !is_same_word(old, new, address) {
+        if !is_same_word(old, new, address) && program.looks(old, address) {
             return false;
         }
     }

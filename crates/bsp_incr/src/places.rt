@@ -1,6 +1,6 @@
 //! Processes at which a test holds, and their places.
 
-ghost use Rattle.std.specs.Prelude.{◌≡◌, ◌++◌, IfOk, OnOk, length, false, slice_index_or};
+ghost use Rattle.std.specs.Prelude.{◌≡◌, ◌++◌, IfOk, OnOk, length, false, true, slice_index_or};
 ghost use Rattle.bsp_incr.specs.Changes.{processes_where, places_of};
 
 use crate::Place;
@@ -16,6 +16,17 @@ pub fn processes_where(alloc: Global, answers: &[bool]) -> Result<Vec<usize>, Ou
         if answers[p] {
             processes.push(p)?;
         }
+    }
+    Ok(processes)
+}
+
+/// The numbers of so many processes.
+pub fn all_processes(alloc: Global, count: usize) -> Result<Vec<usize>, OutOfMemory>
+    ensures { IfOk result (λ all. all.items ≡ processes_where count (λ _. true)) }
+{
+    let mut processes = Vec::with_capacity(alloc, count)?;
+    for p in 0..count {
+        processes.push(p)?;
     }
     Ok(processes)
 }

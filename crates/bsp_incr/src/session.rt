@@ -3,12 +3,13 @@
 use crate::counts::Counts;
 use crate::editing::{are_there, edited, refusal_of};
 use crate::kept::Kept;
+use crate::marks::first_marks;
 use crate::rerun::{rerun, rerun_after};
 use crate::workers::Workers;
 use crate::{Edit, EditError, Update};
 use bsp_model::{Input, Seq};
 use bsp_pool::Gate;
-use bsp_run::{History, RunError};
+use bsp_run::{History, RunError, Tape};
 use bsp_step::Program;
 use std::alloc::Global;
 use std::marker::Model;
@@ -65,7 +66,18 @@ impl<P: Program + Drop> Session<P> {
             count: workers,
             gate,
         };
-        let (history, update) = rerun(&workers, alloc, &program, None, &input, &mut Counts::new())?;
+        let tape = Tape::open(alloc, &input)?;
+        let marks = first_marks(alloc, None, &input)?;
+        let (history, update) = rerun(
+            &workers,
+            alloc,
+            &program,
+            None,
+            &input,
+            tape,
+            marks,
+            &mut Counts::new(),
+        )?;
         let kept = Kept { input, history };
         Ok((Session { program, kept }, update))
     }

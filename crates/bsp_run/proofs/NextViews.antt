@@ -4,11 +4,10 @@ use Rattle.bsp_deliver.specs.SyncFault.{next_tag_size}
 use Rattle.std.proofs.lemmas.List.{get_or_default}
 use Rattle.bsp_model.specs.declared.request.Message.{Message}
 use Rattle.bsp_table.specs.declared.area.Area.{Area}
-use Rattle.bsp_step.specs.ViewParts.{ViewParts, IsView}
+use Rattle.bsp_step.specs.ViewParts.{IsView}
 use Rattle.bsp_run.specs.State.{next_state, view_of}
 use Rattle.bsp_run.specs.Run.{Run, after_delivery}
 use Rattle.bsp_run.specs.Opening.{view_with}
-use Rattle.bsp_run.specs.Places.{IsPlaceOf}
 use Rattle.bsp_run.specs.Condition.{IsRun, IsTurned}
 use Rattle.bsp_run.proofs.Conditions.{count_of_outcomes}
 use Rattle.bsp_run.proofs.Phases.{can_open_next, count-next_state, is_turned_run, next_counts, tag-next}
@@ -59,17 +58,3 @@ next_view-within r p nprocs step own memory table tag queue h e next parts =
     let count = count-next_state r.args (length r.past) r.state r.outcomes turned.turns in
     subst IsView (sym (next_view-is r p nprocs step own memory table tag queue h e parts))
     (view_within r.args (length r.past + 1) (next_state r.state r.outcomes) p (can_open_next r next) (next_counts r next) (omega (arith, count, many, parts.known)))
-
--- A view of that place, with the next memory, queue and table, is the next view.
-pub next_view-like : (r : Run) (p : ℕ) (v : ViewParts) → IsPlaceOf r p v → v.memory ≡ get_or (next_state r.state r.outcomes).memories p [] → v.queue ≡ get_or (next_state r.state r.outcomes).queues p [] → v.table ≡ (next_state r.state r.outcomes).table
-    → v ≡ view_of r.args (length r.past + 1) (next_state r.state r.outcomes) p
-next_view-like r p v at memory queue table =
-    λ i. record { nprocs = at.nprocs i; pid = at.pid i; step = at.step i; args = at.args i; memory = memory i; table = table i; tag_size = at.tag_size i; queue = queue i }
-
--- as many processes as there were
-pub count-next : (r : Run) → IsRun r → r.phase ≡ Turned → length (next_state r.state r.outcomes).memories ≡ length r.state.memories
-count-next r h e = count-next_state r.args (length r.past) r.state r.outcomes (is_turned_run r h e).turns
-
--- each process has arguments
-pub known_args : (r : Run) (p : ℕ) → IsRun r → r.phase ≡ Turned → p < length r.outcomes → p < length r.args
-known_args r p h e l = omega (arith, h.same_args, count_of_outcomes r.args (length r.past) r.state r.outcomes (is_turned_run r h e).turns)

@@ -1,7 +1,7 @@
 -- Opening a superstep keeps what a run keeps.
-use Rattle.std.proofs.Common.{◌≡◌, ◌≤◌, ◌+◌, ℕ, List, [], map, length, All, arith, get_or, refl, sym, ap, ◌∙◌, subst}
+use Rattle.std.proofs.Common.{◌≡◌, ◌≤◌, ◌<◌, ◌+◌, ℕ, List, [], map, length, All, arith, get_or, refl, sym, ap, ◌∙◌, subst}
 use Rattle.std.specs.List.{range_with_len}
-use Rattle.std.proofs.lemmas.List.{length-map}
+use Rattle.std.proofs.lemmas.List.{length-map, get_or-map, get_or_default}
 use Rattle.std.proofs.lemmas.List.Elements.{All-map, All-nil}
 use Rattle.std.proofs.lemmas.List.FromFn.{fill_by_all}
 use Rattle.bsp_model.specs.declared.input.Input.{Input}
@@ -15,8 +15,8 @@ use Rattle.bsp_step.specs.OutcomeParts.{OutcomeParts}
 use Rattle.bsp_run.specs.declared.phase.Phase.TheVariants.{Open}
 use Rattle.bsp_run.specs.declared.superstep.Superstep.{Superstep}
 use Rattle.bsp_run.specs.State.{State, first_state, no_messages, view_of, views_of}
-use Rattle.bsp_run.specs.Run.{start}
-use Rattle.bsp_run.specs.Opening.{CanOpen, state_of}
+use Rattle.bsp_run.specs.Run.{start, open_views}
+use Rattle.bsp_run.specs.Opening.{CanOpen, state_of, view_with}
 use Rattle.bsp_run.specs.Condition.{IsState, IsRun}
 use Rattle.bsp_run.proofs.Lists.{map_twice, map_agree, map_same}
 
@@ -92,14 +92,8 @@ first_length : (input : Input) → length (first_state input).memories ≡ lengt
 unfolding first_state
 first_length input = refl
 
-abbrev first_of : List (List ℕ × List Message) → List (List Area) → State
-first_of cells table = state_of cells table 0
-
-first_is : (input : Input) (cells : List (List ℕ × List Message)) (table : List (List Area)) → cells ≡ map (λ m. (m, no_messages m)) input.mems → table ≡ [] → first_of cells table ≡ first_state input
-first_is input cells table ec et = ap (λ xs. first_of xs table) ec ∙ ap (first_of (map (λ m. (m, no_messages m)) input.mems)) et ∙ first_state-cells input
-
-first_count : (input : Input) (cells : List (List ℕ × List Message)) (table : List (List Area)) → IsLawfulInput input → first_of cells table ≡ first_state input → length (first_of cells table).queues ≡ length (first_of cells table).memories
-first_count input cells table h e = subst (λ (s : State). length s.queues ≡ length s.memories) (sym e) (first_state_within input h).same_count
+pub first_is : (input : Input) (cells : List (List ℕ × List Message)) (table : List (List Area)) → cells ≡ map (λ m. (m, no_messages m)) input.mems → table ≡ [] → state_of cells table 0 ≡ first_state input
+first_is input cells table ec et = ap (λ xs. state_of xs table 0) ec ∙ ap (λ slots. state_of (map (λ m. (m, no_messages m)) input.mems) slots 0) et ∙ first_state-cells input
 
 -- the first cells may be opened
 pub can_open_first : (input : Input) (args : List (List ℕ)) (cells : List (List ℕ × List Message)) (table : List (List Area)) → IsLawfulInput input → args ≡ input.args → cells ≡ map (λ m. (m, no_messages m)) input.mems → table ≡ [] → CanOpen args (state_of cells table 0)
@@ -108,19 +102,40 @@ can_open_first input args cells table h ea ec et =
     (subst (λ xs. CanOpen xs (first_state input)) (sym ea)
     (can_open input.args (first_state input) (first_state_within input h) (h.same_count ∙ sym (first_length input)) h.short_arguments))
 
--- the views of the first cells are those of the first state, as it is read off them
-pub views_first : (input : Input) (args : List (List ℕ)) (past : List Superstep) (cells : List (List ℕ × List Message)) (table : List (List Area)) (vs : List ViewParts) → IsLawfulInput input → past ≡ []
-    → cells ≡ map (λ m. (m, no_messages m)) input.mems → table ≡ [] → vs ≡ views_of args 0 (state_of cells table 0) → vs ≡ views_of args (length past) (state_seen vs table 0)
-views_first input args past cells table vs h ep ec et e =
-    e ∙ ap (views_of args 0) (sym (reopened args 0 (first_of cells table) vs e (first_count input cells table h (first_is input cells table ec et))))
-    ∙ ap (λ n. views_of args n (state_seen vs table 0)) (sym (ap length ep))
+-- the parts that an input gives make its first views
+pub first_view-is : (input : Input) (p nprocs : ℕ) (own memory : List ℕ) (queue : List Message) (table : List (List Area)) → IsLawfulInput input → p < length input.mems → nprocs ≡ length input.mems → own ≡ get_or input.args p own → memory ≡ get_or input.mems p memory → queue ≡ [] → table ≡ []
+    → view_with nprocs p 0 own (memory, queue) table 0 ≡ view_of input.args 0 (first_state input) p
+unfolding first_state
+first_view-is input p nprocs own memory queue table h l n a m q t =
+    let args : own ≡ get_or input.args p [] = a ∙ get_or_default input.args p own [] (omega (arith, l, h.same_count)) in
+    let words : memory ≡ get_or input.mems p [] = m ∙ get_or_default input.mems p memory [] l in
+    let messages : queue ≡ get_or (map no_messages input.mems) p [] = q ∙ sym (get_or-map no_messages input.mems p [] [] l) in
+    λ i. record { nprocs = n i; pid = p; step = 0; args = args i; memory = words i; table = t i; tag_size = 0; queue = messages i }
 
--- a tape that was opened is the start of a run
-pub opened_first : (input : Input) (args : List (List ℕ)) (past : List Superstep) (os : List OutcomeParts) (cells : List (List ℕ × List Message)) (table : List (List Area)) (vs : List ViewParts) → IsLawfulInput input → args ≡ input.args → past ≡ [] → os ≡ []
-    → cells ≡ map (λ m. (m, no_messages m)) input.mems → table ≡ [] → vs ≡ views_of args 0 (state_of cells table 0)
+first_counts : (input : Input) → length (first_state input).queues ≡ length (first_state input).memories
+unfolding first_state
+first_counts input = length-map input.mems no_messages
+
+pub started : (input : Input) → open_views (start input) ≡ views_of input.args 0 (first_state input)
+unfolding start
+started input = refl
+
+first_slots : (input : Input) → (first_state input).table ≡ []
+unfolding first_state
+first_slots input = refl
+
+first_tag : (input : Input) → (first_state input).tag_size ≡ 0
+unfolding first_state
+first_tag input = refl
+
+-- a tape that was opened with the first views is the start of a run
+pub opened_as : (input : Input) (args : List (List ℕ)) (past : List Superstep) (os : List OutcomeParts) (table : List (List Area)) (vs : List ViewParts) → IsLawfulInput input → args ≡ map (λ (v : ViewParts). v.args) vs → past ≡ [] → os ≡ []
+    → table ≡ [] → vs ≡ open_views (start input)
     → record { args = args; limit = input.limit; g = input.g; l = input.l; past = past; state = state_seen vs table 0; outcomes = os; phase = Open } ≡ start input
 unfolding start
-opened_first input args past os cells table vs h ea ep eo ec et e =
-    let first = first_is input cells table ec et in
-    let state = reopened args 0 (first_of cells table) vs e (first_count input cells table h first) ∙ first in
-    λ i. record { args = ea i; limit = input.limit; g = input.g; l = input.l; past = ep i; state = state i; outcomes = eo i; phase = Open }
+opened_as input args past os table vs h ea ep eo et e =
+    let views : vs ≡ views_of input.args 0 (first_state input) = e ∙ started input in
+    let own : args ≡ input.args = ea ∙ ap (map (λ (v : ViewParts). v.args)) views ∙ part_of_views (λ (v : ViewParts). v.args) input.args 0 (first_state input) input.args [] (h.same_count ∙ sym (first_length input)) (λ p. refl) in
+    let state : state_seen vs table 0 ≡ first_state input =
+    ap (λ (slots : List (List Area)). state_seen vs slots 0) (et ∙ sym (first_slots input)) ∙ ap (state_seen vs (first_state input).table) (sym (first_tag input)) ∙ reopened input.args 0 (first_state input) vs views (first_counts input) in
+    λ i. record { args = own i; limit = input.limit; g = input.g; l = input.l; past = ep i; state = state i; outcomes = eo i; phase = Open }

@@ -12,4 +12,3 @@ pub mod Supersteps
 pub mod Law
 pub mod Record
 pub mod Shares
-pub mod Places

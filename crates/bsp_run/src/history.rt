@@ -19,7 +19,7 @@ use std::marker::Model;
 #[derive(Drop)]
 pub struct History {
     run: Tape,
-    lines: Seq<Lines>,
+    lines: Seq<Shared<Lines>>,
     costs: Seq<CostRow>,
     total: u64,
 }
@@ -42,10 +42,27 @@ impl Tape {
         requires { is_ended self.phase ≡ true }
         ensures { IfOk result (λ history. history ≡ self) }
     {
+        Ok(self.finish_sharing(&[])?)
+    }
+
+    /// The history of a run that has ended, or `OutOfMemory`. It shares the lines of each process that are the same in another history.
+    pub fn finish_like(self, history: &History) -> Result<History, OutOfMemory>
+        requires { is_ended self.phase ≡ true }
+        ensures { IfOk result (λ history. history ≡ self) }
+    {
+        let lines = &history.lines;
+        Ok(self.finish_sharing(lines.as_slice())?)
+    }
+
+    /// The history of a run that has ended. It shares those of these lines that are the same.
+    fn finish_sharing(self, lines: &[Shared<Lines>]) -> Result<History, OutOfMemory>
+        requires { is_ended self.phase ≡ true }
+        ensures { IfOk result (λ history. history ≡ self) }
+    {
         let alloc = *self.past.allocator();
         let past = self.past.as_slice();
         let last = last_turn(&self.phase, self.outcomes.as_slice());
-        let lines = all_lines(alloc, past, last, self.views.len())?;
+        let lines = all_lines(alloc, lines, past, last, self.views.len())?;
         let costs = all_costs(alloc, self.g, self.l, past, last)?;
         let total = total_of(costs.as_slice());
         Ok(History {
@@ -87,7 +104,8 @@ impl History {
     pub fn lines(&self, pid: u64) -> Option<&Lines>
         ensures { option_map (λ x. x.now) result ≡ slice_get (lines_of self.now) pid }
     {
-        self.lines.as_slice().get(pid as usize)
+        let lines = self.lines.as_slice().get(pid as usize)?;
+        Some(lines)
     }
 
     /// The cost of each superstep.
@@ -216,6 +234,18 @@ impl History {
         }
     }
 
+    /// The lines of all processes.
+    fn all_lines(&self) -> Result<Seq<Lines>, OutOfMemory>
+        ensures { IfOk result (λ all. all ≡ lines_of self.now) }
+    {
+        let mut all = Seq::new(self.lines.allocator());
+        for lines in self.lines.as_slice() {
+            let lines: &Lines = lines;
+            all.push(lines.copy()?)?;
+        }
+        Ok(all)
+    }
+
     /// What the run gives to its user, or `OutOfMemory`.
     #[tactic(auto, unfolding(crate::specs::Result::result_of))]
     pub fn result(&self) -> Result<RunResult, OutOfMemory>
@@ -224,7 +254,7 @@ impl History {
         Ok(RunResult {
             status: self.status().copy()?,
             memories: self.memories()?,
-            lines: self.lines.copy()?,
+            lines: self.all_lines()?,
             costs: self.costs.copy()?,
             total: self.total,
         })

@@ -18,6 +18,7 @@ mod wide;
 mod works;
 
 pub use history::History;
+pub use opening::first_view;
 pub use phase::Phase;
 pub use plain::run_plain;
 pub use result::{Lines, ProcessFault, RunError, RunResult, Status};

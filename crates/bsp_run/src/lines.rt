@@ -1,22 +1,30 @@
 //! The lines of a run.
 
-ghost use Rattle.std.specs.Prelude.{◌≡◌, ◌++◌, map, option_map, IfOk, OnOk};
+ghost use Rattle.std.specs.Prelude.{◌≡◌, ◌+◌, ◌≤◌, ◌++◌, length, map, option_map, take, true, IfOk, OnOk};
 ghost use Rattle.bsp_deliver.specs.Requests.{each_below, outcome_of};
 ghost use Rattle.bsp_run.specs.Result.{lines_of_process, turns_in};
 
 use crate::{Lines, Superstep};
-use bsp_model::{OutOfMemory, Seq, Shared, TryCopy};
+use bsp_model::{OutOfMemory, Same, Seq, Shared, TryCopy, Words};
 use bsp_step::Outcome;
 use std::alloc::Global;
 
+/// The lines of a process in one superstep.
+fn lines_in<'a>(outcomes: &'a [Shared<Outcome>], pid: usize) -> &'a [Words]
+    ensures { result.now ≡ (outcome_of outcomes.now pid).lines }
+{
+    match outcomes.get(pid) {
+        Some(outcome) => outcome.lines.as_slice(),
+        None => &[],
+    }
+}
+
 /// The lines of a process in one superstep, at the end of the others.
+#[inline]
 fn add_lines(lines: &mut Lines, outcomes: &[Shared<Outcome>], pid: usize) -> Result<(), OutOfMemory>
     ensures { OnOk result (lines.new ≡ lines.old ++ (outcome_of outcomes.now pid).lines) }
 {
-    let Some(outcome) = outcomes.get(pid) else {
-        return Ok(());
-    };
-    for line in outcome.lines.as_slice() {
+    for line in lines_in(outcomes, pid) {
         lines.push(line.copy()?)?;
     }
     Ok(())
@@ -49,19 +57,81 @@ fn lines_of_run(
     Ok(lines)
 }
 
-/// The lines of each process.
+/// Whether more lines stand in a list from a place on.
+fn stand_at(lines: &[Words], at: usize, more: &[Words]) -> bool
+    requires { at ≤ length lines.now }
+    ensures inside { result ≡ true → at + length more.now ≤ length lines.now }
+    ensures same { result ≡ true → take (at + length more.now) lines.now ≡ take at lines.now ++ more.now }
+{
+    if more.len() > lines.len() - at {
+        return false;
+    }
+    for place in 0..more.len() {
+        if !lines[at + place].same(&more[place]) {
+            return false;
+        }
+    }
+    true
+}
+
+/// Whether these are the lines of a process. It takes no memory.
+fn are_lines_of(
+    lines: &[Words],
+    past: &[Superstep],
+    last: Option<&[Shared<Outcome>]>,
+    pid: usize,
+) -> bool
+    ensures { result ≡ true → lines.now ≡ lines_of_process (map (λ s. s.outcomes) past.now ++ turns_in (option_map (λ o. o.now) last.entry)) pid }
+{
+    let mut at = 0;
+    for superstep in past {
+        let printed = lines_in(superstep.outcomes.as_slice(), pid);
+        if !stand_at(lines, at, printed) {
+            return false;
+        }
+        at += printed.len();
+    }
+    match last {
+        Some(outcomes) => {
+            let printed = lines_in(outcomes, pid);
+            stand_at(lines, at, printed) && at + printed.len() == lines.len()
+        }
+        None => at == lines.len(),
+    }
+}
+
+/// The lines of a process: those of another run, which it shares, if they are the same.
+fn shared_lines(
+    alloc: Global,
+    before: Option<&Shared<Lines>>,
+    past: &[Superstep],
+    last: Option<&[Shared<Outcome>]>,
+    pid: usize,
+) -> Result<Shared<Lines>, OutOfMemory>
+    ensures { IfOk result (λ lines. lines ≡ lines_of_process (map (λ s. s.outcomes) past.now ++ turns_in (option_map (λ o. o.now) last.entry)) pid) }
+{
+    if let Some(lines) = before {
+        if are_lines_of(lines.as_slice(), past, last, pid) {
+            return lines.copy();
+        }
+    }
+    Ok(Shared::new(alloc, lines_of_run(alloc, past, last, pid)?)?)
+}
+
+/// The lines of each process. Those that are the same as in `before` are shared.
 #[tactic(auto, using(crate::proofs::Lists::each_below_more))]
 pub fn all_lines(
     alloc: Global,
+    before: &[Shared<Lines>],
     past: &[Superstep],
     last: Option<&[Shared<Outcome>]>,
     nprocs: usize,
-) -> Result<Seq<Lines>, OutOfMemory>
+) -> Result<Seq<Shared<Lines>>, OutOfMemory>
     ensures { IfOk result (λ all. all ≡ each_below nprocs (lines_of_process (map (λ s. s.outcomes) past.now ++ turns_in (option_map (λ o. o.now) last.entry)))) }
 {
-    let mut all = Seq::new(alloc);
+    let mut all = Seq::with_capacity(alloc, nprocs)?;
     for pid in 0..nprocs {
-        all.push(lines_of_run(alloc, past, last, pid)?)?;
+        all.push(shared_lines(alloc, before.get(pid), past, last, pid)?)?;
     }
     Ok(all)
 }

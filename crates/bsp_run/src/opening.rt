@@ -1,13 +1,14 @@
 //! Opening a superstep.
 
-ghost use Rattle.std.specs.Prelude.{◌≡◌, map, IfOk};
+ghost use Rattle.std.specs.Prelude.{◌≡◌, ◌<◌, length, map, IfOk, None};
+ghost use Rattle.bsp_model.specs.Input.{input_fault};
 ghost use Rattle.bsp_step.specs.ViewParts.{IsView};
-ghost use Rattle.bsp_run.specs.State.{views_of, no_messages};
+ghost use Rattle.bsp_run.specs.State.{first_state, view_of, views_of, no_messages};
 ghost use Rattle.bsp_run.specs.Opening.{CanOpen, state_of, view_with};
 
 use crate::Views;
 use crate::taking::take_next;
-use bsp_model::{Memory, OutOfMemory, Seq, Shared, SharedSeq, TryCopy, Words};
+use bsp_model::{Input, Memory, OutOfMemory, Seq, Shared, SharedSeq, TryCopy, Words};
 use bsp_step::{Queue, View};
 use bsp_table::Table;
 use std::alloc::Global;
@@ -60,6 +61,31 @@ pub fn view_at(
         tag_size,
         queue,
     })
+}
+
+/// What a process sees in the first superstep of a lawful input.
+pub fn first_view(alloc: Global, input: &Input, pid: usize) -> Result<Shared<View>, OutOfMemory>
+    requires lawful { input_fault input.now ≡ None }
+    requires known { pid < length input.now.mems }
+    ensures { IfOk result (λ view. view ≡ view_of input.now.args 0 (first_state input.now) pid) }
+{
+    let nprocs = input.mems.len();
+    let table = Table::new(alloc, nprocs)?;
+    let args = input.args.as_slice()[pid].copy()?.share()?;
+    let memory = input.mems.as_slice()[pid].copy()?;
+    let view = view_at(nprocs, pid, 0, &args, (memory, Queue::new()), &table, 0)?;
+    Ok(Shared::new(alloc, view)?)
+}
+
+/// The arguments that the processes see.
+pub fn args_of(alloc: Global, views: &[Shared<View>]) -> Result<Seq<SharedSeq<u64>>, OutOfMemory>
+    ensures { IfOk result (λ args. args ≡ map (λ v. v.args) views.now) }
+{
+    let mut args = Seq::with_capacity(alloc, views.len())?;
+    for view in views {
+        args.push(view.args.copy()?)?;
+    }
+    Ok(args)
 }
 
 /// What the processes may see in a superstep.

@@ -9,14 +9,13 @@ ghost use Rattle.bsp_run.specs.Shown.{views_shown, outcomes_shown};
 ghost use Rattle.bsp_run.specs.State.{next_state, view_of, views_of};
 ghost use Rattle.bsp_run.specs.Condition.{AreOutcomesOf, IsNextTable, deliveries_of, is_turned, is_open};
 ghost use Rattle.bsp_run.specs.RunErrors.{input_fault_of};
-ghost use Rattle.bsp_run.specs.Places.{IsPlaceOf};
 
 use crate::ending::end_of;
 use crate::keeping::{keep_superstep, next_table, phase_after, phase_at};
-use crate::opening::{first_cells, open_views, shared_args, view_at};
+use crate::opening::{args_of, first_cells, open_views, shared_args, view_at};
 use crate::{Outcomes, Phase, RunError, Status, Superstep, Views};
 use bsp_deliver::next_tag_size;
-use bsp_model::{Input, Memory, OutOfMemory, Same, Seq, Shared, SharedSeq, TryCopy};
+use bsp_model::{Input, Memory, OutOfMemory, Seq, Shared, SharedSeq};
 use bsp_step::{Outcome, Queue, View};
 use bsp_table::Table;
 use std::alloc::Global;
@@ -70,6 +69,18 @@ impl Tape {
         let cells = first_cells(alloc, input.mems.as_slice())?;
         let table = Table::new(alloc, cells.len())?;
         let views = open_views(alloc, args.as_slice(), 0, cells, &table, 0)?;
+        Ok(Tape::open_as(alloc, input, views)?)
+    }
+
+    /// The same, where the views of superstep 0 are given.
+    pub fn open_as(alloc: Global, input: &Input, views: Views) -> Result<Tape, RunError>
+        requires { views ≡ open_views (start input.now) }
+        ensures ok { IfOk result (λ tape. (input_fault input.now ≡ None) × (tape ≡ start input.now)) }
+        ensures input { IfErr result (λ e. input_fault input.now ≡ input_fault_of e) }
+    {
+        checked(input)?;
+        let args = args_of(alloc, views.as_slice())?;
+        let table = Table::new(alloc, input.mems.len())?;
         Ok(Tape {
             args,
             limit: input.limit,
@@ -176,48 +187,6 @@ impl Tape {
         let args = &self.args.as_slice()[pid];
         let view = view_at(nprocs, pid, step, args, (memory, queue), table, tag_size)?;
         Ok(Shared::new(alloc, view)?)
-    }
-
-    /// The view of a process in the next superstep, where it is given one that has its next memory and queue: that view, if all of it is the same.
-    /// `same_table` tells that the table is.
-    pub fn next_view_like(
-        &self,
-        table: &Table,
-        pid: usize,
-        view: &Shared<View>,
-        same_table: bool,
-    ) -> Result<Shared<View>, OutOfMemory>
-        requires turned { self.now.phase ≡ Phase.Turned }
-        requires known { pid < length self.now.outcomes }
-        requires table { table.now ≡ (next_state self.now.state self.now.outcomes).table }
-        requires limits { IsNextTable (length self.now.outcomes) (map (λ o. length o.memory) self.now.outcomes) table.now }
-        requires memory { view.now.memory ≡ slice_index_or (next_state self.now.state self.now.outcomes).memories pid [] }
-        requires queue { view.now.queue ≡ slice_index_or (next_state self.now.state self.now.outcomes).queues pid [] }
-        requires same_table { same_table ≡ true → view.now.table ≡ table.now }
-        ensures { IfOk result (λ v. v ≡ view_of self.now.args (length self.now.past + 1) (next_state self.now.state self.now.outcomes) pid) }
-    {
-        if same_table && self.is_place_of(pid, view) {
-            return view.copy();
-        }
-        self.next_view(table, pid, view.memory.copy()?, view.queue.copy()?)
-    }
-
-    /// Whether a view is of this process in the next superstep, with its arguments and the tag size of then.
-    fn is_place_of(&self, pid: usize, view: &View) -> bool
-        requires turned { self.now.phase ≡ Phase.Turned }
-        requires known { pid < length self.now.outcomes }
-        ensures { result ≡ true → IsPlaceOf self.now pid view.now }
-    {
-        let nprocs = self.views.len() as u64;
-        let step = self.past.len() as u64 + 1;
-        let tag_size = next_tag_size(self.tag_size, self.outcomes.as_slice());
-        if view.nprocs != nprocs || view.pid != pid as u64 {
-            return false;
-        }
-        if view.step != step || view.tag_size != tag_size {
-            return false;
-        }
-        view.args.same(&self.args.as_slice()[pid])
     }
 
     /// Takes the next memory and queue of each process. True where the next superstep opens; else the limit has ended the run.

@@ -3,10 +3,10 @@ use Rattle.std.proofs.lemmas.Bool.{false≢true}
 use Rattle.bsp_step.specs.ViewParts.{ViewParts}
 use Rattle.bsp_incr.proofs.Serving.{Decides-where_looked_at, not_where_looked_at}
 use Rattle.bsp_incr.proofs.looking.is_alike_where_looked_at.Goals as goal
-use Rattle.bsp_incr.proofs.looking.is_alike_where_looked_at.Goals.{else-looks-via-then-looks+else-not-is_same_word, else-looks-via-else-looks}
+use Rattle.bsp_incr.proofs.looking.is_alike_where_looked_at.Goals.{else-not-is_same_word-via-then-not-is_same_word+else-looks, else-not-is_same_word-via-else-not-is_same_word}
 
-pub returns-then-not-is_same_word : goal.returns-then-not-is_same_word
-returns-then-not-is_same_word g c =
+pub returns-then-looks : goal.returns-then-looks
+returns-then-looks g c =
     let long : c.len-address-end.result ≡ length c.args.old.now.memory = c.len-address-end.ensures ∙ ap (λ (v : ViewParts). length v.memory) c.old.view_is in
     not_where_looked_at (g.P.Program.looks c.args.program.now c.args.old.now) c.args.old.now.memory c.args.new.now.memory c.loop-address.address c.is_same_word.result (omega (arith, c.loop-address-test.true)) (sym c.looks.ensures ∙ c.if-looks.true) c.is_same_word.ensures c.if-not-is_same_word.true
 
@@ -18,7 +18,7 @@ returns g c =
 pub loop-address-preserved : goal.loop-address-preserved
 loop-address-preserved g c =
     below_more _ _ c.loop-address.invariant
-    (λ h. elim c.else-looks.branch [
-      | else-looks-via-then-looks+else-not-is_same_word w ↦ w.is_same_word.ensures.0 w.if-not-is_same_word.false
-      | else-looks-via-else-looks w ↦ absurd (false≢true (sym w.if-looks.false ∙ c.looks.ensures ∙ h))
+    (λ h. elim c.else-not-is_same_word.branch [
+      | else-not-is_same_word-via-then-not-is_same_word+else-looks w ↦ absurd (false≢true (sym w.if-looks.false ∙ w.looks.ensures ∙ h))
+      | else-not-is_same_word-via-else-not-is_same_word w ↦ c.is_same_word.ensures.0 w.if-not-is_same_word.false
     ])

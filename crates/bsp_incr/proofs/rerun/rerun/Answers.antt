@@ -1,4 +1,4 @@
-use Rattle.std.proofs.Common.{◌≡◌, ◌+◌, ◌-◌, ◌∙◌, ℕ, suc, ap, sym, subst, arith, Option}
+use Rattle.std.proofs.Common.{◌≡◌, ◌+◌, ◌-◌, ◌∙◌, ℕ, Bool, false, List, suc, length, get_or, ap, sym, subst, arith, Option}
 use Rattle.std.specs.Prelude.{option_map}
 use Rattle.bsp_model.specs.declared.input.Input.{Input}
 use Rattle.bsp_model.proofs.Inputs.{lawful_input}
@@ -6,7 +6,7 @@ use Rattle.bsp_step.specs.Turn.{turn_of}
 use Rattle.bsp_run.specs.Run.{Run, start, advance, times, run}
 use Rattle.bsp_run.proofs.Runs.{IsBetween, start-between, advance-between, ended-between, times_more}
 use Rattle.bsp_incr.specs.declared.kept.Kept.{Kept}
-use Rattle.bsp_incr.specs.Changes.{IsUpdate}
+use Rattle.bsp_incr.specs.Changes.{IsUpdate, processes_where}
 use Rattle.bsp_incr.specs.Before.{run_before}
 use Rattle.bsp_incr.proofs.Remaking.{under_way_start, before_is}
 use Rattle.bsp_incr.proofs.rerun.rerun.Goals as goal
@@ -19,11 +19,11 @@ loop-step-init g c =
     let input : Input = c.args.input.now in
     let old : Option Kept = option_map (λ k. k.now) c.args.old in
     let all : input.limit - 0 ≡ input.limit = omega arith in
-    let opened = c.in_ok-tape.ensures.ok.1 in
+    let opened = c.requires.open in
     record {
-      rest = ap (λ n. times n f c.in_ok-tape.tape) all ∙ ap (times input.limit f) opened;
-      between = subst (IsBetween (input.limit - 0)) (sym opened) (subst (λ n. IsBetween n (start input)) (sym all) (start-between input (lawful_input input c.in_ok-tape.ensures.ok.0).some_superstep));
-      under_way = under_way_start turn (g.P.Program.looks c.args.program.now) old input c.in_ok-tape.tape c.in_ok-marks.marks.items record { executed = c.new.result; redelivered = c.new-2.result } opened (lawful_input input c.in_ok-tape.ensures.ok.0).some_superstep (before_is turn input old c.requires.before) c.in_ok-marks.ensures c.new.ensures c.new-2.ensures;
+      rest = ap (λ n. times n f c.args.tape) all ∙ ap (times input.limit f) opened;
+      between = subst (IsBetween (input.limit - 0)) (sym opened) (subst (λ n. IsBetween n (start input)) (sym all) (start-between input (lawful_input input c.requires.lawful).some_superstep));
+      under_way = under_way_start turn (g.P.Program.looks c.args.program.now) old input c.args.tape c.args.marks.items record { executed = c.new.result; redelivered = c.new-2.result } opened (lawful_input input c.requires.lawful).some_superstep (before_is turn input old c.requires.before) c.requires.marks c.new.ensures c.new-2.ensures;
     }
 
 pub loop-step-preserved : goal.loop-step-preserved
@@ -38,8 +38,8 @@ loop-step-preserved g c =
       under_way = c.in_ok-advance.ensures.under_way;
     }
 
-pub finish-requires : goal.finish-requires
-finish-requires g c =
+pub finished-requires : goal.finished-requires
+finished-requires g c =
     let none : c.args.input.now.limit - c.loop-step._step ≡ 0 = omega (arith, c.loop-step-test.false) in
     ended-between c.loop-step.tape (subst (λ n. IsBetween n c.loop-step.tape) none c.loop-step.invariant.between)
 
@@ -56,3 +56,8 @@ returns-clause-update g c =
 pub advance-requires-clause-before : goal.advance-requires-clause-before
 advance-requires-clause-before g c κs within =
     before_is (turn_of (g.P.Program.acts c.args.program.now) (g.P.Program.ending c.args.program.now)) c.args.input.now (option_map (λ k. k.now) c.args.old) c.requires.before
+
+pub advance-requires-clause-other_args : goal.advance-requires-clause-other_args
+advance-requires-clause-other_args g c κs within =
+    c.as_slice-in-loop-step-2.ensures.value ∙ c.in_ok-other_args.ensures
+    ∙ ap (λ (bs : List Bool). processes_where (length bs) (λ p. get_or bs p false)) (c.as_slice.ensures.value ∙ sym c.as_slice-in-loop-step.ensures.value)

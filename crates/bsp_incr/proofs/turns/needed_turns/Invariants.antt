@@ -1,7 +1,10 @@
-use Rattle.std.proofs.Common.{◌≡◌}
-use Rattle.bsp_deliver.specs.Requests.{each_below}
+use Rattle.std.proofs.Common.{◌≡◌, take, not}
+use Rattle.std.specs.Prelude.{filter}
 use Rattle.bsp_incr.specs.Changes.{differs}
 use Rattle.bsp_incr.proofs.turns.needed_turns.Given as goal
 
-abbrev pub invariant-loop-p : goal.invariant-loop-p
-invariant-loop-p g l = l.needed.items ≡ each_below l.p (differs (g.P.Program.looks l.program) l.old_views l.views)
+abbrev pub invariant-loop-process : goal.invariant-loop-process
+invariant-loop-process g l = record {
+  needed : l.needed.items ≡ filter (differs (g.P.Program.looks l.program) l.old_views l.views) (take l.process-index l.processes);
+  served : l.served.items ≡ filter (λ p. not (differs (g.P.Program.looks l.program) l.old_views l.views p)) (take l.process-index l.processes);
+}

@@ -3,13 +3,8 @@ use Rattle.std.proofs.lemmas.List.{get_or_default}
 use Rattle.bsp_step.specs.ViewParts.{ViewParts}
 use Rattle.bsp_run.specs.Condition.{no_view}
 use Rattle.bsp_incr.specs.Reuse.{serves}
-use Rattle.bsp_incr.proofs.Retaking.{differs-some, differs-same, differs-none}
+use Rattle.bsp_incr.proofs.Retaking.{differs-some, differs-none}
 use Rattle.bsp_incr.proofs.turns.needs_turn.Goals as goal
-
-pub returns-then-known : goal.returns-then-known
-returns-then-known g c =
-    let seen = c.requires.known c.if-known.true in
-    sym (differs-same (g.P.Program.looks c.args.program.now) c.args.old_views.now c.args.views.now c.args.p seen.0 seen.1)
 
 pub returns-then-p-old_views : goal.returns-then-p-old_views
 returns-then-p-old_views g c = sym (differs-none (g.P.Program.looks c.args.program.now) c.args.old_views.now c.args.views.now c.args.p (omega arith))
@@ -20,6 +15,6 @@ returns g c =
     let old = c.args.old_views.now in let new = c.args.views.now in let p = c.args.p in
     let here : p < length old = omega arith in
     let v = c.deref.ensures ∙ c.index-old_views-p.is ∙ get_or_default old p c.index-old_views-p.result no_view here in
-    let w = c.deref-2.ensures ∙ c.index-views-p.is ∙ get_or_default new p c.index-views-p.result no_view c.requires.place in
+    let w = c.deref-2.ensures ∙ c.index-views-p.is ∙ get_or_default new p c.index-views-p.result no_view c.requires in
     let test = c.serves.ensures ∙ ap (λ (x : ViewParts). serves looks x c.deref-2.result.now) v ∙ ap (serves looks (get_or old p no_view)) w in
     ap not test ∙ sym (differs-some looks old new p here)

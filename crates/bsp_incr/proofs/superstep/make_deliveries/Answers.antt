@@ -1,0 +1,65 @@
+use Rattle.std.proofs.Common.{◌<◌, ◌∙◌, ◌++◌, ℕ, Bool, true, false, Option, List, All, ap, sym, subst, length, get_or}
+use Rattle.std.specs.Prelude.{option_map, ◌||◌}
+use Rattle.std.proofs.lemmas.List.FromFn.{length-map-range_with_len}
+use Rattle.bsp_step.specs.OutcomeParts.{OutcomeParts}
+use Rattle.bsp_run.specs.Run.{Run}
+use Rattle.bsp_run.proofs.Runs.{outcomes_shown-turned}
+use Rattle.bsp_incr.specs.declared.kept.Kept.{Kept}
+use Rattle.bsp_incr.specs.Changes.{is_touched, processes_where, places_of}
+use Rattle.bsp_incr.specs.Before.{delivered_outcomes}
+use Rattle.bsp_incr.proofs.Gathering.{processes_where-each_below, listed_below, answers_with}
+use Rattle.bsp_incr.proofs.Carrying.{touched_of}
+use Rattle.bsp_incr.proofs.superstep.make_deliveries.Goals as goal
+
+pub wide_deliveries-requires-clause-processes : goal.wide_deliveries-requires-clause-processes
+wide_deliveries-requires-clause-processes g c κs within =
+    let old : Option Kept = option_map (λ k. k.now) c.args.old in
+    let r : Run = c.args.tape.now in
+    let before = c.delivered_outcomes.ensures.outcomes ∙ ap (delivered_outcomes old) c.step-step.ensures in
+    let now = c.outcomes.ensures.outcomes ∙ outcomes_shown-turned r c.requires.turned in
+    let answers = c.in_ok-touched.touched.items in
+    let is = touched_of c.delivered_outcomes.result.now (delivered_outcomes old (length r.past)) c.outcomes.result.now r.outcomes answers before now c.in_ok-touched.ensures in
+    let now_again = c.outcomes-2.ensures.outcomes ∙ outcomes_shown-turned r c.requires.turned in
+    subst (λ (os : List OutcomeParts). All (λ p. p < length os) c.as_slice-3.result.now) (sym now_again)
+    (listed_below (length r.outcomes) (is_touched (delivered_outcomes old (length r.past)) r.outcomes) c.as_slice-3.result.now (c.as_slice-3.ensures.value ∙ c.in_ok-processes.ensures ∙ ap (λ (bs : List Bool). processes_where (length bs) (λ p. get_or bs p false)) c.as_slice.ensures.value ∙ processes_where-each_below (length r.outcomes) (is_touched (delivered_outcomes old (length r.past)) r.outcomes) answers is))
+
+pub open_next-requires-clause-touched : goal.open_next-requires-clause-touched
+open_next-requires-clause-touched g c =
+    let old : Option Kept = option_map (λ k. k.now) c.args.old in
+    let r : Run = c.args.tape.now in
+    let before = c.delivered_outcomes.ensures.outcomes ∙ ap (delivered_outcomes old) c.step-step.ensures in
+    let now = c.outcomes.ensures.outcomes ∙ outcomes_shown-turned r c.requires.turned in
+    let answers = c.in_ok-touched.touched.items in
+    let is = touched_of c.delivered_outcomes.result.now (delivered_outcomes old (length r.past)) c.outcomes.result.now r.outcomes answers before now c.in_ok-touched.ensures in
+    c.as_slice-4.ensures.value ∙ c.in_ok-processes.ensures ∙ ap (λ (bs : List Bool). processes_where (length bs) (λ p. get_or bs p false)) c.as_slice.ensures.value ∙ processes_where-each_below (length r.outcomes) (is_touched (delivered_outcomes old (length r.past)) r.outcomes) answers is
+
+pub next_marks-requires : goal.next_marks-requires
+next_marks-requires g c =
+    let old : Option Kept = option_map (λ k. k.now) c.args.old in
+    let r : Run = c.args.tape.now in
+    let before = c.delivered_outcomes.ensures.outcomes ∙ ap (delivered_outcomes old) c.step-step.ensures in
+    let now = c.outcomes.ensures.outcomes ∙ outcomes_shown-turned r c.requires.turned in
+    let answers = c.in_ok-touched.touched.items in
+    let is = touched_of c.delivered_outcomes.result.now (delivered_outcomes old (length r.past)) c.outcomes.result.now r.outcomes answers before now c.in_ok-touched.ensures in
+    c.requires.always ∙ sym (ap (λ (bs : List Bool). length bs) (c.as_slice-5.ensures.value ∙ is) ∙ length-map-range_with_len (is_touched (delivered_outcomes old (length r.past)) r.outcomes) 0 (length r.outcomes))
+
+pub returns-clause-marks : goal.returns-clause-marks
+returns-clause-marks g c =
+    let old : Option Kept = option_map (λ k. k.now) c.args.old in
+    let r : Run = c.args.tape.now in
+    let before = c.delivered_outcomes.ensures.outcomes ∙ ap (delivered_outcomes old) c.step-step.ensures in
+    let now = c.outcomes.ensures.outcomes ∙ outcomes_shown-turned r c.requires.turned in
+    let answers = c.in_ok-touched.touched.items in
+    let is = touched_of c.delivered_outcomes.result.now (delivered_outcomes old (length r.past)) c.outcomes.result.now r.outcomes answers before now c.in_ok-touched.ensures in
+    c.in_ok-marks.ensures ∙ answers_with (length r.outcomes) (is_touched (delivered_outcomes old (length r.past)) r.outcomes) c.as_slice-5.result.now (λ b d. b || get_or c.args.always.now d true) (c.as_slice-5.ensures.value ∙ is)
+
+pub returns-clause-redelivered : goal.returns-clause-redelivered
+returns-clause-redelivered g c =
+    let old : Option Kept = option_map (λ k. k.now) c.args.old in
+    let r : Run = c.args.tape.now in
+    let before = c.delivered_outcomes.ensures.outcomes ∙ ap (delivered_outcomes old) c.step-step.ensures in
+    let now = c.outcomes.ensures.outcomes ∙ outcomes_shown-turned r c.requires.turned in
+    let answers = c.in_ok-touched.touched.items in
+    let is = touched_of c.delivered_outcomes.result.now (delivered_outcomes old (length r.past)) c.outcomes.result.now r.outcomes answers before now c.in_ok-touched.ensures in
+    c.in_ok-add_places.ensures ∙ ap (λ n. c.args.redelivered.now ++ places_of n c.as_slice-2.result.now) c.step-step.ensures
+    ∙ ap (λ (ks : List ℕ). c.args.redelivered.now ++ places_of (length r.past) ks) (c.as_slice-2.ensures.value ∙ c.in_ok-processes.ensures ∙ ap (λ (bs : List Bool). processes_where (length bs) (λ p. get_or bs p false)) c.as_slice.ensures.value ∙ processes_where-each_below (length r.outcomes) (is_touched (delivered_outcomes old (length r.past)) r.outcomes) answers is)

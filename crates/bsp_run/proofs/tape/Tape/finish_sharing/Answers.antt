@@ -1,0 +1,42 @@
+use Rattle.std.proofs.Common.{◌≡◌, ◌∙◌, ap, sym, length, map, List, ◌++◌, cond, Option, None, Some}
+use Rattle.std.specs.Prelude.{option_map}
+use Rattle.std.proofs.lemmas.List.{length-map}
+use Rattle.bsp_model.specs.declared.cost.CostRow.{CostRow}
+use Rattle.bsp_step.specs.ViewParts.{ViewParts}
+use Rattle.bsp_step.specs.OutcomeParts.{OutcomeParts}
+use Rattle.bsp_deliver.specs.Requests.{each_below}
+use Rattle.bsp_run.specs.declared.superstep.Superstep.{Superstep}
+use Rattle.bsp_run.specs.Run.{Run, is_limit}
+use Rattle.bsp_run.specs.TapeInside.{run_of}
+use Rattle.bsp_run.specs.Result.{lines_of, lines_of_process, costs_of, cost_of_delivery, cost_of_end, total_of, turns_in, last_turn}
+use Rattle.bsp_run.proofs.tape.Tape.finish_sharing.Goals as goal
+
+last_is : (c : goal.After-total_of-total) → option_map (λ o. o.now) c.last_turn-last.result ≡ last_turn (run_of c.self.inside)
+last_is c = c.last_turn-last.ensures ∙ ap (λ (os : List OutcomeParts). cond (is_limit c.self.inside.phase) None (Some os)) c.as_slice.ensures
+
+lines_are : (c : goal.After-total_of-total) → c.in_ok-lines.lines ≡ lines_of (run_of c.self.inside)
+unfolding lines_of
+lines_are c =
+    let r : Run = run_of c.self.inside in
+    let turns : List Superstep → Option (List OutcomeParts) → List (List OutcomeParts) = λ past last. map (λ (s : Superstep). s.outcomes) past ++ turns_in last in
+    c.in_ok-lines.ensures
+    ∙ ap (λ n. each_below n (lines_of_process (turns c.as_slice-past.result.now (option_map (λ o. o.now) c.last_turn-last.result)))) (c.len.ensures ∙ sym (length-map c.self.inside.views (λ (v : ViewParts). v.memory)))
+    ∙ ap (λ (past : List Superstep). each_below (length r.state.memories) (lines_of_process (turns past (option_map (λ o. o.now) c.last_turn-last.result)))) c.as_slice-past.ensures.value
+    ∙ ap (λ (last : Option (List OutcomeParts)). each_below (length r.state.memories) (lines_of_process (turns r.past last))) (last_is c)
+
+costs_are : (c : goal.After-total_of-total) → c.in_ok-costs.costs ≡ costs_of (run_of c.self.inside)
+unfolding costs_of
+costs_are c =
+    let r : Run = run_of c.self.inside in
+    let rows : List Superstep → Option (List OutcomeParts) → List CostRow = λ past last. map (cost_of_delivery r.g r.l) (map (λ (s : Superstep). s.outcomes) past) ++ map cost_of_end (turns_in last) in
+    c.in_ok-costs.ensures.rows
+    ∙ ap (λ (past : List Superstep). rows past (option_map (λ o. o.now) c.last_turn-last.result)) c.as_slice-past.ensures.value
+    ∙ ap (rows r.past) (last_is c)
+
+pub invariant_of-result : goal.invariant_of-result
+invariant_of-result c = record {
+  ended = c.requires;
+  lines = lines_are c ∙ ap lines_of c.self.view_is;
+  costs = costs_are c ∙ ap costs_of c.self.view_is;
+  total = c.total_of-total.ensures ∙ ap total_of c.as_slice-2.ensures ∙ ap total_of (costs_are c ∙ ap costs_of c.self.view_is);
+}
