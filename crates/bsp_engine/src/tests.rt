@@ -1,9 +1,7 @@
-//! What no clause says and no document shows: that calls succeed, failing readers and writers, and the text of replies that no bundled program has.
+//! What no clause says and no document shows: failing readers and writers, words that are taken, and workers that meet.
 
 mod bundled;
-mod documents;
 mod failing;
 mod failures;
 mod options;
-mod reports;
 mod workers;

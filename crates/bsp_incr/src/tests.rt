@@ -1,10 +1,7 @@
-//! Tests of sessions.
+//! What updates of sessions do again.
 
 mod counting;
 mod inputs;
-mod openings;
 mod programs;
-mod refusals;
-mod replies;
 mod sums;
 mod updates;

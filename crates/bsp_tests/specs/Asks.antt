@@ -6,10 +6,10 @@ use Rattle.bsp_model.specs.declared.fault.End.TheVariants.{Sync, Halt}
 use Rattle.bsp_step.specs.ViewParts.{ViewParts}
 use Rattle.bsp_step.specs.Context.{Context, fresh}
 use Rattle.bsp_step.specs.Queue.{first_words}
-use Rattle.bsp_step.specs.Act.{Act, set_tagsize, move_into, send, print}
+use Rattle.bsp_step.specs.Act.{Act, store, push_reg, pop_reg, set_tagsize, move_into, send, print}
 use Rattle.bsp_step.specs.Perform.{perform_all}
 use Rattle.bsp_tests.specs.declared.asks.Ask.{Ask}
-use Rattle.bsp_tests.specs.declared.asks.Ask.TheVariants.{SetTagsize, MoveInto, Send}
+use Rattle.bsp_tests.specs.declared.asks.Ask.TheVariants.{SetTagsize, MoveInto, Send, Store, PushReg, PopReg}
 use Rattle.bsp_tests.specs.declared.asks.Asks.{Asks}
 
 -- how many words of the first message a buffer of two takes
@@ -25,6 +25,9 @@ abbrev pub acts_of : Context → Ask → List Act
 acts_of c (SetTagsize size) = set_tagsize size ∷ print (c.view.tag_size ∷ []) ∷ []
 acts_of c MoveInto = move_into 2 ∷ print (count_moved c ∷ buffer_moved c) ∷ []
 acts_of c (Send tag words) = send 0 tag.now words.now ∷ []
+acts_of c (Store address value) = store address value ∷ []
+acts_of c (PushReg start len) = push_reg start len ∷ []
+acts_of c (PopReg start) = pop_reg start ∷ []
 
 -- the acts of asks in order, each in the context that the earlier ones left
 abbrev pub all_acts : Context → List Ask → List Act

@@ -9,7 +9,7 @@ use bsp_model::{End, OutOfMemory};
 use bsp_step::{Ctx, Program, Stop, View, settle};
 use std::alloc::Global;
 
-/// A call whose answer is printed, or one that makes such calls worth asking.
+/// A call whose answer is printed, or another call.
 #[derive(Clone, Copy)]
 pub enum Ask<'a> {
     /// Prints the tag size that `set_tagsize` answers.
@@ -18,6 +18,12 @@ pub enum Ask<'a> {
     MoveInto,
     /// Sends a message to process 0, with this tag and these words.
     Send(&'a [u64], &'a [u64]),
+    /// Stores to this word of the memory this value.
+    Store(u64, u64),
+    /// Registers an area from this word on, of so many words.
+    PushReg(u64, u64),
+    /// Takes back the registration of the area from this word on.
+    PopReg(u64),
 }
 
 impl Ask<'_> {
@@ -28,6 +34,9 @@ impl Ask<'_> {
             Ask::SetTagsize(size) => print_set_tagsize(ctx, size),
             Ask::MoveInto => print_move_into(ctx),
             Ask::Send(tag, words) => ctx.send(0, tag, words),
+            Ask::Store(address, value) => ctx.store(address, value),
+            Ask::PushReg(start, len) => ctx.push_reg(start, len),
+            Ask::PopReg(start) => ctx.pop_reg(start),
         }
     }
 }

@@ -1,13 +1,12 @@
 ghost use Rattle.std.specs.Prelude.{◌<◌, length};
 ghost use Rattle.bsp_deliver.specs.Condition.{AreDeliverable};
 
+use crate::tests::exchange::exchange;
 use crate::tests::memories::leaves;
-use crate::tests::outcomes::{Process, outcomes_of};
 use crate::{Inbox, deliver_inbox, inbox};
 use bsp_model::{OutOfMemory, Shared};
 use bsp_step::Outcome;
 use std::alloc::Global;
-use std::process::Abort;
 use std::test::Fail;
 
 /// Whether the inbox of `d` is one put of these words, from its word 0 on.
@@ -22,16 +21,15 @@ fn is_one_put(inbox: &Inbox, d: usize, sender: u64, words: &[u64]) -> bool {
     }
 }
 
-/// Finds that the inbox of `d` is one put from its word 0 on, and that `deliver_inbox` leaves this memory and no message.
-fn find_inbox(
-    rt: &impl Abort,
+/// Whether the inbox of `d` is one put from its word 0 on, and `deliver_inbox` leaves this memory and no message.
+fn is_inbox(
     alloc: Global,
     outcomes: &[Shared<Outcome>],
     d: usize,
     sender: u64,
     words: &[u64],
     after: &[u64],
-) -> Result<(), OutOfMemory>
+) -> Result<bool, OutOfMemory>
     requires known { d < length outcomes.now }
     requires deliverable { AreDeliverable outcomes.now }
 {
@@ -43,33 +41,26 @@ fn find_inbox(
     let is_left = leaves(&memory, &queue, after);
     drop(memory);
     drop(queue);
-    assert!(rt; is_put, "the inbox of {d}");
-    assert!(rt; is_left, "the memory of {d}");
-    Ok(())
+    Ok(is_put && is_left)
 }
 
-/// Finds the inboxes of two processes that put words to one another.
-fn find_inboxes(
-    rt: &impl Abort,
-    alloc: Global,
-    outcomes: &[Shared<Outcome>],
-) -> Result<(), OutOfMemory>
+/// Whether each of two processes has the other's put, which wins over a get.
+fn are_inboxes(alloc: Global, outcomes: &[Shared<Outcome>]) -> Result<bool, OutOfMemory>
     requires { AreDeliverable outcomes.now }
 {
-    assert_eq!(rt; outcomes.len(), 2);
-    find_inbox(rt, alloc, outcomes, 0, 1, &[77], &[77, 21])?;
-    find_inbox(rt, alloc, outcomes, 1, 0, &[88, 89], &[88, 89])
+    if outcomes.len() != 2 {
+        return Ok(false);
+    }
+    let is_first = is_inbox(alloc, outcomes, 0, 1, &[77], &[77, 21])?;
+    let is_second = is_inbox(alloc, outcomes, 1, 0, &[88, 89], &[88, 89])?;
+    Ok(is_first && is_second)
 }
 
 #[test]
 fn what_others_put_is_in_the_inbox(rt: HostRuntime) -> Result<(), Fail> {
-    let issued = [
-        Process(0).get(1, 0, 2, 0),
-        Process(0).put(1, 0, &[88, 89]),
-        Process(1).put(0, 0, &[77]),
-    ];
-    let outcomes = outcomes_of(&rt, rt.alloc(), &[&[10, 11], &[20, 21]], &issued)?;
-    let found = find_inboxes(&rt, rt.alloc(), outcomes.as_slice());
+    let outcomes = exchange(&rt, rt.alloc(), &[20, 21], &[77])?;
+    let found = are_inboxes(rt.alloc(), outcomes.as_slice());
     drop(outcomes);
-    Ok(found?)
+    assert!(rt; found?);
+    Ok(())
 }

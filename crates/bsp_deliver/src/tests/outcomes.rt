@@ -1,10 +1,9 @@
 //! Outcomes of turns that end by sync, made by hand, and a test of the condition of delivery.
 
 ghost use Rattle.std.specs.Prelude.{IsTrue, IfOk, All, ◌<◌, ◌≤◌, ◌+◌, length, slice_index};
-ghost use Rattle.bsp_step.specs.OutcomeParts.{IsShortSend};
 ghost use Rattle.bsp_deliver.specs.Condition.{AreDeliverable, AreRequestsInside, IsGetInside, IsPutInside, sizes_of};
 
-use bsp_model::{Get, Memory, OutOfMemory, Put, Send, Seq, Shared, Words};
+use bsp_model::{Get, Memory, OutOfMemory, Put, Seq, Shared, Words};
 use bsp_step::{Ended, Outcome};
 use std::alloc::Global;
 use std::process::Abort;
@@ -13,7 +12,6 @@ use std::process::Abort;
 enum Request<'a> {
     Put(u64, u64, &'a [u64]),
     Get(Get),
-    Send(u64, &'a [u64], &'a [u64]),
 }
 
 /// A request, with the process that issues it.
@@ -49,14 +47,6 @@ impl Process {
             request: Request::Get(get),
         }
     }
-
-    /// A message to a target.
-    pub(crate) fn send<'a>(self, target: u64, tag: &'a [u64], words: &'a [u64]) -> Issued<'a> {
-        Issued {
-            process: self.0,
-            request: Request::Send(target, tag, words),
-        }
-    }
 }
 
 /// What one process issued.
@@ -64,7 +54,6 @@ impl Process {
 struct Requests {
     puts: Seq<Put>,
     gets: Seq<Get>,
-    sends: Seq<Send>,
 }
 
 impl Requests {
@@ -79,11 +68,6 @@ impl Requests {
                 })
             }
             Request::Get(get) => self.gets.push(get),
-            Request::Send(target, tag, words) => {
-                let tag = Words::from_slice(alloc, tag)?;
-                let words = Words::from_slice(alloc, words)?;
-                self.sends.push(Send { target, tag, words })
-            }
         }
     }
 }
@@ -96,7 +80,6 @@ fn requests_of(
     let mut requests = Requests {
         puts: Seq::new(alloc),
         gets: Seq::new(alloc),
-        sends: Seq::new(alloc),
     };
     for one in issued {
         if one.process == process {
@@ -106,24 +89,14 @@ fn requests_of(
     Ok(requests)
 }
 
-/// Whether tags and payloads are as short as outcomes keep them.
-fn are_short(sends: &[Send]) -> bool
-    ensures { IsTrue result → All IsShortSend sends.now }
-{
-    sends
-        .iter()
-        .all(|send| send.tag.len() <= 16 && send.words.len() <= 4096)
-}
-
 fn outcome_of(
     rt: &impl Abort,
     alloc: Global,
     memory: &[u64],
     requests: Requests,
 ) -> Result<Outcome, OutOfMemory> {
-    let Requests { puts, gets, sends } = requests;
-    assert!(rt; memory.len() <= 4096 && are_short(sends.as_slice()));
-    assert!(rt; puts.len() <= 64 && gets.len() <= 64 && sends.len() <= 64);
+    let Requests { puts, gets } = requests;
+    assert!(rt; memory.len() <= 4096 && puts.len() <= 64 && gets.len() <= 64);
     Ok(Outcome {
         fault: None,
         ended: Ended::Sync,
@@ -131,7 +104,7 @@ fn outcome_of(
         stores: Seq::new(alloc),
         puts,
         gets,
-        sends,
+        sends: Seq::new(alloc),
         pops: Seq::new(alloc),
         pushes: Seq::new(alloc),
         tag: None,
@@ -158,13 +131,13 @@ fn is_room(memory: &Memory, start: u64, len: u64) -> bool
     start <= size && len <= size - start
 }
 
-/// Whether all requests of an outcome name processes of the list, and words inside the memories concerned.
+/// Whether all requests of an outcome name processes of the list, and words inside the memories concerned, and none is a message.
 fn are_requests_inside(outcome: &Outcome, outcomes: &[Shared<Outcome>]) -> bool
     ensures { IsTrue result → AreRequestsInside (sizes_of outcomes.now) outcome.now }
 {
     are_puts_inside(outcome.puts.as_slice(), outcomes)
         && are_gets_inside(outcome.gets.as_slice(), &outcome.memory, outcomes)
-        && are_sends_inside(outcome.sends.as_slice(), outcomes)
+        && outcome.sends.is_empty()
 }
 
 fn are_puts_inside(puts: &[Put], outcomes: &[Shared<Outcome>]) -> bool
@@ -179,12 +152,6 @@ fn are_gets_inside(gets: &[Get], own: &Memory, outcomes: &[Shared<Outcome>]) -> 
     gets.iter().all(|get| {
         are_words_of(outcomes, get.owner, get.start, get.len) && is_room(own, get.into, get.len)
     })
-}
-
-fn are_sends_inside(sends: &[Send], outcomes: &[Shared<Outcome>]) -> bool
-    ensures { IsTrue result → All (λ m. m.target < length (sizes_of outcomes.now)) sends.now }
-{
-    sends.iter().all(|send| send.target < outcomes.len() as u64)
 }
 
 fn are_all_inside(outcomes: &[Shared<Outcome>]) -> bool

@@ -1,8 +1,8 @@
 //! The bundled programs as a catalogue, and the engine with it.
 
-ghost use Rattle.std.specs.Prelude.{◌≡◌, ◌<◌, ◌≤◌};
+ghost use Rattle.std.specs.Prelude.{◌<◌, ◌≤◌};
 
-use super::failing::{FailingSink, FailingSource};
+use super::failing::{sink, source};
 use crate::documents::engine;
 use crate::errors::EngineError;
 use crate::naming::{ByName, Named};
@@ -12,7 +12,7 @@ use std::alloc::Global;
 use std::thread::Threads;
 
 /// The bundled programs by their names.
-pub struct BundledPrograms;
+struct BundledPrograms;
 
 impl ByName for BundledPrograms {
     ghost use Rattle.bsp_programs.specs.Bundled.{program_named};
@@ -27,21 +27,72 @@ impl ByName for BundledPrograms {
 }
 
 /// The catalogue of the bundled programs.
-pub type AllBundled = Named<BundledPrograms>;
+type AllBundled = Named<BundledPrograms>;
 
-/// What the engine answers with this catalogue.
-pub fn run_bundled<R: Threads + Sync, G: Gate>(
+/// How a document is read, and its report written.
+#[derive(Clone, Copy)]
+pub struct Flow {
+    /// The most bytes of a read, and of a write.
+    pub at_once: usize,
+    /// How many reads are made before one fails.
+    pub reads_left: usize,
+    /// How many bytes are written before a write takes none, or fails.
+    pub room: usize,
+    pub takes_none: bool,
+    /// Whether each input is run from its start.
+    pub scratch: bool,
+}
+
+/// A flow that does not fail.
+pub const STEADY: Flow = Flow {
+    at_once: 40,
+    reads_left: usize::MAX,
+    room: usize::MAX,
+    takes_none: false,
+    scratch: false,
+};
+
+/// What came of a document.
+#[derive(Clone, Copy)]
+pub struct Answer {
+    pub done: Result<(), EngineError>,
+    /// Whether just the wanted bytes were written.
+    pub is_written: bool,
+    /// How many bytes were not read.
+    pub unread: usize,
+    /// How many reads and writes failed.
+    pub failures: u64,
+}
+
+/// What the engine answers with the bundled programs, where these bytes are wanted.
+pub fn run<R: Threads + Sync, G: Gate>(
     rt: &R,
     alloc: Global,
-    reader: &mut FailingSource<'_>,
-    writer: &mut FailingSink,
+    document: &[u8],
+    flow: Flow,
+    want: &[u8],
     workers: usize,
-    scratch: bool,
     gate: &G,
-) -> Result<(), EngineError>
-    requires workers { (0 < workers) × (workers ≤ 16) }
-    requires source { reader.old.failures ≡ 0 }
-    requires sink { writer.old.failures ≡ 0 }
+) -> Answer
+    requires { (0 < workers) × (workers ≤ 16) }
 {
-    engine::<AllBundled, _, _, _, _>(rt, alloc, reader, writer, workers, scratch, gate)
+    let mut reader = source(document, flow);
+    let mut writer = sink(alloc, flow);
+    let done = engine::<AllBundled, _, _, _, _>(
+        rt,
+        alloc,
+        &mut reader,
+        &mut writer,
+        workers,
+        flow.scratch,
+        gate,
+    );
+    let answer = Answer {
+        done,
+        is_written: writer.bytes.as_slice() == want,
+        unread: reader.bytes.len(),
+        failures: reader.failures.wrapping_add(writer.failures),
+    };
+    drop(writer);
+    answer
 }

@@ -2,6 +2,7 @@
 
 ghost use Rattle.std.specs.Prelude.{◌≡◌, Some};
 
+use super::bundled::Flow;
 use crate::flow::{Failed, Sink, Source};
 use std::alloc::Global;
 use std::io::Read;
@@ -67,27 +68,27 @@ impl Sink for FailingSink {
     }
 }
 
-/// A source that does not fail.
-pub fn source(bytes: &[u8]) -> FailingSource<'_>
+/// The source of a document.
+pub fn source(bytes: &[u8], flow: Flow) -> FailingSource<'_>
     ensures { result.failures ≡ 0 }
 {
     FailingSource {
         bytes,
-        at_once: 40,
-        reads_left: usize::MAX,
+        at_once: flow.at_once,
+        reads_left: flow.reads_left,
         failures: 0,
     }
 }
 
-/// A sink that does not fail.
-pub fn sink(alloc: Global) -> FailingSink
+/// The sink of a report.
+pub fn sink(alloc: Global, flow: Flow) -> FailingSink
     ensures { result.failures ≡ 0 }
 {
     FailingSink {
         bytes: Vec::new(alloc),
-        at_once: usize::MAX,
-        room: usize::MAX,
-        takes_none: false,
+        at_once: flow.at_once,
+        room: flow.room,
+        takes_none: flow.takes_none,
         failures: 0,
     }
 }

@@ -7,6 +7,7 @@ use crate::workers::Workers;
 use crate::{Edit, Place, Session, Update};
 use bsp_model::Input;
 use bsp_pool::Open;
+use bsp_run::RunError;
 use bsp_step::Program;
 use std::alloc::Global;
 use std::process::Abort;
@@ -58,11 +59,12 @@ fn are_counts(counts: &Counts, row: &Row) -> bool {
         && counts.delivered == row.redelivered.len() as u64
 }
 
-/// Whether the row's batch is put, and its update and its counts are the row's.
+/// Whether the row's batch is put, and its update, its counts and the total are the row's, with a step for each executed place.
 fn updates<P: Program + Drop, R: Threads + Sync>(
     rt: &R,
     alloc: Global,
     session: &mut Session<Counting<'_, P>>,
+    steps: &AtomicU64,
     row: &Row,
 ) -> bool {
     let workers = Workers {
@@ -70,60 +72,54 @@ fn updates<P: Program + Drop, R: Threads + Sync>(
         count: 1,
         gate: &Open,
     };
+    let before = steps.load(SeqCst);
     let mut counts = Counts::new();
-    match session.apply_counted(&workers, alloc, row.batch, &mut counts) {
+    let is_right = match session.apply_counted(&workers, alloc, row.batch, &mut counts) {
         Ok(update) => is_update(&update, row) && are_counts(&counts, row),
         Err(_) => false,
-    }
-}
-
-/// Puts the row's batch, and finds that the update and its counts are the row's, with a step for each executed place.
-fn find_update<P: Program + Drop, R: Threads + Sync + Abort>(
-    rt: &R,
-    alloc: Global,
-    session: &mut Session<Counting<'_, P>>,
-    steps: &AtomicU64,
-    row: &Row,
-) {
-    let before = steps.load(SeqCst);
-    let is_right = updates(rt, alloc, session, row);
+    };
     let made = steps.load(SeqCst).wrapping_sub(before);
-    assert!(rt; is_right, "{:?}", row.batch);
-    assert_eq!(rt; made, row.executed.len() as u64, "{:?}", row.batch);
-    assert_eq!(rt; session.history().total(), row.total, "{:?}", row.batch);
+    is_right && made == row.executed.len() as u64 && session.history().total() == row.total
 }
 
-/// The session of a program that counts its steps, which are as many as the opening's executed places.
-fn opened<'a, P: Program + Drop, R: Threads + Sync + Abort>(
-    rt: &R,
-    alloc: Global,
-    program: P,
-    steps: &'a AtomicU64,
-    input: Input,
-) -> Option<Session<Counting<'a, P>>> {
-    match Session::open(rt, alloc, Counting { program, steps }, input, 1, &Open) {
-        Ok((session, opening)) => {
-            assert_eq!(rt; steps.load(SeqCst), opening.executed.len() as u64);
-            Some(session)
-        }
-        Err(_) => None,
-    }
-}
-
-/// Finds that the batches of the rows have their updates.
-fn find_rows<P: Program + Drop, R: Threads + Sync + Abort>(
+/// How many of the rows, from the first one on, have their updates.
+fn count_of_right<P: Program + Drop, R: Threads + Sync>(
     rt: &R,
     alloc: Global,
     session: &mut Session<Counting<'_, P>>,
     steps: &AtomicU64,
     rows: &[Row],
-) {
+) -> usize {
     for i in 0..rows.len() {
-        find_update(rt, alloc, session, steps, &rows[i]);
+        if !updates(rt, alloc, session, steps, &rows[i]) {
+            return i;
+        }
     }
+    rows.len()
 }
 
-/// Opens a session, and finds that its batches have the updates of the rows.
+/// The session of a program that counts its steps, with the number of the opening's executed places.
+fn opened<'a, P: Program + Drop, R: Threads + Sync>(
+    rt: &R,
+    alloc: Global,
+    program: P,
+    steps: &'a AtomicU64,
+    input: Input,
+) -> Result<(Session<Counting<'a, P>>, usize), RunError> {
+    let (session, opening) = Session::open(
+        rt,
+        alloc,
+        Counting { program, steps },
+        input,
+        1,
+        &Open,
+    )?;
+    let executed = opening.executed.len();
+    drop(opening);
+    Ok((session, executed))
+}
+
+/// Opens a session, with a step for each executed place, and finds that its batches have the updates of the rows.
 pub fn find_updates<P: Program + Drop, R: Threads + Sync + Abort>(
     rt: &R,
     alloc: Global,
@@ -133,8 +129,11 @@ pub fn find_updates<P: Program + Drop, R: Threads + Sync + Abort>(
 ) -> Result<(), Fail> {
     let input = start.input(alloc)?;
     let steps = AtomicU64::new(0);
-    let mut session = opened(rt, alloc, program, &steps, input).ok_or("no session")?;
-    find_rows(rt, alloc, &mut session, &steps, rows);
+    let (mut session, executed) = opened(rt, alloc, program, &steps, input)?;
+    let made = steps.load(SeqCst);
+    let right = count_of_right(rt, alloc, &mut session, &steps, rows);
     drop(session);
+    let is_right = made == executed as u64 && right == rows.len();
+    assert!(rt; is_right, "{right} of the rows");
     Ok(())
 }

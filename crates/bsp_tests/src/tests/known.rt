@@ -1,65 +1,248 @@
 //! Runs whose results are known.
 
-use super::running::{has_costs, has_halted, has_lines, has_memories};
-use super::sessions::{are_other_sums, are_ranks, are_sums, is_fault};
-use super::wide::is_the_product;
-use bsp_model::{Input, Same};
-use bsp_run::{History, RunError};
-use std::process::Abort;
+use super::running::{Finish, Row};
+use bsp_model::Fault;
 
 /// A run whose result is known.
-#[derive(Clone, Copy, Debug)]
+#[derive(Clone, Copy)]
 pub enum Known {
+    Numbers,
+    Neighbours,
+    Moved,
+    Chosen,
+    Acted,
+    Clash,
     Product,
+    OtherProduct,
     Ranks,
     BrokenRanks,
-    Clash,
     Sums,
     OtherSums,
     CutSums,
+    SumsOfOnes,
 }
 
-fn is_clash(history: &History) -> bool {
-    has_halted(history)
-        && has_memories(history, &[&[77, 21], &[88, 89]])
-        && has_costs(history, &[10, 22, 0])
-}
-
-fn are_cut_sums(history: &History) -> bool {
-    has_memories(history, &[&[1, 0], &[2, 1], &[3, 2], &[4, 3]])
-        && has_lines(history, 0, &[])
-        && has_costs(history, &[10, 14])
-}
-
-fn is_known(history: &History, known: Known) -> bool {
+/// The input of a known run, and what it gives.
+pub fn row(known: Known) -> &'static Row {
     match known {
-        Known::Product => is_the_product(history),
-        Known::Ranks => are_ranks(history),
-        Known::BrokenRanks => is_fault(history),
-        Known::Clash => is_clash(history),
-        Known::Sums => are_sums(history),
-        Known::OtherSums => are_other_sums(history),
-        Known::CutSums => are_cut_sums(history),
+        Known::Numbers => &NUMBERS,
+        Known::Neighbours => &NEIGHBOURS,
+        Known::Moved => &MOVED,
+        Known::Chosen => &CHOSEN,
+        Known::Acted => &ACTED,
+        Known::Clash => &CLASH,
+        Known::Product => &PRODUCT,
+        Known::OtherProduct => &OTHER_PRODUCT,
+        Known::Ranks => &RANKS,
+        Known::BrokenRanks => &BROKEN_RANKS,
+        Known::Sums => &SUMS,
+        Known::OtherSums => &OTHER_SUMS,
+        Known::CutSums => &CUT_SUMS,
+        Known::SumsOfOnes => &SUMS_OF_ONES,
     }
 }
 
-pub fn find_known(rt: &impl Abort, history: &History, known: Known) {
-    assert!(rt; is_known(history, known), "{known:?}");
-}
+/// Each of 3 processes prints its number.
+const NUMBERS: Row = Row {
+    name: "numbers",
+    start: &[&[], &[], &[]],
+    arguments: &[],
+    limit: 16,
+    finish: Finish::Halted,
+    memories: &[&[], &[], &[]],
+    lines: &[&[&[0]], &[&[1]], &[&[2]]],
+    costs: &[0],
+};
 
-/// Finds that a run is the known one, or that memory was refused.
-pub fn find_run(rt: &impl Abort, run: &Result<History, RunError>, known: Known) {
-    match run {
-        Ok(history) => find_known(rt, history, known),
-        Err(error) => assert_eq!(rt; *error, RunError::OutOfMemory),
-    }
-}
+/// Each of 3 processes prints the number before its own.
+const NEIGHBOURS: Row = Row {
+    name: "neighbours",
+    start: &[&[9], &[9], &[9]],
+    arguments: &[],
+    limit: 16,
+    finish: Finish::Halted,
+    memories: &[&[2], &[0], &[1]],
+    lines: &[&[&[2]], &[&[0]], &[&[1]]],
+    costs: &[10, 15, 1],
+};
 
-/// Whether the inputs have the same parts.
-pub fn is_same_input(one: &Input, other: &Input) -> bool {
-    one.mems.same(&other.mems)
-        && one.args.same(&other.args)
-        && one.limit == other.limit
-        && one.g == other.g
-        && one.l == other.l
-}
+/// Messages of 3, 1 and no words are moved to a buffer of 2, and then there is none.
+const MOVED: Row = Row {
+    name: "moved",
+    start: &[&[]],
+    arguments: &[],
+    limit: 16,
+    finish: Finish::Faulted(1, Fault::EmptyQueue),
+    memories: &[&[]],
+    lines: &[&[&[2, 4, 5], &[1, 4, 9], &[0, 8, 9]]],
+    costs: &[10, 0],
+};
+
+/// Tag sizes are chosen, 2 and then 1, and afterwards 0.
+const CHOSEN: Row = Row {
+    name: "chosen",
+    start: &[&[]],
+    arguments: &[],
+    limit: 16,
+    finish: Finish::Halted,
+    memories: &[&[]],
+    lines: &[&[&[0], &[0], &[1]]],
+    costs: &[10, 10, 0],
+};
+
+/// A process registers words and takes that back, stores, and sends itself a message.
+const ACTED: Row = Row {
+    name: "acted",
+    start: &[&[1, 2, 3]],
+    arguments: &[],
+    limit: 16,
+    finish: Finish::Halted,
+    memories: &[&[1, 2, 9]],
+    lines: &[&[&[0]]],
+    costs: &[10, 10, 0],
+};
+
+/// Puts and gets meet.
+const CLASH: Row = Row {
+    name: "clash",
+    start: &[&[10, 11], &[20, 21]],
+    arguments: &[],
+    limit: 16,
+    finish: Finish::Halted,
+    memories: &[&[77, 21], &[88, 89]],
+    lines: &[&[], &[]],
+    costs: &[10, 22, 0],
+};
+
+/// The matrix of the rows 1, 2 and 3, 4 by the vector 5, 6: a row and a word of the vector for each of 2 processes.
+const PRODUCT: Row = Row {
+    name: "product",
+    start: &[&[1, 2, 5, 0, 0, 0], &[3, 4, 6, 0, 0, 0]],
+    arguments: &[1],
+    limit: 16,
+    finish: Finish::Halted,
+    memories: &[&[1, 2, 5, 5, 6, 17], &[3, 4, 6, 5, 6, 39]],
+    lines: &[&[&[17]], &[&[39]]],
+    costs: &[10, 18, 2],
+};
+
+/// The same matrix by the vector 7, 8.
+const OTHER_PRODUCT: Row = Row {
+    name: "other product",
+    start: &[&[1, 2, 7, 0, 0, 0], &[3, 4, 8, 0, 0, 0]],
+    arguments: &[1],
+    limit: 16,
+    finish: Finish::Halted,
+    memories: &[&[1, 2, 7, 7, 8, 23], &[3, 4, 8, 7, 8, 53]],
+    lines: &[&[&[23]], &[&[53]]],
+    costs: &[10, 18, 2],
+};
+
+/// The ranks of the list 2, 0, 3, 1.
+const RANKS: Row = Row {
+    name: "ranks",
+    start: &[&[3, 1, 0, 0], &[1, 0, 0, 0], &[0, 1, 0, 0], &[1, 1, 0, 0]],
+    arguments: &[],
+    limit: 16,
+    finish: Finish::Halted,
+    memories: &[&[1, 2, 1, 0], &[1, 0, 1, 0], &[1, 3, 1, 1], &[1, 1, 1, 0]],
+    lines: &[&[&[2]], &[&[0]], &[&[3]], &[&[1]]],
+    costs: &[10, 18, 27, 1],
+};
+
+/// Element 0 of the list has a successor that there is not.
+const BROKEN_RANKS: Row = Row {
+    name: "broken ranks",
+    start: &[&[9, 1, 0, 0], &[1, 0, 0, 0], &[0, 1, 0, 0], &[1, 1, 0, 0]],
+    arguments: &[],
+    limit: 16,
+    finish: Finish::Faulted(1, Fault::BadPid(9)),
+    memories: &[&[9, 1, 0, 0], &[1, 0, 0, 0], &[0, 1, 0, 0], &[1, 1, 0, 0]],
+    lines: &[&[], &[], &[], &[]],
+    costs: &[10, 0],
+};
+
+/// The sums of 1, 2, 3, 4.
+const SUMS: Row = Row {
+    name: "sums",
+    start: &[&[1, 0], &[2, 0], &[3, 0], &[4, 0]],
+    arguments: &[],
+    limit: 16,
+    finish: Finish::Halted,
+    memories: &[&[1, 0], &[3, 1], &[6, 1], &[10, 3]],
+    lines: &[&[&[1]], &[&[3]], &[&[6]], &[&[10]]],
+    costs: &[10, 14, 15, 1],
+};
+
+/// The sums of 2, 2, 3, 4.
+const OTHER_SUMS: Row = Row {
+    name: "other sums",
+    start: &[&[2, 0], &[2, 0], &[3, 0], &[4, 0]],
+    arguments: &[],
+    limit: 16,
+    finish: Finish::Halted,
+    memories: &[&[2, 0], &[4, 2], &[7, 2], &[11, 4]],
+    lines: &[&[&[2]], &[&[4]], &[&[7]], &[&[11]]],
+    costs: &[10, 14, 15, 1],
+};
+
+/// The sums of 1, 2, 3, 4, cut after 2 supersteps.
+const CUT_SUMS: Row = Row {
+    name: "cut sums",
+    start: &[&[1, 0], &[2, 0], &[3, 0], &[4, 0]],
+    arguments: &[],
+    limit: 2,
+    finish: Finish::Limit,
+    memories: &[&[1, 0], &[2, 1], &[3, 2], &[4, 3]],
+    lines: &[&[], &[], &[], &[]],
+    costs: &[10, 14],
+};
+
+const ONE: &[u64] = &[1, 0];
+
+/// The sums of a 1 for each of 16 processes. Process p receives for the last time from p - d, for the largest power of two d up to p, which has added
+/// up all of its own by then.
+const SUMS_OF_ONES: Row = Row {
+    name: "sums of ones",
+    start: &[ONE; 16],
+    arguments: &[],
+    limit: 16,
+    finish: Finish::Halted,
+    memories: &[
+        &[1, 0],
+        &[2, 1],
+        &[3, 1],
+        &[4, 2],
+        &[5, 1],
+        &[6, 2],
+        &[7, 3],
+        &[8, 4],
+        &[9, 1],
+        &[10, 2],
+        &[11, 3],
+        &[12, 4],
+        &[13, 5],
+        &[14, 6],
+        &[15, 7],
+        &[16, 8],
+    ],
+    lines: &[
+        &[&[1]],
+        &[&[2]],
+        &[&[3]],
+        &[&[4]],
+        &[&[5]],
+        &[&[6]],
+        &[&[7]],
+        &[&[8]],
+        &[&[9]],
+        &[&[10]],
+        &[&[11]],
+        &[&[12]],
+        &[&[13]],
+        &[&[14]],
+        &[&[15]],
+        &[&[16]],
+    ],
+    costs: &[10, 14, 15, 15, 15, 1],
+};

@@ -1,10 +1,38 @@
 //! Runs, and what they have to give.
 
+use super::known::{Known, row};
 use bsp_model::{Fault, Input, Memory, OutOfMemory, Seq, Words};
-use bsp_run::{History, ProcessFault, Status, run_plain};
+use bsp_run::{History, ProcessFault, RunError, Status, run_plain};
 use bsp_step::Program;
 use std::alloc::Global;
-use std::test::Fail;
+use std::process::Abort;
+
+/// How a run ends.
+#[derive(Clone, Copy)]
+pub enum Finish {
+    Halted,
+    Limit,
+    /// By this fault of process 0 alone, in this superstep.
+    Faulted(u64, Fault),
+}
+
+/// An input, with the prices 4 and 10, and what its run has to give.
+#[derive(Clone, Copy)]
+pub struct Row {
+    pub name: &'static str,
+    /// The memories at the start.
+    pub start: &'static [&'static [u64]],
+    /// The arguments of each process.
+    pub arguments: &'static [u64],
+    pub limit: u64,
+    pub finish: Finish,
+    /// The memories at the end.
+    pub memories: &'static [&'static [u64]],
+    /// The lines of each process.
+    pub lines: &'static [&'static [&'static [u64]]],
+    /// The costs of the supersteps, whose sum is the total.
+    pub costs: &'static [u64],
+}
 
 fn memories_of(alloc: Global, memories: &[&[u64]]) -> Result<Seq<Memory>, OutOfMemory> {
     let mut all = Seq::new(alloc);
@@ -26,68 +54,17 @@ fn arguments_of(
     Ok(all)
 }
 
-/// The input with these memories, and these arguments of each process.
-pub fn input_with(
-    alloc: Global,
-    memories: &[&[u64]],
-    arguments: &[u64],
-) -> Result<Input, OutOfMemory> {
-    Ok(Input {
-        mems: memories_of(alloc, memories)?,
-        args: arguments_of(alloc, memories.len(), arguments)?,
-        limit: 16,
-        g: 4,
-        l: 10,
-    })
-}
-
-/// The input with these memories and no arguments.
-pub fn input_of(alloc: Global, memories: &[&[u64]]) -> Result<Input, OutOfMemory> {
-    input_with(alloc, memories, &[])
-}
-
-/// The history of a program's run.
-pub fn history_of<P: Program>(
-    alloc: Global,
-    program: &P,
-    memories: &[&[u64]],
-) -> Result<History, Fail> {
-    let input = input_of(alloc, memories)?;
-    let run = run_plain(alloc, program, &input);
-    drop(input);
-    Ok(run?)
-}
-
-/// Whether all processes halted.
-pub fn has_halted(history: &History) -> bool {
-    matches!(history.status(), Status::Halted)
-}
-
-/// Whether process 0 had this fault, and no other process had one.
-fn are_faults(faults: &[ProcessFault], fault: Fault) -> bool {
-    if faults.len() != 1 {
-        return false;
+impl Row {
+    /// The input.
+    pub fn input(&self, alloc: Global) -> Result<Input, OutOfMemory> {
+        Ok(Input {
+            mems: memories_of(alloc, self.start)?,
+            args: arguments_of(alloc, self.start.len(), self.arguments)?,
+            limit: self.limit,
+            g: 4,
+            l: 10,
+        })
     }
-    faults[0] == ProcessFault { pid: 0, fault }
-}
-
-/// Whether process 0, and no other, had this fault in this superstep.
-pub fn has_fault(history: &History, step: u64, fault: Fault) -> bool {
-    match history.status() {
-        Status::Faulted { step: at, faults } => *at == step && are_faults(faults.as_slice(), fault),
-        _ => false,
-    }
-}
-
-/// Whether these are the memories at the end, by process.
-pub fn has_memories(history: &History, want: &[&[u64]]) -> bool {
-    for pid in 0..want.len() {
-        match history.memory(pid as u64) {
-            Some(memory) if is_memory(memory, want[pid]) => {}
-            _ => return false,
-        }
-    }
-    history.memory(want.len() as u64).is_none()
 }
 
 fn is_memory(memory: &Memory, want: &[u64]) -> bool {
@@ -99,12 +76,62 @@ fn is_memory(memory: &Memory, want: &[u64]) -> bool {
     memory.len() == want.len()
 }
 
-/// Whether these are the lines of a process.
-pub fn has_lines(history: &History, pid: u64, want: &[&[u64]]) -> bool {
-    match history.lines(pid) {
-        Some(lines) => are_lines(lines.as_slice(), want),
-        None => false,
+fn are_memories(memories: &[Memory], want: &[&[u64]]) -> bool {
+    if memories.len() != want.len() {
+        return false;
     }
+    for pid in 0..want.len() {
+        if !is_memory(&memories[pid], want[pid]) {
+            return false;
+        }
+    }
+    true
+}
+
+fn are_all(arguments: &[Words], want: &[u64]) -> bool {
+    for pid in 0..arguments.len() {
+        if arguments[pid].as_slice() != want {
+            return false;
+        }
+    }
+    true
+}
+
+/// Whether it is the input of the row.
+pub fn is_input(input: &Input, row: &Row) -> bool {
+    let has_numbers = input.limit == row.limit && input.g == 4 && input.l == 10;
+    has_numbers
+        && are_memories(input.mems.as_slice(), row.start)
+        && input.args.len() == row.start.len()
+        && are_all(input.args.as_slice(), row.arguments)
+}
+
+fn are_faults(faults: &[ProcessFault], fault: Fault) -> bool {
+    match faults {
+        [only] => only.pid == 0 && only.fault == fault,
+        _ => false,
+    }
+}
+
+fn is_finish(status: &Status, want: Finish) -> bool {
+    match (status, want) {
+        (Status::Halted, Finish::Halted) => true,
+        (Status::Limit, Finish::Limit) => true,
+        (Status::Faulted { step, faults }, Finish::Faulted(at, fault)) => {
+            *step == at && are_faults(faults.as_slice(), fault)
+        }
+        _ => false,
+    }
+}
+
+fn has_memories(history: &History, want: &[&[u64]]) -> bool {
+    for pid in 0..want.len() {
+        match history.memory(pid as u64) {
+            Some(memory) if is_memory(memory, want[pid]) => {}
+            _ => return false,
+        }
+    }
+    history.memory(want.len() as u64).is_none()
 }
 
 fn are_lines(lines: &[Words], want: &[&[u64]]) -> bool {
@@ -119,8 +146,17 @@ fn are_lines(lines: &[Words], want: &[&[u64]]) -> bool {
     true
 }
 
-/// Whether these are the costs of the supersteps, and the total their sum.
-pub fn has_costs(history: &History, want: &[u64]) -> bool {
+fn has_lines(history: &History, want: &[&[&[u64]]]) -> bool {
+    for pid in 0..want.len() {
+        match history.lines(pid as u64) {
+            Some(lines) if are_lines(lines.as_slice(), want[pid]) => {}
+            _ => return false,
+        }
+    }
+    history.lines(want.len() as u64).is_none()
+}
+
+fn has_costs(history: &History, want: &[u64]) -> bool {
     let rows = history.costs();
     if rows.len() != want.len() {
         return false;
@@ -133,4 +169,35 @@ pub fn has_costs(history: &History, want: &[u64]) -> bool {
         sum = sum.wrapping_add(want[step]);
     }
     history.total() == sum
+}
+
+/// Whether it is the run of the row.
+pub fn is_run(history: &History, row: &Row) -> bool {
+    is_finish(history.status(), row.finish)
+        && has_memories(history, row.memories)
+        && has_lines(history, row.lines)
+        && has_costs(history, row.costs)
+}
+
+/// A program's run by the calling thread on the input of the row.
+pub fn history_of<P: Program>(alloc: Global, program: &P, row: &Row) -> Result<History, RunError> {
+    let input = row.input(alloc)?;
+    let run = run_plain(alloc, program, &input);
+    drop(input);
+    run
+}
+
+/// Whether a program's run by the calling thread is the known one.
+pub fn plain<P: Program>(alloc: Global, program: &P, known: Known) -> Result<bool, RunError> {
+    let row = row(known);
+    let history = history_of(alloc, program, row)?;
+    let is_right = is_run(&history, row);
+    drop(history);
+    Ok(is_right)
+}
+
+/// Finds that a program's run by the calling thread is the known one.
+pub fn find_plain<P: Program>(rt: &impl Abort, alloc: Global, program: &P, known: Known) {
+    let found = plain(alloc, program, known);
+    assert!(rt; found == Ok(true), "{}", row(known).name);
 }

@@ -1,18 +1,15 @@
 //! A program that finds no memory for a while.
 
-use super::known::is_same_input;
-use super::running::input_of;
-use super::sessions::{SUMS, are_other_sums, are_sums, session_of, word};
+use super::sessions::{WORDS, changes, has, opened};
 use bsp_incr::{EditError, Session};
-use bsp_model::{End, Input, OutOfMemory};
+use bsp_model::{End, OutOfMemory};
 use bsp_pool::Open;
 use bsp_programs::Prefix;
+use bsp_run::RunError;
 use bsp_step::{Ctx, Program, View};
 use std::alloc::{AllocError, Global};
-use std::process::Abort;
 use std::sync::atomic::AtomicBool;
 use std::sync::atomic::Ordering::SeqCst;
-use std::test::Fail;
 use std::thread::Threads;
 
 /// A program whose steps find no memory while the switch is on, which its acts and endings don't depend on.
@@ -43,82 +40,39 @@ impl<P: Program> Program for Switched<'_, P> {
     }
 }
 
-/// Whether the input is the given one.
-fn is_given(alloc: Global, input: &Input) -> Result<bool, OutOfMemory> {
-    let given = input_of(alloc, &SUMS)?;
-    let is_same = is_same_input(input, &given);
-    drop(given);
-    Ok(is_same)
-}
-
-/// Why the edit is not put, if it is not.
-fn refusal_of<P: Program + Drop, R: Threads + Sync>(
+/// Whether an edit is refused memory while the switch is on, and nothing has changed then.
+fn is_refused<P: Program + Drop, R: Threads + Sync>(
     rt: &R,
     alloc: Global,
     session: &mut Session<P>,
-) -> Option<EditError> {
-    session.apply(rt, alloc, &[word(0, 0, 2)], 2, &Open).err()
+    refuses: &AtomicBool,
+) -> bool {
+    refuses.store(true, SeqCst);
+    let found = changes(rt, alloc, session, &WORDS.first, 2, &Open);
+    refuses.store(false, SeqCst);
+    found == Err(EditError::OutOfMemory) && has(session, WORDS.before)
 }
 
-/// Finds that an edit is refused memory, and that nothing has changed.
-fn find_refused<P: Program + Drop, R: Threads + Sync + Abort>(
-    rt: &R,
-    alloc: Global,
-    session: &mut Session<P>,
-) -> Result<(), OutOfMemory> {
-    assert_eq!(rt;
-        refusal_of(rt, alloc, session),
-        Some(EditError::OutOfMemory)
-    );
-    assert!(rt; are_sums(session.history()));
-    assert!(rt; is_given(alloc, session.input())?);
-    Ok(())
-}
-
-/// How many turns the edit takes.
-fn count_of_turns<P: Program + Drop, R: Threads + Sync>(
-    rt: &R,
-    alloc: Global,
-    session: &mut Session<P>,
-) -> Option<usize> {
-    match session.apply(rt, alloc, &[word(0, 0, 2)], 2, &Open) {
-        Ok(update) => Some(update.executed.len()),
-        Err(_) => None,
-    }
-}
-
-/// Finds that the edit takes 7 turns, and gives the other sums.
-fn find_changed<P: Program + Drop, R: Threads + Sync + Abort>(
-    rt: &R,
-    alloc: Global,
-    session: &mut Session<P>,
-) {
-    assert_eq!(rt; count_of_turns(rt, alloc, session), Some(7));
-    assert!(rt; are_other_sums(session.history()));
-}
-
-/// Refuses memory to a session's program for the length of one edit.
-fn find_refused_for_a_while<P: Program + Drop, R: Threads + Sync + Abort>(
+/// Whether memory is refused to a session's program for the length of one edit, and the same edit then gives the other sums.
+fn is_refused_for_a_while<P: Program + Drop, R: Threads + Sync>(
     rt: &R,
     alloc: Global,
     program: P,
     refuses: &AtomicBool,
-) -> Result<(), Fail> {
-    let mut session = session_of(rt, alloc, program, &SUMS, 1)?;
-    refuses.store(true, SeqCst);
-    let found = find_refused(rt, alloc, &mut session);
-    refuses.store(false, SeqCst);
-    find_changed(rt, alloc, &mut session);
+) -> Result<bool, RunError> {
+    let (mut session, is_right) = opened(rt, alloc, program, WORDS.before, 1, &Open)?;
+    let is_refused = is_refused(rt, alloc, &mut session, refuses);
+    let found = changes(rt, alloc, &mut session, &WORDS.first, 2, &Open);
     drop(session);
-    Ok(found?)
+    Ok(is_right && is_refused && found == Ok(true))
 }
 
 #[test]
-fn a_program_that_finds_no_memory_for_a_while(rt: HostRuntime) -> Result<(), Fail> {
+fn a_program_that_finds_no_memory_for_a_while(rt: HostRuntime) {
     let refuses = AtomicBool::new(false);
     let program = Switched {
         program: Prefix,
         refuses: &refuses,
     };
-    find_refused_for_a_while(&rt, rt.alloc(), program, &refuses)
+    assert!(rt; is_refused_for_a_while(&rt, rt.alloc(), program, &refuses) == Ok(true));
 }
