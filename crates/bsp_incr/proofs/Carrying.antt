@@ -1,16 +1,17 @@
 -- What is carried over from the run before to the next superstep, and what is put in its places.
-use Rattle.std.proofs.Common.{◌≡◌, ◌≢◌, ◌<◌, ◌≤◌, ◌+◌, ℕ, zero, suc, Bool, true, false, cond, Option, None, List, [], ◌∷◌, All, map, length, drop, get_or, arith, refl, sym, ap, ◌∙◌, subst, inl, inr}
-use Rattle.std.specs.Prelude.{filter, slice_set}
+use Rattle.std.proofs.Common.{◌≡◌, ◌≢◌, ◌<◌, ◌≤◌, ◌+◌, ℕ, zero, suc, Bool, true, false, cond, Option, None, Some, List, [], ◌∷◌, All, map, length, drop, get_or, arith, refl, sym, ap, ◌∙◌, subst, inl, inr}
+use Rattle.std.specs.Prelude.{filter, slice_set, nat_lt}
+use Rattle.std.specs.Slice.{IsItemAt}
 use Rattle.std.specs.Borrow.{Bor}
 use Rattle.std.specs.List.{range_with_len}
 use Rattle.std.proofs.lemmas.Bool.{cases_lt, false≢true}
-use Rattle.std.proofs.lemmas.Bool.Decides.{eqb_tells}
+use Rattle.std.proofs.lemmas.Bool.Decides.{eqb_tells, nat_tests}
 use Rattle.std.proofs.lemmas.List.{drop_more, get_or_default, get_or-set_same, get_or-set_other}
 use Rattle.std.proofs.lemmas.List.FromFn.{get_or-map-range_with_len, length-map-range_with_len}
 use Rattle.bsp_model.specs.declared.request.Message.{Message}
 use Rattle.bsp_step.specs.ViewParts.{ViewParts}
 use Rattle.bsp_step.specs.OutcomeParts.{OutcomeParts}
-use Rattle.bsp_deliver.specs.Requests.{each_below}
+use Rattle.bsp_deliver.specs.Requests.{each_below, outcome_of, no_outcome}
 use Rattle.bsp_deliver.specs.Delivery.{delivery_parts, next_memory, next_queue}
 use Rattle.bsp_deliver.specs.Touched.{former_or}
 use Rattle.bsp_run.specs.Run.{Run}
@@ -150,6 +151,11 @@ former_set new old formers at former p l here there =
           ap (λ k. former_or (new k) (get_or (slice_set formers at former) k None)) w.1 ∙ ap (former_or (new at)) (get_or-set_same formers at former None l) ∙ here ∙ ap old (sym w.1)
       | inr w ↦ ap (former_or (new p)) (get_or-set_other formers at p former None w.1) ∙ there w.1
     ]
+
+-- the outcome that a process had before, got from their list
+pub former_got : (new : OutcomeParts) (old : List OutcomeParts) (p : ℕ) (former : Option (Bor OutcomeParts)) → p < length old → IsItemAt old p former → former_or new former ≡ outcome_of old p
+former_got new old p None l e = let here : nat_lt p (length old) ≡ true = grind (arith, nat_tests) in absurd (false≢true (e.0 ∙ here))
+former_got new old p (Some former) l e = e.1 ∙ get_or_default old p former.now no_outcome l
 
 -- what comes neither here nor later
 pub later_or_here : (ps : List ℕ) (i p : ℕ) → p ≢ get_or ps i 0 → ((j : ℕ) → i + 1 ≤ j → j < length ps → get_or ps j 0 ≢ p) → (j : ℕ) → i ≤ j → j < length ps → get_or ps j 0 ≢ p

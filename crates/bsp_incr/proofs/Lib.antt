@@ -12,3 +12,5 @@ pub mod Lawful
 pub mod Carrying
 pub mod FirstViews
 pub mod Unchanged
+pub mod Restoring
+pub mod Staying

@@ -72,7 +72,7 @@ propagated turn i j s d many l same e =
       queue = queue-in turn i s d before ∙ ap next_queue e ∙ sym (queue-in turn j s d l);
     }
 
-first_memory : (turn : ViewParts → OutcomeParts) (input : Input) (p : ℕ) → get_or (state_at turn input 0).memories p [] ≡ get_or input.mems p []
+pub first_memory : (turn : ViewParts → OutcomeParts) (input : Input) (p : ℕ) → get_or (state_at turn input 0).memories p [] ≡ get_or input.mems p []
 unfolding first_state
 first_memory turn input p = ap (λ (s : State). get_or s.memories p []) (state_at-first turn input)
 

@@ -19,15 +19,14 @@ use Rattle.bsp_run.specs.Record.{IsRecord}
 use Rattle.bsp_run.specs.Condition.{no_view, is_open, is_turned}
 use Rattle.bsp_run.proofs.Runs.{open_phase, turns_closed}
 use Rattle.bsp_run.proofs.Records.{superstep, state_at-next, past-delivered, open_views-in, count-views_in, count-outcomes_in, IsRecord-turned, IsRecord-goes_on, IsRecord-start, IsRecord-run}
-use Rattle.bsp_incr.specs.declared.kept.Kept.{Kept}
 use Rattle.bsp_incr.specs.declared.reply.Update.{Update}
 use Rattle.bsp_incr.specs.Marks.{AreMarked, AreAlikeButForTable, ViewsDifferAtMost, OutcomesDifferAtMost}
 use Rattle.bsp_incr.specs.Changes.{differ, differ_in, touched, touched_in, is_touched, processes_where, supersteps_before, delivered_before}
 use Rattle.bsp_incr.specs.Next.{next_view}
-use Rattle.bsp_incr.specs.Before.{run_before, taken_before, delivered_outcomes, IsBefore, HasSameArgs, AreArgsMarked, AreAlikeAfter, AreFirstMarked, HasSameMemory, IsUnderWay, IsRunBefore}
+use Rattle.bsp_incr.specs.Before.{taken_before, delivered_outcomes, IsBefore, HasSameArgs, AreArgsMarked, AreAlikeAfter, AreFirstMarked, HasSameMemory, IsUnderWay, IsRunBefore}
 use Rattle.bsp_incr.proofs.Updating.{updated_turned, updated_delivered}
 use Rattle.bsp_incr.proofs.Propagation.{propagated, view-in, first_alike, untouched_is}
-use Rattle.bsp_incr.proofs.RunBefore.{taken-in, some_taken, nothing_taken, delivered-in, some_delivered, nothing_delivered, views_after-some}
+use Rattle.bsp_incr.proofs.RunBefore.{args_before, memory_before, taken-in, some_taken, nothing_taken, delivered-in, some_delivered, nothing_delivered, views_after-some}
 
 -- the next views, process by process
 pub next_views-are : (r : Run) → each_below (length r.outcomes) (next_view r) ≡ views_of r.args (length r.past + 1) (next_state r.state r.outcomes)
@@ -38,7 +37,7 @@ next_views-are r = ap (λ n. each_below n (next_view r)) (sym (length-map-range_
 unchanged_by : (turn : ViewParts → OutcomeParts) (vs ws : List ViewParts) (p : ℕ) → p < length vs → p < length ws → get_or vs p no_view ≡ get_or ws p no_view → outcome_of (map turn vs) p ≡ outcome_of (map turn ws) p
 unchanged_by turn vs ws p l m e = get_or-map turn vs p no_view no_outcome l ∙ ap turn e ∙ sym (get_or-map turn ws p no_view no_outcome m)
 
-pub unchanged_among : (turn : ViewParts → OutcomeParts) (input : Input) (old : Option Kept) (s : ℕ) (ws : List ViewParts) (processes : List ℕ) → IsBefore turn input old → ws ≡ views_in turn input s → ViewsDifferAtMost (taken_before old s) ws processes → OutcomesDifferAtMost (delivered_outcomes old s) (map turn ws) processes
+pub unchanged_among : (turn : ViewParts → OutcomeParts) (input : Input) (old : Option Run) (s : ℕ) (ws : List ViewParts) (processes : List ℕ) → IsBefore turn input old → ws ≡ views_in turn input s → ViewsDifferAtMost (taken_before old s) ws processes → OutcomesDifferAtMost (delivered_outcomes old s) (map turn ws) processes
 unchanged_among turn input None s ws processes h is k =
     record { test = k.test; listed = k.listed ∙ ap (λ n. processes_where n k.test) (sym (length-map ws turn)); same = λ p l m t. absurd (nothing_delivered s p l) }
 unchanged_among turn input (Some o) s ws processes h is k =
@@ -55,10 +54,10 @@ unchanged_among turn input (Some o) s ws processes h is k =
     }
 
 -- A superstep that the run before took had the same processes.
-pub count_taken : (turn : ViewParts → OutcomeParts) (input : Input) (old : Option Kept) (s : ℕ) (ws : List ViewParts) → IsBefore turn input old → ws ≡ views_in turn input s → 0 < length (taken_before old s) → length (taken_before old s) ≡ length ws
+pub count_taken : (turn : ViewParts → OutcomeParts) (input : Input) (old : Option Run) (s : ℕ) (ws : List ViewParts) → IsBefore turn input old → ws ≡ views_in turn input s → 0 < length (taken_before old s) → length (taken_before old s) ≡ length ws
 count_taken turn input None s ws h is l = absurd (nothing_taken s 0 l)
 count_taken turn input (Some k) s ws h is l =
-    ap (λ (vs : List ViewParts). length vs) (taken-in turn input k s h (some_taken k s 0 l)) ∙ count-views_in turn k.input s ∙ h.count
+    ap (λ (vs : List ViewParts). length vs) (taken-in turn input k s h (some_taken k s 0 l)) ∙ count-views_in turn h.input_before s ∙ h.count
     ∙ sym (count-views_in turn input s) ∙ sym (ap (λ (vs : List ViewParts). length vs) is)
 
 -- What a process sees next, once the turns are taken.
@@ -72,7 +71,7 @@ next_view-in turn input t p h o l =
     ∙ ap (λ (args : List (List ℕ)). view_of args (s + 1) (next_state t.state t.outcomes) p) (sym h.args)
 
 -- It is what it saw in the run before, where the delivery to it stays and its arguments are the same.
-pub alike_after : (turn : ViewParts → OutcomeParts) (input : Input) (old : Option Kept) (t : Run) (always : List Bool) → IsBefore turn input old → AreArgsMarked old input always → IsRecord turn input t → t.outcomes ≡ outcomes_in turn input (length t.past) → AreAlikeAfter old t always
+pub alike_after : (turn : ViewParts → OutcomeParts) (input : Input) (old : Option Run) (t : Run) (always : List Bool) → IsBefore turn input old → AreArgsMarked old input always → IsRecord turn input t → t.outcomes ≡ outcomes_in turn input (length t.past) → AreAlikeAfter old t always
 alike_after turn input None t always h a made o = λ p l f c. absurd (nothing_delivered (length t.past) p (untouched_is (delivered_outcomes None (length t.past)) t.outcomes p f).0)
 alike_after turn input (Some k) t always h a made o = λ p l f c.
     let s = length t.past in
@@ -82,24 +81,24 @@ alike_after turn input (Some k) t always h a made o = λ p l f c.
     let views = views_after-some k s past ∙ h.made.views (s + 1) (omega (arith, past)) in
     let parts = ap (λ (xs : List OutcomeParts). delivery_parts xs p) (sym (delivered-in turn input k s h past)) ∙ same.1 ∙ ap (λ (xs : List OutcomeParts). delivery_parts xs p) o in
     subst (λ (vs : List ViewParts). AreAlikeButForTable (get_or vs p no_view) (next_view t p)) (sym views)
-    (subst (AreAlikeButForTable (get_or (views_in turn k.input (s + 1)) p no_view)) (next_view-in turn input t p made o here)
-    (propagated turn k.input input s p h.count here (a.clean p here c) parts))
+    (subst (AreAlikeButForTable (get_or (views_in turn h.input_before (s + 1)) p no_view)) (next_view-in turn input t p made o here)
+    (propagated turn h.input_before input s p h.count here (args_before turn input k p h here (a.clean p here c)) parts))
 
 or_false : (a b : Bool) → (a || b) ≡ false → (a ≡ false) × (b ≡ false)
 or_false true b e = cc
 or_false false b e = (refl, e)
 
-clean_after : (turn : ViewParts → OutcomeParts) (input : Input) (old : Option Kept) (s p : ℕ) → IsBefore turn input old → p < length input.mems → p < length (taken_before old (s + 1)) → HasSameArgs old input p → p < length (delivered_outcomes old s) → delivery_parts (delivered_outcomes old s) p ≡ delivery_parts (outcomes_in turn input s) p
+clean_after : (turn : ViewParts → OutcomeParts) (input : Input) (old : Option Run) (s p : ℕ) → IsBefore turn input old → p < length input.mems → p < length (taken_before old (s + 1)) → HasSameArgs old input p → p < length (delivered_outcomes old s) → delivery_parts (delivered_outcomes old s) p ≡ delivery_parts (outcomes_in turn input s) p
     → AreAlikeButForTable (get_or (taken_before old (s + 1)) p no_view) (get_or (views_in turn input (s + 1)) p no_view)
 clean_after turn input None s p h l m same there e = absurd (nothing_delivered s p there)
 clean_after turn input (Some k) s p h l m same there e =
     let os = delivered-in turn input k s h (some_delivered k s p there) in
     let vs = taken-in turn input k (s + 1) h (some_taken k (s + 1) p m) in
     subst (λ (xs : List ViewParts). AreAlikeButForTable (get_or xs p no_view) (get_or (views_in turn input (s + 1)) p no_view)) (sym vs)
-    (propagated turn k.input input s p h.count l same (ap (λ (xs : List OutcomeParts). delivery_parts xs p) (sym os) ∙ e))
+    (propagated turn h.input_before input s p h.count l (args_before turn input k p h l same) (ap (λ (xs : List OutcomeParts). delivery_parts xs p) (sym os) ∙ e))
 
 -- A process that is not marked after the deliveries sees next what it saw in the run before.
-marked_next : (turn : ViewParts → OutcomeParts) (input : Input) (old : Option Kept) (s : ℕ) (always marks : List Bool) → IsBefore turn input old → AreArgsMarked old input always
+marked_next : (turn : ViewParts → OutcomeParts) (input : Input) (old : Option Run) (s : ℕ) (always marks : List Bool) → IsBefore turn input old → AreArgsMarked old input always
     → marks ≡ each_below (length (outcomes_in turn input s)) (λ d. is_touched (delivered_outcomes old s) (outcomes_in turn input s) d || get_or always d true)
     → AreMarked (taken_before old (s + 1)) (views_in turn input (s + 1)) marks
 marked_next turn input old s always marks h a m =
@@ -126,7 +125,7 @@ pub turns-in : (turn : ViewParts → OutcomeParts) (input : Input) (r : Run) →
 turns-in turn input r h = ap (map turn) (open_views-in turn input r h)
 
 -- A superstep that ends the run keeps what is known.
-pub under_way_turned : (turn : ViewParts → OutcomeParts) (looks : ViewParts → ℕ → Bool) (old : Option Kept) (input : Input) (r q : Run) (marks : List Bool) (u v : Update) → is_open r.phase ≡ true → IsUnderWay turn looks old input r marks u → q ≡ after_turns r (map turn (open_views r))
+pub under_way_turned : (turn : ViewParts → OutcomeParts) (looks : ViewParts → ℕ → Bool) (old : Option Run) (input : Input) (r q : Run) (marks : List Bool) (u v : Update) → is_open r.phase ≡ true → IsUnderWay turn looks old input r marks u → q ≡ after_turns r (map turn (open_views r))
     → v.executed ≡ u.executed ++ differ_in looks (length r.past) (taken_before old (length r.past)) (open_views r) → v.redelivered ≡ u.redelivered → IsUnderWay turn looks old input q marks v
 under_way_turned turn looks old input r q marks u v o h is k l =
     let e = open_phase r.phase o in
@@ -139,7 +138,7 @@ under_way_turned turn looks old input r q marks u v o h is k l =
     }
 
 -- So does one that ends by delivery.
-pub under_way_delivered : (turn : ViewParts → OutcomeParts) (looks : ViewParts → ℕ → Bool) (old : Option Kept) (input : Input) (r q : Run) (always m marks : List Bool) (u v : Update) → is_open r.phase ≡ true → is_turned (after_turns r (map turn (open_views r))).phase ≡ true → IsBefore turn input old → AreArgsMarked old input always → IsUnderWay turn looks old input r m u → q ≡ after_delivery (after_turns r (map turn (open_views r)))
+pub under_way_delivered : (turn : ViewParts → OutcomeParts) (looks : ViewParts → ℕ → Bool) (old : Option Run) (input : Input) (r q : Run) (always m marks : List Bool) (u v : Update) → is_open r.phase ≡ true → is_turned (after_turns r (map turn (open_views r))).phase ≡ true → IsBefore turn input old → AreArgsMarked old input always → IsUnderWay turn looks old input r m u → q ≡ after_delivery (after_turns r (map turn (open_views r)))
     → marks ≡ each_below (length (map turn (open_views r))) (λ d. is_touched (delivered_outcomes old (length r.past)) (map turn (open_views r)) d || get_or always d true)
     → v.executed ≡ u.executed ++ differ_in looks (length r.past) (taken_before old (length r.past)) (open_views r) → v.redelivered ≡ u.redelivered ++ touched_in (length r.past) (delivered_outcomes old (length r.past)) (map turn (open_views r)) → IsUnderWay turn looks old input q marks v
 under_way_delivered turn looks old input r q always m marks u v o t b a h is n k l =
@@ -159,18 +158,18 @@ under_way_delivered turn looks old input r q always m marks u v o t b a h is n k
       updated = updated_delivered looks old r us u v e h.updated k l;
     }
 
-first_clean : (turn : ViewParts → OutcomeParts) (input : Input) (old : Option Kept) (p : ℕ) → IsBefore turn input old → p < length input.mems → p < length (taken_before old 0) → HasSameMemory old input p → HasSameArgs old input p
+first_clean : (turn : ViewParts → OutcomeParts) (input : Input) (old : Option Run) (p : ℕ) → IsBefore turn input old → p < length input.mems → p < length (taken_before old 0) → HasSameMemory old input p → HasSameArgs old input p
     → AreAlikeButForTable (get_or (taken_before old 0) p no_view) (get_or (views_in turn input 0) p no_view)
 first_clean turn input None p h m l memory same = absurd (nothing_taken 0 p l)
 first_clean turn input (Some k) p h m l memory same =
     subst (λ (vs : List ViewParts). AreAlikeButForTable (get_or vs p no_view) (get_or (views_in turn input 0) p no_view)) (sym (taken-in turn input k 0 h (some_taken k 0 p l)))
-    (first_alike turn k.input input p h.count m same memory)
+    (first_alike turn h.input_before input p h.count m (args_before turn input k p h m same) (memory_before turn input k p h m memory))
 
-nothing_executed : (looks : ViewParts → ℕ → Bool) (old : Option Kept) (input : Input) → differ looks (supersteps_before (run_before old)) (supersteps_of (start input)) ≡ []
+nothing_executed : (looks : ViewParts → ℕ → Bool) (old : Option Run) (input : Input) → differ looks (supersteps_before old) (supersteps_of (start input)) ≡ []
 unfolding start differ
 nothing_executed looks old input = refl
 
-nothing_redelivered : (old : Option Kept) (input : Input) → touched (delivered_before (run_before old)) (start input).past ≡ []
+nothing_redelivered : (old : Option Run) (input : Input) → touched (delivered_before old) (start input).past ≡ []
 unfolding start touched
 nothing_redelivered old input = refl
 
@@ -179,7 +178,7 @@ unfolding start
 no_past input = refl
 
 -- before superstep 0
-pub under_way_start : (turn : ViewParts → OutcomeParts) (looks : ViewParts → ℕ → Bool) (old : Option Kept) (input : Input) (r : Run) (marks : List Bool) (u : Update) → r ≡ start input → 1 ≤ input.limit → IsBefore turn input old → AreFirstMarked old input marks → u.executed ≡ [] → u.redelivered ≡ [] → IsUnderWay turn looks old input r marks u
+pub under_way_start : (turn : ViewParts → OutcomeParts) (looks : ViewParts → ℕ → Bool) (old : Option Run) (input : Input) (r : Run) (marks : List Bool) (u : Update) → r ≡ start input → 1 ≤ input.limit → IsBefore turn input old → AreFirstMarked old input marks → u.executed ≡ [] → u.redelivered ≡ [] → IsUnderWay turn looks old input r marks u
 under_way_start turn looks old input r marks u is some h m e d =
     let made = IsRecord-start turn input some in
     let views : open_views (start input) ≡ views_in turn input 0 = open_views-in turn input (start input) made ∙ ap (views_in turn input) (no_past input) in
@@ -198,6 +197,11 @@ under_way_start turn looks old input r marks u is some h m e d =
     }
 
 -- the run before has its record
-pub before_is : (turn : ViewParts → OutcomeParts) (input : Input) (old : Option Kept) → IsRunBefore turn input old → IsBefore turn input old
+pub before_is : (turn : ViewParts → OutcomeParts) (input : Input) (old : Option Run) → IsRunBefore turn input old → IsBefore turn input old
 before_is turn input None h = tt
-before_is turn input (Some k) h = record { made = subst (IsRecord turn k.input) (sym h.is) (IsRecord-run turn k.input (lawful_input k.input h.lawful).some_superstep); count = h.count }
+before_is turn input (Some k) h =
+    record {
+      input_before = h.input_before;
+      made = subst (IsRecord turn h.input_before) (sym h.is) (IsRecord-run turn h.input_before (lawful_input h.input_before h.lawful).some_superstep);
+      count = h.count;
+    }

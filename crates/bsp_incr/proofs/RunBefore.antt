@@ -1,5 +1,5 @@
 -- The run before, superstep by superstep.
-use Rattle.std.proofs.Common.{◌≡◌, ◌≤◌, ◌<◌, ◌+◌, ℕ, true, false, cond, List, [], Option, None, Some, map, length, arith, refl, sym, ap, ◌∙◌, subst, inl, inr}
+use Rattle.std.proofs.Common.{◌≡◌, ◌≤◌, ◌<◌, ◌+◌, ℕ, true, false, cond, List, [], Option, None, Some, map, length, get_or, arith, refl, sym, ap, ◌∙◌, subst, inl, inr}
 use Rattle.std.specs.Prelude.{nat_lt}
 use Rattle.std.proofs.lemmas.Bool.{cases_lt}
 use Rattle.std.proofs.lemmas.Bool.Decides.{nat_tests}
@@ -10,26 +10,38 @@ use Rattle.bsp_step.specs.OutcomeParts.{OutcomeParts}
 use Rattle.bsp_run.specs.declared.superstep.Superstep.{Superstep}
 use Rattle.bsp_run.specs.Run.{Run, open_views}
 use Rattle.bsp_run.specs.Supersteps.{supersteps_of, superstep_at, views_at}
-use Rattle.bsp_run.specs.Law.{views_in, outcomes_in}
+use Rattle.bsp_run.specs.State.{view_of}
+use Rattle.bsp_run.specs.Law.{state_at, views_in, outcomes_in}
+use Rattle.bsp_run.specs.Condition.{no_view}
 use Rattle.bsp_run.specs.Record.{IsRecord}
 use Rattle.bsp_run.proofs.Records.{views_at-past, open_views-in, count-views_in, count-outcomes_in}
 use Rattle.bsp_run.proofs.Laws.{superstep_at-past_end, taken_views, taken_outcomes}
-use Rattle.bsp_incr.specs.declared.kept.Kept.{Kept}
 use Rattle.bsp_incr.specs.Marks.{HaveOneTable, AreDelivered}
 use Rattle.bsp_incr.specs.Changes.{supersteps_before}
-use Rattle.bsp_incr.specs.Before.{run_before, taken_before, outcomes_before, delivered_outcomes, views_after, IsBefore, IsKept}
-use Rattle.bsp_incr.proofs.Propagation.{one_table, memory-in, queue-in}
+use Rattle.bsp_incr.specs.Before.{taken_before, outcomes_before, delivered_outcomes, views_after, IsBefore, IsRecordBefore, HasSameArgs, HasSameMemory}
+use Rattle.bsp_incr.proofs.Propagation.{one_table, view-in, first_memory, memory-in, queue-in}
 
-pub taken-in : (turn : ViewParts → OutcomeParts) (input : Input) (k : Kept) (s : ℕ) → IsKept turn input k → s < length (supersteps_of k.history) → taken_before (Some k) s ≡ views_in turn k.input s
-taken-in turn input k s h l = let taken = taken_views k.history s l in taken.1 ∙ h.made.views s taken.0
+-- what a process saw first
+first_view : (turn : ViewParts → OutcomeParts) (input : Input) (k : Run) (p : ℕ) (h : IsRecordBefore turn input k) → p < length input.mems → get_or (views_at k 0) p no_view ≡ view_of h.input_before.args 0 (state_at turn h.input_before 0) p
+first_view turn input k p h l = ap (λ (vs : List ViewParts). get_or vs p no_view) (h.made.views 0 (omega arith)) ∙ view-in turn h.input_before 0 p (omega (arith, l, h.count))
 
-pub none_taken : (old : Option Kept) (s : ℕ) → length (supersteps_before (run_before old)) ≤ s → length (taken_before old s) ≡ 0
-none_taken old s l = ap (λ (x : Superstep). length x.views) (superstep_at-past_end (supersteps_before (run_before old)) s l)
+-- the arguments and the memory that it had
+pub args_before : (turn : ViewParts → OutcomeParts) (input : Input) (k : Run) (p : ℕ) (h : IsRecordBefore turn input k) → p < length input.mems → HasSameArgs (Some k) input p → get_or h.input_before.args p [] ≡ get_or input.args p []
+args_before turn input k p h l same = sym (ap (λ (v : ViewParts). v.args) (first_view turn input k p h l)) ∙ same
+
+pub memory_before : (turn : ViewParts → OutcomeParts) (input : Input) (k : Run) (p : ℕ) (h : IsRecordBefore turn input k) → p < length input.mems → HasSameMemory (Some k) input p → get_or h.input_before.mems p [] ≡ get_or input.mems p []
+memory_before turn input k p h l same = sym (first_memory turn h.input_before p) ∙ sym (ap (λ (v : ViewParts). v.memory) (first_view turn input k p h l)) ∙ same
+
+pub taken-in : (turn : ViewParts → OutcomeParts) (input : Input) (k : Run) (s : ℕ) (h : IsRecordBefore turn input k) → s < length (supersteps_of k) → taken_before (Some k) s ≡ views_in turn h.input_before s
+taken-in turn input k s h l = let taken = taken_views k s l in taken.1 ∙ h.made.views s taken.0
+
+pub none_taken : (old : Option Run) (s : ℕ) → length (supersteps_before old) ≤ s → length (taken_before old s) ≡ 0
+none_taken old s l = ap (λ (x : Superstep). length x.views) (superstep_at-past_end (supersteps_before old) s l)
 
 -- a view that there was is one of a superstep that was taken
-pub some_taken : (k : Kept) (s p : ℕ) → p < length (taken_before (Some k) s) → s < length (supersteps_of k.history)
+pub some_taken : (k : Run) (s p : ℕ) → p < length (taken_before (Some k) s) → s < length (supersteps_of k)
 some_taken k s p l =
-    elim (cases_lt s (length (supersteps_of k.history))) [
+    elim (cases_lt s (length (supersteps_of k))) [
       | inl w ↦ w
       | inr w ↦ let none = none_taken (Some k) s w in absurd (omega arith)
     ]
@@ -37,17 +49,17 @@ some_taken k s p l =
 pub nothing_taken : (s p : ℕ) → p < length (taken_before None s) → ⊥
 nothing_taken s p l = let none = none_taken None s (omega arith) in omega arith
 
-pub delivered-in : (turn : ViewParts → OutcomeParts) (input : Input) (k : Kept) (s : ℕ) → IsKept turn input k → s < length k.history.past → delivered_outcomes (Some k) s ≡ outcomes_in turn k.input s
+pub delivered-in : (turn : ViewParts → OutcomeParts) (input : Input) (k : Run) (s : ℕ) (h : IsRecordBefore turn input k) → s < length k.past → delivered_outcomes (Some k) s ≡ outcomes_in turn h.input_before s
 delivered-in turn input k s h l =
-    let front : superstep_at (supersteps_of k.history) s ≡ superstep_at k.history.past s = grind (arith, common_steps) in
-    let turns = subst (λ (x : Superstep). x.outcomes ≡ map turn x.views) front (taken_outcomes turn (supersteps_of k.history) s h.made.turns) in
-    turns ∙ ap (map turn) (sym (views_at-past k.history s l) ∙ h.made.views s (omega arith))
+    let front : superstep_at (supersteps_of k) s ≡ superstep_at k.past s = grind (arith, common_steps) in
+    let turns = subst (λ (x : Superstep). x.outcomes ≡ map turn x.views) front (taken_outcomes turn (supersteps_of k) s h.made.turns) in
+    turns ∙ ap (map turn) (sym (views_at-past k s l) ∙ h.made.views s (omega arith))
 
-pub some_delivered : (k : Kept) (s d : ℕ) → d < length (delivered_outcomes (Some k) s) → s < length k.history.past
+pub some_delivered : (k : Run) (s d : ℕ) → d < length (delivered_outcomes (Some k) s) → s < length k.past
 some_delivered k s d l =
-    elim (cases_lt s (length k.history.past)) [
+    elim (cases_lt s (length k.past)) [
       | inl w ↦ w
-      | inr w ↦ let none : length (delivered_outcomes (Some k) s) ≡ 0 = ap (λ (x : Superstep). length x.outcomes) (superstep_at-past_end k.history.past s w) in absurd (omega arith)
+      | inr w ↦ let none : length (delivered_outcomes (Some k) s) ≡ 0 = ap (λ (x : Superstep). length x.outcomes) (superstep_at-past_end k.past s w) in absurd (omega arith)
     ]
 
 pub nothing_delivered : (s d : ℕ) → d < length (delivered_outcomes None s) → ⊥
@@ -57,33 +69,33 @@ no_table : HaveOneTable []
 no_table = record { table = λ p l. absurd (omega arith); tag_size = λ p l. absurd (omega arith) }
 
 -- its processes see one table in each superstep
-pub table_before : (turn : ViewParts → OutcomeParts) (input : Input) (old : Option Kept) (s : ℕ) → IsBefore turn input old → HaveOneTable (taken_before old s)
+pub table_before : (turn : ViewParts → OutcomeParts) (input : Input) (old : Option Run) (s : ℕ) → IsBefore turn input old → HaveOneTable (taken_before old s)
 table_before turn input None s h = subst (λ (x : Superstep). HaveOneTable x.views) (sym (superstep_at-past_end [] s (omega arith))) no_table
 table_before turn input (Some k) s h =
-    elim (cases_lt s (length (supersteps_of k.history))) [
-      | inl w ↦ subst HaveOneTable (sym (taken-in turn input k s h w)) (one_table turn k.input s)
-      | inr w ↦ subst (λ (x : Superstep). HaveOneTable x.views) (sym (superstep_at-past_end (supersteps_of k.history) s w)) no_table
+    elim (cases_lt s (length (supersteps_of k))) [
+      | inl w ↦ subst HaveOneTable (sym (taken-in turn input k s h w)) (one_table turn h.input_before s)
+      | inr w ↦ subst (λ (x : Superstep). HaveOneTable x.views) (sym (superstep_at-past_end (supersteps_of k) s w)) no_table
     ]
 
 pub open_table : (turn : ViewParts → OutcomeParts) (input : Input) (r : Run) → IsRecord turn input r → HaveOneTable (open_views r)
 open_table turn input r h = subst HaveOneTable (sym (open_views-in turn input r h)) (one_table turn input (length r.past))
 
 -- its outcomes are the turns of its views
-pub turns_before : (turn : ViewParts → OutcomeParts) (input : Input) (old : Option Kept) (s : ℕ) → IsBefore turn input old → outcomes_before old s ≡ map turn (taken_before old s)
+pub turns_before : (turn : ViewParts → OutcomeParts) (input : Input) (old : Option Run) (s : ℕ) → IsBefore turn input old → outcomes_before old s ≡ map turn (taken_before old s)
 turns_before turn input None s h = subst (λ (x : Superstep). x.outcomes ≡ map turn x.views) (sym (superstep_at-past_end [] s (omega arith))) refl
-turns_before turn input (Some k) s h = taken_outcomes turn (supersteps_of k.history) s h.made.turns
+turns_before turn input (Some k) s h = taken_outcomes turn (supersteps_of k) s h.made.turns
 
 -- what the run before delivered, it delivered to the same processes
-pub count_before : (turn : ViewParts → OutcomeParts) (input : Input) (old : Option Kept) (s : ℕ) → IsBefore turn input old → 0 < length (delivered_outcomes old s) → length (delivered_outcomes old s) ≡ length (outcomes_in turn input s)
+pub count_before : (turn : ViewParts → OutcomeParts) (input : Input) (old : Option Run) (s : ℕ) → IsBefore turn input old → 0 < length (delivered_outcomes old s) → length (delivered_outcomes old s) ≡ length (outcomes_in turn input s)
 count_before turn input None s h l = absurd (nothing_delivered s 0 l)
 count_before turn input (Some k) s h l =
-    ap (λ (os : List OutcomeParts). length os) (delivered-in turn input k s h (some_delivered k s 0 l)) ∙ count-outcomes_in turn k.input s ∙ h.count ∙ sym (count-outcomes_in turn input s)
+    ap (λ (os : List OutcomeParts). length os) (delivered-in turn input k s h (some_delivered k s 0 l)) ∙ count-outcomes_in turn h.input_before s ∙ h.count ∙ sym (count-outcomes_in turn input s)
 
-pub views_after-some : (k : Kept) (s : ℕ) → s < length k.history.past → views_after (Some k) s ≡ views_at k.history (s + 1)
-views_after-some k s l = let t : nat_lt s (length k.history.past) ≡ true = grind (arith, nat_tests) in ap (λ b. cond b (views_at k.history (s + 1)) []) t
+pub views_after-some : (k : Run) (s : ℕ) → s < length k.past → views_after (Some k) s ≡ views_at k (s + 1)
+views_after-some k s l = let t : nat_lt s (length k.past) ≡ true = grind (arith, nat_tests) in ap (λ b. cond b (views_at k (s + 1)) []) t
 
-views_after-none : (k : Kept) (s : ℕ) → length k.history.past ≤ s → views_after (Some k) s ≡ []
-views_after-none k s l = let t : nat_lt s (length k.history.past) ≡ false = grind (arith, nat_tests) in ap (λ b. cond b (views_at k.history (s + 1)) []) t
+views_after-none : (k : Run) (s : ℕ) → length k.past ≤ s → views_after (Some k) s ≡ []
+views_after-none k s l = let t : nat_lt s (length k.past) ≡ false = grind (arith, nat_tests) in ap (λ b. cond b (views_at k (s + 1)) []) t
 
 none_delivered : (views : List ViewParts) (os : List OutcomeParts) → views ≡ [] → length os ≡ 0 → AreDelivered os views
 none_delivered views os e l =
@@ -100,22 +112,22 @@ delivered_views turn input s =
     }
 
 -- and its next views are what it delivered
-pub delivered_before_is : (turn : ViewParts → OutcomeParts) (input : Input) (old : Option Kept) (s : ℕ) → IsBefore turn input old → AreDelivered (delivered_outcomes old s) (views_after old s)
+pub delivered_before_is : (turn : ViewParts → OutcomeParts) (input : Input) (old : Option Run) (s : ℕ) → IsBefore turn input old → AreDelivered (delivered_outcomes old s) (views_after old s)
 delivered_before_is turn input None s h = none_delivered [] (delivered_outcomes None s) refl (ap (λ (x : Superstep). length x.outcomes) (superstep_at-past_end [] s (omega arith)))
 delivered_before_is turn input (Some k) s h =
-    elim (cases_lt s (length k.history.past)) [
+    elim (cases_lt s (length k.past)) [
       | inl w ↦
           let views = views_after-some k s w ∙ h.made.views (s + 1) (omega arith) in
           subst (λ (os : List OutcomeParts). AreDelivered os (views_after (Some k) s)) (sym (delivered-in turn input k s h w))
-          (subst (AreDelivered (outcomes_in turn k.input s)) (sym views) (delivered_views turn k.input s))
-      | inr w ↦ none_delivered (views_after (Some k) s) (delivered_outcomes (Some k) s) (views_after-none k s w) (ap (λ (x : Superstep). length x.outcomes) (superstep_at-past_end k.history.past s w))
+          (subst (AreDelivered (outcomes_in turn h.input_before s)) (sym views) (delivered_views turn h.input_before s))
+      | inr w ↦ none_delivered (views_after (Some k) s) (delivered_outcomes (Some k) s) (views_after-none k s w) (ap (λ (x : Superstep). length x.outcomes) (superstep_at-past_end k.past s w))
     ]
 
 -- the processes see one table in them
-pub table_after : (turn : ViewParts → OutcomeParts) (input : Input) (old : Option Kept) (s : ℕ) → IsBefore turn input old → HaveOneTable (views_after old s)
+pub table_after : (turn : ViewParts → OutcomeParts) (input : Input) (old : Option Run) (s : ℕ) → IsBefore turn input old → HaveOneTable (views_after old s)
 table_after turn input None s h = no_table
 table_after turn input (Some k) s h =
-    elim (cases_lt s (length k.history.past)) [
-      | inl w ↦ subst HaveOneTable (sym (views_after-some k s w ∙ h.made.views (s + 1) (omega arith))) (one_table turn k.input (s + 1))
+    elim (cases_lt s (length k.past)) [
+      | inl w ↦ subst HaveOneTable (sym (views_after-some k s w ∙ h.made.views (s + 1) (omega arith))) (one_table turn h.input_before (s + 1))
       | inr w ↦ subst HaveOneTable (sym (views_after-none k s w)) no_table
     ]

@@ -8,11 +8,10 @@ use Rattle.bsp_run.specs.declared.superstep.Superstep.{Superstep}
 use Rattle.bsp_run.specs.Run.{Run, open_views, after_turns, after_delivery}
 use Rattle.bsp_run.specs.Supersteps.{supersteps_of, superstep_at}
 use Rattle.bsp_run.proofs.Records.{superstep, supersteps-open, supersteps-turned, supersteps-delivered, past-delivered, past-turned}
-use Rattle.bsp_incr.specs.declared.kept.Kept.{Kept}
 use Rattle.bsp_incr.specs.declared.reply.Place.{Place}
 use Rattle.bsp_incr.specs.declared.reply.Update.{Update}
 use Rattle.bsp_incr.specs.Changes.{differ, differ_in, differ_from, touched, touched_in, touched_from, supersteps_before, delivered_before, IsUpdate}
-use Rattle.bsp_incr.specs.Before.{run_before, taken_before, delivered_outcomes}
+use Rattle.bsp_incr.specs.Before.{taken_before, delivered_outcomes}
 
 -- one superstep more
 differ_from-push : (looks : ViewParts → ℕ → Bool) (n m : ℕ) (olds xs : List Superstep) (x : Superstep) → n + length xs ≡ m → differ_from looks n olds (xs ++ x ∷ []) ≡ differ_from looks n olds xs ++ differ_in looks m (superstep_at olds m).views x.views
@@ -41,28 +40,28 @@ touched-push : (olds xs : List Superstep) (x : Superstep) → touched olds (xs +
 unfolding touched
 touched-push olds xs x = touched_from-push 0 (length xs) olds xs x (omega arith)
 
-executed_more : (looks : ViewParts → ℕ → Bool) (old : Option Kept) (r : Run) (os : List OutcomeParts) (before after : List Place) (all : List Superstep) → r.phase ≡ Open → all ≡ r.past ++ superstep (open_views r) os ∷ [] → before ≡ differ looks (supersteps_before (run_before old)) (supersteps_of r)
-    → after ≡ before ++ differ_in looks (length r.past) (taken_before old (length r.past)) (open_views r) → after ≡ differ looks (supersteps_before (run_before old)) all
+executed_more : (looks : ViewParts → ℕ → Bool) (old : Option Run) (r : Run) (os : List OutcomeParts) (before after : List Place) (all : List Superstep) → r.phase ≡ Open → all ≡ r.past ++ superstep (open_views r) os ∷ [] → before ≡ differ looks (supersteps_before old) (supersteps_of r)
+    → after ≡ before ++ differ_in looks (length r.past) (taken_before old (length r.past)) (open_views r) → after ≡ differ looks (supersteps_before old) all
 executed_more looks old r os before after all e is h k =
-    let olds = supersteps_before (run_before old) in
+    let olds = supersteps_before old in
     k ∙ ap (λ (xs : List Place). xs ++ differ_in looks (length r.past) (taken_before old (length r.past)) (open_views r)) (h ∙ ap (differ looks olds) (supersteps-open r e))
     ∙ sym (differ-push looks olds r.past (superstep (open_views r) os)) ∙ ap (differ looks olds) (sym is)
 
 -- the update after the turns of a superstep that ends the run
-pub updated_turned : (looks : ViewParts → ℕ → Bool) (old : Option Kept) (r : Run) (os : List OutcomeParts) (u v : Update) → r.phase ≡ Open → IsUpdate looks (run_before old) r u → v.executed ≡ u.executed ++ differ_in looks (length r.past) (taken_before old (length r.past)) (open_views r) → v.redelivered ≡ u.redelivered → IsUpdate looks (run_before old) (after_turns r os) v
+pub updated_turned : (looks : ViewParts → ℕ → Bool) (old : Option Run) (r : Run) (os : List OutcomeParts) (u v : Update) → r.phase ≡ Open → IsUpdate looks old r u → v.executed ≡ u.executed ++ differ_in looks (length r.past) (taken_before old (length r.past)) (open_views r) → v.redelivered ≡ u.redelivered → IsUpdate looks old (after_turns r os) v
 updated_turned looks old r os u v e h k l =
     record {
       executed = executed_more looks old r os u.executed v.executed (supersteps_of (after_turns r os)) e (supersteps-turned r os) h.executed k;
-      redelivered = l ∙ h.redelivered ∙ ap (touched (delivered_before (run_before old))) (sym (past-turned r os));
+      redelivered = l ∙ h.redelivered ∙ ap (touched (delivered_before old)) (sym (past-turned r os));
     }
 
 -- the update after its deliveries
-pub updated_delivered : (looks : ViewParts → ℕ → Bool) (old : Option Kept) (r : Run) (os : List OutcomeParts) (u v : Update) → r.phase ≡ Open → IsUpdate looks (run_before old) r u → v.executed ≡ u.executed ++ differ_in looks (length r.past) (taken_before old (length r.past)) (open_views r)
-    → v.redelivered ≡ u.redelivered ++ touched_in (length r.past) (delivered_outcomes old (length r.past)) os → IsUpdate looks (run_before old) (after_delivery (after_turns r os)) v
+pub updated_delivered : (looks : ViewParts → ℕ → Bool) (old : Option Run) (r : Run) (os : List OutcomeParts) (u v : Update) → r.phase ≡ Open → IsUpdate looks old r u → v.executed ≡ u.executed ++ differ_in looks (length r.past) (taken_before old (length r.past)) (open_views r)
+    → v.redelivered ≡ u.redelivered ++ touched_in (length r.past) (delivered_outcomes old (length r.past)) os → IsUpdate looks old (after_delivery (after_turns r os)) v
 updated_delivered looks old r os u v e h k l =
     record {
       executed = executed_more looks old r os u.executed v.executed (supersteps_of (after_delivery (after_turns r os))) e (supersteps-delivered r os) h.executed k;
       redelivered =
           l ∙ ap (λ (xs : List Place). xs ++ touched_in (length r.past) (delivered_outcomes old (length r.past)) os) h.redelivered
-          ∙ sym (touched-push (delivered_before (run_before old)) r.past (superstep (open_views r) os)) ∙ ap (touched (delivered_before (run_before old))) (sym (past-delivered r os));
+          ∙ sym (touched-push (delivered_before old) r.past (superstep (open_views r) os)) ∙ ap (touched (delivered_before old)) (sym (past-delivered r os));
     }

@@ -1,4 +1,5 @@
 pub mod Edits
+pub mod Formers
 pub mod Comparing
 pub mod Reuse
 pub mod Changes

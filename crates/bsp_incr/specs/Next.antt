@@ -1,12 +1,11 @@
 -- The superstep after one whose turns are taken: what the private functions of this crate ask and promise.
-use Rattle.std.specs.Prelude.{◌≡◌, ℕ, ◌+◌, List, map, length}
+use Rattle.std.specs.Prelude.{◌≡◌, ℕ, ◌+◌, List, length}
 use Rattle.bsp_model.specs.declared.request.Message.{Message}
 use Rattle.bsp_table.specs.declared.area.Area.{Area}
 use Rattle.bsp_step.specs.ViewParts.{ViewParts}
 use Rattle.bsp_run.specs.declared.phase.Phase.TheVariants.{Turned}
 use Rattle.bsp_run.specs.State.{next_state, view_of}
 use Rattle.bsp_run.specs.Run.{Run}
-use Rattle.bsp_run.specs.Condition.{IsNextTable}
 
 -- the memory and the queue that a process sees
 abbrev pub cell_of : ViewParts → List ℕ × List Message
@@ -16,8 +15,7 @@ cell_of v = (v.memory, v.queue)
 abbrev pub next_view : Run → ℕ → ViewParts
 next_view r p = view_of r.args (length r.past + 1) (next_state r.state r.outcomes) p
 
--- the turns are taken, and this is the next table, within the limits
+-- the turns are taken, and this is the next table
 pub record IsNextOf (r : Run) (table : List (List Area)) : Type 0 where
   pub turned : r.phase ≡ Turned
   pub same : table ≡ (next_state r.state r.outcomes).table
-  pub limits : IsNextTable (length r.outcomes) (map (λ o. length o.memory) r.outcomes) table

@@ -20,25 +20,7 @@ use bsp_step::{Outcome, Queue, View};
 use bsp_table::Table;
 use std::alloc::Global;
 
-/// The outcome of a process in the run before, where it is another one now.
-fn former<'a>(
-    old: &'a [Shared<Outcome>],
-    new: &[Shared<Outcome>],
-    p: usize,
-) -> Option<&'a Shared<Outcome>>
-    requires known { p < length new.now }
-    requires count { length old.now ≡ length new.now }
-    ensures { former_or (outcome_of new.now p) result ≡ outcome_of old.now p }
-{
-    let before = &old[p];
-    if before.same(&new[p]) {
-        None
-    } else {
-        Some(before)
-    }
-}
-
-/// For so many processes, that none has another outcome.
+/// For so many processes, that none may have another outcome.
 fn no_formers<'a>(
     alloc: Global,
     count: usize,
@@ -53,7 +35,7 @@ fn no_formers<'a>(
     Ok(formers)
 }
 
-/// The outcomes in the run before that are other ones now, by process. Those of the processes that are not in `doubtful` are the same.
+/// The outcomes in the run before that may be other ones now, by process: those of the processes in `doubtful`.
 fn formers<'a>(
     alloc: Global,
     old: &'a [Shared<Outcome>],
@@ -67,7 +49,7 @@ fn formers<'a>(
 {
     let mut formers = no_formers(alloc, new.len())?;
     for process in doubtful {
-        formers[*process] = former(old, new, *process);
+        formers[*process] = old.get(*process);
     }
     Ok(formers)
 }

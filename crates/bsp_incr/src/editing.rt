@@ -1,11 +1,15 @@
 //! Edits, checked and made.
 
-ghost use Rattle.std.specs.Prelude.{◌≡◌, ℕ, OnOk, IfOk, true};
+ghost use Rattle.std.specs.Prelude.{◌≡◌, ◌<◌, ℕ, OnOk, OnErr, IfOk, true, length, option_to_list, slice_set};
 ghost use Rattle.bsp_incr.specs.Edits.{edit_fault, refusal_of, edited_by, edited};
+ghost use Rattle.bsp_incr.specs.Formers.{restored};
 
+use crate::former::{Former, restore};
 use crate::{Edit, EditFault, EditRefusal};
 use bsp_model::limits::{HIGHEST_PRICE, MOST_SUPERSTEPS};
-use bsp_model::{Input, OutOfMemory, TryCopy};
+use bsp_model::{Input, OutOfMemory, Seq, TryCopy};
+use std::alloc::Global;
+use std::mem::replace;
 
 /// Why an edit of a word is refused, if it is.
 fn word_fault(input: &Input, pid: u64, addr: u64) -> Option<EditFault>
@@ -122,41 +126,99 @@ pub fn are_there(input: &Input, edits: &[Edit]) -> bool
     true
 }
 
-/// Makes an edit.
-fn make_edit(input: &mut Input, edit: &Edit) -> Result<(), OutOfMemory>
-    ensures { OnOk result (input.new ≡ edited_by input.old edit.now) }
+/// Puts another item at a place, and answers the one that was there. It takes no memory.
+fn replace_at<T: Drop>(items: &mut Seq<T>, at: usize, item: T) -> T
+    requires { at < length items.old }
+    ensures items { items.new ≡ slice_set items.old at item }
+    ensures former { slice_set items.new at result ≡ items.old }
 {
-    match *edit {
-        Edit::Word { pid, addr, value } => {
-            if let Some(memory) = input.mems.as_slice().get(pid as usize) {
-                let mut memory = memory.copy()?;
-                let _ = memory.store(addr, value)?;
-                input.mems.set(pid as usize, memory);
-            }
-        }
-        Edit::Arg { pid, index, value } => {
-            if let Some(args) = input.args.as_slice().get(pid as usize) {
-                let mut args = args.copy()?;
-                args.set(index as usize, value);
-                input.args.set(pid as usize, args);
-            }
-        }
-        Edit::Limit(n) => input.limit = n,
-        Edit::Prices { g, l } => {
-            input.g = g;
-            input.l = l;
-        }
-    }
-    Ok(())
+    let none = Seq::new(items.allocator());
+    let mut all = replace(items, none).into_vec();
+    let former = replace(&mut all[at], item);
+    *items = Seq::from_vec(all);
+    former
 }
 
-/// The input after a batch.
-pub fn edited(input: &Input, edits: &[Edit]) -> Result<Input, OutOfMemory>
-    ensures { IfOk result (λ i. i ≡ edited input.now edits.now) }
+/// Makes an edit of a word, and answers the memory that it replaced, if there is such a process.
+fn edit_word(
+    input: &mut Input,
+    pid: u64,
+    addr: u64,
+    value: u64,
+) -> Result<Option<Former>, OutOfMemory>
+    ensures made { OnOk result (input.new ≡ edited_by input.old (Edit.Word pid addr value)) }
+    ensures former { IfOk result (λ former. restored input.new (option_to_list former) ≡ input.old) }
+    ensures err { OnErr result (input.new ≡ input.old) }
 {
-    let mut next = input.copy()?;
-    for edit in edits {
-        make_edit(&mut next, edit)?;
+    let Some(memory) = input.mems.as_slice().get(pid as usize) else {
+        return Ok(None);
+    };
+    let mut memory = memory.copy()?;
+    let _ = memory.store(addr, value)?;
+    let memory = replace_at(&mut input.mems, pid as usize, memory);
+    Ok(Some(Former::Memory { pid, memory }))
+}
+
+/// Makes an edit of an argument, and answers the arguments that it replaced, if there is such a process.
+fn edit_arg(
+    input: &mut Input,
+    pid: u64,
+    index: u64,
+    value: u64,
+) -> Result<Option<Former>, OutOfMemory>
+    ensures made { OnOk result (input.new ≡ edited_by input.old (Edit.Arg pid index value)) }
+    ensures former { IfOk result (λ former. restored input.new (option_to_list former) ≡ input.old) }
+    ensures err { OnErr result (input.new ≡ input.old) }
+{
+    let Some(args) = input.args.as_slice().get(pid as usize) else {
+        return Ok(None);
+    };
+    let mut args = args.copy()?;
+    args.set(index as usize, value);
+    let args = replace_at(&mut input.args, pid as usize, args);
+    Ok(Some(Former::Args { pid, args }))
+}
+
+/// Makes an edit, and answers what it replaced. After `OutOfMemory` nothing has changed.
+fn make_edit(input: &mut Input, edit: &Edit) -> Result<Option<Former>, OutOfMemory>
+    ensures made { OnOk result (input.new ≡ edited_by input.old edit.now) }
+    ensures former { IfOk result (λ former. restored input.new (option_to_list former) ≡ input.old) }
+    ensures err { OnErr result (input.new ≡ input.old) }
+{
+    match *edit {
+        Edit::Word { pid, addr, value } => edit_word(input, pid, addr, value),
+        Edit::Arg { pid, index, value } => edit_arg(input, pid, index, value),
+        Edit::Limit(n) => Ok(Some(Former::Limit(replace(&mut input.limit, n)))),
+        Edit::Prices { g, l } => {
+            let g = replace(&mut input.g, g);
+            let l = replace(&mut input.l, l);
+            Ok(Some(Former::Prices { g, l }))
+        }
     }
-    Ok(next)
+}
+
+/// Makes the edits of a batch one after the other, and answers what they replaced, in order. After `OutOfMemory` the input is as before.
+pub fn make_edits(
+    alloc: Global,
+    input: &mut Input,
+    edits: &[Edit],
+) -> Result<Vec<Former>, OutOfMemory>
+    ensures made { OnOk result (input.new ≡ edited input.old edits.now) }
+    ensures formers { IfOk result (λ formers. restored input.new formers.items ≡ input.old) }
+    ensures err { OnErr result (input.new ≡ input.old) }
+{
+    let mut formers = Vec::with_capacity(alloc, edits.len())?;
+    for edit in edits {
+        let former = match make_edit(input, edit) {
+            Ok(former) => former,
+            Err(error) => {
+                restore(input, formers);
+                return Err(error);
+            }
+        };
+        if let Some(former) = former {
+            formers.push_reserved(former);
+        }
+    }
+    Ok(formers)
 }

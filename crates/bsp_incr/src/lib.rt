@@ -1,12 +1,14 @@
 //! Sessions: a program, its input, and the run that stays ready for edits of the input.
 #![tactic(auto)]
 
+mod before;
 mod counts;
 mod deliveries;
 mod edit;
 mod editing;
+mod ending;
 mod error;
-mod kept;
+mod former;
 mod looking;
 mod marks;
 mod places;

@@ -1,35 +1,49 @@
 //! Whether the recorded turn of a view serves for another view.
 
-ghost use Rattle.std.specs.Prelude.{◌≡◌, ◌≤◌, ◌<◌, ◌↔◌, IsTrue, length, slice_index};
+ghost use Rattle.std.specs.Prelude.{◌≡◌, ℕ, ◌+◌, ◌≤◌, ◌<◌, ◌↔◌, IsTrue, true, length, slice_index};
 ghost use Rattle.bsp_step.specs.Footprint.{AreAlikeButForWords};
 ghost use Rattle.bsp_incr.specs.Reuse.{same_where_looked_at, serves};
 
 use bsp_model::Same;
+use bsp_model::limits::MOST_MEMORY_WORDS;
 use bsp_step::{Program, View};
 
-/// Whether two views are equal but for the words of their memories.
-fn is_alike_but_for_words(old: &View, new: &View) -> bool
+/// Whether two views are equal but for the words of their memories. The tables need not be compared where they are known to be the same.
+fn is_alike_but_for_words(old: &View, new: &View, same_table: bool) -> bool
+    requires { same_table ≡ true → old.now.table ≡ new.now.table }
     ensures { IsTrue result ↔ AreAlikeButForWords old.now new.now }
 {
     old.nprocs == new.nprocs
         && old.pid == new.pid
         && old.step == new.step
         && old.args.same(&new.args)
-        && old.table.same(&new.table)
+        && (same_table || old.table.same(&new.table))
         && old.tag_size == new.tag_size
         && old.queue.same(&new.queue)
         && old.memory.len() == new.memory.len()
 }
 
-/// Whether two views have the same word at an address.
-fn is_same_word(old: &View, new: &View, address: u64) -> bool
-    requires old { address < length old.now.memory }
-    requires new { address < length new.now.memory }
-    ensures { IsTrue result ↔ (slice_index old.now.memory address ≡ slice_index new.now.memory address) }
+/// Whether words of two views are equal at each address at which the program looks. The first of them are at the address `first`.
+fn are_alike_from<P: Program>(
+    program: &P,
+    view: &View,
+    first: u64,
+    old: &[u64],
+    new: &[u64],
+) -> bool
+    requires as_many { length old.now ≡ length new.now }
+    requires short { first + length old.now ≤ MOST_MEMORY_WORDS }
+    ensures { IsTrue result ↔ ((i : ℕ) → i < length old.now → IsTrue (P.looks program.now view.now (first + i)) → slice_index old.now i ≡ slice_index new.now i) }
 {
-    let before = old.memory.load(address).unwrap();
-    let after = new.memory.load(address).unwrap();
-    before == after
+    if old == new {
+        return true;
+    }
+    for i in 0..old.len() {
+        if old[i] != new[i] && program.looks(view, first + i as u64) {
+            return false;
+        }
+    }
+    true
 }
 
 /// Whether the words are equal at each address at which the program looks.
@@ -37,17 +51,22 @@ fn is_alike_where_looked_at<P: Program>(program: &P, old: &View, new: &View) -> 
     requires { length old.now.memory ≡ length new.now.memory }
     ensures { result ≡ same_where_looked_at (P.looks program.now old.now) old.now.memory new.now.memory }
 {
-    for address in 0..old.memory.len() as u64 {
-        if !is_same_word(old, new, address) && program.looks(old, address) {
+    let mut address = 0;
+    while address < old.memory.len() as u64 {
+        let before = old.memory.words_from(address);
+        let after = new.memory.words_from(address);
+        if !are_alike_from(program, old, address, before, after) {
             return false;
         }
+        address += before.len() as u64;
     }
     true
 }
 
-/// Whether the turn of the first view serves for the second. It takes no memory.
-pub fn serves<P: Program>(program: &P, old: &View, new: &View) -> bool
+/// Whether the turn of the first view serves for the second. It takes no memory. The tables are not compared where they are known to be the same.
+pub fn serves<P: Program>(program: &P, old: &View, new: &View, same_table: bool) -> bool
+    requires { same_table ≡ true → old.now.table ≡ new.now.table }
     ensures { result ≡ serves (P.looks program.now) old.now new.now }
 {
-    is_alike_but_for_words(old, new) && is_alike_where_looked_at(program, old, new)
+    is_alike_but_for_words(old, new, same_table) && is_alike_where_looked_at(program, old, new)
 }

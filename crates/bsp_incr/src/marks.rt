@@ -1,38 +1,53 @@
 //! Which processes have another memory or other arguments than in the run before.
 
-ghost use Rattle.std.specs.Prelude.{◌≡◌, ◌<◌, IfOk, length, option_map, slice_index_or, true, false};
+ghost use Rattle.std.specs.Prelude.{◌≡◌, [], IfOk, option_map, slice_index_or, true, false};
+ghost use Rattle.bsp_run.specs.Condition.{no_view};
 ghost use Rattle.bsp_incr.specs.Before.{HasSameArgs, HasSameMemory, AreArgsMarked, AreFirstMarked};
 
-use crate::kept::Kept;
-use bsp_model::{Input, OutOfMemory, Same};
+use crate::before::first_views_before;
+use bsp_model::{Input, Memory, OutOfMemory, Same, Shared, Words};
+use bsp_run::History;
+use bsp_step::View;
 use std::alloc::Global;
 
-/// Whether two lists have the same item at a place. False where one has none.
-fn is_same_at<T: Same>(old: &[T], new: &[T], p: usize) -> bool
-    ensures { (d : _) → result ≡ true → slice_index_or old.now p d ≡ slice_index_or new.now p d }
+/// Whether a process saw these arguments. False where there is no such process.
+fn has_args(views: &[Shared<View>], args: &[Words], p: usize) -> bool
+    ensures { result ≡ true → (slice_index_or views.now p no_view).args ≡ slice_index_or args.now p [] }
 {
-    if p >= old.len() || p >= new.len() {
+    if p >= views.len() || p >= args.len() {
         return false;
     }
-    old[p].same(&new[p])
+    let view: &View = &views[p];
+    view.args.as_slice() == args[p].as_slice()
+}
+
+/// Whether a process saw this memory. False where there is no such process.
+fn has_memory(views: &[Shared<View>], mems: &[Memory], p: usize) -> bool
+    ensures { result ≡ true → (slice_index_or views.now p no_view).memory ≡ slice_index_or mems.now p [] }
+{
+    if p >= views.len() || p >= mems.len() {
+        return false;
+    }
+    let view: &View = &views[p];
+    view.memory.same(&mems[p])
 }
 
 /// Whether a process may have other arguments.
-fn has_other_args(old: Option<&Kept>, input: &Input, p: usize) -> bool
+fn has_other_args(old: Option<&History>, input: &Input, p: usize) -> bool
     ensures { result ≡ false → HasSameArgs (option_map (λ k. k.now) old.entry) input.now p }
 {
     match old {
-        Some(kept) => !is_same_at(kept.input.args.as_slice(), input.args.as_slice(), p),
+        Some(history) => !has_args(first_views_before(history), input.args.as_slice(), p),
         None => true,
     }
 }
 
 /// Whether a process may have another memory.
-fn has_other_memory(old: Option<&Kept>, input: &Input, p: usize) -> bool
+fn has_other_memory(old: Option<&History>, input: &Input, p: usize) -> bool
     ensures { result ≡ false → HasSameMemory (option_map (λ k. k.now) old.entry) input.now p }
 {
     match old {
-        Some(kept) => !is_same_at(kept.input.mems.as_slice(), input.mems.as_slice(), p),
+        Some(history) => !has_memory(first_views_before(history), input.mems.as_slice(), p),
         None => true,
     }
 }
@@ -40,7 +55,7 @@ fn has_other_memory(old: Option<&Kept>, input: &Input, p: usize) -> bool
 /// The processes with other arguments. They are marked in each superstep.
 pub fn args_marks(
     alloc: Global,
-    old: Option<&Kept>,
+    old: Option<&History>,
     input: &Input,
 ) -> Result<Vec<bool>, OutOfMemory>
     ensures { IfOk result (λ marks. AreArgsMarked (option_map (λ k. k.now) old.entry) input.now marks.items) }
@@ -56,7 +71,7 @@ pub fn args_marks(
 /// The processes with another memory or other arguments. They are marked in superstep 0.
 pub fn first_marks(
     alloc: Global,
-    old: Option<&Kept>,
+    old: Option<&History>,
     input: &Input,
 ) -> Result<Vec<bool>, OutOfMemory>
     ensures { IfOk result (λ marks. AreFirstMarked (option_map (λ k. k.now) old.entry) input.now marks.items) }

@@ -2,16 +2,15 @@
 
 ghost use Rattle.std.specs.Prelude.{◌≡◌, ◌<◌, All, IfOk, None, Some, length, map};
 ghost use Rattle.bsp_model.specs.Input.{input_fault};
-ghost use Rattle.bsp_run.specs.Run.{start, open_views};
+ghost use Rattle.bsp_run.specs.Run.{start};
 ghost use Rattle.bsp_run.specs.State.{first_state, view_of};
-ghost use Rattle.bsp_run.specs.Supersteps.{views_at};
-ghost use Rattle.bsp_incr.specs.Before.{AreFirstMarked};
+ghost use Rattle.bsp_incr.specs.Before.{AreFirstMarked, HasFirstViews};
 
-use crate::kept::{Kept, first_views_before};
+use crate::before::first_views_before;
 use crate::places::processes_where;
 use crate::replacing::{copied, put_at};
 use bsp_model::{Input, OutOfMemory, Shared, SharedSeq};
-use bsp_run::{RunError, Tape, first_view};
+use bsp_run::{History, RunError, Tape, first_view};
 use bsp_step::View;
 use std::alloc::{AllocError, Global};
 
@@ -35,13 +34,12 @@ fn first_views(
 /// A run of an input whose superstep 0 is open. Of the run before it takes what the processes see that are not marked.
 pub fn reopened(
     alloc: Global,
-    old: &Kept,
+    old: &History,
     input: &Input,
     marks: &[bool],
 ) -> Result<Tape, OutOfMemory>
     requires lawful { input_fault input.now ≡ None }
-    requires first { views_at old.now.history 0 ≡ open_views (start old.now.input) }
-    requires count { length old.now.input.mems ≡ length input.now.mems }
+    requires first { HasFirstViews input.now old.now }
     requires marks { AreFirstMarked (Some old.now) input.now marks.now }
     ensures { IfOk result (λ tape. tape ≡ start input.now) }
 {

@@ -9,7 +9,7 @@ ghost use Rattle.bsp_run.specs.RunErrors.{input_fault_of};
 ghost use Rattle.bsp_incr.specs.Changes.{IsUpdate};
 ghost use Rattle.bsp_incr.specs.Replies.{reply_to, input_after, replies, without_update};
 
-use crate::editing::{edited, refusal_of};
+use crate::editing::{make_edits, refusal_of};
 use crate::{Batch, EditError, Reply, Session, Update};
 use bsp_model::{Input, OutOfMemory};
 use bsp_pool::Gate;
@@ -127,7 +127,7 @@ fn scratch_reply<P: Program>(
         Some(refusal) => return Ok(Reply::Refused(refusal)),
         None => {}
     }
-    *input = edited(input, batch.as_slice())?;
+    let _formers = make_edits(alloc, input, batch.as_slice())?;
     match scratch_done(alloc, program, input) {
         Ok(reply) => Ok(reply),
         Err(RunError::OutOfMemory) => Err(AllocError),

@@ -1,21 +1,23 @@
 //! A run that is made again, against the record of the run before.
 
-ghost use Rattle.std.specs.Prelude.{◌≡◌, IfOk, None, Some, option_map, true};
+ghost use Rattle.std.specs.Prelude.{◌≡◌, IfOk, OnOk, OnErr, None, Some, option_map, true};
 ghost use Rattle.bsp_model.specs.Input.{input_fault};
 ghost use Rattle.bsp_step.specs.Turn.{turn_of};
 ghost use Rattle.bsp_run.specs.Run.{start, run};
 ghost use Rattle.bsp_run.specs.Condition.{is_ended};
 ghost use Rattle.bsp_incr.specs.Changes.{IsUpdate};
-ghost use Rattle.bsp_incr.specs.Before.{AreFirstMarked, IsRunBefore, IsRunOf, run_before};
+ghost use Rattle.bsp_incr.specs.Edits.{refusal_of, edited};
+ghost use Rattle.bsp_incr.specs.Before.{AreFirstMarked, IsRunBefore, IsRunOf};
 
-use crate::Update;
 use crate::counts::Counts;
-use crate::kept::Kept;
+use crate::editing::make_edits;
+use crate::former::restore;
 use crate::marks::{args_marks, first_marks};
 use crate::places::processes_where;
 use crate::reopening::reopened;
 use crate::superstep::advance;
 use crate::workers::Workers;
+use crate::{Edit, Update};
 use bsp_model::{Input, OutOfMemory, Seq};
 use bsp_pool::Gate;
 use bsp_run::{History, Tape};
@@ -30,7 +32,7 @@ pub fn rerun<P: Program, G: Gate, R: Threads + Sync>(
     workers: &Workers<'_, R, G>,
     alloc: Global,
     program: &P,
-    old: Option<&Kept>,
+    old: Option<&History>,
     input: &Input,
     mut tape: Tape,
     mut marks: Vec<bool>,
@@ -41,7 +43,7 @@ pub fn rerun<P: Program, G: Gate, R: Threads + Sync>(
     requires open { tape ≡ start input.now }
     requires marks { AreFirstMarked (option_map (λ k. k.now) old) input.now marks.items }
     ensures run { IfOk result (λ r. r.0 ≡ run (turn_of (P.acts program.now) (P.ending program.now)) input.now) }
-    ensures update { IfOk result (λ r. IsUpdate (P.looks program.now) (run_before (option_map (λ k. k.now) old.entry)) r.0 r.1) }
+    ensures update { IfOk result (λ r. IsUpdate (P.looks program.now) (option_map (λ k. k.now) old.entry) r.0 r.1) }
 {
     let always = args_marks(alloc, old, input)?;
     let other_args = processes_where(alloc, always.as_slice())?;
@@ -69,12 +71,12 @@ pub fn rerun<P: Program, G: Gate, R: Threads + Sync>(
 }
 
 /// The history of a run that has ended. It shares lines with the run before.
-fn finished(old: Option<&Kept>, tape: Tape) -> Result<History, OutOfMemory>
+fn finished(old: Option<&History>, tape: Tape) -> Result<History, OutOfMemory>
     requires { is_ended tape.phase ≡ true }
     ensures { IfOk result (λ history. history ≡ tape) }
 {
     match old {
-        Some(kept) => Ok(tape.finish_like(&kept.history)?),
+        Some(history) => Ok(tape.finish_like(history)?),
         None => Ok(tape.finish()?),
     }
 }
@@ -84,14 +86,14 @@ pub fn rerun_after<P: Program, G: Gate, R: Threads + Sync>(
     workers: &Workers<'_, R, G>,
     alloc: Global,
     program: &P,
-    old: &Kept,
+    old: &History,
     input: &Input,
     counts: &mut Counts,
 ) -> Result<(History, Update), OutOfMemory>
     requires lawful { input_fault input.now ≡ None }
     requires before { IsRunOf (turn_of (P.acts program.now) (P.ending program.now)) input.now old.now }
     ensures run { IfOk result (λ r. r.0 ≡ run (turn_of (P.acts program.now) (P.ending program.now)) input.now) }
-    ensures update { IfOk result (λ r. IsUpdate (P.looks program.now) (Some old.now.history) r.0 r.1) }
+    ensures update { IfOk result (λ r. IsUpdate (P.looks program.now) (Some old.now) r.0 r.1) }
 {
     let marks = first_marks(alloc, Some(old), input)?;
     let tape = reopened(alloc, old, input, marks.as_slice())?;
@@ -105,4 +107,32 @@ pub fn rerun_after<P: Program, G: Gate, R: Threads + Sync>(
         marks,
         counts,
     )?)
+}
+
+/// Edits an input and makes its run again, against the run of the input as it was. After `OutOfMemory` the input is as before.
+pub fn rerun_edited<P: Program, G: Gate, R: Threads + Sync>(
+    workers: &Workers<'_, R, G>,
+    alloc: Global,
+    program: &P,
+    old: &History,
+    input: &mut Input,
+    edits: &[Edit],
+    counts: &mut Counts,
+) -> Result<(History, Update), OutOfMemory>
+    requires lawful { input_fault input.old ≡ None }
+    requires accepted { refusal_of input.old edits.now ≡ None }
+    requires before { old.now ≡ run (turn_of (P.acts program.now) (P.ending program.now)) input.old }
+    ensures given { OnOk result (input.new ≡ edited input.old edits.now) }
+    ensures run { IfOk result (λ r. r.0 ≡ run (turn_of (P.acts program.now) (P.ending program.now)) (edited input.old edits.now)) }
+    ensures update { IfOk result (λ r. IsUpdate (P.looks program.now) (Some old.now) r.0 r.1) }
+    ensures err { OnErr result (input.new ≡ input.old) }
+{
+    let formers = make_edits(alloc, input, edits)?;
+    match rerun_after(workers, alloc, program, old, input, counts) {
+        Ok(done) => Ok(done),
+        Err(error) => {
+            restore(input, formers);
+            Err(error)
+        }
+    }
 }

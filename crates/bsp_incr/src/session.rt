@@ -1,10 +1,9 @@
 //! Sessions.
 
 use crate::counts::Counts;
-use crate::editing::{are_there, edited, refusal_of};
-use crate::kept::Kept;
+use crate::editing::{are_there, refusal_of};
 use crate::marks::first_marks;
-use crate::rerun::{rerun, rerun_after};
+use crate::rerun::{rerun, rerun_edited};
 use crate::workers::Workers;
 use crate::{Edit, EditError, Update};
 use bsp_model::{Input, Seq};
@@ -19,7 +18,8 @@ use std::thread::Threads;
 #[derive(Drop)]
 pub struct Session<P: Program> {
     program: P,
-    kept: Kept,
+    input: Input,
+    history: History,
 }
 
 impl<P: Program> Model for Session<P> {
@@ -28,9 +28,9 @@ impl<P: Program> Model for Session<P> {
 
     ghost Value = { SessionParts P };
 
-    ghost view = { λ s. record { program = s.program; input = s.kept.input; history = s.kept.history } };
+    ghost view = { λ s. record { program = s.program; input = s.input; history = s.history } };
 
-    ghost invariant = { λ s. IsSession (turn_of (P.acts s.program) (P.ending s.program)) s.kept.input s.kept.history };
+    ghost invariant = { λ s. IsSession (turn_of (P.acts s.program) (P.ending s.program)) s.input s.history };
 }
 
 impl<P: Program + Drop> Session<P> {
@@ -78,16 +78,19 @@ impl<P: Program + Drop> Session<P> {
             marks,
             &mut Counts::new(),
         )?;
-        let kept = Kept { input, history };
-        Ok((Session { program, kept }, update))
+        let session = Session {
+            program,
+            input,
+            history,
+        };
+        Ok((session, update))
     }
 
     /// The input.
     pub fn input(&self) -> &Input
         ensures { result.now ≡ self.now.input }
     {
-        let kept = &self.kept;
-        &kept.input
+        &self.input
     }
 
     /// The history, which is the run of the input.
@@ -95,8 +98,7 @@ impl<P: Program + Drop> Session<P> {
         ensures history { result.now ≡ self.now.history }
         ensures run { result.now ≡ run (turn_of (P.acts self.now.program) (P.ending self.now.program)) self.now.input }
     {
-        let kept = &self.kept;
-        &kept.history
+        &self.history
     }
 
     /// Puts a batch of edits, and makes the run again as far as it has changed: 1 to 16 workers take the turns and make the deliveries that have
@@ -143,26 +145,26 @@ impl<P: Program + Drop> Session<P> {
         ensures update { IfOk result (λ u. IsUpdate (P.looks self.old.program) (Some self.old.history) self.new.history u) }
         ensures err { OnErr result (self.new ≡ self.old) }
     {
-        match refusal_of(&self.kept.input, edits) {
+        match refusal_of(&self.input, edits) {
             Some(refusal) => return Err(EditError::Refused(refusal)),
             None => {}
         }
-        if are_there(&self.kept.input, edits) {
+        if are_there(&self.input, edits) {
             return Ok(Update {
                 executed: Seq::new(alloc),
                 redelivered: Seq::new(alloc),
             });
         }
-        let input = edited(&self.kept.input, edits)?;
-        let (history, update) = rerun_after(
+        let (history, update) = rerun_edited(
             workers,
             alloc,
             &self.program,
-            &self.kept,
-            &input,
+            &self.history,
+            &mut self.input,
+            edits,
             counts,
         )?;
-        self.kept = Kept { input, history };
+        self.history = history;
         Ok(update)
     }
 }

@@ -1,27 +1,23 @@
 //! One superstep of a run that is made again, against the record of the run before.
 
-ghost use Rattle.std.specs.Prelude.{◌≡◌, ◌<◌, ◌++◌, ◌||◌, IfOk, OnOk, map, length, option_map, slice_index_or, true, false};
+ghost use Rattle.std.specs.Prelude.{◌≡◌, ◌<◌, ◌++◌, [], IfOk, IfSome, OnOk, Some, map, length, option_map, slice_index_or, true, false};
 ghost use Rattle.bsp_step.specs.Turn.{turn_of};
-ghost use Rattle.bsp_deliver.specs.Requests.{each_below};
-ghost use Rattle.bsp_run.specs.Run.{after_turns, after_delivery, open_views, advance};
-ghost use Rattle.bsp_run.specs.Condition.{is_open, is_turned, no_view};
-ghost use Rattle.bsp_run.specs.Shares.{deliveries_to};
-ghost use Rattle.bsp_incr.specs.Changes.{differ_in, touched_in, is_touched, processes_where};
-ghost use Rattle.bsp_incr.specs.Marks.{AreDelivered, AreComparable, ViewsDifferAtMost, OutcomesDifferAtMost, HaveOneTable};
-ghost use Rattle.bsp_incr.specs.Before.{taken_before, delivered_outcomes, views_after, IsBefore, AreArgsMarked, AreAlikeAfter, IsUnderWay};
+ghost use Rattle.bsp_run.specs.Run.{after_turns, open_views, advance};
+ghost use Rattle.bsp_run.specs.Condition.{is_open, is_turned};
+ghost use Rattle.bsp_incr.specs.Changes.{differ_in, processes_where};
+ghost use Rattle.bsp_incr.specs.Marks.{ViewsDifferAtMost, HaveOneTable};
+ghost use Rattle.bsp_incr.specs.Before.{taken_before, IsBefore, AreArgsMarked, IsUnderWay};
 
+use crate::before::{outcomes_before, taken_before};
 use crate::counts::Counts;
-use crate::deliveries::{next_cells, next_marks, next_views, touched};
-use crate::kept::{Kept, delivered_outcomes, outcomes_before, taken_before, views_after};
-use crate::places::{add_places, processes_where};
+use crate::ending::make_deliveries;
 use crate::turns::{doubtful, turns_again};
 use crate::workers::Workers;
 use crate::{Place, Update};
-use bsp_model::{Input, Memory, OutOfMemory, Same, Seq, Shared, SharedSeq};
+use bsp_model::{Input, OutOfMemory, Seq};
 use bsp_pool::Gate;
-use bsp_run::{Phase, Tape, wide_deliveries};
-use bsp_step::{Program, Queue, View};
-use bsp_table::Table;
+use bsp_run::{History, Tape};
+use bsp_step::Program;
 use std::alloc::Global;
 use std::thread::Threads;
 
@@ -30,7 +26,7 @@ fn take_turns<P: Program, G: Gate, R: Threads + Sync>(
     workers: &Workers<'_, R, G>,
     alloc: Global,
     program: &P,
-    old: Option<&Kept>,
+    old: Option<&History>,
     input: &Input,
     tape: &mut Tape,
     doubtful: &[usize],
@@ -41,6 +37,8 @@ fn take_turns<P: Program, G: Gate, R: Threads + Sync>(
     requires before { IsBefore (turn_of (P.acts program.now) (P.ending program.now)) input.now (option_map (λ k. k.now) old) }
     requires count { 0 < length (taken_before (option_map (λ k. k.now) old) (length tape.old.past)) → length (taken_before (option_map (λ k. k.now) old) (length tape.old.past)) ≡ length (open_views tape.old) }
     requires doubtful { ViewsDifferAtMost (taken_before (option_map (λ k. k.now) old) (length tape.old.past)) (open_views tape.old) doubtful.now }
+    requires old_table { HaveOneTable (taken_before (option_map (λ k. k.now) old) (length tape.old.past)) }
+    requires table { HaveOneTable (open_views tape.old) }
     ensures turned { OnOk result (tape.new ≡ after_turns tape.old (map (turn_of (P.acts program.now) (P.ending program.now)) (open_views tape.old))) }
     ensures answer { IfOk result (λ goes_on. goes_on ≡ is_turned tape.new.phase) }
     ensures executed { OnOk result (executed.new ≡ executed.old ++ differ_in (P.looks program.now) (length tape.old.past) (taken_before (option_map (λ k. k.now) old.entry) (length tape.old.past)) (open_views tape.old)) }
@@ -63,152 +61,30 @@ fn take_turns<P: Program, G: Gate, R: Threads + Sync>(
     tape.turned(outcomes)
 }
 
-/// Whether the processes of these views see this table and this tag size. False where there is no view.
-fn see(views: &[Shared<View>], table: &Table, tag_size: u64) -> bool
-    ensures some { result ≡ true → 0 < length views.now }
-    ensures table { result ≡ true → (slice_index_or views.now 0 no_view).table ≡ table.now }
-    ensures tag_size { result ≡ true → (slice_index_or views.now 0 no_view).tag_size ≡ tag_size }
-{
-    match views.first() {
-        Some(view) => view.table.same(table) && view.tag_size == tag_size,
-        None => false,
-    }
-}
-
-/// Opens the next superstep, after the deliveries that were made to the processes in `touched`.
-fn open_next(
-    alloc: Global,
-    old: Option<&Kept>,
-    tape: &mut Tape,
-    touched: &[usize],
-    made: Vec<(Memory, Queue)>,
-    always: &[bool],
-    other_args: &[usize],
-) -> Result<(), OutOfMemory>
-    requires turned { tape.old.phase ≡ Phase.Turned }
-    requires comparable { AreComparable (delivered_outcomes (option_map (λ k. k.now) old) (length tape.old.past)) tape.old.outcomes }
-    requires next { AreDelivered (delivered_outcomes (option_map (λ k. k.now) old) (length tape.old.past)) (views_after (option_map (λ k. k.now) old) (length tape.old.past)) }
-    requires old_table { HaveOneTable (views_after (option_map (λ k. k.now) old) (length tape.old.past)) }
-    requires touched { touched.now ≡ processes_where (length tape.old.outcomes) (is_touched (delivered_outcomes (option_map (λ k. k.now) old) (length tape.old.past)) tape.old.outcomes) }
-    requires made { made.items ≡ deliveries_to tape.old.outcomes touched.now }
-    requires always { length always.now ≡ length tape.old.outcomes }
-    requires other_args { other_args.now ≡ processes_where (length always.now) (λ p. slice_index_or always.now p false) }
-    requires alike { AreAlikeAfter (option_map (λ k. k.now) old) tape.old always.now }
-    ensures { OnOk result (tape.new ≡ after_delivery tape.old) }
-{
-    let step = tape.step();
-    let old_outcomes = delivered_outcomes(old, step);
-    let old_next = views_after(old, step);
-    let table = tape.next_table()?;
-    if see(old_next, &table, tape.next_tag_size()) {
-        let views = next_views(
-            alloc,
-            tape,
-            &table,
-            old_outcomes,
-            old_next,
-            touched,
-            made,
-            always,
-            other_args,
-        )?;
-        let _ = tape.delivered_as(table, SharedSeq::from_vec(views)?)?;
-    } else {
-        let cells = next_cells(
-            alloc,
-            old_outcomes,
-            old_next,
-            tape.outcomes(),
-            touched,
-            made,
-        )?;
-        let _ = tape.delivered(cells)?;
-    }
-    Ok(())
-}
-
-/// The deliveries of the superstep whose turns are taken, and the marks of the next.
-fn make_deliveries<G: Gate, R: Threads + Sync>(
-    workers: &Workers<'_, R, G>,
-    alloc: Global,
-    old: Option<&Kept>,
-    tape: &mut Tape,
-    doubtful: &[usize],
-    always: &[bool],
-    other_args: &[usize],
-    redelivered: &mut Seq<Place>,
-    counts: &mut Counts,
-) -> Result<Vec<bool>, OutOfMemory>
-    requires turned { tape.old.phase ≡ Phase.Turned }
-    requires count { 0 < length (delivered_outcomes (option_map (λ k. k.now) old) (length tape.old.past)) → length (delivered_outcomes (option_map (λ k. k.now) old) (length tape.old.past)) ≡ length tape.old.outcomes }
-    requires next { AreDelivered (delivered_outcomes (option_map (λ k. k.now) old) (length tape.old.past)) (views_after (option_map (λ k. k.now) old) (length tape.old.past)) }
-    requires old_table { HaveOneTable (views_after (option_map (λ k. k.now) old) (length tape.old.past)) }
-    requires doubtful { OutcomesDifferAtMost (delivered_outcomes (option_map (λ k. k.now) old) (length tape.old.past)) tape.old.outcomes doubtful.now }
-    requires always { length always.now ≡ length tape.old.outcomes }
-    requires other_args { other_args.now ≡ processes_where (length always.now) (λ p. slice_index_or always.now p false) }
-    requires alike { AreAlikeAfter (option_map (λ k. k.now) old) tape.old always.now }
-    ensures tape { OnOk result (tape.new ≡ after_delivery tape.old) }
-    ensures marks { IfOk result (λ marks. marks.items ≡ each_below (length tape.old.outcomes) (λ d. is_touched (delivered_outcomes (option_map (λ k. k.now) old.entry) (length tape.old.past)) tape.old.outcomes d || slice_index_or always.now d true)) }
-    ensures redelivered { OnOk result (redelivered.new ≡ redelivered.old ++ touched_in (length tape.old.past) (delivered_outcomes (option_map (λ k. k.now) old.entry) (length tape.old.past)) tape.old.outcomes) }
-{
-    let step = tape.step();
-    let touched = touched(
-        alloc,
-        delivered_outcomes(old, step),
-        tape.outcomes(),
-        doubtful,
-    )?;
-    let processes = processes_where(alloc, touched.as_slice())?;
-    add_places(redelivered, step as u64, processes.as_slice())?;
-    counts.deliver(processes.len());
-    let made = wide_deliveries(
-        workers.rt,
-        alloc,
-        tape.outcomes(),
-        processes.as_slice(),
-        workers.count,
-        workers.gate,
-    )?;
-    open_next(
-        alloc,
-        old,
-        tape,
-        processes.as_slice(),
-        made,
-        always,
-        other_args,
-    )?;
-    let marks = next_marks(alloc, touched.as_slice(), always)?;
-    Ok(marks)
-}
-
-/// One superstep more of a run that is made again, if it has not ended.
-pub fn advance<P: Program, G: Gate, R: Threads + Sync>(
+/// The turns and the deliveries of the open superstep, in which the processes that are not in `doubtful` see what they saw in the run before.
+fn make_again<P: Program, G: Gate, R: Threads + Sync>(
     workers: &Workers<'_, R, G>,
     alloc: Global,
     program: &P,
-    old: Option<&Kept>,
+    old: Option<&History>,
     input: &Input,
     always: &[bool],
     other_args: &[usize],
+    doubtful: &[usize],
     tape: &mut Tape,
     marks: &mut Vec<bool>,
     update: &mut Update,
     counts: &mut Counts,
 ) -> Result<(), OutOfMemory>
-    requires between { is_turned tape.old.phase ≡ false }
+    requires open { is_open tape.old.phase ≡ true }
     requires before { IsBefore (turn_of (P.acts program.now) (P.ending program.now)) input.now (option_map (λ k. k.now) old) }
     requires always { AreArgsMarked (option_map (λ k. k.now) old) input.now always.now }
     requires other_args { other_args.now ≡ processes_where (length always.now) (λ p. slice_index_or always.now p false) }
+    requires doubtful { ViewsDifferAtMost (taken_before (option_map (λ k. k.now) old) (length tape.old.past)) (open_views tape.old) doubtful.now }
     requires under_way { IsUnderWay (turn_of (P.acts program.now) (P.ending program.now)) (P.looks program.now) (option_map (λ k. k.now) old) input.now tape.old marks.old.items update.old }
     ensures tape { OnOk result (tape.new ≡ advance (turn_of (P.acts program.now) (P.ending program.now)) tape.old) }
     ensures under_way { OnOk result (IsUnderWay (turn_of (P.acts program.now) (P.ending program.now)) (P.looks program.now) (option_map (λ k. k.now) old.entry) input.now tape.new marks.new.items update.new) }
 {
-    if !tape.is_open() {
-        return Ok(());
-    }
-    let old_views = taken_before(old, tape.step());
-    let doubtful = doubtful(alloc, old_views, tape.views(), marks.as_slice())?;
     let delivers = take_turns(
         workers,
         alloc,
@@ -216,7 +92,7 @@ pub fn advance<P: Program, G: Gate, R: Threads + Sync>(
         old,
         input,
         tape,
-        doubtful.as_slice(),
+        doubtful,
         &mut update.executed,
         counts,
     )?;
@@ -228,7 +104,7 @@ pub fn advance<P: Program, G: Gate, R: Threads + Sync>(
         alloc,
         old,
         tape,
-        doubtful.as_slice(),
+        doubtful,
         always,
         other_args,
         &mut update.redelivered,
@@ -236,4 +112,64 @@ pub fn advance<P: Program, G: Gate, R: Threads + Sync>(
     )?;
     *marks = next;
     Ok(())
+}
+
+/// The run before, where its superstep ended by delivery and nobody sees something else in it.
+fn taken_whole<'a>(old: Option<&'a History>, step: usize, doubtful: &[usize]) -> Option<&'a History>
+    ensures { IfSome result (λ h. (doubtful.now ≡ []) × (step < length h.now.past) × (option_map (λ k. k.now) old.entry ≡ Some h.now)) }
+{
+    match old {
+        Some(history) if doubtful.is_empty() && step < history.past().len() => Some(history),
+        _ => None,
+    }
+}
+
+/// One superstep more of a run that is made again, if it has not ended. Where nobody sees something else than in the run before, it is taken over
+/// whole.
+pub fn advance<P: Program, G: Gate, R: Threads + Sync>(
+    workers: &Workers<'_, R, G>,
+    alloc: Global,
+    program: &P,
+    old: Option<&History>,
+    input: &Input,
+    always: &[bool],
+    other_args: &[usize],
+    tape: &mut Tape,
+    marks: &mut Vec<bool>,
+    update: &mut Update,
+    counts: &mut Counts,
+) -> Result<(), OutOfMemory>
+    requires between { is_turned tape.old.phase ≡ false }
+    requires some { 0 < length input.now.mems }
+    requires before { IsBefore (turn_of (P.acts program.now) (P.ending program.now)) input.now (option_map (λ k. k.now) old) }
+    requires always { AreArgsMarked (option_map (λ k. k.now) old) input.now always.now }
+    requires other_args { other_args.now ≡ processes_where (length always.now) (λ p. slice_index_or always.now p false) }
+    requires under_way { IsUnderWay (turn_of (P.acts program.now) (P.ending program.now)) (P.looks program.now) (option_map (λ k. k.now) old) input.now tape.old marks.old.items update.old }
+    ensures tape { OnOk result (tape.new ≡ advance (turn_of (P.acts program.now) (P.ending program.now)) tape.old) }
+    ensures under_way { OnOk result (IsUnderWay (turn_of (P.acts program.now) (P.ending program.now)) (P.looks program.now) (option_map (λ k. k.now) old.entry) input.now tape.new marks.new.items update.new) }
+{
+    if !tape.is_open() {
+        return Ok(());
+    }
+    let step = tape.step();
+    let old_views = taken_before(old, step);
+    let doubtful = doubtful(alloc, old_views, tape.views(), marks.as_slice())?;
+    if let Some(history) = taken_whole(old, step, doubtful.as_slice()) {
+        tape.take_over(history)?;
+        return Ok(());
+    }
+    make_again(
+        workers,
+        alloc,
+        program,
+        old,
+        input,
+        always,
+        other_args,
+        doubtful.as_slice(),
+        tape,
+        marks,
+        update,
+        counts,
+    )
 }

@@ -58,20 +58,24 @@ pub fn doubtful(
     Ok(processes)
 }
 
-/// Whether the turn of a process has to be taken.
+/// Whether the turn of a process has to be taken. The tables are not compared where all processes are known to see the same.
 fn needs_turn<P: Program>(
     program: &P,
     old_views: &[Shared<View>],
     views: &[Shared<View>],
     p: usize,
+    same_table: bool,
 ) -> bool
-    requires { p < length views.now }
+    requires place { p < length views.now }
+    requires old_table { HaveOneTable old_views.now }
+    requires table { HaveOneTable views.now }
+    requires same { same_table ≡ true → (slice_index_or old_views.now 0 no_view).table ≡ (slice_index_or views.now 0 no_view).table }
     ensures { result ≡ differs (P.looks program.now) old_views.now views.now p }
 {
     if p >= old_views.len() {
         return true;
     }
-    !serves(program, &old_views[p], &views[p])
+    !serves(program, &old_views[p], &views[p], same_table)
 }
 
 /// Of these processes, those whose turn has to be taken, and then those for which the recorded one serves.
@@ -83,15 +87,18 @@ fn needed_turns<P: Program>(
     processes: &[usize],
     counts: &mut Counts,
 ) -> Result<(Vec<usize>, Vec<usize>), OutOfMemory>
-    requires { All (λ p. p < length views.now) processes.now }
+    requires known { All (λ p. p < length views.now) processes.now }
+    requires old_table { HaveOneTable old_views.now }
+    requires table { HaveOneTable views.now }
     ensures needed { IfOk result (λ r. r.0.items ≡ filter (differs (P.looks program.now) old_views.now views.now) processes.now) }
     ensures served { IfOk result (λ r. r.1.items ≡ filter (λ p. not (differs (P.looks program.now) old_views.now views.now p)) processes.now) }
 {
+    let same_table = is_same_table(old_views, views);
     let mut needed = Vec::new(alloc);
     let mut served = Vec::new(alloc);
     for process in processes {
         counts.look();
-        if needs_turn(program, old_views, views, *process) {
+        if needs_turn(program, old_views, views, *process, same_table) {
             needed.push(*process)?;
         } else {
             served.push(*process)?;
@@ -157,6 +164,8 @@ pub fn turns_again<P: Program, G: Gate, R: Threads + Sync>(
     requires recorded { old_outcomes.now ≡ map (turn_of (P.acts program.now) (P.ending program.now)) old_views.now }
     requires count { 0 < length old_views.now → length old_views.now ≡ length views.now }
     requires doubtful { ViewsDifferAtMost old_views.now views.now doubtful.now }
+    requires old_table { HaveOneTable old_views.now }
+    requires table { HaveOneTable views.now }
     ensures turns { IfOk result (λ all. all.items ≡ map (turn_of (P.acts program.now) (P.ending program.now)) views.now) }
     ensures executed { OnOk result (executed.new ≡ executed.old ++ differ_in (P.looks program.now) step old_views.now views.now) }
 {

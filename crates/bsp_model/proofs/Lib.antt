@@ -1,3 +1,4 @@
 pub mod Inputs
 pub mod Pages
+pub mod Rests
 pub mod Writes

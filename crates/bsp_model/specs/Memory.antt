@@ -16,6 +16,10 @@ pub record HasPages (full : List (List ℕ)) (last : List ℕ) (len : ℕ) : Typ
   pub short : length last < WORDS_OF_A_PAGE
   pub count : len ≡ WORDS_OF_A_PAGE * length full + length last
 
+-- The words from an address on, as far as the end of its page or of the memory (this profile).
+abbrev pub rest_of_page : List ℕ → ℕ → List ℕ
+rest_of_page memory address = take (WORDS_OF_A_PAGE - address % WORDS_OF_A_PAGE) (drop address memory)
+
 -- The words from start on are replaced, if all of them are within the memory (this profile).
 abbrev pub memory_written : List ℕ → ℕ → List ℕ → List ℕ
 memory_written memory start words =

@@ -1,7 +1,7 @@
 //! The memory of a process.
 
 ghost use Rattle.std.specs.Prelude.{◌≡◌, ◌+◌, length, IfOk, nat_lt, nat_le, slice_set, slice_get, OnErr};
-ghost use Rattle.bsp_model.specs.Memory.{memory_written};
+ghost use Rattle.bsp_model.specs.Memory.{memory_written, rest_of_page};
 
 #[cfg(test)]
 mod tests;
@@ -75,6 +75,22 @@ impl Memory {
             return None;
         }
         Some(self.last[place])
+    }
+
+    /// The words from `address` on, to the end of the page that they are in: at least one, but none past the end of the memory.
+    pub fn words_from(&self, address: u64) -> &[u64]
+        ensures { result.now ≡ rest_of_page self.now address }
+    {
+        let number = address as usize / WORDS_OF_A_PAGE;
+        let place = address as usize % WORDS_OF_A_PAGE;
+        if number < self.pages.len() {
+            let page = &self.pages[number];
+            return page.words_from(place);
+        }
+        if address >= self.len as u64 {
+            return &[];
+        }
+        &self.last[place..]
     }
 
     /// Makes `value` the word at `address`. False, and nothing changes, where there is no such word; after `OutOfMemory` nothing has changed.

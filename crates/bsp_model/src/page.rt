@@ -73,6 +73,15 @@ impl Page {
         words[place]
     }
 
+    /// The words from a place on.
+    pub fn words_from(&self, place: usize) -> &[u64]
+        requires { place < WORDS_OF_A_PAGE }
+        ensures words { result.now ≡ drop place self.now }
+        ensures len { length self.now ≡ WORDS_OF_A_PAGE }
+    {
+        &self.as_slice()[place..]
+    }
+
     /// A page of these words, but for one.
     #[inline(never)]
     fn with_word(&self, alloc: Global, place: usize, value: u64) -> Result<Page, OutOfMemory>

@@ -10,3 +10,5 @@ pub mod Laws
 pub mod Turns
 pub mod Shares
 pub mod NextViews
+pub mod KeptCosts
+pub mod TakingOver

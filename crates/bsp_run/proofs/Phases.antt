@@ -6,10 +6,12 @@ use Rattle.bsp_model.specs.declared.request.Message.{Message}
 use Rattle.bsp_model.specs.declared.fault.SyncFault.{SyncFault}
 use Rattle.bsp_model.specs.declared.fault.SyncFault.TheVariants.{MixedEnd, TagMismatch}
 use Rattle.std.proofs.lemmas.List.FromFn.{length-map-range_with_len}
-use Rattle.std.proofs.lemmas.List.Elements.{All-push}
+use Rattle.std.proofs.lemmas.List.{length-map}
+use Rattle.std.proofs.lemmas.List.Elements.{All-push, All-map}
 use Rattle.std.proofs.lemmas.Bool.Decides.{nat_tests}
 use Rattle.bsp_table.specs.declared.area.Area.{Area}
-use Rattle.bsp_table.specs.NextTable.{AreFull, AreSlotsInside, ArePushesInside, next_table, table_fault, are_alike}
+use Rattle.bsp_table.specs.NextTable.{AreFull, AreSlotsInside, ArePushesInside, AreWithin, next_table, table_fault, are_alike}
+use Rattle.bsp_table.proofs.NextTables.{full_after, few_after, inside_after, within_after}
 use Rattle.bsp_step.specs.ViewParts.{ViewParts, IsQueue}
 use Rattle.bsp_step.specs.OutcomeParts.{OutcomeParts}
 use Rattle.bsp_deliver.specs.Requests.{each_below}
@@ -194,11 +196,22 @@ cells_are r cells table tag ec et eg =
 pub is_turned_run : (r : Run) → IsRun r → r.phase ≡ Turned → IsTurned r
 is_turned_run r h e = subst (λ p. IsInPhase p r) e h.phase
 
--- the run after a delivery keeps what a run keeps, by what is known of the table that was made
-pub next_is_run : (r : Run) (table : List (List Area)) → IsRun r → r.phase ≡ Turned → table ≡ next_table r.state.table (pops_of r.outcomes) (pushes_of r.outcomes) → IsNextTable (length r.outcomes) (map (λ o. length o.memory) r.outcomes) table → IsRun (after_delivery r)
-next_is_run r table h e is known =
-    delivered_is_run r h e (subst (λ ns. IsNextTable (length r.outcomes) ns (next_table r.state.table (pops_of r.outcomes) (pushes_of r.outcomes))) (sizes-same r.args (length r.past) r.state r.outcomes (is_turned_run r h e).turns)
-    (subst (IsNextTable (length r.outcomes) (map (λ (o : OutcomeParts). length o.memory) r.outcomes)) is known))
+-- the next table is within the limits
+next_table_within : (slots : List (List Area)) (os : List OutcomeParts) → CanSync slots os → IsNextTable (length os) (map (λ (o : OutcomeParts). length o.memory) os) (next_table slots (pops_of os) (pushes_of os))
+next_table_within slots os h =
+    record {
+      few = few_after slots (pops_of os) (pushes_of os) h.faultless;
+      full = full_after (length os) slots (pops_of os) (pushes_of os) h.full (length-map os (λ (o : OutcomeParts). o.pushes));
+      inside = inside_after (map (λ (o : OutcomeParts). length o.memory) os) slots (pops_of os) (pushes_of os) h.faultless h.inside h.pushes;
+      within = within_after 4096 slots (pops_of os) (pushes_of os) h.faultless h.within (All-map (AreWithin 4096) (λ (o : OutcomeParts). o.pushes) os h.short_pushes);
+    }
+
+-- the run after a delivery keeps what a run keeps
+pub next_is_run : (r : Run) → IsRun r → r.phase ≡ Turned → IsRun (after_delivery r)
+next_is_run r h e =
+    let turned : IsTurned r = is_turned_run r h e in
+    delivered_is_run r h e (subst (λ ns. IsNextTable (length r.outcomes) ns (next_table r.state.table (pops_of r.outcomes) (pushes_of r.outcomes))) (sizes-same r.args (length r.past) r.state r.outcomes turned.turns)
+    (next_table_within r.state.table r.outcomes (can_sync r h turned)))
 
 -- the parts of a tape after a delivery
 pub delivered_is : (r : Run) (past : List Superstep) (vs next : List ViewParts) (os : List OutcomeParts) (table : List (List Area)) (tag : ℕ) (cells : List (List ℕ × List Message)) (steps : ℕ) (phase : Phase) → IsRun (after_delivery r)

@@ -12,3 +12,4 @@ pub mod Supersteps
 pub mod Law
 pub mod Record
 pub mod Shares
+pub mod TakingOver

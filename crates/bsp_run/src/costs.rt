@@ -1,10 +1,10 @@
 //! The cost of a run.
 
-ghost use Rattle.std.specs.Prelude.{◌≡◌, ◌<◌, ◌≤◌, ◌^◌, ◌++◌, All, IfOk, length, map, option_map};
+ghost use Rattle.std.specs.Prelude.{◌≡◌, ◌+◌, ◌*◌, ◌<◌, ◌≤◌, ◌^◌, ◌++◌, All, IfOk, length, map, option_map};
 ghost use Rattle.bsp_deliver.specs.Condition.{AreDeliverable};
 ghost use Rattle.bsp_run.specs.Result.{largest_work, cost_of_delivery, cost_of_end, total_of, turns_in};
+ghost use Rattle.bsp_run.specs.TapeInside.{IsSmall};
 
-use crate::Superstep;
 use bsp_deliver::h_of;
 use bsp_model::limits::{HIGHEST_PRICE, MOST_SUPERSTEPS};
 use bsp_model::{CostRow, OutOfMemory, Seq, Shared};
@@ -23,21 +23,42 @@ fn largest_work(outcomes: &[Shared<Outcome>]) -> u64
     most
 }
 
-/// The cost of a superstep that ended by delivery.
-fn cost_of_delivery(g: u64, l: u64, outcomes: &[Shared<Outcome>]) -> CostRow
-    requires deliverable { AreDeliverable outcomes.now }
+/// What a superstep of this work and h-relation costs that ended by delivery.
+fn cost_row(g: u64, l: u64, work: u64, h: u64) -> CostRow
     requires small_g { g ≤ HIGHEST_PRICE }
     requires small_l { l ≤ HIGHEST_PRICE }
-    ensures value { result ≡ cost_of_delivery g l outcomes.now }
-    ensures small { result.cost < 2 ^ 50 }
+    requires small_work { work < 2 ^ 32 }
+    requires small_h { h < 2 ^ 29 }
+    ensures value { result ≡ record { work = work; h = h; cost = work + h * g + l } }
+    ensures small { IsSmall result }
 {
-    let work = largest_work(outcomes);
-    let h = h_of(outcomes);
     CostRow {
         work,
         h,
         cost: work + h * g + l,
     }
+}
+
+/// The cost of a superstep that ended by delivery.
+pub fn cost_of_delivery(g: u64, l: u64, outcomes: &[Shared<Outcome>]) -> CostRow
+    requires deliverable { AreDeliverable outcomes.now }
+    requires small_g { g ≤ HIGHEST_PRICE }
+    requires small_l { l ≤ HIGHEST_PRICE }
+    ensures value { result ≡ cost_of_delivery g l outcomes.now }
+    ensures small { IsSmall result }
+{
+    cost_row(g, l, largest_work(outcomes), h_of(outcomes))
+}
+
+/// The cost at these prices of a superstep that had another cost at others.
+pub fn cost_at(g: u64, l: u64, row: &CostRow) -> CostRow
+    requires small_g { g ≤ HIGHEST_PRICE }
+    requires small_l { l ≤ HIGHEST_PRICE }
+    requires small_row { IsSmall row.now }
+    ensures value { result ≡ record { work = row.now.work; h = row.now.h; cost = row.now.work + row.now.h * g + l } }
+    ensures small { IsSmall result }
+{
+    cost_row(g, l, row.work, row.h)
 }
 
 /// The cost of the superstep that ended the run.
@@ -53,41 +74,17 @@ fn cost_of_end(outcomes: &[Shared<Outcome>]) -> CostRow
     }
 }
 
-/// The costs of supersteps that ended by delivery.
-fn costs_of_past(
-    alloc: Global,
-    g: u64,
-    l: u64,
-    past: &[Superstep],
-) -> Result<Seq<CostRow>, OutOfMemory>
-    requires deliverable { All (λ s. AreDeliverable s.outcomes) past.now }
-    requires small_g { g ≤ HIGHEST_PRICE }
-    requires small_l { l ≤ HIGHEST_PRICE }
-    ensures rows { IfOk result (λ rows. rows ≡ map (cost_of_delivery g l) (map (λ s. s.outcomes) past.now)) }
-    ensures small { IfOk result (λ rows. All (λ row. row.cost < 2 ^ 50) rows) }
-{
-    let mut rows = Seq::new(alloc);
-    for superstep in past {
-        rows.push(cost_of_delivery(g, l, superstep.outcomes.as_slice()))?;
-    }
-    Ok(rows)
-}
-
-/// The cost of each superstep.
+/// The cost of each superstep, where those are given that ended by delivery.
 pub fn all_costs(
     alloc: Global,
-    g: u64,
-    l: u64,
-    past: &[Superstep],
+    past: &[CostRow],
     last: Option<&[Shared<Outcome>]>,
 ) -> Result<Seq<CostRow>, OutOfMemory>
-    requires deliverable { All (λ s. AreDeliverable s.outcomes) past.now }
-    requires small_g { g ≤ HIGHEST_PRICE }
-    requires small_l { l ≤ HIGHEST_PRICE }
-    ensures rows { IfOk result (λ rows. rows ≡ map (cost_of_delivery g l) (map (λ s. s.outcomes) past.now) ++ map cost_of_end (turns_in (option_map (λ o. o.now) last.entry))) }
+    requires { All (λ row. row.cost < 2 ^ 50) past.now }
+    ensures rows { IfOk result (λ rows. rows ≡ past.now ++ map cost_of_end (turns_in (option_map (λ o. o.now) last.entry))) }
     ensures small { IfOk result (λ rows. All (λ row. row.cost < 2 ^ 50) rows) }
 {
-    let mut rows = costs_of_past(alloc, g, l, past)?;
+    let mut rows = Seq::from_vec(past.to_vec(alloc)?);
     if let Some(outcomes) = last {
         rows.push(cost_of_end(outcomes))?;
     }

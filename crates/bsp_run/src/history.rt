@@ -9,7 +9,7 @@ ghost use Rattle.bsp_run.specs.Result.{status_of, steps_of, memories_of, lines_o
 use crate::costs::{all_costs, total_of};
 use crate::keeping::{is_limit, last_turn};
 use crate::lines::all_lines;
-use crate::{Lines, Phase, RunResult, Status, Superstep, Tape};
+use crate::{Lines, Phase, RunResult, Status, Superstep, Tape, Views};
 use bsp_model::{CostRow, Memory, OutOfMemory, Seq, Shared, TryCopy};
 use bsp_step::{Outcome, View};
 use std::alloc::Global;
@@ -18,7 +18,7 @@ use std::marker::Model;
 /// A run that has ended, with the record of every view and outcome.
 #[derive(Drop)]
 pub struct History {
-    run: Tape,
+    pub(crate) run: Tape,
     lines: Seq<Shared<Lines>>,
     costs: Seq<CostRow>,
     total: u64,
@@ -63,7 +63,7 @@ impl Tape {
         let past = self.past.as_slice();
         let last = last_turn(&self.phase, self.outcomes.as_slice());
         let lines = all_lines(alloc, lines, past, last, self.views.len())?;
-        let costs = all_costs(alloc, self.g, self.l, past, last)?;
+        let costs = all_costs(alloc, self.costs.as_slice(), last)?;
         let total = total_of(costs.as_slice());
         Ok(History {
             run: self,
@@ -165,10 +165,20 @@ impl History {
     pub fn views(&self, step: u64) -> Option<&[Shared<View>]>
         ensures { option_map (λ v. v.now) result ≡ slice_get (all_views self.now) step }
     {
+        match self.all_views(step) {
+            Some(views) => Some(views.as_slice()),
+            None => None,
+        }
+    }
+
+    /// The same, as the list that is kept.
+    pub(crate) fn all_views(&self, step: u64) -> Option<&Views>
+        ensures { option_map (λ v. v.now) result ≡ slice_get (all_views self.now) step }
+    {
         let run = &self.run;
         match run.past.as_slice().get(step as usize) {
-            Some(superstep) => Some(superstep.views.as_slice()),
-            None if step as usize == run.past.len() => Some(run.views.as_slice()),
+            Some(superstep) => Some(&superstep.views),
+            None if step as usize == run.past.len() => Some(&run.views),
             None => None,
         }
     }

@@ -4,10 +4,10 @@ ghost use Rattle.std.specs.Prelude.{◌≡◌, ◌≤◌, ◌==◌, ◌++◌, �
 ghost use Rattle.bsp_table.specs.NextTable.{AreFull, AreSlots, AreSlotsInside, AreSlotsWithin, ArePushesInside, AreWithin, next_table, table_fault};
 ghost use Rattle.bsp_run.specs.State.{pops_of, pushes_of};
 ghost use Rattle.bsp_run.specs.Run.{phase_after, is_limit};
-ghost use Rattle.bsp_run.specs.Condition.{IsNextTable, CanSync};
+ghost use Rattle.bsp_run.specs.Condition.{CanSync};
 
 use crate::{Outcomes, Phase, Status, Superstep, Views};
-use bsp_model::{OutOfMemory, Shared, SharedSeq};
+use bsp_model::{CostRow, OutOfMemory, Shared, SharedSeq};
 use bsp_step::Outcome;
 use bsp_table::{Table, TableFault};
 use std::alloc::AllocError;
@@ -38,7 +38,6 @@ pub fn phase_at(steps: u64, limit: u64) -> Phase
 pub fn next_table(table: &Table, outcomes: &[Shared<Outcome>]) -> Result<Table, OutOfMemory>
     requires { CanSync table.now outcomes.now }
     ensures next { IfOk result (λ t. t ≡ next_table table.now (pops_of outcomes.now) (pushes_of outcomes.now)) }
-    ensures limits { IfOk result (λ t. IsNextTable (length outcomes.now) (map (λ o. length o.memory) outcomes.now) t) }
 {
     match table.synced(outcomes) {
         Ok(next) => Ok(next),
@@ -47,33 +46,32 @@ pub fn next_table(table: &Table, outcomes: &[Shared<Outcome>]) -> Result<Table, 
     }
 }
 
-/// Keeps the superstep that has ended, and puts the next views in its place. After `OutOfMemory` nothing has changed.
+/// Keeps the superstep that has ended and its cost, and puts the next views in its place. After `OutOfMemory` nothing has changed.
 pub fn keep_superstep(
     past: &mut Vec<Superstep>,
+    costs: &mut Vec<CostRow>,
     views: &mut Views,
     outcomes: &mut Outcomes,
     next: Views,
+    row: CostRow,
 ) -> Result<(), OutOfMemory>
     ensures past { OnOk result (past.new.items ≡ past.old.items ++ record { views = views.old; outcomes = outcomes.old } ∷ []) }
+    ensures costs { OnOk result (costs.new.items ≡ costs.old.items ++ row ∷ []) }
     ensures views { OnOk result (views.new ≡ next) }
     ensures outcomes { OnOk result (outcomes.new ≡ []) }
     ensures err_past { OnErr result (past.new.items ≡ past.old.items) }
+    ensures err_costs { OnErr result (costs.new.items ≡ costs.old.items) }
     ensures err_views { OnErr result (views.new ≡ views.old) }
     ensures err_outcomes { OnErr result (outcomes.new ≡ outcomes.old) }
 {
-    let superstep = Superstep {
+    past.reserve(1)?;
+    costs.reserve(1)?;
+    past.push_reserved(Superstep {
         views: mem::replace(views, next),
         outcomes: mem::replace(outcomes, SharedSeq::new()),
-    };
-    match past.push(superstep) {
-        Ok(()) => Ok(()),
-        Err(failed) => {
-            let superstep = failed.value;
-            *views = superstep.views;
-            *outcomes = superstep.outcomes;
-            Err(AllocError)
-        }
-    }
+    });
+    costs.push_reserved(row);
+    Ok(())
 }
 
 /// Whether the run has ended at the limit.

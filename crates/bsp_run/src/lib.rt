@@ -13,6 +13,7 @@ mod result;
 mod superstep;
 mod supersteps;
 mod taking;
+mod taking_over;
 mod tape;
 mod wide;
 mod works;

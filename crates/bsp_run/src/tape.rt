@@ -7,15 +7,16 @@ ghost use Rattle.bsp_deliver.specs.Condition.{AreDeliverable};
 ghost use Rattle.bsp_run.specs.Run.{start, after_turns, after_delivery, open_views};
 ghost use Rattle.bsp_run.specs.Shown.{views_shown, outcomes_shown};
 ghost use Rattle.bsp_run.specs.State.{next_state, view_of, views_of};
-ghost use Rattle.bsp_run.specs.Condition.{AreOutcomesOf, IsNextTable, deliveries_of, is_turned, is_open};
+ghost use Rattle.bsp_run.specs.Condition.{AreOutcomesOf, deliveries_of, is_turned, is_open};
 ghost use Rattle.bsp_run.specs.RunErrors.{input_fault_of};
 
+use crate::costs::cost_of_delivery;
 use crate::ending::end_of;
 use crate::keeping::{keep_superstep, next_table, phase_after, phase_at};
 use crate::opening::{args_of, first_cells, open_views, shared_args, view_at};
 use crate::{Outcomes, Phase, RunError, Status, Superstep, Views};
 use bsp_deliver::next_tag_size;
-use bsp_model::{Input, Memory, OutOfMemory, Seq, Shared, SharedSeq};
+use bsp_model::{CostRow, Input, Memory, OutOfMemory, Seq, Shared, SharedSeq};
 use bsp_step::{Outcome, Queue, View};
 use bsp_table::Table;
 use std::alloc::Global;
@@ -29,6 +30,7 @@ pub struct Tape {
     pub(crate) g: u64,
     pub(crate) l: u64,
     pub(crate) past: Vec<Superstep>,
+    pub(crate) costs: Vec<CostRow>,
     pub(crate) views: Views,
     pub(crate) outcomes: Outcomes,
     pub(crate) table: Table,
@@ -87,6 +89,7 @@ impl Tape {
             g: input.g,
             l: input.l,
             past: Vec::new(alloc),
+            costs: Vec::new(alloc),
             views,
             outcomes: SharedSeq::new(),
             table,
@@ -150,8 +153,7 @@ impl Tape {
     /// The table of the next superstep.
     pub fn next_table(&self) -> Result<Table, OutOfMemory>
         requires { self.now.phase ≡ Phase.Turned }
-        ensures next { IfOk result (λ t. t ≡ (next_state self.now.state self.now.outcomes).table) }
-        ensures limits { IfOk result (λ t. IsNextTable (length self.now.outcomes) (map (λ o. length o.memory) self.now.outcomes) t) }
+        ensures { IfOk result (λ t. t ≡ (next_state self.now.state self.now.outcomes).table) }
     {
         Ok(next_table(&self.table, self.outcomes.as_slice())?)
     }
@@ -175,7 +177,6 @@ impl Tape {
         requires turned { self.now.phase ≡ Phase.Turned }
         requires known { pid < length self.now.outcomes }
         requires table { table.now ≡ (next_state self.now.state self.now.outcomes).table }
-        requires limits { IsNextTable (length self.now.outcomes) (map (λ o. length o.memory) self.now.outcomes) table.now }
         requires memory { memory ≡ slice_index_or (next_state self.now.state self.now.outcomes).memories pid [] }
         requires queue { queue ≡ slice_index_or (next_state self.now.state self.now.outcomes).queues pid [] }
         ensures { IfOk result (λ v. v ≡ view_of self.now.args (length self.now.past + 1) (next_state self.now.state self.now.outcomes) pid) }
@@ -211,7 +212,6 @@ impl Tape {
     pub fn delivered_as(&mut self, table: Table, views: Views) -> Result<bool, OutOfMemory>
         requires turned { self.old.phase ≡ Phase.Turned }
         requires table { table ≡ (next_state self.old.state self.old.outcomes).table }
-        requires limits { IsNextTable (length self.old.outcomes) (map (λ o. length o.memory) self.old.outcomes) table }
         requires views { views ≡ views_of self.old.args (length self.old.past + 1) (next_state self.old.state self.old.outcomes) }
         ensures ok { OnOk result (self.new ≡ after_delivery self.old) }
         ensures answer { IfOk result (λ goes_on. goes_on ≡ is_open self.new.phase) }
@@ -219,7 +219,15 @@ impl Tape {
     {
         let step = self.past.len() as u64 + 1;
         let tag_size = next_tag_size(self.tag_size, self.outcomes.as_slice());
-        keep_superstep(&mut self.past, &mut self.views, &mut self.outcomes, views)?;
+        let row = cost_of_delivery(self.g, self.l, self.outcomes.as_slice());
+        keep_superstep(
+            &mut self.past,
+            &mut self.costs,
+            &mut self.views,
+            &mut self.outcomes,
+            views,
+            row,
+        )?;
         self.table = table;
         self.tag_size = tag_size;
         self.phase = phase_at(step, self.limit);

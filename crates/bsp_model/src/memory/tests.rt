@@ -88,6 +88,7 @@ fn change(rt: &impl Abort, alloc: Global, memory: &mut Memory) -> Result<(), Out
 
 fn find_changed(rt: &impl Abort, memory: &Memory) {
     assert!(rt; has_first_numbers(memory));
+    assert_eq!(rt; memory.words_from(60), [1, 2, 3, 4].as_slice());
     assert_eq!(rt; memory.load(130), Some(0));
     assert_eq!(rt; memory.load(4095), Some(2));
 }

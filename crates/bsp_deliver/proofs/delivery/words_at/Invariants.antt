@@ -1,7 +1,9 @@
-use Rattle.std.proofs.Common.{◌≡◌, ◌+◌, get_or}
-use Rattle.bsp_deliver.specs.Requests.{each_below}
+use Rattle.std.proofs.Common.{◌≡◌, ◌≤◌, ◌-◌, length, take, drop}
 use Rattle.bsp_deliver.proofs.delivery.words_at.Given as goal
 
 -- the words so far
-abbrev pub invariant-loop-i : goal.invariant-loop-i
-invariant-loop-i l = l.words.items ≡ each_below l.i (λ i. get_or l.memory (l.start + i) 0)
+abbrev pub invariant-loop-words : goal.invariant-loop-words
+invariant-loop-words l = (l.words.items ≡ take (length l.words.items) (drop l.start l.memory)) × (length l.words.items ≤ l.len)
+
+abbrev pub decreases-loop-words : goal.decreases-loop-words
+decreases-loop-words l = l.len - length l.words.items

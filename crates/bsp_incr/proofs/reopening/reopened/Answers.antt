@@ -17,9 +17,9 @@ put_at-requires-clause-known c =
     let input = c.args.input.now in
     let test : ℕ → Bool = λ p. get_or marks p false in
     let marked = c.as_slice-2.result.now in
-    let seen = c.in_ok-views.ensures ∙ c.first_views_before.ensures ∙ c.requires.first in
+    let seen = c.in_ok-views.ensures ∙ c.first_views_before.ensures in
     let listed = c.as_slice-2.ensures.value ∙ c.in_ok-marked.ensures in
-    let made = first_views_in_place c.args.old.now input marks c.in_ok-views.views.items (map (view_of input.args 0 (first_state input)) marked) marked seen c.requires.count c.requires.marks listed (λ i. map (view_of input.args 0 (first_state input)) marked) in
+    let made = first_views_in_place c.args.old.now input marks c.in_ok-views.views.items (map (view_of input.args 0 (first_state input)) marked) marked seen c.requires.first c.requires.marks listed (λ i. map (view_of input.args 0 (first_state input)) marked) in
     subst (λ n. All (λ p. p < n) marked) (sym made.0) (listed_below (length input.mems) test marked (listed ∙ ap (λ n. processes_where n test) c.requires.marks.count))
 
 pub open_as-requires : goal.open_as-requires
@@ -27,7 +27,7 @@ open_as-requires c =
     let marks = c.args.marks.now in
     let input = c.args.input.now in
     let marked = c.as_slice-2.result.now in
-    let seen = c.in_ok-views.ensures ∙ c.first_views_before.ensures ∙ c.requires.first in
+    let seen = c.in_ok-views.ensures ∙ c.first_views_before.ensures in
     let listed = c.as_slice-2.ensures.value ∙ c.in_ok-marked.ensures in
     let new = c.in_ok-new.ensures ∙ ap (map (view_of input.args 0 (first_state input))) (c.as_slice.ensures.value ∙ sym c.as_slice-2.ensures.value) in
-    c.in_ok-from_vec.ensures ∙ c.put_at.ensures ∙ (first_views_in_place c.args.old.now input marks c.in_ok-views.views.items c.in_ok-new.new.items marked seen c.requires.count c.requires.marks listed new).1
+    c.in_ok-from_vec.ensures ∙ c.put_at.ensures ∙ (first_views_in_place c.args.old.now input marks c.in_ok-views.views.items c.in_ok-new.new.items marked seen c.requires.first c.requires.marks listed new).1

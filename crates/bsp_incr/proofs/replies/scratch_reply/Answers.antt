@@ -11,7 +11,7 @@ pub unreachable-requires : goal.unreachable-requires
 unreachable-requires g c =
     let input : Input = c.args.input.now in
     let none : refusal_of input c.args.batch.now ≡ None = sym (ap (refusal_of input) c.as_slice.ensures) ∙ sym c.in-None.ensures in
-    let made = c.in_ok-input.ensures ∙ ap (λ (es : List Edit). edited input es) c.as_slice-2.ensures in
+    let made = c.in_ok-_formers.ensures.made ∙ ap (λ (es : List Edit). edited input es) c.as_slice-2.ensures in
     let lawful = ap input_fault made ∙ edited_lawful input c.args.batch.now none c.requires.lawful in
     let both : None ≡ Some c.in-Err-Input.field-0-0 = sym lawful ∙ c.in-Err-Input.ensures.input ∙ ap input_fault_of c.in-Err-Input.field-0-is in
     cc

@@ -5,9 +5,7 @@ use Rattle.bsp_model.proofs.Inputs.{lawful_input}
 use Rattle.bsp_step.specs.Turn.{turn_of}
 use Rattle.bsp_run.specs.Run.{Run, start, advance, times, run}
 use Rattle.bsp_run.proofs.Runs.{IsBetween, start-between, advance-between, ended-between, times_more}
-use Rattle.bsp_incr.specs.declared.kept.Kept.{Kept}
 use Rattle.bsp_incr.specs.Changes.{IsUpdate, processes_where}
-use Rattle.bsp_incr.specs.Before.{run_before}
 use Rattle.bsp_incr.proofs.Remaking.{under_way_start, before_is}
 use Rattle.bsp_incr.proofs.rerun.rerun.Goals as goal
 
@@ -17,7 +15,7 @@ loop-step-init g c =
     let turn = turn_of (g.P.Program.acts c.args.program.now) (g.P.Program.ending c.args.program.now) in
     let f = advance turn in
     let input : Input = c.args.input.now in
-    let old : Option Kept = option_map (λ k. k.now) c.args.old in
+    let old : Option Run = option_map (λ k. k.now) c.args.old in
     let all : input.limit - 0 ≡ input.limit = omega arith in
     let opened = c.requires.open in
     record {
@@ -51,7 +49,7 @@ returns-clause-run g c =
 
 pub returns-clause-update : goal.returns-clause-update
 returns-clause-update g c =
-    subst (λ (r : Run). IsUpdate (g.P.Program.looks c.args.program.now) (run_before (option_map (λ k. k.now) c.args.old)) r c.loop-step.update) (sym c.in_ok-history.ensures) c.loop-step.invariant.under_way.updated
+    subst (λ (r : Run). IsUpdate (g.P.Program.looks c.args.program.now) (option_map (λ k. k.now) c.args.old) r c.loop-step.update) (sym c.in_ok-history.ensures) c.loop-step.invariant.under_way.updated
 
 pub advance-requires-clause-before : goal.advance-requires-clause-before
 advance-requires-clause-before g c κs within =
@@ -61,3 +59,6 @@ pub advance-requires-clause-other_args : goal.advance-requires-clause-other_args
 advance-requires-clause-other_args g c κs within =
     c.as_slice-in-loop-step-2.ensures.value ∙ c.in_ok-other_args.ensures
     ∙ ap (λ (bs : List Bool). processes_where (length bs) (λ p. get_or bs p false)) (c.as_slice.ensures.value ∙ sym c.as_slice-in-loop-step.ensures.value)
+
+pub advance-requires-clause-some : goal.advance-requires-clause-some
+advance-requires-clause-some g c κs within = (lawful_input c.args.input.now c.requires.lawful).some_process

@@ -1,23 +1,17 @@
-use Rattle.std.proofs.Common.{◌≡◌, ◌<◌, ◌++◌, ◌∙◌, ℕ, Bool, true, List, Option, ap, sym, subst, map, length, get_or}
-use Rattle.std.specs.Prelude.{option_map, ◌||◌}
-use Rattle.bsp_step.specs.ViewParts.{ViewParts}
+use Rattle.std.proofs.Common.{All, ◌≡◌, ◌<◌, ◌∙◌, List, Option, ap, sym, subst, length}
+use Rattle.std.specs.Prelude.{option_map}
+use Rattle.bsp_step.specs.ViewParts.{ViewParts, IsView}
 use Rattle.bsp_step.specs.OutcomeParts.{OutcomeParts}
 use Rattle.bsp_step.specs.Turn.{turn_of}
-use Rattle.bsp_deliver.specs.Requests.{each_below}
-use Rattle.bsp_run.specs.declared.superstep.Superstep.{Superstep}
-use Rattle.bsp_run.specs.Run.{Run, after_delivery, open_views}
-use Rattle.bsp_run.specs.Condition.{is_turned}
-use Rattle.bsp_run.specs.Law.{outcomes_in}
-use Rattle.bsp_run.specs.Record.{IsRecord}
-use Rattle.bsp_run.proofs.Runs.{open_phase, advance-closed, advance-delivers, advance-ends, views_shown-open}
-use Rattle.bsp_run.proofs.Records.{past-turned, open_views-in, count-outcomes_in, IsRecord-turned}
-use Rattle.bsp_incr.specs.declared.kept.Kept.{Kept}
-use Rattle.bsp_incr.specs.declared.reply.Place.{Place}
-use Rattle.bsp_incr.specs.Changes.{touched_in, is_touched}
-use Rattle.bsp_incr.specs.Marks.{AreMarked, ViewsDifferAtMost, OutcomesDifferAtMost, HaveOneTable}
-use Rattle.bsp_incr.specs.Before.{taken_before, delivered_outcomes}
-use Rattle.bsp_incr.proofs.RunBefore.{count_before, delivered_before_is, table_after, table_before, open_table}
-use Rattle.bsp_incr.proofs.Remaking.{turns-in, count_taken, unchanged_among, alike_after, outcomes-turned, under_way_turned, under_way_delivered}
+use Rattle.bsp_run.specs.Run.{Run, after_turns, after_delivery, open_views}
+use Rattle.bsp_run.proofs.Runs.{open_phase, advance-closed, advance-delivers, views_shown-open}
+use Rattle.bsp_run.proofs.Records.{open_views-in}
+use Rattle.bsp_incr.specs.Marks.{AreMarked, HaveOneTable}
+use Rattle.bsp_incr.specs.Before.{taken_before}
+use Rattle.bsp_incr.proofs.RunBefore.{table_before, open_table}
+use Rattle.bsp_incr.proofs.Remaking.{count_taken}
+use Rattle.bsp_incr.specs.Before.{IsUnderWay}
+use Rattle.bsp_incr.proofs.Staying.{staying_whole, left, goes_on, can_take_over, under_way_taken}
 use Rattle.bsp_incr.proofs.superstep.advance.Goals as goal
 
 pub returns-then-not-is_open-clause-tape : goal.returns-then-not-is_open-clause-tape
@@ -27,9 +21,9 @@ returns-then-not-is_open-clause-tape g c =
 pub doubtful-requires-clause-marks : goal.doubtful-requires-clause-marks
 doubtful-requires-clause-marks g c =
     let turn = turn_of (g.P.Program.acts c.args.program.now) (g.P.Program.ending c.args.program.now) in
-    let old : Option Kept = option_map (λ k. k.now) c.args.old in
+    let old : Option Run = option_map (λ k. k.now) c.args.old in
     let r : Run = c.args.tape.now in
-    let before = c.taken_before-old_views.ensures ∙ ap (taken_before old) c.step.ensures in
+    let before = c.taken_before-old_views.ensures ∙ ap (taken_before old) c.step-step.ensures in
     let now = c.views.ensures.views ∙ views_shown-open r (sym c.if-not-is_open.ensures) in
     let marks = c.as_slice.ensures.value in
     subst (λ (vs : List ViewParts). AreMarked vs c.views.result.now c.as_slice.result.now) (sym before)
@@ -39,15 +33,15 @@ doubtful-requires-clause-marks g c =
 pub doubtful-requires-clause-old_table : goal.doubtful-requires-clause-old_table
 doubtful-requires-clause-old_table g c =
     let turn = turn_of (g.P.Program.acts c.args.program.now) (g.P.Program.ending c.args.program.now) in
-    let old : Option Kept = option_map (λ k. k.now) c.args.old in
+    let old : Option Run = option_map (λ k. k.now) c.args.old in
     let r : Run = c.args.tape.now in
-    let before = c.taken_before-old_views.ensures ∙ ap (taken_before old) c.step.ensures in
+    let before = c.taken_before-old_views.ensures ∙ ap (taken_before old) c.step-step.ensures in
     subst HaveOneTable (sym before) (table_before turn c.args.input.now old (length r.past) c.requires.before)
 
 pub doubtful-requires-clause-table : goal.doubtful-requires-clause-table
 doubtful-requires-clause-table g c =
     let turn = turn_of (g.P.Program.acts c.args.program.now) (g.P.Program.ending c.args.program.now) in
-    let old : Option Kept = option_map (λ k. k.now) c.args.old in
+    let old : Option Run = option_map (λ k. k.now) c.args.old in
     let r : Run = c.args.tape.now in
     let now = c.views.ensures.views ∙ views_shown-open r (sym c.if-not-is_open.ensures) in
     subst HaveOneTable (sym now) (open_table turn c.args.input.now r c.requires.under_way.made)
@@ -55,132 +49,55 @@ doubtful-requires-clause-table g c =
 pub doubtful-requires-clause-count : goal.doubtful-requires-clause-count
 doubtful-requires-clause-count g c =
     let turn = turn_of (g.P.Program.acts c.args.program.now) (g.P.Program.ending c.args.program.now) in
-    let old : Option Kept = option_map (λ k. k.now) c.args.old in
+    let old : Option Run = option_map (λ k. k.now) c.args.old in
     let r : Run = c.args.tape.now in
-    let before = c.taken_before-old_views.ensures ∙ ap (taken_before old) c.step.ensures in
+    let before = c.taken_before-old_views.ensures ∙ ap (taken_before old) c.step-step.ensures in
     let now = c.views.ensures.views ∙ views_shown-open r (sym c.if-not-is_open.ensures) ∙ open_views-in turn c.args.input.now r c.requires.under_way.made in
     subst (λ (vs : List ViewParts). 0 < length vs → length vs ≡ length c.views.result.now) (sym before)
     (count_taken turn c.args.input.now old (length r.past) c.views.result.now c.requires.before now)
 
-pub take_turns-requires-clause-count : goal.take_turns-requires-clause-count
-take_turns-requires-clause-count g c κs within =
-    let turn = turn_of (g.P.Program.acts c.args.program.now) (g.P.Program.ending c.args.program.now) in
+pub take_over-requires : goal.take_over-requires
+take_over-requires g c =
+    let acts = g.P.Program.acts c.args.program.now in
+    let ending = g.P.Program.ending c.args.program.now in
+    let turn = turn_of acts ending in
+    let j = c.args.input.now in
+    let old = c.in-Some.history.now in
     let r : Run = c.args.tape.now in
-    count_taken turn c.args.input.now (option_map (λ k. k.now) c.args.old) (length r.past) (open_views r) c.requires.before (open_views-in turn c.args.input.now r c.requires.under_way.made)
+    let started = sym c.if-not-is_open.ensures in
+    let now = c.views.ensures.views ∙ views_shown-open r started in
+    let stays = staying_whole turn j (option_map (λ k. k.now) c.args.old) old r c.step-step.result c.taken_before-old_views.result.now c.views.result.now c.in_ok-doubtful.doubtful.items c.as_slice-2.result.now c.requires.before c.in-Some.ensures c.requires.under_way.made started c.requires.some
+    c.step-step.ensures c.taken_before-old_views.ensures now c.as_slice-2.ensures.value c.in_ok-doubtful.ensures in
+    let within = subst (All IsView) now (c.views.ensures.limits (open_phase r.phase started)) in
+    can_take_over acts ending stays.0.input_before j old r stays.0.made c.requires.under_way.made (open_phase r.phase started) c.requires.some stays.0.count within stays.1.past stays.1.seen
 
-pub take_turns-requires-clause-doubtful : goal.take_turns-requires-clause-doubtful
-take_turns-requires-clause-doubtful g c κs within =
-    let old : Option Kept = option_map (λ k. k.now) c.args.old in
+pub returns-in-Some-clause-tape : goal.returns-in-Some-clause-tape
+returns-in-Some-clause-tape g c =
+    let acts = g.P.Program.acts c.args.program.now in
+    let ending = g.P.Program.ending c.args.program.now in
+    let turn = turn_of acts ending in
+    let j = c.args.input.now in
+    let old = c.in-Some.history.now in
     let r : Run = c.args.tape.now in
-    let before = c.taken_before-old_views.ensures ∙ ap (taken_before old) c.step.ensures in
-    let now = c.views.ensures.views ∙ views_shown-open r (sym c.if-not-is_open.ensures) in
-    subst (ViewsDifferAtMost (taken_before old (length r.past)) (open_views r)) (sym c.as_slice-2.ensures.value)
-    (subst (λ (vs : List ViewParts). ViewsDifferAtMost vs (open_views r) c.in_ok-doubtful.doubtful.items) before
-    (subst (λ (vs : List ViewParts). ViewsDifferAtMost c.taken_before-old_views.result.now vs c.in_ok-doubtful.doubtful.items) now c.in_ok-doubtful.ensures))
+    let started = sym c.if-not-is_open.ensures in
+    let now = c.views.ensures.views ∙ views_shown-open r started in
+    let stays = staying_whole turn j (option_map (λ k. k.now) c.args.old) old r c.step-step.result c.taken_before-old_views.result.now c.views.result.now c.in_ok-doubtful.doubtful.items c.as_slice-2.result.now c.requires.before c.in-Some.ensures c.requires.under_way.made started c.requires.some
+    c.step-step.ensures c.taken_before-old_views.ensures now c.as_slice-2.ensures.value c.in_ok-doubtful.ensures in
+    c.in_ok-take_over.ensures.ok ∙ ap (λ (os : List OutcomeParts). after_delivery (after_turns r os)) (left turn stays.0.input_before j old r stays.1)
+    ∙ sym (advance-delivers turn r (open_phase r.phase started) (goes_on turn stays.0.input_before j old r stays.1))
 
-pub make_deliveries-requires-clause-count : goal.make_deliveries-requires-clause-count
-make_deliveries-requires-clause-count g c κs within =
-    let turn = turn_of (g.P.Program.acts c.args.program.now) (g.P.Program.ending c.args.program.now) in
-    let old : Option Kept = option_map (λ k. k.now) c.args.old in
+pub returns-in-Some-clause-under_way : goal.returns-in-Some-clause-under_way
+returns-in-Some-clause-under_way g c =
+    let acts = g.P.Program.acts c.args.program.now in
+    let ending = g.P.Program.ending c.args.program.now in
+    let turn = turn_of acts ending in
+    let j = c.args.input.now in
+    let old = c.in-Some.history.now in
     let r : Run = c.args.tape.now in
-    let us = map turn (open_views r) in
-    let is = c.in_ok-delivers.ensures.turned in
-    let steps = ap (λ (x : Run). length x.past) is ∙ ap (λ (xs : List Superstep). length xs) (past-turned r us) in
-    let outcomes = ap (λ (x : Run). x.outcomes) is ∙ outcomes-turned r us in
-    λ some.
-    ap (λ n. length (delivered_outcomes old n)) steps
-    ∙ count_before turn c.args.input.now old (length r.past) c.requires.before (subst (λ n. 0 < length (delivered_outcomes old n)) steps some)
-    ∙ sym (ap (λ (os : List OutcomeParts). length os) (outcomes ∙ turns-in turn c.args.input.now r c.requires.under_way.made))
-
-pub make_deliveries-requires-clause-next : goal.make_deliveries-requires-clause-next
-make_deliveries-requires-clause-next g c κs within =
-    delivered_before_is (turn_of (g.P.Program.acts c.args.program.now) (g.P.Program.ending c.args.program.now)) c.args.input.now (option_map (λ k. k.now) c.args.old) (length c.take_turns.new.tape.past) c.requires.before
-
-pub make_deliveries-requires-clause-old_table : goal.make_deliveries-requires-clause-old_table
-make_deliveries-requires-clause-old_table g c κs within =
-    table_after (turn_of (g.P.Program.acts c.args.program.now) (g.P.Program.ending c.args.program.now)) c.args.input.now (option_map (λ k. k.now) c.args.old) (length c.take_turns.new.tape.past) c.requires.before
-
-pub make_deliveries-requires-clause-doubtful : goal.make_deliveries-requires-clause-doubtful
-make_deliveries-requires-clause-doubtful g c κs within =
-    let turn = turn_of (g.P.Program.acts c.args.program.now) (g.P.Program.ending c.args.program.now) in
-    let old : Option Kept = option_map (λ k. k.now) c.args.old in
-    let r : Run = c.args.tape.now in
-    let us = map turn (open_views r) in
-    let is = c.in_ok-delivers.ensures.turned in
-    let steps = ap (λ (x : Run). length x.past) is ∙ ap (λ (xs : List Superstep). length xs) (past-turned r us) in
-    let outcomes = ap (λ (x : Run). x.outcomes) is ∙ outcomes-turned r us in
-    let before = c.taken_before-old_views.ensures ∙ ap (taken_before old) c.step.ensures in
-    let now = c.views.ensures.views ∙ views_shown-open r (sym c.if-not-is_open.ensures) in
-    let differ : ViewsDifferAtMost (taken_before old (length r.past)) (open_views r) c.in_ok-doubtful.doubtful.items =
-    subst (λ (vs : List ViewParts). ViewsDifferAtMost vs (open_views r) c.in_ok-doubtful.doubtful.items) before
-    (subst (λ (vs : List ViewParts). ViewsDifferAtMost c.taken_before-old_views.result.now vs c.in_ok-doubtful.doubtful.items) now c.in_ok-doubtful.ensures) in
-    let unchanged = unchanged_among turn c.args.input.now old (length r.past) (open_views r) c.in_ok-doubtful.doubtful.items c.requires.before (open_views-in turn c.args.input.now r c.requires.under_way.made) differ in
-    subst (OutcomesDifferAtMost (delivered_outcomes old (length c.take_turns.new.tape.past)) c.take_turns.new.tape.outcomes) (sym c.as_slice-3.ensures.value)
-    (subst (λ (os : List OutcomeParts). OutcomesDifferAtMost (delivered_outcomes old (length c.take_turns.new.tape.past)) os c.in_ok-doubtful.doubtful.items) (sym outcomes)
-    (subst (λ n. OutcomesDifferAtMost (delivered_outcomes old n) us c.in_ok-doubtful.doubtful.items) (sym steps) unchanged))
-
-pub make_deliveries-requires-clause-alike : goal.make_deliveries-requires-clause-alike
-make_deliveries-requires-clause-alike g c κs within =
-    let turn = turn_of (g.P.Program.acts c.args.program.now) (g.P.Program.ending c.args.program.now) in
-    let old : Option Kept = option_map (λ k. k.now) c.args.old in
-    let r : Run = c.args.tape.now in
-    let us = map turn (open_views r) in
-    let is = c.in_ok-delivers.ensures.turned in
-    let steps = ap (λ (x : Run). length x.past) is ∙ ap (λ (xs : List Superstep). length xs) (past-turned r us) in
-    let made : IsRecord turn c.args.input.now c.take_turns.new.tape = subst (IsRecord turn c.args.input.now) (sym is) (IsRecord-turned turn c.args.input.now r c.requires.under_way.made (open_phase r.phase (sym c.if-not-is_open.ensures))) in
-    let outcomes = ap (λ (x : Run). x.outcomes) is ∙ outcomes-turned r us ∙ turns-in turn c.args.input.now r c.requires.under_way.made ∙ ap (outcomes_in turn c.args.input.now) (sym steps) in
-    alike_after turn c.args.input.now old c.take_turns.new.tape c.args.always.now c.requires.before c.requires.always made outcomes
-
-pub make_deliveries-requires-clause-always : goal.make_deliveries-requires-clause-always
-make_deliveries-requires-clause-always g c κs within =
-    let turn = turn_of (g.P.Program.acts c.args.program.now) (g.P.Program.ending c.args.program.now) in
-    let old : Option Kept = option_map (λ k. k.now) c.args.old in
-    let r : Run = c.args.tape.now in
-    let us = map turn (open_views r) in
-    let outcomes = ap (λ (x : Run). x.outcomes) c.in_ok-delivers.ensures.turned ∙ outcomes-turned r us ∙ turns-in turn c.args.input.now r c.requires.under_way.made in
-    c.requires.always.count ∙ sym (count-outcomes_in turn c.args.input.now (length r.past)) ∙ sym (ap (λ (os : List OutcomeParts). length os) outcomes)
-
-pub returns-clause-tape : goal.returns-clause-tape
-returns-clause-tape g c =
-    let turn = turn_of (g.P.Program.acts c.args.program.now) (g.P.Program.ending c.args.program.now) in
-    let r : Run = c.args.tape.now in
-    let is = c.in_ok-delivers.ensures.turned in
-    let delivers = ap (λ (x : Run). is_turned x.phase) (sym is) ∙ sym c.in_ok-delivers.ensures.answer ∙ c.if-not-delivers.false in
-    c.in_ok-next.ensures.tape ∙ ap after_delivery is ∙ sym (advance-delivers turn r (open_phase r.phase (sym c.if-not-is_open.ensures)) delivers)
-
-pub returns-clause-under_way : goal.returns-clause-under_way
-returns-clause-under_way g c =
-    let turn = turn_of (g.P.Program.acts c.args.program.now) (g.P.Program.ending c.args.program.now) in
-    let old : Option Kept = option_map (λ k. k.now) c.args.old in
-    let r : Run = c.args.tape.now in
-    let us = map turn (open_views r) in
-    let is = c.in_ok-delivers.ensures.turned in
-    let steps = ap (λ (x : Run). length x.past) is ∙ ap (λ (xs : List Superstep). length xs) (past-turned r us) in
-    let outcomes = ap (λ (x : Run). x.outcomes) is ∙ outcomes-turned r us in
-    let looks = g.P.Program.looks c.args.program.now in
-    let always = c.args.always.now in
-    let delivers = ap (λ (x : Run). is_turned x.phase) (sym is) ∙ sym c.in_ok-delivers.ensures.answer ∙ c.if-not-delivers.false in
-    let all : ℕ → List OutcomeParts → List Bool = λ n os. each_below (length os) (λ d. is_touched (delivered_outcomes old n) os d || get_or always d true) in
-    let places : ℕ → List OutcomeParts → List Place = λ n os. c.args.update.now.redelivered ++ touched_in n (delivered_outcomes old n) os in
-    under_way_delivered turn looks old c.args.input.now r c.make_deliveries.new.tape always c.args.marks.now.items c.in_ok-next.next.items c.args.update.now record { executed = c.take_turns.new.executed; redelivered = c.make_deliveries.new.redelivered }
-    (sym c.if-not-is_open.ensures) delivers c.requires.before c.requires.always c.requires.under_way
-    (c.in_ok-next.ensures.tape ∙ ap after_delivery is)
-    (c.in_ok-next.ensures.marks ∙ ap (λ n. all n c.take_turns.new.tape.outcomes) steps ∙ ap (all (length r.past)) outcomes)
-    c.in_ok-delivers.ensures.executed
-    (c.in_ok-next.ensures.redelivered ∙ ap (λ n. places n c.take_turns.new.tape.outcomes) steps ∙ ap (places (length r.past)) outcomes)
-
-pub returns-then-not-delivers-clause-tape : goal.returns-then-not-delivers-clause-tape
-returns-then-not-delivers-clause-tape g c =
-    let turn = turn_of (g.P.Program.acts c.args.program.now) (g.P.Program.ending c.args.program.now) in
-    let r : Run = c.args.tape.now in
-    let is = c.in_ok-delivers.ensures.turned in
-    let delivers = ap (λ (x : Run). is_turned x.phase) (sym is) ∙ sym c.in_ok-delivers.ensures.answer ∙ c.if-not-delivers.true in
-    is ∙ sym (advance-ends turn r (open_phase r.phase (sym c.if-not-is_open.ensures)) delivers)
-
-pub returns-then-not-delivers-clause-under_way : goal.returns-then-not-delivers-clause-under_way
-returns-then-not-delivers-clause-under_way g c =
-    let turn = turn_of (g.P.Program.acts c.args.program.now) (g.P.Program.ending c.args.program.now) in
-    let looks = g.P.Program.looks c.args.program.now in
-    let old : Option Kept = option_map (λ k. k.now) c.args.old in
-    under_way_turned turn looks old c.args.input.now c.args.tape.now c.take_turns.new.tape c.args.marks.now.items c.args.update.now record { executed = c.take_turns.new.executed; redelivered = c.args.update.now.redelivered }
-    (sym c.if-not-is_open.ensures) c.requires.under_way c.in_ok-delivers.ensures.turned c.in_ok-delivers.ensures.executed (λ i. c.args.update.now.redelivered)
+    let started = sym c.if-not-is_open.ensures in
+    let now = c.views.ensures.views ∙ views_shown-open r started in
+    let stays = staying_whole turn j (option_map (λ k. k.now) c.args.old) old r c.step-step.result c.taken_before-old_views.result.now c.views.result.now c.in_ok-doubtful.doubtful.items c.as_slice-2.result.now c.requires.before c.in-Some.ensures c.requires.under_way.made started c.requires.some
+    c.step-step.ensures c.taken_before-old_views.ensures now c.as_slice-2.ensures.value c.in_ok-doubtful.ensures in
+    let made = c.in_ok-take_over.ensures.ok ∙ ap (λ (os : List OutcomeParts). after_delivery (after_turns r os)) (left turn stays.0.input_before j old r stays.1) in
+    subst (λ before. IsUnderWay turn (g.P.Program.looks c.args.program.now) before j c.take_over.new.self c.args.marks.now.items c.args.update.now) (sym c.in-Some.ensures.2)
+    (under_way_taken turn (g.P.Program.looks c.args.program.now) j old r c.take_over.new.self c.args.marks.now.items c.args.update.now stays.0 stays.1 (subst (λ before. IsUnderWay turn (g.P.Program.looks c.args.program.now) before j r c.args.marks.now.items c.args.update.now) c.in-Some.ensures.2 c.requires.under_way) made)

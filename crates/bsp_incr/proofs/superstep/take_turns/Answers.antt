@@ -6,7 +6,7 @@ use Rattle.bsp_run.specs.Condition.{AreOutcomesOf}
 use Rattle.bsp_run.proofs.Runs.{views_shown-open, open_phase}
 use Rattle.bsp_run.proofs.Turns.{AreOutcomesOf-turns}
 use Rattle.bsp_incr.specs.Before.{taken_before}
-use Rattle.bsp_incr.specs.Marks.{ViewsDifferAtMost}
+use Rattle.bsp_incr.specs.Marks.{ViewsDifferAtMost, HaveOneTable}
 use Rattle.bsp_incr.proofs.superstep.take_turns.Goals as goal
 
 pub turns_again-requires-clause-count : goal.turns_again-requires-clause-count
@@ -32,3 +32,10 @@ turned-requires-clause-turns g c =
     let r : Run = c.args.tape.now in
     subst (λ (vs : List ViewParts). AreOutcomesOf vs c.in_ok-outcomes.outcomes.items) (c.views.ensures.views ∙ views_shown-open r c.requires.open)
     (subst (AreOutcomesOf c.views.result.now) (sym c.in_ok-outcomes.ensures.turns) (AreOutcomesOf-turns acts ending c.views.result.now (c.views.ensures.limits (open_phase r.phase c.requires.open))))
+
+pub turns_again-requires-clause-old_table : goal.turns_again-requires-clause-old_table
+turns_again-requires-clause-old_table g c κs within =
+    subst HaveOneTable (sym (c.taken_before-old_views.ensures ∙ ap (taken_before (option_map (λ k. k.now) c.args.old)) c.step-step.ensures)) c.requires.old_table
+
+pub turns_again-requires-clause-table : goal.turns_again-requires-clause-table
+turns_again-requires-clause-table g c κs within = subst HaveOneTable (sym (c.views.ensures.views ∙ views_shown-open c.args.tape.now c.requires.open)) c.requires.table

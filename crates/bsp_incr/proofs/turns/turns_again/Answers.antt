@@ -13,8 +13,8 @@ use Rattle.bsp_incr.proofs.Patching.{length-replaced}
 use Rattle.bsp_incr.proofs.Retaking.{needed_among, turns_in_place, turns_of_none, differ_below, not_true}
 use Rattle.bsp_incr.proofs.turns.turns_again.Goals as goal
 
-pub needed_turns-requires-after_bounds : goal.needed_turns-requires-after_bounds
-needed_turns-requires-after_bounds g c κs within = differ_below c.args.old_views.now c.args.views.now c.args.doubtful.now c.requires.doubtful
+pub needed_turns-requires-clause-known : goal.needed_turns-requires-clause-known
+needed_turns-requires-clause-known g c κs within = differ_below c.args.old_views.now c.args.views.now c.args.doubtful.now c.requires.doubtful
 
 pub wide_turns-requires-clause-processes : goal.wide_turns-requires-clause-processes
 wide_turns-requires-clause-processes g c κs within =

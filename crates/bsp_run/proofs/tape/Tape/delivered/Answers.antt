@@ -1,12 +1,11 @@
-use Rattle.std.proofs.Common.{◌≡◌, ◌+◌, ◌∙◌, List, ℕ, ap, sym, subst, length, map, arith}
+use Rattle.std.proofs.Common.{◌≡◌, ◌+◌, ◌∙◌, List, ℕ, ap, sym, subst, length, arith}
 use Rattle.bsp_model.specs.declared.request.Message.{Message}
 use Rattle.bsp_table.specs.declared.area.Area.{Area}
-use Rattle.bsp_step.specs.OutcomeParts.{OutcomeParts}
 use Rattle.bsp_run.specs.State.{State, next_state, views_of}
 use Rattle.bsp_run.specs.Opening.{CanOpen, state_of}
 use Rattle.bsp_run.specs.Run.{Run}
 use Rattle.bsp_run.specs.TapeInside.{run_of}
-use Rattle.bsp_run.specs.Condition.{IsNextTable, deliveries_of}
+use Rattle.bsp_run.specs.Condition.{deliveries_of}
 use Rattle.bsp_run.proofs.Phases.{cells_are, next_is_run, next_table-is, next_tag-is, can_open_next}
 use Rattle.bsp_run.proofs.tape.Tape.delivered.Goals as goal
 
@@ -20,10 +19,8 @@ pub open_views-requires : goal.open_views-requires
 open_views-requires c =
     let r : Run = run_of c.self.inside in
     let phase = ap (λ (x : Run). x.phase) c.self.view_is ∙ c.requires.turned in
-    let table = next_table-is r c.in_ok-table.table (c.in_ok-table.ensures.next ∙ sym (ap (λ (x : Run). (next_state x.state x.outcomes).table) c.self.view_is)) in
-    let known = subst (λ (x : Run). IsNextTable (length x.outcomes) (map (λ (o : OutcomeParts). length o.memory) x.outcomes) c.in_ok-table.table) (sym c.self.view_is) c.in_ok-table.ensures.limits in
     subst (λ (xs : List (List ℕ)). CanOpen xs (state_of c.args.cells.items c.in_ok-table.table c.next_tag_size-tag_size.result)) (sym c.as_slice.ensures)
-    (subst (CanOpen r.args) (sym (state_is r c.args.self.now c.args.cells.items c.in_ok-table.table c.next_tag_size-tag_size.result c.self.view_is c.requires.cells c.in_ok-table.ensures.next c.next_tag_size-tag_size.ensures)) (can_open_next r (next_is_run r c.in_ok-table.table c.self.invariant.run phase table known)))
+    (subst (CanOpen r.args) (sym (state_is r c.args.self.now c.args.cells.items c.in_ok-table.table c.next_tag_size-tag_size.result c.self.view_is c.requires.cells c.in_ok-table.ensures c.next_tag_size-tag_size.ensures)) (can_open_next r (next_is_run r c.self.invariant.run phase)))
 
 pub delivered_as-requires-clause-views : goal.delivered_as-requires-clause-views
 delivered_as-requires-clause-views c =
@@ -31,6 +28,6 @@ delivered_as-requires-clause-views c =
     let steps : c.len.result + 1 ≡ length r.past + 1 = omega (arith, c.len.ensures, c.self.inside.past.ok.0) in
     c.in_ok-views.ensures
     ∙ ap (λ (xs : List (List ℕ)). views_of xs (c.len.result + 1) (state_of c.args.cells.items c.in_ok-table.table c.next_tag_size-tag_size.result)) c.as_slice.ensures
-    ∙ ap (λ (s : State). views_of r.args (c.len.result + 1) s) (state_is r c.args.self.now c.args.cells.items c.in_ok-table.table c.next_tag_size-tag_size.result c.self.view_is c.requires.cells c.in_ok-table.ensures.next c.next_tag_size-tag_size.ensures)
+    ∙ ap (λ (s : State). views_of r.args (c.len.result + 1) s) (state_is r c.args.self.now c.args.cells.items c.in_ok-table.table c.next_tag_size-tag_size.result c.self.view_is c.requires.cells c.in_ok-table.ensures c.next_tag_size-tag_size.ensures)
     ∙ ap (λ n. views_of r.args n (next_state r.state r.outcomes)) steps
     ∙ ap (λ (x : Run). views_of x.args (length x.past + 1) (next_state x.state x.outcomes)) c.self.view_is

@@ -1,20 +1,23 @@
-use Rattle.std.proofs.Common.{◌≡◌, ◌+◌, ◌∙◌, refl, ap, sym, subst, length, map, arith}
-use Rattle.bsp_step.specs.OutcomeParts.{OutcomeParts}
+use Rattle.std.proofs.Common.{◌≡◌, ◌+◌, ◌∙◌, All, refl, ap, sym, subst, length, arith}
+use Rattle.std.proofs.lemmas.List.Elements.{All-push}
 use Rattle.bsp_deliver.specs.SyncFault.{next_tag_size}
 use Rattle.bsp_run.specs.State.{State, views_of, next_state}
 use Rattle.bsp_run.specs.Opening.{state_of}
 use Rattle.bsp_run.specs.Run.{Run, after_delivery}
-use Rattle.bsp_run.specs.TapeInside.{run_of}
-use Rattle.bsp_run.specs.Condition.{IsRun, IsNextTable, deliveries_of}
-use Rattle.bsp_run.proofs.Phases.{cells_are, next_is_run, next_table-is, delivered_is, delivered_views}
+use Rattle.bsp_run.specs.TapeInside.{run_of, IsSmall}
+use Rattle.bsp_run.specs.Result.{cost_of_delivery}
+use Rattle.bsp_run.proofs.KeptCosts.{costs_kept}
+use Rattle.bsp_run.specs.Condition.{IsRun, deliveries_of}
+use Rattle.bsp_deliver.specs.Condition.{AreDeliverable}
+use Rattle.bsp_run.proofs.Conditions.{AreDeliverable-from_turns}
+use Rattle.bsp_run.proofs.Phases.{cells_are, is_turned_run, next_is_run, next_table-is, delivered_is, delivered_views}
 use Rattle.bsp_run.proofs.tape.Tape.delivered_as.Goals as goal
 
 next_run : (c : goal.Joined-self-phase_at) → IsRun (after_delivery (run_of c.self.inside))
 next_run c =
     let r : Run = run_of c.self.inside in
     let phase = ap (λ (x : Run). x.phase) c.self.view_is ∙ c.requires.turned in
-    let known = subst (λ (x : Run). IsNextTable (length x.outcomes) (map (λ (o : OutcomeParts). length o.memory) x.outcomes) c.args.table) (sym c.self.view_is) c.requires.limits in
-    next_is_run r c.args.table c.self.invariant.run phase (next_table-is r c.args.table (c.requires.table ∙ sym (ap (λ (x : Run). (next_state x.state x.outcomes).table) c.self.view_is))) known
+    next_is_run r c.self.invariant.run phase
 
 next_state_is : (c : goal.Joined-self-phase_at) → state_of (deliveries_of (run_of c.self.inside).outcomes) c.args.table c.next_tag_size-tag_size.result ≡ next_state (run_of c.self.inside).state (run_of c.self.inside).outcomes
 next_state_is c =
@@ -48,7 +51,16 @@ invariant_of-self-2 c =
     record {
       views = delivered_views r c.keep_superstep.new.past.items c.self.inside.views c.keep_superstep.new.views c.args.table c.next_tag_size-tag_size.result (deliveries_of r.outcomes) (c.len.result + 1) (next_run c) c.in_ok-keep_superstep.ensures.past (next_state_is c) (next_views c) (steps_are c);
       run = subst IsRun (sym (is_after c)) (next_run c);
+      costs = costs_kept r.g r.l r.past c.keep_superstep.new.past.items c.self.inside.views r.outcomes c.self.inside.costs.items c.keep_superstep.new.costs.items c.cost_of_delivery-row.result c.self.invariant.costs c.in_ok-keep_superstep.ensures.past c.in_ok-keep_superstep.ensures.costs
+          (c.cost_of_delivery-row.ensures.value ∙ ap (cost_of_delivery r.g r.l) c.as_slice-2.ensures);
+      small = subst (All IsSmall) (sym c.in_ok-keep_superstep.ensures.costs) (All-push IsSmall c.self.inside.costs.items c.cost_of_delivery-row.result c.self.invariant.small c.cost_of_delivery-row.ensures.small);
     }
 
 pub returns-clause-ok : goal.returns-clause-ok
 returns-clause-ok c = is_after c ∙ ap after_delivery c.self.view_is
+
+pub cost_of_delivery-row-requires-clause-deliverable : goal.cost_of_delivery-row-requires-clause-deliverable
+cost_of_delivery-row-requires-clause-deliverable c =
+    let r : Run = run_of c.self.inside in
+    let turned = is_turned_run r c.self.invariant.run (ap (λ (x : Run). x.phase) c.self.view_is ∙ c.requires.turned) in
+    subst AreDeliverable (sym c.as_slice-2.ensures) (AreDeliverable-from_turns r.args (length r.past) r.state r.outcomes c.self.invariant.run.state turned.turns)

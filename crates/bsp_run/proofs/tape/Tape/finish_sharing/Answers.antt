@@ -8,7 +8,7 @@ use Rattle.bsp_deliver.specs.Requests.{each_below}
 use Rattle.bsp_run.specs.declared.superstep.Superstep.{Superstep}
 use Rattle.bsp_run.specs.Run.{Run, is_limit}
 use Rattle.bsp_run.specs.TapeInside.{run_of}
-use Rattle.bsp_run.specs.Result.{lines_of, lines_of_process, costs_of, cost_of_delivery, cost_of_end, total_of, turns_in, last_turn}
+use Rattle.bsp_run.specs.Result.{lines_of, lines_of_process, delivered_turns, costs_of, cost_of_delivery, cost_of_end, total_of, turns_in, last_turn}
 use Rattle.bsp_run.proofs.tape.Tape.finish_sharing.Goals as goal
 
 last_is : (c : goal.After-total_of-total) → option_map (λ o. o.now) c.last_turn-last.result ≡ last_turn (run_of c.self.inside)
@@ -28,15 +28,15 @@ costs_are : (c : goal.After-total_of-total) → c.in_ok-costs.costs ≡ costs_of
 unfolding costs_of
 costs_are c =
     let r : Run = run_of c.self.inside in
-    let rows : List Superstep → Option (List OutcomeParts) → List CostRow = λ past last. map (cost_of_delivery r.g r.l) (map (λ (s : Superstep). s.outcomes) past) ++ map cost_of_end (turns_in last) in
+    let ends : Option (List OutcomeParts) → List CostRow = λ last. map cost_of_end (turns_in last) in
     c.in_ok-costs.ensures.rows
-    ∙ ap (λ (past : List Superstep). rows past (option_map (λ o. o.now) c.last_turn-last.result)) c.as_slice-past.ensures.value
-    ∙ ap (rows r.past) (last_is c)
+    ∙ ap (λ (rows : List CostRow). rows ++ ends (option_map (λ o. o.now) c.last_turn-last.result)) (c.as_slice-2.ensures.value ∙ c.self.invariant.costs)
+    ∙ ap (λ (last : Option (List OutcomeParts)). map (cost_of_delivery r.g r.l) (delivered_turns r) ++ ends last) (last_is c)
 
 pub invariant_of-result : goal.invariant_of-result
 invariant_of-result c = record {
   ended = c.requires;
   lines = lines_are c ∙ ap lines_of c.self.view_is;
   costs = costs_are c ∙ ap costs_of c.self.view_is;
-  total = c.total_of-total.ensures ∙ ap total_of c.as_slice-2.ensures ∙ ap total_of (costs_are c ∙ ap costs_of c.self.view_is);
+  total = c.total_of-total.ensures ∙ ap total_of c.as_slice-3.ensures ∙ ap total_of (costs_are c ∙ ap costs_of c.self.view_is);
 }

@@ -1,13 +1,11 @@
-use Rattle.std.proofs.Common.{◌≡◌, ◌+◌, ◌∙◌, List, ℕ, ap, sym, subst, length, map, arith, get_or}
+use Rattle.std.proofs.Common.{◌≡◌, ◌+◌, ◌∙◌, List, ℕ, ap, sym, length, arith, get_or}
 use Rattle.std.proofs.lemmas.List.{length-map}
 use Rattle.bsp_step.specs.ViewParts.{ViewParts}
-use Rattle.bsp_step.specs.OutcomeParts.{OutcomeParts}
 use Rattle.bsp_run.specs.State.{next_state, view_of}
 use Rattle.bsp_run.specs.Run.{Run}
 use Rattle.bsp_run.specs.TapeInside.{run_of}
-use Rattle.bsp_run.specs.Condition.{IsNextTable}
 use Rattle.bsp_deliver.specs.SyncFault.{next_tag_size}
-use Rattle.bsp_run.proofs.Phases.{next_is_run, next_table-is}
+use Rattle.bsp_run.proofs.Phases.{next_is_run}
 use Rattle.bsp_run.proofs.NextViews.{parts_of, next_view-is, next_view-within}
 use Rattle.bsp_run.proofs.tape.Tape.next_view.Goals as goal
 
@@ -18,8 +16,7 @@ view_at-requires c =
     let steps : c.len.result + 1 ≡ length r.past + 1 = omega (arith, c.len.ensures, c.self.inside.past.ok.0) in
     let parts = parts_of r c.args.self.now c.args.pid c.len-nprocs.result (c.len.result + 1) c.index-as_slice-pid.result c.args.memory c.args.table.now c.next_tag_size-tag_size.result c.args.queue c.self.view_is c.requires.known (c.len-nprocs.ensures ∙ sym (length-map c.self.inside.views (λ (v : ViewParts). v.memory))) steps
     (c.index-as_slice-pid.is ∙ ap (λ (xs : List (List ℕ)). get_or xs c.args.pid c.index-as_slice-pid.result) c.as_slice-2.ensures) c.requires.memory c.requires.table (c.next_tag_size-tag_size.ensures.choice ∙ ap (next_tag_size r.state.tag_size) c.as_slice.ensures) c.requires.queue in
-    let known = subst (λ (x : Run). IsNextTable (length x.outcomes) (map (λ (o : OutcomeParts). length o.memory) x.outcomes) c.args.table.now) (sym c.self.view_is) c.requires.limits in
-    let run = next_is_run r c.args.table.now c.self.invariant.run phase (next_table-is r c.args.table.now parts.slots) known in
+    let run = next_is_run r c.self.invariant.run phase in
     next_view-within r c.args.pid c.len-nprocs.result (c.len.result + 1) c.index-as_slice-pid.result c.args.memory c.args.table.now c.next_tag_size-tag_size.result c.args.queue c.self.invariant.run phase run parts
 
 pub returns : goal.returns

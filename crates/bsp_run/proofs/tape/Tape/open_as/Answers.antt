@@ -1,6 +1,10 @@
-use Rattle.std.proofs.Common.{◌∙◌, ap, sym, subst, map}
+use Rattle.std.proofs.Common.{◌∙◌, List, All, ap, sym, subst, map}
+use Rattle.std.proofs.lemmas.List.Elements.{All-nil}
 use Rattle.bsp_model.proofs.Inputs.{lawful_input}
 use Rattle.bsp_step.specs.ViewParts.{ViewParts}
+use Rattle.bsp_run.specs.declared.superstep.Superstep.{Superstep}
+use Rattle.bsp_run.specs.TapeInside.{IsSmall}
+use Rattle.bsp_run.specs.Result.{cost_of_delivery}
 use Rattle.bsp_run.specs.Run.{open_views}
 use Rattle.bsp_run.specs.Condition.{IsRun}
 use Rattle.bsp_run.proofs.Opens.{opened_as, start_is_run}
@@ -11,10 +15,12 @@ invariant_of-result c =
     let input = c.args.input.now in
     let h = lawful_input input c.in_ok-checked.ensures.ok in
     let own = c.in_ok-args.ensures ∙ ap (map (λ (v : ViewParts). v.args)) c.as_slice.ensures in
-    let is = opened_as input c.in_ok-args.args c.new-2.result.items c.new-3.result c.in_ok-table.table c.args.views h own c.new-2.ensures.items c.new-3.ensures c.in_ok-table.ensures c.requires in
+    let is = opened_as input c.in_ok-args.args c.new-2.result.items c.new-4.result c.in_ok-table.table c.args.views h own c.new-2.ensures.items c.new-4.ensures c.in_ok-table.ensures c.requires in
     record {
       views = c.requires ∙ ap open_views (sym is);
       run = subst IsRun (sym is) (start_is_run input h);
+      costs = c.new-3.ensures.items ∙ sym (ap (λ (past : List Superstep). map (cost_of_delivery input.g input.l) (map (λ (s : Superstep). s.outcomes) past)) c.new-2.ensures.items);
+      small = subst (All IsSmall) (sym c.new-3.ensures.items) (All-nil IsSmall);
     }
 
 pub returns-clause-ok : goal.returns-clause-ok
@@ -22,5 +28,5 @@ returns-clause-ok c =
     let input = c.args.input.now in
     let h = lawful_input input c.in_ok-checked.ensures.ok in
     let own = c.in_ok-args.ensures ∙ ap (map (λ (v : ViewParts). v.args)) c.as_slice.ensures in
-    let is = opened_as input c.in_ok-args.args c.new-2.result.items c.new-3.result c.in_ok-table.table c.args.views h own c.new-2.ensures.items c.new-3.ensures c.in_ok-table.ensures c.requires in
+    let is = opened_as input c.in_ok-args.args c.new-2.result.items c.new-4.result c.in_ok-table.table c.args.views h own c.new-2.ensures.items c.new-4.ensures c.in_ok-table.ensures c.requires in
     (c.in_ok-checked.ensures.ok, is)

@@ -31,6 +31,8 @@ invariant_of-self c =
     let turns : AreOutcomesOf (open_views r) c.args.outcomes.items = subst (λ (x : Run). AreOutcomesOf (open_views x) c.args.outcomes.items) (sym c.self.view_is) c.requires.turns in
     record {
       views = c.self.invariant.views;
+      costs = c.self.invariant.costs;
+      small = c.self.invariant.small;
       run = subst IsRun (sym (is_after c)) (turned_is_run r c.args.outcomes.items c.self.invariant.run (ap (λ (x : Run). x.phase) c.self.view_is ∙ c.requires.open) turns);
     }
 

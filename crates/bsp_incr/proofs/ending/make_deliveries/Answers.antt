@@ -4,16 +4,15 @@ use Rattle.std.proofs.lemmas.List.FromFn.{length-map-range_with_len}
 use Rattle.bsp_step.specs.OutcomeParts.{OutcomeParts}
 use Rattle.bsp_run.specs.Run.{Run}
 use Rattle.bsp_run.proofs.Runs.{outcomes_shown-turned}
-use Rattle.bsp_incr.specs.declared.kept.Kept.{Kept}
 use Rattle.bsp_incr.specs.Changes.{is_touched, processes_where, places_of}
 use Rattle.bsp_incr.specs.Before.{delivered_outcomes}
 use Rattle.bsp_incr.proofs.Gathering.{processes_where-each_below, listed_below, answers_with}
 use Rattle.bsp_incr.proofs.Carrying.{touched_of}
-use Rattle.bsp_incr.proofs.superstep.make_deliveries.Goals as goal
+use Rattle.bsp_incr.proofs.ending.make_deliveries.Goals as goal
 
 pub wide_deliveries-requires-clause-processes : goal.wide_deliveries-requires-clause-processes
 wide_deliveries-requires-clause-processes g c κs within =
-    let old : Option Kept = option_map (λ k. k.now) c.args.old in
+    let old : Option Run = option_map (λ k. k.now) c.args.old in
     let r : Run = c.args.tape.now in
     let before = c.delivered_outcomes.ensures.outcomes ∙ ap (delivered_outcomes old) c.step-step.ensures in
     let now = c.outcomes.ensures.outcomes ∙ outcomes_shown-turned r c.requires.turned in
@@ -25,7 +24,7 @@ wide_deliveries-requires-clause-processes g c κs within =
 
 pub open_next-requires-clause-touched : goal.open_next-requires-clause-touched
 open_next-requires-clause-touched g c =
-    let old : Option Kept = option_map (λ k. k.now) c.args.old in
+    let old : Option Run = option_map (λ k. k.now) c.args.old in
     let r : Run = c.args.tape.now in
     let before = c.delivered_outcomes.ensures.outcomes ∙ ap (delivered_outcomes old) c.step-step.ensures in
     let now = c.outcomes.ensures.outcomes ∙ outcomes_shown-turned r c.requires.turned in
@@ -35,7 +34,7 @@ open_next-requires-clause-touched g c =
 
 pub next_marks-requires : goal.next_marks-requires
 next_marks-requires g c =
-    let old : Option Kept = option_map (λ k. k.now) c.args.old in
+    let old : Option Run = option_map (λ k. k.now) c.args.old in
     let r : Run = c.args.tape.now in
     let before = c.delivered_outcomes.ensures.outcomes ∙ ap (delivered_outcomes old) c.step-step.ensures in
     let now = c.outcomes.ensures.outcomes ∙ outcomes_shown-turned r c.requires.turned in
@@ -45,7 +44,7 @@ next_marks-requires g c =
 
 pub returns-clause-marks : goal.returns-clause-marks
 returns-clause-marks g c =
-    let old : Option Kept = option_map (λ k. k.now) c.args.old in
+    let old : Option Run = option_map (λ k. k.now) c.args.old in
     let r : Run = c.args.tape.now in
     let before = c.delivered_outcomes.ensures.outcomes ∙ ap (delivered_outcomes old) c.step-step.ensures in
     let now = c.outcomes.ensures.outcomes ∙ outcomes_shown-turned r c.requires.turned in
@@ -55,7 +54,7 @@ returns-clause-marks g c =
 
 pub returns-clause-redelivered : goal.returns-clause-redelivered
 returns-clause-redelivered g c =
-    let old : Option Kept = option_map (λ k. k.now) c.args.old in
+    let old : Option Run = option_map (λ k. k.now) c.args.old in
     let r : Run = c.args.tape.now in
     let before = c.delivered_outcomes.ensures.outcomes ∙ ap (delivered_outcomes old) c.step-step.ensures in
     let now = c.outcomes.ensures.outcomes ∙ outcomes_shown-turned r c.requires.turned in

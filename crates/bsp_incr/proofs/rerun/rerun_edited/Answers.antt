@@ -1,0 +1,18 @@
+use Rattle.std.proofs.Common.{◌≡◌, ◌∙◌, ap, sym, subst, length, None}
+use Rattle.bsp_model.specs.declared.input.Input.{Input}
+use Rattle.bsp_model.specs.Input.{input_fault}
+use Rattle.bsp_incr.proofs.Lawful.{edited_lawful, edited_count}
+use Rattle.bsp_incr.proofs.rerun.rerun_edited.Goals as goal
+
+pub rerun_after-requires-clause-lawful : goal.rerun_after-requires-clause-lawful
+rerun_after-requires-clause-lawful g c κs within =
+    subst (λ (i : Input). input_fault i ≡ None) (sym c.in_ok-formers.ensures.made) (edited_lawful c.args.input.now c.args.edits.now c.requires.accepted c.requires.lawful)
+
+pub rerun_after-requires-clause-before : goal.rerun_after-requires-clause-before
+rerun_after-requires-clause-before g c κs within =
+    record {
+      input_before = c.args.input.now;
+      lawful = c.requires.lawful;
+      is = c.requires.before;
+      count = sym (edited_count c.args.input.now c.args.edits.now) ∙ ap (λ (i : Input). length i.mems) (sym c.in_ok-formers.ensures.made);
+    }

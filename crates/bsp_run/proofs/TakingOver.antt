@@ -1,0 +1,107 @@
+-- A superstep that is taken over from another run.
+use Rattle.std.proofs.Common.{◌≡◌, ◌<◌, ◌+◌, ◌*◌, ◌∙◌, ℕ, List, [], ◌∷◌, ◌++◌, None, length, map, cond, ◌==◌, arith, get_or, refl, sym, ap, subst}
+use Rattle.std.proofs.lemmas.List.{get_or_default, get_or-map, length-map}
+use Rattle.std.proofs.lemmas.List.FromFn.{get_or-map-range_with_len}
+use Rattle.bsp_model.specs.declared.cost.CostRow.{CostRow}
+use Rattle.bsp_table.specs.declared.area.Area.{Area}
+use Rattle.bsp_step.specs.ViewParts.{ViewParts}
+use Rattle.bsp_step.specs.OutcomeParts.{OutcomeParts}
+use Rattle.bsp_run.specs.declared.superstep.Superstep.{Superstep}
+use Rattle.bsp_run.specs.declared.phase.Phase.{Phase}
+use Rattle.bsp_run.specs.declared.phase.Phase.TheVariants.{Open, Turned, Ended}
+use Rattle.bsp_run.specs.declared.result.Status.TheVariants.{Limit}
+use Rattle.bsp_run.specs.State.{State, next_state, view_of, views_of}
+use Rattle.bsp_run.specs.Result.{cost_of_delivery}
+use Rattle.bsp_run.specs.Shown.{no_superstep}
+use Rattle.bsp_run.specs.Supersteps.{superstep_at}
+use Rattle.bsp_run.specs.Opening.{state_of}
+use Rattle.bsp_run.specs.Ending.{end_of}
+use Rattle.bsp_run.specs.Run.{Run, open_views, after_turns, after_delivery, phase_after}
+use Rattle.bsp_run.specs.Condition.{IsRun, IsInPhase, IsOpen, AreOutcomesOf, deliveries_of}
+use Rattle.bsp_run.proofs.Opens.{state_seen}
+use Rattle.bsp_run.proofs.Conditions.{length-views_of}
+use Rattle.bsp_run.proofs.Phases.{count-next_state, turned_is_run, next_is_run, next_table-is, next_tag-is, cells_are, delivered_is, delivered_views}
+
+-- What is put in the fields of a tape: the superstep, the views after it with their table and tag size, and what comes next.
+pub record AreTaken (r : Run) (os : List OutcomeParts) (all : List Superstep) (views : List ViewParts) (table : List (List Area)) (tag step : ℕ) (comes : Phase) : Type 0 where
+  pub before : r.phase ≡ Open
+  pub turns : AreOutcomesOf (open_views r) os
+  pub delivers : end_of (length r.past) r.state.table os ≡ None
+  pub past : all ≡ r.past ++ record { views = open_views r; outcomes = os } ∷ []
+  pub next : views ≡ views_of r.args step (next_state r.state os)
+  pub slots : table ≡ (next_state r.state os).table
+  pub size : tag ≡ (next_state r.state os).tag_size
+  pub steps : step ≡ length r.past + 1
+  pub phase : comes ≡ cond (step == r.limit) (Ended Limit) Open
+
+turned : (r : Run) (os : List OutcomeParts) → end_of (length r.past) r.state.table os ≡ None → (after_turns r os).phase ≡ Turned
+unfolding after_turns
+turned r os e = ap phase_after e
+
+parts-turned : (r : Run) (os : List OutcomeParts) → after_turns r os ≡ record r { outcomes = os; phase = phase_after (end_of (length r.past) r.state.table os) }
+unfolding after_turns
+parts-turned r os = refl
+
+-- the run after the superstep keeps what a run keeps
+pub taken_is_run : (r : Run) (os : List OutcomeParts) → IsRun r → r.phase ≡ Open → AreOutcomesOf (open_views r) os → end_of (length r.past) r.state.table os ≡ None → IsRun (after_delivery (after_turns r os))
+taken_is_run r os h before turns delivers = next_is_run (after_turns r os) (turned_is_run r os h before turns) (turned r os delivers)
+
+state_taken : (r : Run) (os : List OutcomeParts) (table : List (List Area)) (tag : ℕ) → table ≡ (next_state r.state os).table → tag ≡ (next_state r.state os).tag_size → state_of (deliveries_of os) table tag ≡ next_state r.state os
+state_taken r os table tag slots size =
+    let t : Run = record r { outcomes = os } in
+    cells_are t (deliveries_of os) table tag refl (next_table-is t table slots) (next_tag-is t tag size)
+
+-- the fields make the run after the superstep
+pub taken_over : (r : Run) (os : List OutcomeParts) (past : List Superstep) (next : List ViewParts) (table : List (List Area)) (tag steps : ℕ) (phase : Phase) → IsRun r → AreTaken r os past next table tag steps phase
+    → record { args = r.args; limit = r.limit; g = r.g; l = r.l; past = past; state = state_seen next table tag; outcomes = []; phase = phase } ≡ after_delivery (after_turns r os)
+unfolding after_turns
+taken_over r os past next table tag steps phase h taken =
+    let t : Run = after_turns r os in
+    let state = state_taken r os table tag taken.slots taken.size in
+    delivered_is t past (open_views r) next [] table tag (deliveries_of os) steps phase (taken_is_run r os h taken.before taken.turns taken.delivers) refl taken.past refl state
+    (taken.next ∙ ap (views_of r.args steps) (sym state)) taken.steps taken.phase
+
+-- the views that are kept then are those of its state
+pub taken_views : (r : Run) (os : List OutcomeParts) (past : List Superstep) (next : List ViewParts) (table : List (List Area)) (tag steps : ℕ) (phase : Phase) → IsRun r → AreTaken r os past next table tag steps phase
+    → next ≡ views_of r.args (length past) (state_seen next table tag)
+unfolding after_turns
+taken_views r os past next table tag steps phase h taken =
+    let t : Run = after_turns r os in
+    let state = state_taken r os table tag taken.slots taken.size in
+    delivered_views t past (open_views r) next table tag (deliveries_of os) steps (taken_is_run r os h taken.before taken.turns taken.delivers) taken.past state
+    (taken.next ∙ ap (views_of r.args steps) (sym state)) taken.steps
+
+-- there is a first process
+pub first_taken : (r : Run) (os : List OutcomeParts) (step : ℕ) → IsRun r → AreOutcomesOf (open_views r) os → 0 < length (views_of r.args step (next_state r.state os))
+first_taken r os step h turns =
+    omega (arith, length-views_of r.args step (next_state r.state os), count-next_state r.args (length r.past) r.state os turns, h.state.some)
+
+-- it sees the next table and the next tag size
+pub first_view : (args : List (List ℕ)) (step : ℕ) (s : State) (v : ViewParts) → 0 < length (views_of args step s) → v ≡ get_or (views_of args step s) 0 v → (v.table ≡ s.table) × (v.tag_size ≡ s.tag_size)
+unfolding views_of
+first_view args step s v some is =
+    let same : v ≡ view_of args step s 0 = is ∙ get_or-map-range_with_len (view_of args step s) 0 (length s.memories) 0 0 v (omega (arith, some, length-views_of args step s)) refl in
+    (ap (λ (w : ViewParts). w.table) same, ap (λ (w : ViewParts). w.tag_size) same)
+
+-- an open superstep has no outcomes yet
+pub no_outcomes : (r : Run) → IsRun r → r.phase ≡ Open → r.outcomes ≡ []
+no_outcomes r h e = let here : IsOpen r = subst (λ p. IsInPhase p r) e h.phase in here.outcomes
+
+-- the superstep of the other run
+pub superstep_is : (past other : List Superstep) (s n : ℕ) (x : Superstep) → past ≡ other → s ≡ n → n < length other → x ≡ get_or past s x → x ≡ superstep_at other n
+superstep_is past other s n x e m l is = is ∙ ap (λ (xs : List Superstep). get_or xs s x) e ∙ ap (λ k. get_or other k x) m ∙ get_or_default other n x no_superstep l
+
+-- its cost at other prices
+pub row_is : (past : List Superstep) (rows : List CostRow) (g l h m s : ℕ) (row : CostRow) → rows ≡ map (cost_of_delivery h m) (map (λ (x : Superstep). x.outcomes) past) → s < length past → row ≡ get_or rows s row
+    → record { work = row.work; h = row.h; cost = row.work + row.h * g + l } ≡ cost_of_delivery g l (superstep_at past s).outcomes
+row_is past rows g l h m s row is small at =
+    let of : Superstep → List OutcomeParts = λ x. x.outcomes in
+    let price = cost_of_delivery h m in
+    let same : row ≡ price (superstep_at past s).outcomes =
+    at ∙ ap (λ (xs : List CostRow). get_or xs s row) is ∙ get_or-map price (map of past) s [] row (omega (arith, small, length-map past of)) ∙ ap price (get_or-map of past s no_superstep [] small) in
+    ap (λ (x : CostRow). record { work = x.work; h = x.h; cost = x.work + x.h * g + l }) same
+
+pub row_for_each : (past : List Superstep) (rows : List CostRow) (g l : ℕ) → rows ≡ map (cost_of_delivery g l) (map (λ (x : Superstep). x.outcomes) past) → length rows ≡ length past
+row_for_each past rows g l is =
+    let of : Superstep → List OutcomeParts = λ x. x.outcomes in
+    ap (λ (xs : List CostRow). length xs) is ∙ length-map (map of past) (cost_of_delivery g l) ∙ length-map past of

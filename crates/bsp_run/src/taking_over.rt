@@ -1,0 +1,54 @@
+//! A superstep of another run, taken over whole.
+
+ghost use Rattle.std.specs.Prelude.{◌≡◌, ◌≤◌, IfOk, OnOk, OnErr, length};
+ghost use Rattle.bsp_run.specs.Run.{after_turns, after_delivery};
+ghost use Rattle.bsp_run.specs.Supersteps.{views_at};
+ghost use Rattle.bsp_run.specs.TakingOver.{CanTakeOver, outcomes_there};
+
+use crate::costs::cost_at;
+use crate::keeping::{keep_superstep, phase_at};
+use crate::{History, Phase, Tape, Views};
+use bsp_model::{OutOfMemory, TryCopy};
+use bsp_step::View;
+
+/// The list of what the processes see in a superstep.
+fn views_in(history: &History, step: usize) -> Result<Views, OutOfMemory>
+    requires { step ≤ length history.now.past }
+    ensures { IfOk result (λ views. views ≡ views_at history.now step) }
+{
+    match history.all_views(step as u64) {
+        Some(views) => views.copy(),
+        None => unreachable!(),
+    }
+}
+
+impl Tape {
+    /// Takes over the open superstep of another run, which ended by delivery: its outcomes, what the processes see after it, and what it cost, at
+    /// the prices of this run. After `OutOfMemory` nothing has changed.
+    pub fn take_over(&mut self, other: &History) -> Result<(), OutOfMemory>
+        requires { CanTakeOver other.now self.old }
+        ensures ok { OnOk result (self.new ≡ after_delivery (after_turns self.old (outcomes_there other.now self.old))) }
+        ensures err { OnErr result (self.new ≡ self.old) }
+    {
+        let step = self.past.len();
+        let views = views_in(other, step + 1)?;
+        let first: &View = &views.as_slice()[0];
+        let table = first.table.copy()?;
+        let tag_size = first.tag_size;
+        let run = &other.run;
+        let mut outcomes = run.past[step].outcomes.copy()?;
+        let row = cost_at(self.g, self.l, &run.costs[step]);
+        keep_superstep(
+            &mut self.past,
+            &mut self.costs,
+            &mut self.views,
+            &mut outcomes,
+            views,
+            row,
+        )?;
+        self.table = table;
+        self.tag_size = tag_size;
+        self.phase = phase_at(step as u64 + 1, self.limit);
+        Ok(())
+    }
+}
