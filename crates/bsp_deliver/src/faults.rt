@@ -10,8 +10,8 @@ use bsp_model::{Shared, SyncFault};
 use bsp_step::{Ended, Outcome};
 use bsp_table::Table;
 
-/// Whether some process ended by sync.
-fn has_sync(outcomes: &[Shared<Outcome>]) -> bool
+/// Whether some process ended by sync. It takes no memory.
+pub fn has_sync(outcomes: &[Shared<Outcome>]) -> bool
     ensures { result ≡ list_any (λ o. is_sync o.ended) outcomes.now }
 {
     outcomes

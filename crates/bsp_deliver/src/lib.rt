@@ -13,7 +13,7 @@ mod touched;
 pub use addressed::inbox;
 pub use cost::h_of;
 pub use delivery::{deliver, deliver_inbox};
-pub use faults::{next_tag_size, sync_fault};
+pub use faults::{has_sync, next_tag_size, sync_fault};
 pub use inboxes::Inbox;
 pub use same::{answers_same, parcel_same};
 pub use touched::touched_by_changes;

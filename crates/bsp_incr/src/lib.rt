@@ -9,6 +9,7 @@ mod editing;
 mod ending;
 mod error;
 mod former;
+mod given;
 mod looking;
 mod marks;
 mod places;

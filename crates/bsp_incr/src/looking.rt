@@ -1,12 +1,33 @@
 //! Whether the recorded turn of a view serves for another view.
 
-ghost use Rattle.std.specs.Prelude.{◌≡◌, ℕ, ◌+◌, ◌≤◌, ◌<◌, ◌↔◌, IsTrue, true, length, slice_index};
+ghost use Rattle.std.specs.Prelude.{◌≡◌, ℕ, ◌+◌, ◌≤◌, ◌<◌, ◌↔◌, IsTrue, true, length, slice_index, slice_index_or};
 ghost use Rattle.bsp_step.specs.Footprint.{AreAlikeButForWords};
+ghost use Rattle.bsp_run.specs.Condition.{no_view};
 ghost use Rattle.bsp_incr.specs.Reuse.{same_where_looked_at, serves};
 
-use bsp_model::Same;
 use bsp_model::limits::MOST_MEMORY_WORDS;
+use bsp_model::{Same, Shared};
 use bsp_step::{Program, View};
+use bsp_table::Table;
+
+/// Whether a view has this table and this tag size.
+fn has_table(view: &View, table: &Table, tag_size: u64) -> bool
+    ensures { result ≡ true → (view.now.table ≡ table.now) × (view.now.tag_size ≡ tag_size) }
+{
+    view.table.same(table) && view.tag_size == tag_size
+}
+
+/// Whether the first of these views has this table and this tag size. False where there is no view.
+pub fn see(views: &[Shared<View>], table: &Table, tag_size: u64) -> bool
+    ensures some { result ≡ true → 0 < length views.now }
+    ensures table { result ≡ true → (slice_index_or views.now 0 no_view).table ≡ table.now }
+    ensures tag_size { result ≡ true → (slice_index_or views.now 0 no_view).tag_size ≡ tag_size }
+{
+    if views.is_empty() {
+        return false;
+    }
+    has_table(&views[0], table, tag_size)
+}
 
 /// Whether two views are equal but for the words of their memories. The tables need not be compared where they are known to be the same.
 fn is_alike_but_for_words(old: &View, new: &View, same_table: bool) -> bool

@@ -1,44 +1,26 @@
 //! Which processes have another memory or other arguments than in the run before.
 
-ghost use Rattle.std.specs.Prelude.{◌≡◌, [], IfOk, option_map, slice_index_or, true, false};
-ghost use Rattle.bsp_run.specs.Condition.{no_view};
+ghost use Rattle.std.specs.Prelude.{◌≡◌, IfOk, option_map, false};
 ghost use Rattle.bsp_incr.specs.Before.{HasSameArgs, HasSameMemory, AreArgsMarked, AreFirstMarked};
 
 use crate::before::first_views_before;
-use bsp_model::{Input, Memory, OutOfMemory, Same, Shared, Words};
+use bsp_model::{Input, OutOfMemory, Same};
 use bsp_run::History;
-use bsp_step::View;
 use std::alloc::Global;
-
-/// Whether a process saw these arguments. False where there is no such process.
-fn has_args(views: &[Shared<View>], args: &[Words], p: usize) -> bool
-    ensures { result ≡ true → (slice_index_or views.now p no_view).args ≡ slice_index_or args.now p [] }
-{
-    if p >= views.len() || p >= args.len() {
-        return false;
-    }
-    let view: &View = &views[p];
-    view.args.as_slice() == args[p].as_slice()
-}
-
-/// Whether a process saw this memory. False where there is no such process.
-fn has_memory(views: &[Shared<View>], mems: &[Memory], p: usize) -> bool
-    ensures { result ≡ true → (slice_index_or views.now p no_view).memory ≡ slice_index_or mems.now p [] }
-{
-    if p >= views.len() || p >= mems.len() {
-        return false;
-    }
-    let view: &View = &views[p];
-    view.memory.same(&mems[p])
-}
 
 /// Whether a process may have other arguments.
 fn has_other_args(old: Option<&History>, input: &Input, p: usize) -> bool
     ensures { result ≡ false → HasSameArgs (option_map (λ k. k.now) old.entry) input.now p }
 {
-    match old {
-        Some(history) => !has_args(first_views_before(history), input.args.as_slice(), p),
-        None => true,
+    let Some(history) = old else {
+        return true;
+    };
+    match (
+        first_views_before(history).get(p),
+        input.args.as_slice().get(p),
+    ) {
+        (Some(view), Some(args)) => view.args.as_slice() != args.as_slice(),
+        _ => true,
     }
 }
 
@@ -46,9 +28,15 @@ fn has_other_args(old: Option<&History>, input: &Input, p: usize) -> bool
 fn has_other_memory(old: Option<&History>, input: &Input, p: usize) -> bool
     ensures { result ≡ false → HasSameMemory (option_map (λ k. k.now) old.entry) input.now p }
 {
-    match old {
-        Some(history) => !has_memory(first_views_before(history), input.mems.as_slice(), p),
-        None => true,
+    let Some(history) = old else {
+        return true;
+    };
+    match (
+        first_views_before(history).get(p),
+        input.mems.as_slice().get(p),
+    ) {
+        (Some(view), Some(memory)) => !view.memory.same(memory),
+        _ => true,
     }
 }
 

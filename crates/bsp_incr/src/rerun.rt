@@ -12,6 +12,7 @@ ghost use Rattle.bsp_incr.specs.Before.{AreFirstMarked, IsRunBefore, IsRunOf};
 use crate::counts::Counts;
 use crate::editing::make_edits;
 use crate::former::restore;
+use crate::given::Given;
 use crate::marks::{args_marks, first_marks};
 use crate::places::processes_where;
 use crate::reopening::reopened;
@@ -51,20 +52,17 @@ pub fn rerun<P: Program, G: Gate, R: Threads + Sync>(
         executed: Seq::new(alloc),
         redelivered: Seq::new(alloc),
     };
+    let given = Given {
+        workers,
+        alloc,
+        program,
+        input,
+        old,
+        always: always.as_slice(),
+        other_args: other_args.as_slice(),
+    };
     for _step in 0..input.limit {
-        advance(
-            workers,
-            alloc,
-            program,
-            old,
-            input,
-            always.as_slice(),
-            other_args.as_slice(),
-            &mut tape,
-            &mut marks,
-            &mut update,
-            counts,
-        )?;
+        advance(&given, &mut tape, &mut marks, &mut update, counts)?;
     }
     let history = finished(old, tape)?;
     Ok((history, update))

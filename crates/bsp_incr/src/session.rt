@@ -20,6 +20,8 @@ pub struct Session<P: Program> {
     program: P,
     input: Input,
     history: History,
+    /// For the tests of this crate.
+    pub(crate) counts: Counts,
 }
 
 impl<P: Program> Model for Session<P> {
@@ -68,6 +70,7 @@ impl<P: Program + Drop> Session<P> {
         };
         let tape = Tape::open(alloc, &input)?;
         let marks = first_marks(alloc, None, &input)?;
+        let mut counts = Counts::new();
         let (history, update) = rerun(
             &workers,
             alloc,
@@ -76,12 +79,13 @@ impl<P: Program + Drop> Session<P> {
             &input,
             tape,
             marks,
-            &mut Counts::new(),
+            &mut counts,
         )?;
         let session = Session {
             program,
             input,
             history,
+            counts,
         };
         Ok((session, update))
     }
@@ -121,30 +125,6 @@ impl<P: Program + Drop> Session<P> {
         ensures update { IfOk result (λ u. IsUpdate (P.looks self.old.program) (Some self.old.history) self.new.history u) }
         ensures err { OnErr result (self.new ≡ self.old) }
     {
-        let workers = Workers {
-            rt,
-            count: workers,
-            gate,
-        };
-        self.apply_counted(&workers, alloc, edits, &mut Counts::new())
-    }
-
-    /// What `apply` does, with the places that it looks at and the deliveries that it makes counted.
-    pub(crate) fn apply_counted<R: Threads + Sync, G: Gate>(
-        &mut self,
-        workers: &Workers<'_, R, G>,
-        alloc: Global,
-        edits: &[Edit],
-        counts: &mut Counts,
-    ) -> Result<Update, EditError>
-        ensures accepted { OnOk result (refusal_of self.old.input edits.now ≡ None) }
-        ensures refused { IfErr result (λ e. refusal_of self.old.input edits.now ≡ refusal_in e) }
-        ensures program { self.new.program ≡ self.old.program }
-        ensures given { OnOk result (self.new.input ≡ edited self.old.input edits.now) }
-        ensures history { OnOk result (self.new.history ≡ run (turn_of (P.acts self.old.program) (P.ending self.old.program)) (edited self.old.input edits.now)) }
-        ensures update { IfOk result (λ u. IsUpdate (P.looks self.old.program) (Some self.old.history) self.new.history u) }
-        ensures err { OnErr result (self.new ≡ self.old) }
-    {
         match refusal_of(&self.input, edits) {
             Some(refusal) => return Err(EditError::Refused(refusal)),
             None => {}
@@ -155,14 +135,19 @@ impl<P: Program + Drop> Session<P> {
                 redelivered: Seq::new(alloc),
             });
         }
+        let workers = Workers {
+            rt,
+            count: workers,
+            gate,
+        };
         let (history, update) = rerun_edited(
-            workers,
+            &workers,
             alloc,
             &self.program,
             &self.history,
             &mut self.input,
             edits,
-            counts,
+            &mut self.counts,
         )?;
         self.history = history;
         Ok(update)

@@ -10,12 +10,12 @@ ghost use Rattle.bsp_incr.specs.Marks.{AreMarked, ViewsDifferAtMost, HaveOneTabl
 
 use crate::Place;
 use crate::counts::Counts;
-use crate::looking::serves;
+use crate::looking::{see, serves};
 use crate::places::{add_places, all_processes, processes_where};
 use crate::replacing::{copied, put_at};
 use crate::reuse::reuse;
 use crate::workers::Workers;
-use bsp_model::{OutOfMemory, Same, Seq, Shared};
+use bsp_model::{OutOfMemory, Seq, Shared};
 use bsp_pool::Gate;
 use bsp_run::wide_turns;
 use bsp_step::{Outcome, Program, View};
@@ -28,12 +28,11 @@ fn is_same_table(old: &[Shared<View>], new: &[Shared<View>]) -> bool
     ensures table { result ≡ true → (slice_index_or old.now 0 no_view).table ≡ (slice_index_or new.now 0 no_view).table }
     ensures tag_size { result ≡ true → (slice_index_or old.now 0 no_view).tag_size ≡ (slice_index_or new.now 0 no_view).tag_size }
 {
-    if old.is_empty() || new.is_empty() {
+    if new.is_empty() {
         return false;
     }
-    let before: &View = &old[0];
-    let after: &View = &new[0];
-    before.table.same(&after.table) && before.tag_size == after.tag_size
+    let view: &View = &new[0];
+    see(old, &view.table, view.tag_size)
 }
 
 /// The processes that may see something else than in the run before: those that are marked, where the table and the tag size are the same, and

@@ -13,6 +13,3 @@ pub use bundled::Bundled;
 pub use matvec::MatVec;
 pub use prefix::Prefix;
 pub use rank::Rank;
-
-#[cfg(test)]
-mod tests;

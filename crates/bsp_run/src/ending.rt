@@ -4,13 +4,12 @@ ghost use Rattle.std.specs.Prelude.{◌≡◌, ◌≤◌, length, All, IfOk};
 ghost use Rattle.std.specs.List.{list_any};
 ghost use Rattle.std.specs.Prelude.{is_some};
 ghost use Rattle.bsp_table.specs.NextTable.{AreSlots};
-ghost use Rattle.bsp_deliver.specs.SyncFault.{is_sync};
 ghost use Rattle.bsp_run.specs.Ending.{end_of, faults_from};
 
 use crate::{ProcessFault, Status};
-use bsp_deliver::sync_fault;
+use bsp_deliver::{has_sync, sync_fault};
 use bsp_model::{OutOfMemory, Seq, Shared};
-use bsp_step::{Ended, Outcome};
+use bsp_step::Outcome;
 use bsp_table::Table;
 use std::alloc::Global;
 
@@ -40,14 +39,6 @@ fn faults(alloc: Global, outcomes: &[Shared<Outcome>]) -> Result<Seq<ProcessFaul
         }
     }
     Ok(faults)
-}
-
-fn has_sync(outcomes: &[Shared<Outcome>]) -> bool
-    ensures { result ≡ list_any (λ o. is_sync o.ended) outcomes.now }
-{
-    outcomes
-        .iter()
-        .any(|outcome| matches!(outcome.ended, Ended::Sync))
 }
 
 /// How the run ends with a superstep of these outcomes, or none where the superstep ends by delivery.

@@ -3,7 +3,6 @@
 use super::counting::Counting;
 use super::inputs::Start;
 use crate::counts::Counts;
-use crate::workers::Workers;
 use crate::{Edit, Place, Session, Update};
 use bsp_model::Input;
 use bsp_pool::Open;
@@ -67,15 +66,10 @@ fn updates<P: Program + Drop, R: Threads + Sync>(
     steps: &AtomicU64,
     row: &Row,
 ) -> bool {
-    let workers = Workers {
-        rt,
-        count: 1,
-        gate: &Open,
-    };
     let before = steps.load(SeqCst);
-    let mut counts = Counts::new();
-    let is_right = match session.apply_counted(&workers, alloc, row.batch, &mut counts) {
-        Ok(update) => is_update(&update, row) && are_counts(&counts, row),
+    session.counts = Counts::new();
+    let is_right = match session.apply(rt, alloc, row.batch, 1, &Open) {
+        Ok(update) => is_update(&update, row) && are_counts(&session.counts, row),
         Err(_) => false,
     };
     let made = steps.load(SeqCst).wrapping_sub(before);

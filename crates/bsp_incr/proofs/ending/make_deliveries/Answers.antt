@@ -12,7 +12,7 @@ use Rattle.bsp_incr.proofs.ending.make_deliveries.Goals as goal
 
 pub wide_deliveries-requires-clause-processes : goal.wide_deliveries-requires-clause-processes
 wide_deliveries-requires-clause-processes g c κs within =
-    let old : Option Run = option_map (λ k. k.now) c.args.old in
+    let old : Option Run = option_map (λ k. k.now) c.args.given.now.old in
     let r : Run = c.args.tape.now in
     let before = c.delivered_outcomes.ensures.outcomes ∙ ap (delivered_outcomes old) c.step-step.ensures in
     let now = c.outcomes.ensures.outcomes ∙ outcomes_shown-turned r c.requires.turned in
@@ -23,8 +23,8 @@ wide_deliveries-requires-clause-processes g c κs within =
     (listed_below (length r.outcomes) (is_touched (delivered_outcomes old (length r.past)) r.outcomes) c.as_slice-3.result.now (c.as_slice-3.ensures.value ∙ c.in_ok-processes.ensures ∙ ap (λ (bs : List Bool). processes_where (length bs) (λ p. get_or bs p false)) c.as_slice.ensures.value ∙ processes_where-each_below (length r.outcomes) (is_touched (delivered_outcomes old (length r.past)) r.outcomes) answers is))
 
 pub open_next-requires-clause-touched : goal.open_next-requires-clause-touched
-open_next-requires-clause-touched g c =
-    let old : Option Run = option_map (λ k. k.now) c.args.old in
+open_next-requires-clause-touched g c κs within =
+    let old : Option Run = option_map (λ k. k.now) c.args.given.now.old in
     let r : Run = c.args.tape.now in
     let before = c.delivered_outcomes.ensures.outcomes ∙ ap (delivered_outcomes old) c.step-step.ensures in
     let now = c.outcomes.ensures.outcomes ∙ outcomes_shown-turned r c.requires.turned in
@@ -34,7 +34,7 @@ open_next-requires-clause-touched g c =
 
 pub next_marks-requires : goal.next_marks-requires
 next_marks-requires g c =
-    let old : Option Run = option_map (λ k. k.now) c.args.old in
+    let old : Option Run = option_map (λ k. k.now) c.args.given.now.old in
     let r : Run = c.args.tape.now in
     let before = c.delivered_outcomes.ensures.outcomes ∙ ap (delivered_outcomes old) c.step-step.ensures in
     let now = c.outcomes.ensures.outcomes ∙ outcomes_shown-turned r c.requires.turned in
@@ -44,17 +44,17 @@ next_marks-requires g c =
 
 pub returns-clause-marks : goal.returns-clause-marks
 returns-clause-marks g c =
-    let old : Option Run = option_map (λ k. k.now) c.args.old in
+    let old : Option Run = option_map (λ k. k.now) c.args.given.now.old in
     let r : Run = c.args.tape.now in
     let before = c.delivered_outcomes.ensures.outcomes ∙ ap (delivered_outcomes old) c.step-step.ensures in
     let now = c.outcomes.ensures.outcomes ∙ outcomes_shown-turned r c.requires.turned in
     let answers = c.in_ok-touched.touched.items in
     let is = touched_of c.delivered_outcomes.result.now (delivered_outcomes old (length r.past)) c.outcomes.result.now r.outcomes answers before now c.in_ok-touched.ensures in
-    c.in_ok-marks.ensures ∙ answers_with (length r.outcomes) (is_touched (delivered_outcomes old (length r.past)) r.outcomes) c.as_slice-5.result.now (λ b d. b || get_or c.args.always.now d true) (c.as_slice-5.ensures.value ∙ is)
+    c.in_ok-marks.ensures ∙ answers_with (length r.outcomes) (is_touched (delivered_outcomes old (length r.past)) r.outcomes) c.as_slice-5.result.now (λ b d. b || get_or c.args.given.now.always.now d true) (c.as_slice-5.ensures.value ∙ is)
 
 pub returns-clause-redelivered : goal.returns-clause-redelivered
 returns-clause-redelivered g c =
-    let old : Option Run = option_map (λ k. k.now) c.args.old in
+    let old : Option Run = option_map (λ k. k.now) c.args.given.now.old in
     let r : Run = c.args.tape.now in
     let before = c.delivered_outcomes.ensures.outcomes ∙ ap (delivered_outcomes old) c.step-step.ensures in
     let now = c.outcomes.ensures.outcomes ∙ outcomes_shown-turned r c.requires.turned in

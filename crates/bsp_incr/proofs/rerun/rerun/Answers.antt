@@ -55,10 +55,9 @@ pub advance-requires-clause-before : goal.advance-requires-clause-before
 advance-requires-clause-before g c κs within =
     before_is (turn_of (g.P.Program.acts c.args.program.now) (g.P.Program.ending c.args.program.now)) c.args.input.now (option_map (λ k. k.now) c.args.old) c.requires.before
 
-pub advance-requires-clause-other_args : goal.advance-requires-clause-other_args
-advance-requires-clause-other_args g c κs within =
-    c.as_slice-in-loop-step-2.ensures.value ∙ c.in_ok-other_args.ensures
-    ∙ ap (λ (bs : List Bool). processes_where (length bs) (λ p. get_or bs p false)) (c.as_slice.ensures.value ∙ sym c.as_slice-in-loop-step.ensures.value)
-
-pub advance-requires-clause-some : goal.advance-requires-clause-some
-advance-requires-clause-some g c κs within = (lawful_input c.args.input.now c.requires.lawful).some_process
+pub invariant_of-given : goal.invariant_of-given
+invariant_of-given g c =
+    record {
+      lawful = c.requires.lawful;
+      listed = c.as_slice-3.ensures.value ∙ c.in_ok-other_args.ensures ∙ ap (λ (bs : List Bool). processes_where (length bs) (λ p. get_or bs p false)) (c.as_slice.ensures.value ∙ sym c.as_slice-2.ensures.value);
+    }

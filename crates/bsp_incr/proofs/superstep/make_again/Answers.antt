@@ -20,14 +20,14 @@ use Rattle.bsp_incr.proofs.superstep.make_again.Goals as goal
 
 pub take_turns-requires-clause-count : goal.take_turns-requires-clause-count
 take_turns-requires-clause-count g c κs within =
-    let turn = turn_of (g.P.Program.acts c.args.program.now) (g.P.Program.ending c.args.program.now) in
+    let turn = turn_of (g.P.Program.acts c.args.given.now.program.now) (g.P.Program.ending c.args.given.now.program.now) in
     let r : Run = c.args.tape.now in
-    count_taken turn c.args.input.now (option_map (λ k. k.now) c.args.old) (length r.past) (open_views r) c.requires.before (open_views-in turn c.args.input.now r c.requires.under_way.made)
+    count_taken turn c.args.given.now.input.now (option_map (λ k. k.now) c.args.given.now.old) (length r.past) (open_views r) c.requires.before (open_views-in turn c.args.given.now.input.now r c.requires.under_way.made)
 
 pub make_deliveries-requires-clause-count : goal.make_deliveries-requires-clause-count
 make_deliveries-requires-clause-count g c κs within =
-    let turn = turn_of (g.P.Program.acts c.args.program.now) (g.P.Program.ending c.args.program.now) in
-    let old : Option Run = option_map (λ k. k.now) c.args.old in
+    let turn = turn_of (g.P.Program.acts c.args.given.now.program.now) (g.P.Program.ending c.args.given.now.program.now) in
+    let old : Option Run = option_map (λ k. k.now) c.args.given.now.old in
     let r : Run = c.args.tape.now in
     let us = map turn (open_views r) in
     let is = c.in_ok-delivers.ensures.turned in
@@ -35,54 +35,54 @@ make_deliveries-requires-clause-count g c κs within =
     let outcomes = ap (λ (x : Run). x.outcomes) is ∙ outcomes-turned r us in
     λ some.
     ap (λ n. length (delivered_outcomes old n)) steps
-    ∙ count_before turn c.args.input.now old (length r.past) c.requires.before (subst (λ n. 0 < length (delivered_outcomes old n)) steps some)
-    ∙ sym (ap (λ (os : List OutcomeParts). length os) (outcomes ∙ turns-in turn c.args.input.now r c.requires.under_way.made))
+    ∙ count_before turn c.args.given.now.input.now old (length r.past) c.requires.before (subst (λ n. 0 < length (delivered_outcomes old n)) steps some)
+    ∙ sym (ap (λ (os : List OutcomeParts). length os) (outcomes ∙ turns-in turn c.args.given.now.input.now r c.requires.under_way.made))
 
 pub make_deliveries-requires-clause-next : goal.make_deliveries-requires-clause-next
 make_deliveries-requires-clause-next g c κs within =
-    delivered_before_is (turn_of (g.P.Program.acts c.args.program.now) (g.P.Program.ending c.args.program.now)) c.args.input.now (option_map (λ k. k.now) c.args.old) (length c.take_turns.new.tape.past) c.requires.before
+    delivered_before_is (turn_of (g.P.Program.acts c.args.given.now.program.now) (g.P.Program.ending c.args.given.now.program.now)) c.args.given.now.input.now (option_map (λ k. k.now) c.args.given.now.old) (length c.take_turns.new.tape.past) c.requires.before
 
 pub make_deliveries-requires-clause-old_table : goal.make_deliveries-requires-clause-old_table
 make_deliveries-requires-clause-old_table g c κs within =
-    table_after (turn_of (g.P.Program.acts c.args.program.now) (g.P.Program.ending c.args.program.now)) c.args.input.now (option_map (λ k. k.now) c.args.old) (length c.take_turns.new.tape.past) c.requires.before
+    table_after (turn_of (g.P.Program.acts c.args.given.now.program.now) (g.P.Program.ending c.args.given.now.program.now)) c.args.given.now.input.now (option_map (λ k. k.now) c.args.given.now.old) (length c.take_turns.new.tape.past) c.requires.before
 
 pub make_deliveries-requires-clause-doubtful : goal.make_deliveries-requires-clause-doubtful
 make_deliveries-requires-clause-doubtful g c κs within =
-    let turn = turn_of (g.P.Program.acts c.args.program.now) (g.P.Program.ending c.args.program.now) in
-    let old : Option Run = option_map (λ k. k.now) c.args.old in
+    let turn = turn_of (g.P.Program.acts c.args.given.now.program.now) (g.P.Program.ending c.args.given.now.program.now) in
+    let old : Option Run = option_map (λ k. k.now) c.args.given.now.old in
     let r : Run = c.args.tape.now in
     let us = map turn (open_views r) in
     let is = c.in_ok-delivers.ensures.turned in
     let steps = ap (λ (x : Run). length x.past) is ∙ ap (λ (xs : List Superstep). length xs) (past-turned r us) in
     let outcomes = ap (λ (x : Run). x.outcomes) is ∙ outcomes-turned r us in
-    let unchanged = unchanged_among turn c.args.input.now old (length r.past) (open_views r) c.args.doubtful.now c.requires.before (open_views-in turn c.args.input.now r c.requires.under_way.made) c.requires.doubtful in
+    let unchanged = unchanged_among turn c.args.given.now.input.now old (length r.past) (open_views r) c.args.doubtful.now c.requires.before (open_views-in turn c.args.given.now.input.now r c.requires.under_way.made) c.requires.doubtful in
     subst (λ (os : List OutcomeParts). OutcomesDifferAtMost (delivered_outcomes old (length c.take_turns.new.tape.past)) os c.args.doubtful.now) (sym outcomes)
     (subst (λ n. OutcomesDifferAtMost (delivered_outcomes old n) us c.args.doubtful.now) (sym steps) unchanged)
 
 pub make_deliveries-requires-clause-alike : goal.make_deliveries-requires-clause-alike
 make_deliveries-requires-clause-alike g c κs within =
-    let turn = turn_of (g.P.Program.acts c.args.program.now) (g.P.Program.ending c.args.program.now) in
-    let old : Option Run = option_map (λ k. k.now) c.args.old in
+    let turn = turn_of (g.P.Program.acts c.args.given.now.program.now) (g.P.Program.ending c.args.given.now.program.now) in
+    let old : Option Run = option_map (λ k. k.now) c.args.given.now.old in
     let r : Run = c.args.tape.now in
     let us = map turn (open_views r) in
     let is = c.in_ok-delivers.ensures.turned in
     let steps = ap (λ (x : Run). length x.past) is ∙ ap (λ (xs : List Superstep). length xs) (past-turned r us) in
-    let made : IsRecord turn c.args.input.now c.take_turns.new.tape = subst (IsRecord turn c.args.input.now) (sym is) (IsRecord-turned turn c.args.input.now r c.requires.under_way.made (open_phase r.phase c.requires.open)) in
-    let outcomes = ap (λ (x : Run). x.outcomes) is ∙ outcomes-turned r us ∙ turns-in turn c.args.input.now r c.requires.under_way.made ∙ ap (outcomes_in turn c.args.input.now) (sym steps) in
-    alike_after turn c.args.input.now old c.take_turns.new.tape c.args.always.now c.requires.before c.requires.always made outcomes
+    let made : IsRecord turn c.args.given.now.input.now c.take_turns.new.tape = subst (IsRecord turn c.args.given.now.input.now) (sym is) (IsRecord-turned turn c.args.given.now.input.now r c.requires.under_way.made (open_phase r.phase c.requires.open)) in
+    let outcomes = ap (λ (x : Run). x.outcomes) is ∙ outcomes-turned r us ∙ turns-in turn c.args.given.now.input.now r c.requires.under_way.made ∙ ap (outcomes_in turn c.args.given.now.input.now) (sym steps) in
+    alike_after turn c.args.given.now.input.now old c.take_turns.new.tape c.args.given.now.always.now c.requires.before c.requires.always made outcomes
 
 pub make_deliveries-requires-clause-always : goal.make_deliveries-requires-clause-always
 make_deliveries-requires-clause-always g c κs within =
-    let turn = turn_of (g.P.Program.acts c.args.program.now) (g.P.Program.ending c.args.program.now) in
-    let old : Option Run = option_map (λ k. k.now) c.args.old in
+    let turn = turn_of (g.P.Program.acts c.args.given.now.program.now) (g.P.Program.ending c.args.given.now.program.now) in
+    let old : Option Run = option_map (λ k. k.now) c.args.given.now.old in
     let r : Run = c.args.tape.now in
     let us = map turn (open_views r) in
-    let outcomes = ap (λ (x : Run). x.outcomes) c.in_ok-delivers.ensures.turned ∙ outcomes-turned r us ∙ turns-in turn c.args.input.now r c.requires.under_way.made in
-    c.requires.always.count ∙ sym (count-outcomes_in turn c.args.input.now (length r.past)) ∙ sym (ap (λ (os : List OutcomeParts). length os) outcomes)
+    let outcomes = ap (λ (x : Run). x.outcomes) c.in_ok-delivers.ensures.turned ∙ outcomes-turned r us ∙ turns-in turn c.args.given.now.input.now r c.requires.under_way.made in
+    c.requires.always.count ∙ sym (count-outcomes_in turn c.args.given.now.input.now (length r.past)) ∙ sym (ap (λ (os : List OutcomeParts). length os) outcomes)
 
 pub returns-clause-tape : goal.returns-clause-tape
 returns-clause-tape g c =
-    let turn = turn_of (g.P.Program.acts c.args.program.now) (g.P.Program.ending c.args.program.now) in
+    let turn = turn_of (g.P.Program.acts c.args.given.now.program.now) (g.P.Program.ending c.args.given.now.program.now) in
     let r : Run = c.args.tape.now in
     let is = c.in_ok-delivers.ensures.turned in
     let delivers = ap (λ (x : Run). is_turned x.phase) (sym is) ∙ sym c.in_ok-delivers.ensures.answer ∙ c.if-not-delivers.false in
@@ -90,19 +90,19 @@ returns-clause-tape g c =
 
 pub returns-clause-under_way : goal.returns-clause-under_way
 returns-clause-under_way g c =
-    let turn = turn_of (g.P.Program.acts c.args.program.now) (g.P.Program.ending c.args.program.now) in
-    let old : Option Run = option_map (λ k. k.now) c.args.old in
+    let turn = turn_of (g.P.Program.acts c.args.given.now.program.now) (g.P.Program.ending c.args.given.now.program.now) in
+    let old : Option Run = option_map (λ k. k.now) c.args.given.now.old in
     let r : Run = c.args.tape.now in
     let us = map turn (open_views r) in
     let is = c.in_ok-delivers.ensures.turned in
     let steps = ap (λ (x : Run). length x.past) is ∙ ap (λ (xs : List Superstep). length xs) (past-turned r us) in
     let outcomes = ap (λ (x : Run). x.outcomes) is ∙ outcomes-turned r us in
-    let looks = g.P.Program.looks c.args.program.now in
-    let always = c.args.always.now in
+    let looks = g.P.Program.looks c.args.given.now.program.now in
+    let always = c.args.given.now.always.now in
     let delivers = ap (λ (x : Run). is_turned x.phase) (sym is) ∙ sym c.in_ok-delivers.ensures.answer ∙ c.if-not-delivers.false in
     let all : ℕ → List OutcomeParts → List Bool = λ n os. each_below (length os) (λ d. is_touched (delivered_outcomes old n) os d || get_or always d true) in
     let places : ℕ → List OutcomeParts → List Place = λ n os. c.args.update.now.redelivered ++ touched_in n (delivered_outcomes old n) os in
-    under_way_delivered turn looks old c.args.input.now r c.make_deliveries.new.tape always c.args.marks.now.items c.in_ok-next.next.items c.args.update.now record { executed = c.take_turns.new.executed; redelivered = c.make_deliveries.new.redelivered }
+    under_way_delivered turn looks old c.args.given.now.input.now r c.make_deliveries.new.tape always c.args.marks.now.items c.in_ok-next.next.items c.args.update.now record { executed = c.take_turns.new.executed; redelivered = c.make_deliveries.new.redelivered }
     c.requires.open delivers c.requires.before c.requires.always c.requires.under_way
     (c.in_ok-next.ensures.tape ∙ ap after_delivery is)
     (c.in_ok-next.ensures.marks ∙ ap (λ n. all n c.take_turns.new.tape.outcomes) steps ∙ ap (all (length r.past)) outcomes)
@@ -111,7 +111,7 @@ returns-clause-under_way g c =
 
 pub returns-then-not-delivers-clause-tape : goal.returns-then-not-delivers-clause-tape
 returns-then-not-delivers-clause-tape g c =
-    let turn = turn_of (g.P.Program.acts c.args.program.now) (g.P.Program.ending c.args.program.now) in
+    let turn = turn_of (g.P.Program.acts c.args.given.now.program.now) (g.P.Program.ending c.args.given.now.program.now) in
     let r : Run = c.args.tape.now in
     let is = c.in_ok-delivers.ensures.turned in
     let delivers = ap (λ (x : Run). is_turned x.phase) (sym is) ∙ sym c.in_ok-delivers.ensures.answer ∙ c.if-not-delivers.true in
@@ -119,16 +119,16 @@ returns-then-not-delivers-clause-tape g c =
 
 pub returns-then-not-delivers-clause-under_way : goal.returns-then-not-delivers-clause-under_way
 returns-then-not-delivers-clause-under_way g c =
-    let turn = turn_of (g.P.Program.acts c.args.program.now) (g.P.Program.ending c.args.program.now) in
-    let looks = g.P.Program.looks c.args.program.now in
-    let old : Option Run = option_map (λ k. k.now) c.args.old in
-    under_way_turned turn looks old c.args.input.now c.args.tape.now c.take_turns.new.tape c.args.marks.now.items c.args.update.now record { executed = c.take_turns.new.executed; redelivered = c.args.update.now.redelivered }
+    let turn = turn_of (g.P.Program.acts c.args.given.now.program.now) (g.P.Program.ending c.args.given.now.program.now) in
+    let looks = g.P.Program.looks c.args.given.now.program.now in
+    let old : Option Run = option_map (λ k. k.now) c.args.given.now.old in
+    under_way_turned turn looks old c.args.given.now.input.now c.args.tape.now c.take_turns.new.tape c.args.marks.now.items c.args.update.now record { executed = c.take_turns.new.executed; redelivered = c.args.update.now.redelivered }
     c.requires.open c.requires.under_way c.in_ok-delivers.ensures.turned c.in_ok-delivers.ensures.executed (λ i. c.args.update.now.redelivered)
 
 pub take_turns-requires-clause-old_table : goal.take_turns-requires-clause-old_table
 take_turns-requires-clause-old_table g c κs within =
-    table_before (turn_of (g.P.Program.acts c.args.program.now) (g.P.Program.ending c.args.program.now)) c.args.input.now (option_map (λ k. k.now) c.args.old) (length c.args.tape.now.past) c.requires.before
+    table_before (turn_of (g.P.Program.acts c.args.given.now.program.now) (g.P.Program.ending c.args.given.now.program.now)) c.args.given.now.input.now (option_map (λ k. k.now) c.args.given.now.old) (length c.args.tape.now.past) c.requires.before
 
 pub take_turns-requires-clause-table : goal.take_turns-requires-clause-table
 take_turns-requires-clause-table g c κs within =
-    open_table (turn_of (g.P.Program.acts c.args.program.now) (g.P.Program.ending c.args.program.now)) c.args.input.now c.args.tape.now c.requires.under_way.made
+    open_table (turn_of (g.P.Program.acts c.args.given.now.program.now) (g.P.Program.ending c.args.given.now.program.now)) c.args.given.now.input.now c.args.tape.now c.requires.under_way.made

@@ -6,7 +6,7 @@ use Rattle.bsp_run.specs.Run.{run}
 use Rattle.bsp_incr.specs.Edits.{refusal_of}
 use Rattle.bsp_incr.proofs.Lawful.{edited_lawful}
 use Rattle.bsp_incr.proofs.Unchanged.{no-update}
-use Rattle.bsp_incr.proofs.session.Session.apply_counted.Goals as goal
+use Rattle.bsp_incr.proofs.session.Session.apply.Goals as goal
 
 pub invariant_of-self-2 : goal.invariant_of-self-2
 invariant_of-self-2 g c =
