@@ -15,7 +15,7 @@ use crate::places::all_processes;
 use crate::replacing::{copied, put_at};
 use bsp_deliver::touched_by_changes;
 use bsp_model::{Memory, OutOfMemory, Same, Shared, TryCopy};
-use bsp_run::{Tape, take_next};
+use bsp_run::{Tape, seen_by, take_next};
 use bsp_step::{Outcome, Queue, View};
 use bsp_table::Table;
 use std::alloc::Global;
@@ -111,7 +111,7 @@ fn cells_of(
 {
     let mut cells = Vec::with_capacity(alloc, processes.len())?;
     for process in processes {
-        let view: &View = &views[*process];
+        let view = seen_by(views, *process);
         cells.push((view.memory.copy()?, view.queue.copy()?))?;
     }
     Ok(cells)

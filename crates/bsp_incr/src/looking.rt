@@ -7,6 +7,7 @@ ghost use Rattle.bsp_incr.specs.Reuse.{same_where_looked_at, serves};
 
 use bsp_model::limits::MOST_MEMORY_WORDS;
 use bsp_model::{Same, Shared};
+use bsp_run::seen_by;
 use bsp_step::{Program, View};
 use bsp_table::Table;
 
@@ -26,7 +27,7 @@ pub fn see(views: &[Shared<View>], table: &Table, tag_size: u64) -> bool
     if views.is_empty() {
         return false;
     }
-    has_table(&views[0], table, tag_size)
+    has_table(seen_by(views, 0), table, tag_size)
 }
 
 /// Whether two views are equal but for the words of their memories. The tables need not be compared where they are known to be the same.

@@ -28,6 +28,7 @@ pub fn reuse<P: Program>(
     requires outcome { outcome.now ≡ turn_of (P.acts program.now) (P.ending program.now) recorded.now }
     ensures { IfOk result (λ o. o ≡ turn_of (P.acts program.now) (P.ending program.now) view.now) }
 {
+    // That a view keeps its limits is known where a field of it is read.
     let _step = recorded.step;
     let mut memory = view.memory.copy()?;
     make_again(&mut memory, outcome.stores.as_slice())?;

@@ -17,7 +17,7 @@ use crate::reuse::reuse;
 use crate::workers::Workers;
 use bsp_model::{OutOfMemory, Seq, Shared};
 use bsp_pool::Gate;
-use bsp_run::wide_turns;
+use bsp_run::{seen_by, wide_turns};
 use bsp_step::{Outcome, Program, View};
 use std::alloc::Global;
 use std::thread::Threads;
@@ -31,7 +31,7 @@ fn is_same_table(old: &[Shared<View>], new: &[Shared<View>]) -> bool
     if new.is_empty() {
         return false;
     }
-    let view: &View = &new[0];
+    let view = seen_by(new, 0);
     see(old, &view.table, view.tag_size)
 }
 
@@ -74,7 +74,12 @@ fn needs_turn<P: Program>(
     if p >= old_views.len() {
         return true;
     }
-    !serves(program, &old_views[p], &views[p], same_table)
+    !serves(
+        program,
+        seen_by(old_views, p),
+        seen_by(views, p),
+        same_table,
+    )
 }
 
 /// Of these processes, those whose turn has to be taken, and then those for which the recorded one serves.
@@ -120,7 +125,12 @@ fn served_turn<P: Program>(
     requires serves { differs (P.looks program.now) old_views.now views.now p ≡ false }
     ensures { IfOk result (λ o. o ≡ turn_of (P.acts program.now) (P.ending program.now) (slice_index_or views.now p no_view)) }
 {
-    let outcome = reuse(program, &old_views[p], &old_outcomes[p], &views[p])?;
+    let outcome = reuse(
+        program,
+        seen_by(old_views, p),
+        &old_outcomes[p],
+        seen_by(views, p),
+    )?;
     Ok(Shared::new(alloc, outcome)?)
 }
 

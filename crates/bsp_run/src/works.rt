@@ -6,6 +6,7 @@ ghost use Rattle.bsp_deliver.specs.Condition.{AreDeliverable};
 ghost use Rattle.bsp_deliver.specs.Delivery.{delivery_parts, next_memory, next_queue};
 ghost use Rattle.bsp_run.specs.Condition.{no_view};
 
+use crate::seen::seen_by;
 use bsp_deliver::deliver;
 use bsp_model::{Memory, OutOfMemory, Shared};
 use bsp_pool::Work;
@@ -31,7 +32,7 @@ impl<'a, P: Program> Work for Turns<'a, P> {
 
     // The calls of `bsp_step::turn`, to which no method of a trait may pass a program.
     fn work(&self, alloc: Global, process: &usize) -> Result<Shared<Outcome>, OutOfMemory> {
-        let mut ctx = Ctx::open(alloc, &self.views[*process])?;
+        let mut ctx = Ctx::open(alloc, seen_by(self.views, *process))?;
         let how = self.program.step(alloc, &mut ctx)?;
         Shared::new(alloc, ctx.close(how))
     }

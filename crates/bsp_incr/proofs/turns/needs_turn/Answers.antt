@@ -1,5 +1,4 @@
 use Rattle.std.proofs.Common.{◌<◌, ◌∙◌, ap, sym, not, length, get_or, arith}
-use Rattle.std.proofs.lemmas.List.{get_or_default}
 use Rattle.bsp_step.specs.ViewParts.{ViewParts}
 use Rattle.bsp_run.specs.Condition.{no_view}
 use Rattle.bsp_incr.specs.Reuse.{serves}
@@ -14,15 +13,15 @@ returns g c =
     let looks = g.P.Program.looks c.args.program.now in
     let old = c.args.old_views.now in let new = c.args.views.now in let p = c.args.p in
     let here : p < length old = omega arith in
-    let v = c.deref.ensures ∙ c.index-old_views-p.is ∙ get_or_default old p c.index-old_views-p.result no_view here in
-    let w = c.deref-2.ensures ∙ c.index-views-p.is ∙ get_or_default new p c.index-views-p.result no_view c.requires.place in
-    let test = c.serves.ensures ∙ ap (λ (x : ViewParts). serves looks x c.deref-2.result.now) v ∙ ap (serves looks (get_or old p no_view)) w in
+    let v = c.seen_by.ensures in
+    let w = c.seen_by-2.ensures in
+    let test = c.serves.ensures ∙ ap (λ (x : ViewParts). serves looks x c.seen_by-2.result.now) v ∙ ap (serves looks (get_or old p no_view)) w in
     ap not test ∙ sym (differs-some looks old new p here)
 
 pub serves-requires-after_bounds : goal.serves-requires-after_bounds
 serves-requires-after_bounds g c κs within =
     let old = c.args.old_views.now in let new = c.args.views.now in let p = c.args.p in
     let here : p < length old = omega arith in
-    let v = c.deref.ensures ∙ c.index-old_views-p.is ∙ get_or_default old p c.index-old_views-p.result no_view here in
-    let w = c.deref-2.ensures ∙ c.index-views-p.is ∙ get_or_default new p c.index-views-p.result no_view c.requires.place in
+    let v = c.seen_by.ensures in
+    let w = c.seen_by-2.ensures in
     λ t. ap (λ (x : ViewParts). x.table) v ∙ c.requires.old_table.table p here ∙ c.requires.same t ∙ sym (c.requires.table.table p c.requires.place) ∙ sym (ap (λ (x : ViewParts). x.table) w)
