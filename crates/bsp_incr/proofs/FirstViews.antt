@@ -1,5 +1,6 @@
 -- What the processes see in superstep 0 of an edited input.
-use Rattle.std.proofs.Common.{◌≡◌, ◌<◌, ℕ, Bool, true, false, List, [], Some, map, length, get_or, arith, refl, sym, ap, ◌∙◌, subst}
+use Rattle.std.proofs.Common.{◌≡◌, ◌<◌, ℕ, Bool, true, false, List, [], Option, Some, map, length, get_or, arith, refl, sym, ap, ◌∙◌, subst}
+use Rattle.std.specs.Option.{ForSome}
 use Rattle.std.proofs.lemmas.List.{get_or_default, get_or-map}
 use Rattle.std.proofs.lemmas.List.FromFn.{get_or-map-range_with_len, length-map-range_with_len}
 use Rattle.bsp_model.specs.declared.input.Input.{Input}
@@ -14,7 +15,7 @@ use Rattle.bsp_run.specs.Law.{views_in}
 use Rattle.bsp_run.specs.Supersteps.{views_at}
 use Rattle.bsp_run.specs.Record.{IsRecord}
 use Rattle.bsp_run.proofs.Records.{open_views-in, IsRecord-start, IsRecord-run}
-use Rattle.bsp_incr.specs.Before.{AreFirstMarked, HasFirstViews, IsRunOf}
+use Rattle.bsp_incr.specs.Before.{AreFirstMarked, HasFirstViews, IsRunOf, IsRunBefore}
 use Rattle.bsp_incr.specs.Changes.{processes_where}
 use Rattle.bsp_incr.specs.Replaced.{replaced}
 use Rattle.bsp_incr.proofs.Patching.{patched, patched_is}
@@ -52,7 +53,7 @@ first_views_in_place r input marks views new marked v began h listed made =
     λ p l t.
     let clean : get_or marks p true ≡ false = get_or_default marks p true false (omega (arith, l, h.count)) ∙ t in
     let at : get_or (views_at r 0) p no_view ≡ g p = ap (λ (vs : List ViewParts). get_or vs p no_view) seen ∙ get_or-map-range_with_len g 0 n p p no_view l (omega arith) in
-    ap (λ (vs : List ViewParts). get_or vs p no_view) v ∙ first_view_stays i input p (get_or (views_at r 0) p no_view) began.count l at (h.args p l clean) (h.memory p l clean) in (
+    ap (λ (vs : List ViewParts). get_or vs p no_view) v ∙ first_view_stays i input p (get_or (views_at r 0) p no_view) began.count l at (h.args p l clean r refl) (h.memory p l clean r refl) in (
       long,
       ap (replaced views marked) made ∙ ap (λ (ps : List ℕ). patched f views ps) places ∙ patched_is f test n views no_view long there ∙ sym (first_views input),
     )
@@ -69,3 +70,6 @@ first_views_before turn input r h =
     let made : IsRecord turn i r = subst (IsRecord turn i) (sym h.is) (IsRecord-run turn i some) in
     let started = open_views-in turn i (start i) (IsRecord-start turn i some) ∙ ap (views_in turn i) (no_past i) in
     record { input_before = i; views = made.views 0 (omega arith) ∙ sym started; count = h.count }
+
+pub had_first_views : (turn : ViewParts → OutcomeParts) (input : Input) (old : Option Run) → IsRunBefore turn input old → ForSome old (HasFirstViews input)
+had_first_views turn input old h = λ r is. first_views_before turn input r (subst (IsRunBefore turn input) is h)

@@ -27,10 +27,10 @@ first_view turn input k p h l = ap (λ (vs : List ViewParts). get_or vs p no_vie
 
 -- the arguments and the memory that it had
 pub args_before : (turn : ViewParts → OutcomeParts) (input : Input) (k : Run) (p : ℕ) (h : IsRecordBefore turn input k) → p < length input.mems → HasSameArgs (Some k) input p → get_or h.input_before.args p [] ≡ get_or input.args p []
-args_before turn input k p h l same = sym (ap (λ (v : ViewParts). v.args) (first_view turn input k p h l)) ∙ same
+args_before turn input k p h l same = sym (ap (λ (v : ViewParts). v.args) (first_view turn input k p h l)) ∙ same k refl
 
 pub memory_before : (turn : ViewParts → OutcomeParts) (input : Input) (k : Run) (p : ℕ) (h : IsRecordBefore turn input k) → p < length input.mems → HasSameMemory (Some k) input p → get_or h.input_before.mems p [] ≡ get_or input.mems p []
-memory_before turn input k p h l same = sym (first_memory turn h.input_before p) ∙ sym (ap (λ (v : ViewParts). v.memory) (first_view turn input k p h l)) ∙ same
+memory_before turn input k p h l same = sym (first_memory turn h.input_before p) ∙ sym (ap (λ (v : ViewParts). v.memory) (first_view turn input k p h l)) ∙ same k refl
 
 pub taken-in : (turn : ViewParts → OutcomeParts) (input : Input) (k : Run) (s : ℕ) (h : IsRecordBefore turn input k) → s < length (supersteps_of k) → taken_before (Some k) s ≡ views_in turn h.input_before s
 taken-in turn input k s h l = let taken = taken_views k s l in taken.1 ∙ h.made.views s taken.0

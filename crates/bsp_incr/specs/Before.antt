@@ -1,5 +1,6 @@
 -- What is known of the run before, and of a run while it is made again: what the private functions of this crate ask and promise.
 use Rattle.std.specs.Prelude.{◌≡◌, ◌<◌, ℕ, ◌+◌, Bool, true, false, List, [], Option, None, Some, length, nat_lt, if◌then◌else◌, slice_index_or}
+use Rattle.std.specs.Option.{ForSome}
 use Rattle.bsp_model.specs.declared.input.Input.{Input}
 use Rattle.bsp_model.specs.Input.{input_fault}
 use Rattle.bsp_step.specs.ViewParts.{ViewParts}
@@ -39,8 +40,7 @@ IsBefore turn input None = Unit {0}
 IsBefore turn input (Some r) = IsRecordBefore turn input r
 
 abbrev pub HasSameArgs : Option Run → Input → ℕ → Type 0
-HasSameArgs None input p = Unit {0}
-HasSameArgs (Some r) input p = (slice_index_or (views_at r 0) p no_view).args ≡ slice_index_or input.args p []
+HasSameArgs old input p = ForSome old (λ r. (slice_index_or (views_at r 0) p no_view).args ≡ slice_index_or input.args p [])
 
 -- a process whose arguments are not marked has those of the run before
 pub record AreArgsMarked (old : Option Run) (input : Input) (marks : List Bool) : Type 0 where
@@ -53,15 +53,15 @@ abbrev pub AreAlikeAfter : Option Run → Run → List Bool → Type 0
 AreAlikeAfter old r always = (p : ℕ) → p < length r.outcomes → is_touched (delivered_outcomes old (length r.past)) r.outcomes p ≡ false → slice_index_or always p true ≡ false
     → AreAlikeButForTable (slice_index_or (views_after old (length r.past)) p no_view) (next_view r p)
 
--- Between the supersteps of the new run: its record, the marks of its open superstep, and the update so far.
+-- Between the supersteps of the new run: the run before, the new run's record, the marks of its open superstep, and the update so far.
 pub record IsUnderWay (turn : ViewParts → OutcomeParts) (looks : ViewParts → ℕ → Bool) (old : Option Run) (input : Input) (r : Run) (marks : List Bool) (update : Update) : Type 0 where
+  pub before : IsBefore turn input old
   pub made : IsRecord turn input r
   pub marked : is_open r.phase ≡ true → AreMarked (taken_before old (length r.past)) (open_views r) marks
   pub updated : IsUpdate looks old r update
 
 abbrev pub HasSameMemory : Option Run → Input → ℕ → Type 0
-HasSameMemory None input p = Unit {0}
-HasSameMemory (Some r) input p = (slice_index_or (views_at r 0) p no_view).memory ≡ slice_index_or input.mems p []
+HasSameMemory old input p = ForSome old (λ r. (slice_index_or (views_at r 0) p no_view).memory ≡ slice_index_or input.mems p [])
 
 -- a process that is not marked for superstep 0 has the memory and the arguments of the run before
 pub record AreFirstMarked (old : Option Run) (input : Input) (marks : List Bool) : Type 0 where

@@ -1,7 +1,9 @@
 //! What is read of the run before when a run is made again.
 
-ghost use Rattle.std.specs.Prelude.{◌≡◌, ◌<◌, length, option_map};
+ghost use Rattle.std.specs.Prelude.{◌≡◌, ◌<◌, IfSome, length, option_map, slice_index_or};
+ghost use Rattle.std.specs.Option.{ForSome};
 ghost use Rattle.bsp_deliver.specs.Condition.{AreDeliverable};
+ghost use Rattle.bsp_run.specs.Condition.{no_view};
 ghost use Rattle.bsp_run.specs.Supersteps.{views_at};
 ghost use Rattle.bsp_incr.specs.Before.{taken_before, outcomes_before, delivered_outcomes, views_after};
 
@@ -67,4 +69,12 @@ pub fn first_views_before(old: &History) -> &[Shared<View>]
         Some(views) => views,
         None => &[],
     }
+}
+
+/// What a process saw in superstep 0 of the run before, if there was one.
+pub fn first_view_before<'a>(old: Option<&'a History>, p: usize) -> Option<&'a View>
+    ensures { IfSome result (λ view. ForSome (option_map (λ k. k.now) old.entry) (λ r. view.now ≡ slice_index_or (views_at r 0) p no_view)) }
+{
+    let view: &View = first_views_before(old?).get(p)?;
+    Some(view)
 }

@@ -1,7 +1,8 @@
 //! What stays the same in all supersteps of a run that is made again.
 
-ghost use Rattle.std.specs.Prelude.{◌≡◌, None, length, slice_index_or, false};
+ghost use Rattle.std.specs.Prelude.{◌≡◌, None, length, option_map, slice_index_or, false};
 ghost use Rattle.bsp_model.specs.Input.{input_fault};
+ghost use Rattle.bsp_incr.specs.Before.{AreArgsMarked};
 ghost use Rattle.bsp_incr.specs.Changes.{processes_where};
 
 use crate::workers::Workers;
@@ -22,6 +23,7 @@ pub struct Given<'a, P: Program, R, G> {
     pub always: &'a [bool],
     /// The processes with other arguments.
     pub other_args: &'a [usize],
+    ghost marked: { AreArgsMarked (option_map (λ k. k.now) old) input.now always.now },
     ghost lawful: { input_fault input.now ≡ None },
     ghost listed: { other_args.now ≡ processes_where (length always.now) (λ p. slice_index_or always.now p false) },
 }

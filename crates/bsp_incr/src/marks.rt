@@ -3,7 +3,7 @@
 ghost use Rattle.std.specs.Prelude.{◌≡◌, IfOk, option_map, false};
 ghost use Rattle.bsp_incr.specs.Before.{HasSameArgs, HasSameMemory, AreArgsMarked, AreFirstMarked};
 
-use crate::before::first_views_before;
+use crate::before::first_view_before;
 use bsp_model::{Input, OutOfMemory, Same};
 use bsp_run::History;
 use std::alloc::Global;
@@ -12,13 +12,7 @@ use std::alloc::Global;
 fn has_other_args(old: Option<&History>, input: &Input, p: usize) -> bool
     ensures { result ≡ false → HasSameArgs (option_map (λ k. k.now) old.entry) input.now p }
 {
-    let Some(history) = old else {
-        return true;
-    };
-    match (
-        first_views_before(history).get(p),
-        input.args.as_slice().get(p),
-    ) {
+    match (first_view_before(old, p), input.args.as_slice().get(p)) {
         (Some(view), Some(args)) => view.args.as_slice() != args.as_slice(),
         _ => true,
     }
@@ -28,13 +22,7 @@ fn has_other_args(old: Option<&History>, input: &Input, p: usize) -> bool
 fn has_other_memory(old: Option<&History>, input: &Input, p: usize) -> bool
     ensures { result ≡ false → HasSameMemory (option_map (λ k. k.now) old.entry) input.now p }
 {
-    let Some(history) = old else {
-        return true;
-    };
-    match (
-        first_views_before(history).get(p),
-        input.mems.as_slice().get(p),
-    ) {
+    match (first_view_before(old, p), input.mems.as_slice().get(p)) {
         (Some(view), Some(memory)) => !view.memory.same(memory),
         _ => true,
     }
@@ -56,17 +44,19 @@ pub fn args_marks(
     Ok(marks)
 }
 
-/// The processes with another memory or other arguments. They are marked in superstep 0.
+/// The processes with another memory, or with other arguments, which are those in `always`. They are marked in superstep 0.
 pub fn first_marks(
     alloc: Global,
     old: Option<&History>,
     input: &Input,
+    always: &[bool],
 ) -> Result<Vec<bool>, OutOfMemory>
+    requires { AreArgsMarked (option_map (λ k. k.now) old) input.now always.now }
     ensures { IfOk result (λ marks. AreFirstMarked (option_map (λ k. k.now) old.entry) input.now marks.items) }
 {
-    let mut marks = Vec::with_capacity(alloc, input.mems.len())?;
-    for p in 0..input.mems.len() {
-        let mark = has_other_args(old, input, p) || has_other_memory(old, input, p);
+    let mut marks = Vec::with_capacity(alloc, always.len())?;
+    for p in 0..always.len() {
+        let mark = always[p] || has_other_memory(old, input, p);
         marks.push(mark)?;
     }
     Ok(marks)

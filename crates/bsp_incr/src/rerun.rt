@@ -3,19 +3,19 @@
 ghost use Rattle.std.specs.Prelude.{◌≡◌, IfOk, OnOk, OnErr, None, Some, option_map, true};
 ghost use Rattle.bsp_model.specs.Input.{input_fault};
 ghost use Rattle.bsp_step.specs.Turn.{turn_of};
-ghost use Rattle.bsp_run.specs.Run.{start, run};
+ghost use Rattle.bsp_run.specs.Run.{run};
 ghost use Rattle.bsp_run.specs.Condition.{is_ended};
 ghost use Rattle.bsp_incr.specs.Changes.{IsUpdate};
 ghost use Rattle.bsp_incr.specs.Edits.{refusal_of, edited};
-ghost use Rattle.bsp_incr.specs.Before.{AreFirstMarked, IsRunBefore, IsRunOf};
+ghost use Rattle.bsp_incr.specs.Before.{IsRunBefore};
 
 use crate::counts::Counts;
 use crate::editing::make_edits;
 use crate::former::restore;
 use crate::given::Given;
 use crate::marks::{args_marks, first_marks};
+use crate::opening::opened;
 use crate::places::processes_where;
-use crate::reopening::reopened;
 use crate::superstep::advance;
 use crate::workers::Workers;
 use crate::{Edit, Update};
@@ -26,28 +26,25 @@ use bsp_step::Program;
 use std::alloc::Global;
 use std::thread::Threads;
 
-/// The run of a program on a lawful input, made against the run before, of the same program and as many processes: a turn is taken only where the
-/// recorded one does not serve, and a delivery is made only where it depends on something else. `tape` is open, and `marks` are those of
-/// superstep 0.
+/// The run of a program on a lawful input, made against the run before, if there was one, of the same program and as many processes: a turn is
+/// taken only where the recorded one does not serve, and a delivery is made only where it depends on something else.
 pub fn rerun<P: Program, G: Gate, R: Threads + Sync>(
     workers: &Workers<'_, R, G>,
     alloc: Global,
     program: &P,
     old: Option<&History>,
     input: &Input,
-    mut tape: Tape,
-    mut marks: Vec<bool>,
     counts: &mut Counts,
 ) -> Result<(History, Update), OutOfMemory>
     requires lawful { input_fault input.now ≡ None }
     requires before { IsRunBefore (turn_of (P.acts program.now) (P.ending program.now)) input.now (option_map (λ k. k.now) old) }
-    requires open { tape ≡ start input.now }
-    requires marks { AreFirstMarked (option_map (λ k. k.now) old) input.now marks.items }
     ensures run { IfOk result (λ r. r.0 ≡ run (turn_of (P.acts program.now) (P.ending program.now)) input.now) }
     ensures update { IfOk result (λ r. IsUpdate (P.looks program.now) (option_map (λ k. k.now) old.entry) r.0 r.1) }
 {
     let always = args_marks(alloc, old, input)?;
     let other_args = processes_where(alloc, always.as_slice())?;
+    let mut marks = first_marks(alloc, old, input, always.as_slice())?;
+    let mut tape = opened(alloc, old, input, marks.as_slice())?;
     let mut update = Update {
         executed: Seq::new(alloc),
         redelivered: Seq::new(alloc),
@@ -79,34 +76,6 @@ fn finished(old: Option<&History>, tape: Tape) -> Result<History, OutOfMemory>
     }
 }
 
-/// The run of an edited input, made against the run before.
-pub fn rerun_after<P: Program, G: Gate, R: Threads + Sync>(
-    workers: &Workers<'_, R, G>,
-    alloc: Global,
-    program: &P,
-    old: &History,
-    input: &Input,
-    counts: &mut Counts,
-) -> Result<(History, Update), OutOfMemory>
-    requires lawful { input_fault input.now ≡ None }
-    requires before { IsRunOf (turn_of (P.acts program.now) (P.ending program.now)) input.now old.now }
-    ensures run { IfOk result (λ r. r.0 ≡ run (turn_of (P.acts program.now) (P.ending program.now)) input.now) }
-    ensures update { IfOk result (λ r. IsUpdate (P.looks program.now) (Some old.now) r.0 r.1) }
-{
-    let marks = first_marks(alloc, Some(old), input)?;
-    let tape = reopened(alloc, old, input, marks.as_slice())?;
-    Ok(rerun(
-        workers,
-        alloc,
-        program,
-        Some(old),
-        input,
-        tape,
-        marks,
-        counts,
-    )?)
-}
-
 /// Edits an input and makes its run again, against the run of the input as it was. After `OutOfMemory` the input is as before.
 pub fn rerun_edited<P: Program, G: Gate, R: Threads + Sync>(
     workers: &Workers<'_, R, G>,
@@ -126,7 +95,7 @@ pub fn rerun_edited<P: Program, G: Gate, R: Threads + Sync>(
     ensures err { OnErr result (input.new ≡ input.old) }
 {
     let formers = make_edits(alloc, input, edits)?;
-    match rerun_after(workers, alloc, program, old, input, counts) {
+    match rerun(workers, alloc, program, Some(old), input, counts) {
         Ok(done) => Ok(done),
         Err(error) => {
             restore(input, formers);

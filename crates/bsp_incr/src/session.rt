@@ -2,13 +2,12 @@
 
 use crate::counts::Counts;
 use crate::editing::{are_there, refusal_of};
-use crate::marks::first_marks;
 use crate::rerun::{rerun, rerun_edited};
 use crate::workers::Workers;
 use crate::{Edit, EditError, Update};
 use bsp_model::{Input, Seq};
 use bsp_pool::Gate;
-use bsp_run::{History, RunError, Tape};
+use bsp_run::{History, RunError};
 use bsp_step::Program;
 use std::alloc::Global;
 use std::marker::Model;
@@ -63,24 +62,17 @@ impl<P: Program + Drop> Session<P> {
         ensures lawful { OnOk result (input_fault input ≡ None) }
         ensures input { IfErr result (λ e. input_fault input ≡ input_fault_of e) }
     {
+        match input.check() {
+            Ok(()) => {}
+            Err(fault) => return Err(RunError::Input(fault)),
+        }
         let workers = Workers {
             rt,
             count: workers,
             gate,
         };
-        let tape = Tape::open(alloc, &input)?;
-        let marks = first_marks(alloc, None, &input)?;
         let mut counts = Counts::new();
-        let (history, update) = rerun(
-            &workers,
-            alloc,
-            &program,
-            None,
-            &input,
-            tape,
-            marks,
-            &mut counts,
-        )?;
+        let (history, update) = rerun(&workers, alloc, &program, None, &input, &mut counts)?;
         let session = Session {
             program,
             input,

@@ -6,7 +6,7 @@ ghost use Rattle.bsp_run.specs.Run.{after_turns, open_views, advance};
 ghost use Rattle.bsp_run.specs.Condition.{is_open, is_turned};
 ghost use Rattle.bsp_incr.specs.Changes.{differ_in};
 ghost use Rattle.bsp_incr.specs.Marks.{ViewsDifferAtMost, HaveOneTable};
-ghost use Rattle.bsp_incr.specs.Before.{taken_before, IsBefore, AreArgsMarked, IsUnderWay};
+ghost use Rattle.bsp_incr.specs.Before.{taken_before, IsBefore, IsUnderWay};
 
 use crate::before::{outcomes_before, taken_before};
 use crate::counts::Counts;
@@ -66,8 +66,6 @@ fn make_again<P: Program, G: Gate, R: Threads + Sync>(
     counts: &mut Counts,
 ) -> Result<(), OutOfMemory>
     requires open { is_open tape.old.phase ≡ true }
-    requires before { IsBefore (turn_of (P.acts given.now.program.now) (P.ending given.now.program.now)) given.now.input.now (option_map (λ k. k.now) given.now.old) }
-    requires always { AreArgsMarked (option_map (λ k. k.now) given.now.old) given.now.input.now given.now.always.now }
     requires doubtful { ViewsDifferAtMost (taken_before (option_map (λ k. k.now) given.now.old) (length tape.old.past)) (open_views tape.old) doubtful.now }
     requires under_way { IsUnderWay (turn_of (P.acts given.now.program.now) (P.ending given.now.program.now)) (P.looks given.now.program.now) (option_map (λ k. k.now) given.now.old) given.now.input.now tape.old marks.old.items update.old }
     ensures tape { OnOk result (tape.new ≡ advance (turn_of (P.acts given.now.program.now) (P.ending given.now.program.now)) tape.old) }
@@ -102,8 +100,6 @@ pub fn advance<P: Program, G: Gate, R: Threads + Sync>(
     counts: &mut Counts,
 ) -> Result<(), OutOfMemory>
     requires between { is_turned tape.old.phase ≡ false }
-    requires before { IsBefore (turn_of (P.acts given.now.program.now) (P.ending given.now.program.now)) given.now.input.now (option_map (λ k. k.now) given.now.old) }
-    requires always { AreArgsMarked (option_map (λ k. k.now) given.now.old) given.now.input.now given.now.always.now }
     requires under_way { IsUnderWay (turn_of (P.acts given.now.program.now) (P.ending given.now.program.now)) (P.looks given.now.program.now) (option_map (λ k. k.now) given.now.old) given.now.input.now tape.old marks.old.items update.old }
     ensures tape { OnOk result (tape.new ≡ advance (turn_of (P.acts given.now.program.now) (P.ending given.now.program.now)) tape.old) }
     ensures under_way { OnOk result (IsUnderWay (turn_of (P.acts given.now.program.now) (P.ending given.now.program.now)) (P.looks given.now.program.now) (option_map (λ k. k.now) given.now.old) given.now.input.now tape.new marks.new.items update.new) }

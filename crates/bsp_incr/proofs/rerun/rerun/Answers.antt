@@ -5,7 +5,9 @@ use Rattle.bsp_model.proofs.Inputs.{lawful_input}
 use Rattle.bsp_step.specs.Turn.{turn_of}
 use Rattle.bsp_run.specs.Run.{Run, start, advance, times, run}
 use Rattle.bsp_run.proofs.Runs.{IsBetween, start-between, advance-between, ended-between, times_more}
+use Rattle.bsp_incr.specs.Before.{AreArgsMarked}
 use Rattle.bsp_incr.specs.Changes.{IsUpdate, processes_where}
+use Rattle.bsp_incr.proofs.FirstViews.{had_first_views}
 use Rattle.bsp_incr.proofs.Remaking.{under_way_start, before_is}
 use Rattle.bsp_incr.proofs.rerun.rerun.Goals as goal
 
@@ -17,11 +19,11 @@ loop-step-init g c =
     let input : Input = c.args.input.now in
     let old : Option Run = option_map (λ k. k.now) c.args.old in
     let all : input.limit - 0 ≡ input.limit = omega arith in
-    let opened = c.requires.open in
+    let opened = c.in_ok-tape.ensures in
     record {
-      rest = ap (λ n. times n f c.args.tape) all ∙ ap (times input.limit f) opened;
+      rest = ap (λ n. times n f c.in_ok-tape.tape) all ∙ ap (times input.limit f) opened;
       between = subst (IsBetween (input.limit - 0)) (sym opened) (subst (λ n. IsBetween n (start input)) (sym all) (start-between input (lawful_input input c.requires.lawful).some_superstep));
-      under_way = under_way_start turn (g.P.Program.looks c.args.program.now) old input c.args.tape c.args.marks.items record { executed = c.new.result; redelivered = c.new-2.result } opened (lawful_input input c.requires.lawful).some_superstep (before_is turn input old c.requires.before) c.requires.marks c.new.ensures c.new-2.ensures;
+      under_way = under_way_start turn (g.P.Program.looks c.args.program.now) old input c.in_ok-tape.tape c.in_ok-marks.marks.items record { executed = c.new.result; redelivered = c.new-2.result } opened (lawful_input input c.requires.lawful).some_superstep (before_is turn input old c.requires.before) c.in_ok-marks.ensures c.new.ensures c.new-2.ensures;
     }
 
 pub loop-step-preserved : goal.loop-step-preserved
@@ -51,13 +53,14 @@ pub returns-clause-update : goal.returns-clause-update
 returns-clause-update g c =
     subst (λ (r : Run). IsUpdate (g.P.Program.looks c.args.program.now) (option_map (λ k. k.now) c.args.old) r c.loop-step.update) (sym c.in_ok-history.ensures) c.loop-step.invariant.under_way.updated
 
-pub advance-requires-clause-before : goal.advance-requires-clause-before
-advance-requires-clause-before g c κs within =
-    before_is (turn_of (g.P.Program.acts c.args.program.now) (g.P.Program.ending c.args.program.now)) c.args.input.now (option_map (λ k. k.now) c.args.old) c.requires.before
+pub opened-requires-clause-first : goal.opened-requires-clause-first
+opened-requires-clause-first g c =
+    had_first_views (turn_of (g.P.Program.acts c.args.program.now) (g.P.Program.ending c.args.program.now)) c.args.input.now (option_map (λ k. k.now) c.args.old) c.requires.before
 
 pub invariant_of-given : goal.invariant_of-given
 invariant_of-given g c =
     record {
+      marked = subst (AreArgsMarked (option_map (λ k. k.now) c.args.old) c.args.input.now) (sym c.as_slice-4.ensures.value) c.in_ok-always.ensures;
       lawful = c.requires.lawful;
-      listed = c.as_slice-3.ensures.value ∙ c.in_ok-other_args.ensures ∙ ap (λ (bs : List Bool). processes_where (length bs) (λ p. get_or bs p false)) (c.as_slice.ensures.value ∙ sym c.as_slice-2.ensures.value);
+      listed = c.as_slice-5.ensures.value ∙ c.in_ok-other_args.ensures ∙ ap (λ (bs : List Bool). processes_where (length bs) (λ p. get_or bs p false)) (c.as_slice.ensures.value ∙ sym c.as_slice-4.ensures.value);
     }

@@ -4,12 +4,12 @@ use Rattle.bsp_model.specs.Input.{input_fault}
 use Rattle.bsp_incr.proofs.Lawful.{edited_lawful, edited_count}
 use Rattle.bsp_incr.proofs.rerun.rerun_edited.Goals as goal
 
-pub rerun_after-requires-clause-lawful : goal.rerun_after-requires-clause-lawful
-rerun_after-requires-clause-lawful g c κs within =
+pub rerun-requires-clause-lawful : goal.rerun-requires-clause-lawful
+rerun-requires-clause-lawful g c κs within =
     subst (λ (i : Input). input_fault i ≡ None) (sym c.in_ok-formers.ensures.made) (edited_lawful c.args.input.now c.args.edits.now c.requires.accepted c.requires.lawful)
 
-pub rerun_after-requires-clause-before : goal.rerun_after-requires-clause-before
-rerun_after-requires-clause-before g c κs within =
+pub rerun-requires-clause-before : goal.rerun-requires-clause-before
+rerun-requires-clause-before g c κs within =
     record {
       input_before = c.args.input.now;
       lawful = c.requires.lawful;

@@ -37,7 +37,7 @@ doubtful-requires-clause-old_table g c =
     let old : Option Run = option_map (λ k. k.now) c.args.given.now.old in
     let r : Run = c.args.tape.now in
     let before = c.taken_before-old_views.ensures ∙ ap (taken_before old) c.step-step.ensures in
-    subst HaveOneTable (sym before) (table_before turn c.args.given.now.input.now old (length r.past) c.requires.before)
+    subst HaveOneTable (sym before) (table_before turn c.args.given.now.input.now old (length r.past) c.requires.under_way.before)
 
 pub doubtful-requires-clause-table : goal.doubtful-requires-clause-table
 doubtful-requires-clause-table g c =
@@ -55,7 +55,7 @@ doubtful-requires-clause-count g c =
     let before = c.taken_before-old_views.ensures ∙ ap (taken_before old) c.step-step.ensures in
     let now = c.views.ensures.views ∙ views_shown-open r (sym c.if-not-is_open.ensures) ∙ open_views-in turn c.args.given.now.input.now r c.requires.under_way.made in
     subst (λ (vs : List ViewParts). 0 < length vs → length vs ≡ length c.views.result.now) (sym before)
-    (count_taken turn c.args.given.now.input.now old (length r.past) c.views.result.now c.requires.before now)
+    (count_taken turn c.args.given.now.input.now old (length r.past) c.views.result.now c.requires.under_way.before now)
 
 pub take_over-requires : goal.take_over-requires
 take_over-requires g c =
@@ -67,7 +67,7 @@ take_over-requires g c =
     let r : Run = c.args.tape.now in
     let started = sym c.if-not-is_open.ensures in
     let now = c.views.ensures.views ∙ views_shown-open r started in
-    let stays = staying_whole turn j (option_map (λ k. k.now) c.args.given.now.old) old r c.step-step.result c.taken_before-old_views.result.now c.views.result.now c.in_ok-doubtful.doubtful.items c.as_slice-2.result.now c.requires.before c.in-Some.ensures c.requires.under_way.made started (lawful_input c.args.given.now.input.now c.args.given.now.lawful).some_process
+    let stays = staying_whole turn j (option_map (λ k. k.now) c.args.given.now.old) old r c.step-step.result c.taken_before-old_views.result.now c.views.result.now c.in_ok-doubtful.doubtful.items c.as_slice-2.result.now c.requires.under_way.before c.in-Some.ensures c.requires.under_way.made started (lawful_input c.args.given.now.input.now c.args.given.now.lawful).some_process
     c.step-step.ensures c.taken_before-old_views.ensures now c.as_slice-2.ensures.value c.in_ok-doubtful.ensures in
     let within = subst (All IsView) now (c.views.ensures.limits (open_phase r.phase started)) in
     can_take_over acts ending stays.0.input_before j old r stays.0.made c.requires.under_way.made (open_phase r.phase started) (lawful_input c.args.given.now.input.now c.args.given.now.lawful).some_process stays.0.count within stays.1.past stays.1.seen
@@ -82,7 +82,7 @@ returns-in-Some-clause-tape g c =
     let r : Run = c.args.tape.now in
     let started = sym c.if-not-is_open.ensures in
     let now = c.views.ensures.views ∙ views_shown-open r started in
-    let stays = staying_whole turn j (option_map (λ k. k.now) c.args.given.now.old) old r c.step-step.result c.taken_before-old_views.result.now c.views.result.now c.in_ok-doubtful.doubtful.items c.as_slice-2.result.now c.requires.before c.in-Some.ensures c.requires.under_way.made started (lawful_input c.args.given.now.input.now c.args.given.now.lawful).some_process
+    let stays = staying_whole turn j (option_map (λ k. k.now) c.args.given.now.old) old r c.step-step.result c.taken_before-old_views.result.now c.views.result.now c.in_ok-doubtful.doubtful.items c.as_slice-2.result.now c.requires.under_way.before c.in-Some.ensures c.requires.under_way.made started (lawful_input c.args.given.now.input.now c.args.given.now.lawful).some_process
     c.step-step.ensures c.taken_before-old_views.ensures now c.as_slice-2.ensures.value c.in_ok-doubtful.ensures in
     c.in_ok-take_over.ensures.ok ∙ ap (λ (os : List OutcomeParts). after_delivery (after_turns r os)) (left turn stays.0.input_before j old r stays.1)
     ∙ sym (advance-delivers turn r (open_phase r.phase started) (goes_on turn stays.0.input_before j old r stays.1))
@@ -97,7 +97,7 @@ returns-in-Some-clause-under_way g c =
     let r : Run = c.args.tape.now in
     let started = sym c.if-not-is_open.ensures in
     let now = c.views.ensures.views ∙ views_shown-open r started in
-    let stays = staying_whole turn j (option_map (λ k. k.now) c.args.given.now.old) old r c.step-step.result c.taken_before-old_views.result.now c.views.result.now c.in_ok-doubtful.doubtful.items c.as_slice-2.result.now c.requires.before c.in-Some.ensures c.requires.under_way.made started (lawful_input c.args.given.now.input.now c.args.given.now.lawful).some_process
+    let stays = staying_whole turn j (option_map (λ k. k.now) c.args.given.now.old) old r c.step-step.result c.taken_before-old_views.result.now c.views.result.now c.in_ok-doubtful.doubtful.items c.as_slice-2.result.now c.requires.under_way.before c.in-Some.ensures c.requires.under_way.made started (lawful_input c.args.given.now.input.now c.args.given.now.lawful).some_process
     c.step-step.ensures c.taken_before-old_views.ensures now c.as_slice-2.ensures.value c.in_ok-doubtful.ensures in
     let made = c.in_ok-take_over.ensures.ok ∙ ap (λ (os : List OutcomeParts). after_delivery (after_turns r os)) (left turn stays.0.input_before j old r stays.1) in
     subst (λ before. IsUnderWay turn (g.P.Program.looks c.args.given.now.program.now) before j c.take_over.new.self c.args.marks.now.items c.args.update.now) (sym c.in-Some.ensures.2)

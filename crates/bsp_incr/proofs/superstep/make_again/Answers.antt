@@ -22,7 +22,7 @@ pub take_turns-requires-clause-count : goal.take_turns-requires-clause-count
 take_turns-requires-clause-count g c κs within =
     let turn = turn_of (g.P.Program.acts c.args.given.now.program.now) (g.P.Program.ending c.args.given.now.program.now) in
     let r : Run = c.args.tape.now in
-    count_taken turn c.args.given.now.input.now (option_map (λ k. k.now) c.args.given.now.old) (length r.past) (open_views r) c.requires.before (open_views-in turn c.args.given.now.input.now r c.requires.under_way.made)
+    count_taken turn c.args.given.now.input.now (option_map (λ k. k.now) c.args.given.now.old) (length r.past) (open_views r) c.requires.under_way.before (open_views-in turn c.args.given.now.input.now r c.requires.under_way.made)
 
 pub make_deliveries-requires-clause-count : goal.make_deliveries-requires-clause-count
 make_deliveries-requires-clause-count g c κs within =
@@ -35,16 +35,16 @@ make_deliveries-requires-clause-count g c κs within =
     let outcomes = ap (λ (x : Run). x.outcomes) is ∙ outcomes-turned r us in
     λ some.
     ap (λ n. length (delivered_outcomes old n)) steps
-    ∙ count_before turn c.args.given.now.input.now old (length r.past) c.requires.before (subst (λ n. 0 < length (delivered_outcomes old n)) steps some)
+    ∙ count_before turn c.args.given.now.input.now old (length r.past) c.requires.under_way.before (subst (λ n. 0 < length (delivered_outcomes old n)) steps some)
     ∙ sym (ap (λ (os : List OutcomeParts). length os) (outcomes ∙ turns-in turn c.args.given.now.input.now r c.requires.under_way.made))
 
 pub make_deliveries-requires-clause-next : goal.make_deliveries-requires-clause-next
 make_deliveries-requires-clause-next g c κs within =
-    delivered_before_is (turn_of (g.P.Program.acts c.args.given.now.program.now) (g.P.Program.ending c.args.given.now.program.now)) c.args.given.now.input.now (option_map (λ k. k.now) c.args.given.now.old) (length c.take_turns.new.tape.past) c.requires.before
+    delivered_before_is (turn_of (g.P.Program.acts c.args.given.now.program.now) (g.P.Program.ending c.args.given.now.program.now)) c.args.given.now.input.now (option_map (λ k. k.now) c.args.given.now.old) (length c.take_turns.new.tape.past) c.requires.under_way.before
 
 pub make_deliveries-requires-clause-old_table : goal.make_deliveries-requires-clause-old_table
 make_deliveries-requires-clause-old_table g c κs within =
-    table_after (turn_of (g.P.Program.acts c.args.given.now.program.now) (g.P.Program.ending c.args.given.now.program.now)) c.args.given.now.input.now (option_map (λ k. k.now) c.args.given.now.old) (length c.take_turns.new.tape.past) c.requires.before
+    table_after (turn_of (g.P.Program.acts c.args.given.now.program.now) (g.P.Program.ending c.args.given.now.program.now)) c.args.given.now.input.now (option_map (λ k. k.now) c.args.given.now.old) (length c.take_turns.new.tape.past) c.requires.under_way.before
 
 pub make_deliveries-requires-clause-doubtful : goal.make_deliveries-requires-clause-doubtful
 make_deliveries-requires-clause-doubtful g c κs within =
@@ -55,7 +55,7 @@ make_deliveries-requires-clause-doubtful g c κs within =
     let is = c.in_ok-delivers.ensures.turned in
     let steps = ap (λ (x : Run). length x.past) is ∙ ap (λ (xs : List Superstep). length xs) (past-turned r us) in
     let outcomes = ap (λ (x : Run). x.outcomes) is ∙ outcomes-turned r us in
-    let unchanged = unchanged_among turn c.args.given.now.input.now old (length r.past) (open_views r) c.args.doubtful.now c.requires.before (open_views-in turn c.args.given.now.input.now r c.requires.under_way.made) c.requires.doubtful in
+    let unchanged = unchanged_among turn c.args.given.now.input.now old (length r.past) (open_views r) c.args.doubtful.now c.requires.under_way.before (open_views-in turn c.args.given.now.input.now r c.requires.under_way.made) c.requires.doubtful in
     subst (λ (os : List OutcomeParts). OutcomesDifferAtMost (delivered_outcomes old (length c.take_turns.new.tape.past)) os c.args.doubtful.now) (sym outcomes)
     (subst (λ n. OutcomesDifferAtMost (delivered_outcomes old n) us c.args.doubtful.now) (sym steps) unchanged)
 
@@ -69,7 +69,7 @@ make_deliveries-requires-clause-alike g c κs within =
     let steps = ap (λ (x : Run). length x.past) is ∙ ap (λ (xs : List Superstep). length xs) (past-turned r us) in
     let made : IsRecord turn c.args.given.now.input.now c.take_turns.new.tape = subst (IsRecord turn c.args.given.now.input.now) (sym is) (IsRecord-turned turn c.args.given.now.input.now r c.requires.under_way.made (open_phase r.phase c.requires.open)) in
     let outcomes = ap (λ (x : Run). x.outcomes) is ∙ outcomes-turned r us ∙ turns-in turn c.args.given.now.input.now r c.requires.under_way.made ∙ ap (outcomes_in turn c.args.given.now.input.now) (sym steps) in
-    alike_after turn c.args.given.now.input.now old c.take_turns.new.tape c.args.given.now.always.now c.requires.before c.requires.always made outcomes
+    alike_after turn c.args.given.now.input.now old c.take_turns.new.tape c.args.given.now.always.now c.requires.under_way.before c.args.given.now.marked made outcomes
 
 pub make_deliveries-requires-clause-always : goal.make_deliveries-requires-clause-always
 make_deliveries-requires-clause-always g c κs within =
@@ -78,7 +78,7 @@ make_deliveries-requires-clause-always g c κs within =
     let r : Run = c.args.tape.now in
     let us = map turn (open_views r) in
     let outcomes = ap (λ (x : Run). x.outcomes) c.in_ok-delivers.ensures.turned ∙ outcomes-turned r us ∙ turns-in turn c.args.given.now.input.now r c.requires.under_way.made in
-    c.requires.always.count ∙ sym (count-outcomes_in turn c.args.given.now.input.now (length r.past)) ∙ sym (ap (λ (os : List OutcomeParts). length os) outcomes)
+    c.args.given.now.marked.count ∙ sym (count-outcomes_in turn c.args.given.now.input.now (length r.past)) ∙ sym (ap (λ (os : List OutcomeParts). length os) outcomes)
 
 pub returns-clause-tape : goal.returns-clause-tape
 returns-clause-tape g c =
@@ -102,8 +102,8 @@ returns-clause-under_way g c =
     let delivers = ap (λ (x : Run). is_turned x.phase) (sym is) ∙ sym c.in_ok-delivers.ensures.answer ∙ c.if-not-delivers.false in
     let all : ℕ → List OutcomeParts → List Bool = λ n os. each_below (length os) (λ d. is_touched (delivered_outcomes old n) os d || get_or always d true) in
     let places : ℕ → List OutcomeParts → List Place = λ n os. c.args.update.now.redelivered ++ touched_in n (delivered_outcomes old n) os in
-    under_way_delivered turn looks old c.args.given.now.input.now r c.make_deliveries.new.tape always c.args.marks.now.items c.in_ok-next.next.items c.args.update.now record { executed = c.take_turns.new.executed; redelivered = c.make_deliveries.new.redelivered }
-    c.requires.open delivers c.requires.before c.requires.always c.requires.under_way
+    under_way_delivered turn looks old c.args.given.now.input.now always r c.make_deliveries.new.tape c.args.marks.now.items c.in_ok-next.next.items c.args.update.now record { executed = c.take_turns.new.executed; redelivered = c.make_deliveries.new.redelivered }
+    c.requires.open delivers c.args.given.now.marked c.requires.under_way
     (c.in_ok-next.ensures.tape ∙ ap after_delivery is)
     (c.in_ok-next.ensures.marks ∙ ap (λ n. all n c.take_turns.new.tape.outcomes) steps ∙ ap (all (length r.past)) outcomes)
     c.in_ok-delivers.ensures.executed
@@ -127,7 +127,7 @@ returns-then-not-delivers-clause-under_way g c =
 
 pub take_turns-requires-clause-old_table : goal.take_turns-requires-clause-old_table
 take_turns-requires-clause-old_table g c κs within =
-    table_before (turn_of (g.P.Program.acts c.args.given.now.program.now) (g.P.Program.ending c.args.given.now.program.now)) c.args.given.now.input.now (option_map (λ k. k.now) c.args.given.now.old) (length c.args.tape.now.past) c.requires.before
+    table_before (turn_of (g.P.Program.acts c.args.given.now.program.now) (g.P.Program.ending c.args.given.now.program.now)) c.args.given.now.input.now (option_map (λ k. k.now) c.args.given.now.old) (length c.args.tape.now.past) c.requires.under_way.before
 
 pub take_turns-requires-clause-table : goal.take_turns-requires-clause-table
 take_turns-requires-clause-table g c κs within =

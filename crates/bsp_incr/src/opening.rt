@@ -1,8 +1,9 @@
-//! The opening of a run that is made again.
+//! The opening of a run, which shares what it can with the run before.
 
-ghost use Rattle.std.specs.Prelude.{◌≡◌, ◌<◌, All, IfOk, None, Some, length, map};
+ghost use Rattle.std.specs.Prelude.{◌≡◌, ◌<◌, All, IfOk, None, Some, length, map, option_map};
+ghost use Rattle.std.specs.Option.{ForSome};
 ghost use Rattle.bsp_model.specs.Input.{input_fault};
-ghost use Rattle.bsp_run.specs.Run.{start};
+ghost use Rattle.bsp_run.specs.Run.{start, open_views};
 ghost use Rattle.bsp_run.specs.State.{first_state, view_of};
 ghost use Rattle.bsp_incr.specs.Before.{AreFirstMarked, HasFirstViews};
 
@@ -31,23 +32,42 @@ fn first_views(
     Ok(views)
 }
 
-/// A run of an input whose superstep 0 is open. Of the run before it takes what the processes see that are not marked.
-pub fn reopened(
+/// What the processes see in superstep 0. What those see that are not marked is taken from the run before.
+fn views_again(
     alloc: Global,
     old: &History,
     input: &Input,
     marks: &[bool],
-) -> Result<Tape, OutOfMemory>
+) -> Result<SharedSeq<Shared<View>>, OutOfMemory>
     requires lawful { input_fault input.now ≡ None }
     requires first { HasFirstViews input.now old.now }
     requires marks { AreFirstMarked (Some old.now) input.now marks.now }
-    ensures { IfOk result (λ tape. tape ≡ start input.now) }
+    ensures { IfOk result (λ views. views ≡ open_views (start input.now)) }
 {
     let marked = processes_where(alloc, marks)?;
     let mut views = copied(alloc, first_views_before(old))?;
     let new = first_views(alloc, input, marked.as_slice())?;
     put_at(&mut views, marked.as_slice(), new);
-    match Tape::open_as(alloc, input, SharedSeq::from_vec(views)?) {
+    Ok(SharedSeq::from_vec(views)?)
+}
+
+/// A run of an input whose superstep 0 is open. Of the run before, if there was one, it takes what the processes see that are not marked.
+pub fn opened(
+    alloc: Global,
+    old: Option<&History>,
+    input: &Input,
+    marks: &[bool],
+) -> Result<Tape, OutOfMemory>
+    requires lawful { input_fault input.now ≡ None }
+    requires first { ForSome (option_map (λ k. k.now) old) (HasFirstViews input.now) }
+    requires marks { AreFirstMarked (option_map (λ k. k.now) old) input.now marks.now }
+    ensures { IfOk result (λ tape. tape ≡ start input.now) }
+{
+    let opened = match old {
+        Some(history) => Tape::open_as(alloc, input, views_again(alloc, history, input, marks)?),
+        None => Tape::open(alloc, input),
+    };
+    match opened {
         Ok(tape) => Ok(tape),
         Err(RunError::OutOfMemory) => Err(AllocError),
         Err(RunError::Input(_)) => unreachable!(),

@@ -3,7 +3,7 @@ use Rattle.bsp_run.specs.State.{first_state, view_of}
 use Rattle.bsp_incr.specs.Changes.{processes_where}
 use Rattle.bsp_incr.proofs.Gathering.{listed_below}
 use Rattle.bsp_incr.proofs.FirstViews.{first_views_in_place}
-use Rattle.bsp_incr.proofs.reopening.reopened.Goals as goal
+use Rattle.bsp_incr.proofs.opening.views_again.Goals as goal
 
 pub first_views-requires-clause-known : goal.first_views-requires-clause-known
 first_views-requires-clause-known c =
@@ -22,8 +22,8 @@ put_at-requires-clause-known c =
     let made = first_views_in_place c.args.old.now input marks c.in_ok-views.views.items (map (view_of input.args 0 (first_state input)) marked) marked seen c.requires.first c.requires.marks listed (λ i. map (view_of input.args 0 (first_state input)) marked) in
     subst (λ n. All (λ p. p < n) marked) (sym made.0) (listed_below (length input.mems) test marked (listed ∙ ap (λ n. processes_where n test) c.requires.marks.count))
 
-pub open_as-requires : goal.open_as-requires
-open_as-requires c =
+pub returns : goal.returns
+returns c =
     let marks = c.args.marks.now in
     let input = c.args.input.now in
     let marked = c.as_slice-2.result.now in
