@@ -36,6 +36,14 @@ def examples():
     return [Case(f"examples/{name}", f"{folder}/{name}.toml", bytes_of(f"{folder}/{name}.txt")) for name in names]
 
 
+def stored_run(crate):
+    """The document with which a crate's program is run where it is proved, with its report; none where the crate has none."""
+    folder = f"{ROOT}/crates/{crate}"
+    if not os.path.isfile(f"{folder}/stdin"):
+        return []
+    return [Case(f"{crate}: its stored run", f"{folder}/stdin", bytes_of(f"{folder}/stdout"))]
+
+
 def without_updates(report):
     """The report of the same document from scratch."""
     return b"".join(line for line in report.splitlines(True) if not line.startswith(b"executed "))
@@ -86,6 +94,15 @@ def difference(what, found, wanted):
     return [f"{what}, line {at + 1}: {row!r} in place of {other!r}"]
 
 
+def unlike(case, report, error, status):
+    """What of an answer is not what must come of the case's document."""
+    found = difference("standard output", report, case.report)
+    found += difference("standard error", error, case.error)
+    if status != case.status:
+        found.append(f"status {status} in place of {case.status}")
+    return [f"{case.name}: {it}" for it in found]
+
+
 def differences(program, case):
     if isinstance(case, str):
         return [case]
@@ -93,8 +110,4 @@ def differences(program, case):
         ended = run(program, case)
     except subprocess.TimeoutExpired:
         return [f"{case.name}: no end after {SECONDS} seconds"]
-    found = difference("standard output", ended.stdout or b"", case.report)
-    found += difference("standard error", ended.stderr, case.error)
-    if ended.returncode != case.status:
-        found.append(f"status {ended.returncode} in place of {case.status}")
-    return [f"{case.name}: {it}" for it in found]
+    return unlike(case, ended.stdout or b"", ended.stderr, ended.returncode)

@@ -44,9 +44,10 @@ def draw_bundled(draw):
 
 
 def draw_heat(draw):
-    """Rods of few cells, mostly of one length, for few time steps."""
+    """Rods of few cells, in pieces of one length or of any, for few time steps."""
     nprocs, length, steps = draw.randint(1, 5), 2 if draw.happens(0.03) else draw.randint(3, 6), draw.randrange(5)
-    lengths = [length + (draw.choice((-1, 1)) if draw.happens(0.05) else 0) for _ in range(nprocs)]
+    is_even = draw.happens(0.5)
+    lengths = [length if is_even else 2 if draw.happens(0.02) else draw.randint(3, 6) for _ in range(nprocs)]
     memories = [[draw.choice((0, 0, 0, 10, 100, 1000, LARGEST)) for _ in range(count)] for count in lengths]
     args = [[steps + draw.happens(0.02)] for _ in range(nprocs)]
     return "heat", memories, args

@@ -5,8 +5,8 @@ usage: ci/model.py TOOL [--workers N] [--scratch] < DOCUMENT
 
 TOOL is bsp_tool, heat or bsp_script. Report, standard error and exit status are those of the program of that name; the number of workers counts for
 nothing. Every process of every superstep is run, what is delivered is said word by word, and two whole runs are compared: nothing is reused, so the
-model is for small inputs. It reads TOML 1.0 by `tomllib`: what TOML 1.1 added (newlines in inline tables, `\\e`, `\\x`, times without seconds) is
-refused here and not by the programs.
+model is for small inputs. A run of heat that halts is compared with the rod in one piece too (modelled/rods.py). It reads TOML 1.0 by `tomllib`: what
+TOML 1.1 added (newlines in inline tables, `\\e`, `\\x`, times without seconds) is refused here and not by the programs.
 """
 from __future__ import annotations
 
@@ -60,6 +60,7 @@ def report_of(job: Job, scratch: bool) -> str:
         for edit in batch:
             given = edit.make(given)
         old, made = made, run(job.program, given)
+        job.program.check(made)
         lines += result_lines(made)
         if not scratch:
             lines.append(line("executed", count_executed(job.program, old, made), "redelivered", count_redelivered(old, made)))

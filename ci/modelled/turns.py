@@ -210,6 +210,9 @@ class Program:
     def looks(self, view: View, address: int) -> bool:
         raise NotImplementedError
 
+    def check(self, made) -> None:
+        """Fails where a whole run is not what the program is for, and that can be said without processes."""
+
 
 def turn(program: Program, view: View) -> Outcome:
     """What a program's turn at a view leaves. A turn with a fault ends by halt."""

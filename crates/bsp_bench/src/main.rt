@@ -1,7 +1,7 @@
 //! Measurements of runs and updates, on inputs that are made in memory. Each call does one thing, so that callgrind shows what that takes.
 //!
 //! Without words it runs the sums of all prefixes, and prints the total cost, a fixed line. With words it prints the microseconds too:
-//! `plain-prefix`, `plain-matrix` (`run_plain`), `wide-prefix N`, `wide-matrix N`, `multiply N` (`run_wide` with N workers), `open-prefix`,
+//! `plain-prefix`, `plain-matrix` (`run_plain`), `wide-prefix N`, `wide-matrix N`, `multiply N [TIMES]` (`run_wide` with N workers), `open-prefix`,
 //! `update-prefix PID VALUE` (a session), `prefix-input`, `matrix-input` (no run).
 #![tactic(auto)]
 

@@ -4,32 +4,34 @@ use crate::inputs;
 use crate::kernel::Squaring;
 use anyhow::{Context, Result, bail, ensure};
 use bsp_incr::{Edit, Session};
-use bsp_model::Input;
-use bsp_pool::Open;
+use bsp_model::{Input, OutOfMemory};
+use bsp_pool::{Open, Timed};
 use bsp_programs::{MatVec, Prefix};
 use bsp_run::{run_plain, run_wide};
 use bsp_step::Program;
 use std::alloc::Global;
 use std::thread::Threads;
+use std::time::Clock;
 
-const KERNEL: Squaring = Squaring { times: 100_000 };
+/// How many multiplications each of 64 processes makes, where the words do not say.
+const MULTIPLICATIONS: u64 = 100_000;
 
 /// Does what the words of the command line ask for, the program's name being the first of them. Answers the total cost of the last run, or
 /// the number of processes where an input alone was made.
-pub fn measure<R: Threads + Sync>(rt: &R, alloc: Global, words: &[String]) -> Result<u64> {
+pub fn measure<R: Threads + Clock + Sync>(rt: &R, alloc: Global, words: &[String]) -> Result<u64> {
     let Some(name) = words.get(1) else {
-        return plain(alloc, &Prefix, &inputs::prefix(alloc)?);
+        return plain(alloc, &Prefix, inputs::prefix(alloc));
     };
     match name.as_str() {
-        "prefix-input" => Ok(inputs::prefix(alloc)?.mems.len() as u64),
-        "plain-prefix" => plain(alloc, &Prefix, &inputs::prefix(alloc)?),
-        "wide-prefix" => wide(rt, alloc, &Prefix, &inputs::prefix(alloc)?, words),
-        "open-prefix" => Ok(open_prefix(rt, alloc)?.history().total()),
-        "update-prefix" => update_prefix(rt, alloc, number_at(words, 2)?, number_at(words, 3)?),
-        "matrix-input" => Ok(inputs::matrix(alloc)?.mems.len() as u64),
-        "plain-matrix" => plain(alloc, &MatVec, &inputs::matrix(alloc)?),
-        "wide-matrix" => wide(rt, alloc, &MatVec, &inputs::matrix(alloc)?, words),
-        "multiply" => wide(rt, alloc, &KERNEL, &inputs::prefix(alloc)?, words),
+        "prefix-input" => count(inputs::prefix(alloc)),
+        "plain-prefix" => plain(alloc, &Prefix, inputs::prefix(alloc)),
+        "wide-prefix" => wide(rt, alloc, &Prefix, inputs::prefix(alloc), words),
+        "open-prefix" => opening(rt, alloc),
+        "update-prefix" => update(rt, alloc, words),
+        "matrix-input" => count(inputs::matrix(alloc)),
+        "plain-matrix" => plain(alloc, &MatVec, inputs::matrix(alloc)),
+        "wide-matrix" => wide(rt, alloc, &MatVec, inputs::matrix(alloc), words),
+        "multiply" => multiply(rt, alloc, words),
         _ => bail!("no measurement has this name"),
     }
 }
@@ -40,24 +42,40 @@ fn number_at(words: &[String], place: usize) -> Result<u64> {
     Ok(word.as_str().parse::<u64>()?)
 }
 
+/// How many processes an input has.
+fn count(input: Result<Input, OutOfMemory>) -> Result<u64> {
+    Ok(input?.mems.len() as u64)
+}
+
 /// Runs a program on one thread.
-fn plain<P: Program>(alloc: Global, program: &P, input: &Input) -> Result<u64> {
-    let history = run_plain(alloc, program, input).ok().context("no run")?;
+fn plain<P: Program>(alloc: Global, program: &P, input: Result<Input, OutOfMemory>) -> Result<u64> {
+    let history = run_plain(alloc, program, &input?).ok().context("no run")?;
     Ok(history.total())
 }
 
 /// Runs a program by so many workers as the word after the name says.
-fn wide<P: Program, R: Threads + Sync>(
+fn wide<P: Program, R: Threads + Clock + Sync>(
     rt: &R,
     alloc: Global,
     program: &P,
-    input: &Input,
+    input: Result<Input, OutOfMemory>,
     words: &[String],
 ) -> Result<u64> {
     let workers = number_at(words, 2)?;
     ensure!(0 < workers && workers <= 16, "there are 1 to 16 workers");
-    let run = run_wide(rt, alloc, program, input, workers as usize, &Open);
+    let gate = Timed::new(rt);
+    let run = run_wide(rt, alloc, program, &input?, workers as usize, &gate);
     Ok(run.ok().context("no run")?.total())
+}
+
+/// Makes so many multiplications in each process, one after the other, as the second word after the name says.
+fn multiply<R: Threads + Clock + Sync>(rt: &R, alloc: Global, words: &[String]) -> Result<u64> {
+    let times = if words.len() > 3 {
+        number_at(words, 3)?
+    } else {
+        MULTIPLICATIONS
+    };
+    wide(rt, alloc, &Squaring { times }, inputs::prefix(alloc), words)
 }
 
 /// A session on the prefix, by one worker.
@@ -67,11 +85,20 @@ fn open_prefix<R: Threads + Sync>(rt: &R, alloc: Global) -> Result<Session<Prefi
     Ok(session)
 }
 
-/// Opens that session, and makes `value` the word 0 of process `pid`.
-fn update_prefix<R: Threads + Sync>(rt: &R, alloc: Global, pid: u64, value: u64) -> Result<u64> {
+/// Opens that session.
+fn opening<R: Threads + Sync>(rt: &R, alloc: Global) -> Result<u64> {
+    Ok(open_prefix(rt, alloc)?.history().total())
+}
+
+/// Opens that session, and edits the word 0 of a process: its number and the new value are the words after the name.
+fn update<R: Threads + Sync>(rt: &R, alloc: Global, words: &[String]) -> Result<u64> {
+    let (pid, value) = (number_at(words, 2)?, number_at(words, 3)?);
     let mut session = open_prefix(rt, alloc)?;
-    let addr = 0;
-    let edit = Edit::Word { pid, addr, value };
+    let edit = Edit::Word {
+        pid,
+        addr: 0,
+        value,
+    };
     let update = session.apply(rt, alloc, &[edit], 1, &Open);
     update.ok().context("no update")?;
     Ok(session.history().total())

@@ -10,3 +10,5 @@ pub mod Formers
 pub mod SameParts
 pub mod SameDelivery
 pub mod TouchedMarks
+pub mod Gathered
+mod Origins

@@ -25,7 +25,7 @@ filter_more_no p xs i x l e t =
     ∙ append-nil (filter p (take i xs))
 
 -- one sender more adds its requests
-requests_from-more : {R : Type 0} (of : OutcomeParts → List R) (n m : ℕ) (os : List OutcomeParts) (o : OutcomeParts) → m ≡ n + length os
+pub requests_from-more : {R : Type 0} (of : OutcomeParts → List R) (n m : ℕ) (os : List OutcomeParts) (o : OutcomeParts) → m ≡ n + length os
     → requests_from of n (os ++ o ∷ []) ≡ requests_from of n os ++ map (λ r. (m, r)) (of o)
 requests_from-more of n m [] o e = let k : m ≡ n = omega arith in rw k (append-nil _)
 requests_from-more of n m (x ∷ os) o e =
@@ -43,14 +43,19 @@ passing_pairs {R = R} n p (r ∷ rs) =
     elim (p r) as (λ b. cond b ((n, r) ∷ filter (λ (s : ℕ × R). p s.1) (map (λ r. (n, r)) rs)) (filter (λ (s : ℕ × R). p s.1) (map (λ r. (n, r)) rs)) ≡ map (λ r. (n, r)) (cond b (r ∷ filter p rs) (filter p rs)))
     [ true ↦ ap (λ ys. (n, r) ∷ ys) (passing_pairs n p rs) | false ↦ passing_pairs n p rs ]
 
--- what passes among the requests of one sender more
+-- the requests of one sender more
+pub requests_of-more : {R : Type 0} (of : OutcomeParts → List R) (os : List OutcomeParts) (i : ℕ) (o : OutcomeParts) → i < length os → o ≡ get_or os i o
+    → requests_from of 0 (take (i + 1) os) ≡ requests_from of 0 (take i os) ++ map (λ r. (i, r)) (of o)
+requests_of-more of os i o l e =
+    let long : i ≡ 0 + length (take i os) = grind (arith, common_steps) in
+    ap (requests_from of 0) (take_more os i o l ∙ ap (λ y. take i os ++ y ∷ []) (sym e)) ∙ requests_from-more of 0 i (take i os) o long
+
+-- what passes among them
 pub addressed_more : {R : Type 0} (of : OutcomeParts → List R) (p : R → Bool) (os : List OutcomeParts) (i : ℕ) (o : OutcomeParts) → i < length os → o ≡ get_or os i o
     → filter (λ (s : ℕ × R). p s.1) (requests_from of 0 (take (i + 1) os)) ≡ filter (λ (s : ℕ × R). p s.1) (requests_from of 0 (take i os)) ++ map (λ r. (i, r)) (filter p (of o))
 addressed_more {R = R} of p os i o l e =
     let F : List (ℕ × R) → List (ℕ × R) = filter (λ (s : ℕ × R). p s.1) in
-    let long : i ≡ 0 + length (take i os) = grind (arith, common_steps) in
-    ap (λ ys. F (requests_from of 0 ys)) (take_more os i o l ∙ ap (λ y. take i os ++ y ∷ []) (sym e))
-    ∙ ap F (requests_from-more of 0 i (take i os) o long)
+    ap F (requests_of-more of os i o l e)
     ∙ filter-append (λ (s : ℕ × R). p s.1) (requests_from of 0 (take i os)) (map (λ r. (i, r)) (of o))
     ∙ ap (λ ys. F (requests_from of 0 (take i os)) ++ ys) (passing_pairs i p (of o))
 
@@ -83,7 +88,7 @@ readable_gets os d o h l e =
     λ k g i. let w = inside.gets k g i in record { known = omega (arith, w.known, length-sizes_of os); inside = w.inside }
 
 -- what holds of the requests of each process holds of all
-all_requests : {R : Type 0} (P : R → Type 0) (of : OutcomeParts → List R) (n : ℕ) (os : List OutcomeParts) → All (λ o. All P (of o)) os → All (λ (s : ℕ × R). P s.1) (requests_from of n os)
+pub all_requests : {R : Type 0} (P : R → Type 0) (of : OutcomeParts → List R) (n : ℕ) (os : List OutcomeParts) → All (λ o. All P (of o)) os → All (λ (s : ℕ × R). P s.1) (requests_from of n os)
 all_requests {R = R} P of n [] h = All-nil (λ (s : ℕ × R). P s.1)
 all_requests {R = R} P of n (o ∷ os) h =
     let Q : ℕ × R → Type 0 = λ s. P s.1 in

@@ -1,6 +1,6 @@
--- What the end of a superstep asks of the outcomes.
+-- What the end of a superstep asks of the outcomes, and of a list of processes.
 use Rattle.std.specs.Prelude.{ℕ, ◌+◌, ◌<◌, ◌≤◌, All, List, map, length, slice_index}
-use Rattle.bsp_model.specs.declared.limits.TheConstants.{MOST_MEMORY_WORDS, MOST_PROCESSES}
+use Rattle.bsp_model.specs.Limits.{most_memory_words, most_processes}
 use Rattle.bsp_model.specs.declared.request.Put.{Put}
 use Rattle.bsp_model.specs.declared.request.Get.{Get}
 use Rattle.bsp_step.specs.OutcomeParts.{OutcomeParts}
@@ -28,6 +28,10 @@ pub record AreRequestsInside (sizes : List ℕ) (o : OutcomeParts) : Type 0 wher
 -- One outcome for each process, with memories within the limit, and every request inside the memories concerned.
 pub record AreDeliverable (os : List OutcomeParts) : Type 0 where
   pub some : 1 ≤ length os
-  pub few : length os ≤ MOST_PROCESSES
-  pub short : All (λ o. length o.memory ≤ MOST_MEMORY_WORDS) os
+  pub few : length os ≤ most_processes
+  pub short : All (λ o. length o.memory ≤ most_memory_words) os
   pub inside : All (AreRequestsInside (sizes_of os)) os
+
+-- Each process is less than those behind it.
+abbrev pub IsAscending : List ℕ → Type 0
+IsAscending ps = (j k : ℕ) → j < k → k < length ps → slice_index ps j < slice_index ps k

@@ -10,3 +10,5 @@ pub mod Comparison
 pub mod SameDelivery
 pub mod Touched
 pub mod Marks
+pub mod Gathering
+pub mod Sorting

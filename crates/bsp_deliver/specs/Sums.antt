@@ -1,6 +1,6 @@
 -- Sums of words, transfer by transfer, which private functions keep: no public contract speaks of them.
 use Rattle.std.specs.Prelude.{ℕ, ◌+◌, ◌*◌, ◌<◌, ◌≤◌, ◌^◌, ◌==◌, if◌then◌else◌, List, [], ◌∷◌, ◌++◌, map, All, slice_index, slice_set, replicate}
-use Rattle.bsp_model.specs.declared.limits.TheConstants.{MOST_PAYLOAD_WORDS, MOST_PROCESSES, MOST_TAG_WORDS}
+use Rattle.bsp_model.specs.Limits.{most_payload_words, most_processes, most_tag_words}
 use Rattle.bsp_deliver.specs.declared.cost.Sums.{Sums}
 use Rattle.bsp_step.specs.OutcomeParts.{OutcomeParts}
 use Rattle.bsp_deliver.specs.Cost.{Transfer, put_transfer, get_transfer, send_transfer}
@@ -16,7 +16,7 @@ counted s t =
     else record { sent = raised s.sent t.source t.count; received = raised s.received t.target t.count }
 
 abbrev pub no_words : Sums
-no_words = record { sent = replicate MOST_PROCESSES 0; received = replicate MOST_PROCESSES 0 }
+no_words = record { sent = replicate most_processes 0; received = replicate most_processes 0 }
 
 -- the transfers of one process
 abbrev pub transfers_of : ℕ → OutcomeParts → List Transfer
@@ -29,7 +29,7 @@ transfers_from p (o ∷ os) = transfers_of p o ++ transfers_from (p + 1) os
 
 -- the most words of a transfer: those of a tag and a payload
 abbrev pub most_words : ℕ
-most_words = MOST_TAG_WORDS + MOST_PAYLOAD_WORDS
+most_words = most_tag_words + most_payload_words
 
 -- so many transfers more leave each sum below 2 ^ 29
 pub record HasRoom (s : Sums) (transfers : ℕ) : Type 0 where
@@ -38,6 +38,6 @@ pub record HasRoom (s : Sums) (transfers : ℕ) : Type 0 where
 
 -- a transfer between processes that there may be, of at most a tag and a payload
 pub record IsSmall (t : Transfer) : Type 0 where
-  pub known_source : t.source < MOST_PROCESSES
-  pub known_target : t.target < MOST_PROCESSES
+  pub known_source : t.source < most_processes
+  pub known_target : t.target < most_processes
   pub few_words : t.count ≤ most_words

@@ -14,28 +14,47 @@ use std::alloc::Global;
 
 /// A request that is addressed to a process.
 pub(crate) trait Addressed: Same {
-    ghost use Rattle.std.specs.Prelude.{◌≡◌, ℕ};
+    ghost use Rattle.std.specs.Prelude.{◌≡◌, ℕ, List};
+    ghost use Rattle.bsp_step.specs.OutcomeParts.{OutcomeParts};
 
     ghost addressee: { Self → ℕ };
+
+    ghost issued: { OutcomeParts → List Self };
 
     /// The process.
     fn addressee(&self) -> u64
         ensures { result ≡ addressee self.now };
+
+    /// The requests of this kind that a turn issued, in order.
+    fn issued(outcome: &Outcome) -> &[Self]
+        ensures { result.now ≡ issued outcome.now };
 }
 
 impl Addressed for Put {
     ghost addressee = { λ p. p.target };
 
+    ghost issued = { λ o. o.puts };
+
     fn addressee(&self) -> u64 {
         self.target
+    }
+
+    fn issued(outcome: &Outcome) -> &[Put] {
+        outcome.puts.as_slice()
     }
 }
 
 impl Addressed for Send {
     ghost addressee = { λ m. m.target };
 
+    ghost issued = { λ o. o.sends };
+
     fn addressee(&self) -> u64 {
         self.target
+    }
+
+    fn issued(outcome: &Outcome) -> &[Send] {
+        outcome.sends.as_slice()
     }
 }
 

@@ -5,17 +5,22 @@ mod addressed;
 mod cost;
 mod delivery;
 mod faults;
+mod gathering;
 mod inboxes;
+mod lists;
 mod marking;
 mod same;
+mod sorting;
 mod touched;
 
 pub use addressed::inbox;
 pub use cost::h_of;
 pub use delivery::{deliver, deliver_inbox};
 pub use faults::{has_sync, next_tag_size, sync_fault};
+pub use gathering::deliver_some;
 pub use inboxes::Inbox;
 pub use same::{answers_same, parcel_same};
+pub use sorting::{SortedRequests, deliver_sorted, sort_requests};
 pub use touched::touched_by_changes;
 
 #[cfg(test)]

@@ -1,9 +1,11 @@
+pub mod Answer
 pub mod Catalogue
 pub mod Counting
 pub mod Faults
 pub mod Flow
 pub mod JobOf
 pub mod Keys
+pub mod Limits
 pub mod Lines
 pub mod Naming
 pub mod Options

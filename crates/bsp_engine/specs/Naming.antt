@@ -1,8 +1,9 @@
 -- Catalogues that tell their programs by name (this profile).
-use Rattle.std.specs.Prelude.{ℕ, false, List, Option, codes, option_and_then}
+use Rattle.std.specs.Prelude.{ℕ, false, List, Option, codes, is_some, option_and_then, refl}
 use Rattle.std.specs.Str.{bytes_eq}
-use Rattle.toml.specs.Data.{get_member}
-use Rattle.bsp_engine.specs.Catalogue.{Meaning}
+use Rattle.std.proofs.Common.{ap}
+use Rattle.toml.specs.Data.{as_str, get_member}
+use Rattle.bsp_engine.specs.Catalogue.{Meaning, ReadsOwnKeys}
 use Rattle.bsp_engine.specs.Keys.{is_string, passes}
 use Rattle.bsp_engine.specs.Tree.{has, text_at}
 
@@ -10,9 +11,18 @@ use Rattle.bsp_engine.specs.Tree.{has, text_at}
 abbrev pub meaning_by_name : {P : Type 0} → (List ℕ → Option P) → Meaning P
 meaning_by_name named =
     record {
-      is_key = λ key. bytes_eq key (codes "program");
       has_required_keys = has (codes "program");
       has_right_shapes = λ t. passes is_string (get_member (codes "program") t);
+      is_key = λ key. bytes_eq key (codes "program");
       program_of = λ t. option_and_then named (text_at (codes "program") t);
       has_negative_word = λ t. false;
+    }
+
+pub meaning_by_name-reads_own_keys : {P : Type 0} (named : List ℕ → Option P) → ReadsOwnKeys (meaning_by_name named)
+meaning_by_name-reads_own_keys named =
+    record {
+      required_keys = λ t u agree. ap is_some (agree.values (codes "program") refl);
+      right_shapes = λ t u agree. ap (passes is_string) (agree.values (codes "program") refl);
+      program = λ t u agree. ap (λ value. option_and_then named (option_and_then as_str value)) (agree.values (codes "program") refl);
+      negative_word = λ t u agree. refl;
     }

@@ -1,5 +1,4 @@
 -- What is said where a document is refused.
-use Rattle.std.specs.Prelude.{◌≡◌, ◌⊎◌, Result, Err}
 use Rattle.bsp_engine.specs.declared.errors.JobFault.{JobFault}
 use Rattle.bsp_engine.specs.declared.errors.JobError.{JobError}
 use Rattle.bsp_engine.specs.declared.errors.JobError.TheVariants.{Fault, OutOfMemory}
@@ -22,7 +21,3 @@ abbrev pub read_error_of : ReadError → EngineError
 read_error_of Failed = Read
 read_error_of TooLong = DocumentTooLong
 read_error_of NoRoom = NoMemory
-
--- The answer is this error, unless a read failed or memory was refused.
-abbrev pub IsErrorUnlessFailed : Result (Unit {0}) EngineError → EngineError → Type 0
-IsErrorUnlessFailed answer error = (answer ≡ Err error) ⊎ ((answer ≡ Err Read) ⊎ (answer ≡ Err NoMemory))

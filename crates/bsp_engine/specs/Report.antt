@@ -7,9 +7,9 @@ use Rattle.bsp_engine.specs.declared.errors.JobFault.{JobFault}
 use Rattle.bsp_engine.specs.declared.errors.EngineError.{EngineError}
 use Rattle.bsp_engine.specs.declared.errors.EngineError.TheVariants.{TooLong, Job as Refused}
 use Rattle.bsp_engine.specs.declared.jobs.Job.{Job}
-use Rattle.bsp_engine.specs.declared.reading.TheConstants.{LIMIT}
 use Rattle.bsp_engine.specs.Catalogue.{Meaning}
 use Rattle.bsp_engine.specs.JobOf.{job_of}
+use Rattle.bsp_engine.specs.Limits.{most_document_bytes}
 use Rattle.bsp_engine.specs.Replies.{replies_of}
 use Rattle.bsp_engine.specs.Text.{text_of}
 
@@ -22,4 +22,4 @@ job_report acts ending looks scratch (Err fault) = Err (Refused fault)
 -- which program it names, and the acts, the endings and the footprints of programs what that does.
 abbrev pub report_of : {P : Type 0} → Meaning P → (P → ViewParts → List Act) → (P → ViewParts → End) → (P → ViewParts → ℕ → Bool) → Bool → List ℕ → Result (List ℕ) EngineError
 report_of meaning acts ending looks scratch bytes =
-    if nat_lt LIMIT (length bytes) then Err TooLong else job_report acts ending looks scratch (job_of meaning bytes)
+    if nat_lt most_document_bytes (length bytes) then Err TooLong else job_report acts ending looks scratch (job_of meaning bytes)

@@ -2,7 +2,7 @@
 use Rattle.std.specs.Prelude.{ℕ, ℤ, pos, Bool, false, ◌&&◌, ◌==◌, not, nat_le, nat_lt, length, codes, Option, None, Some, if◌then◌else◌}
 use Rattle.std.specs.List.{list_all}
 use Rattle.toml.specs.Data.{Data, Members, get_member}
-use Rattle.bsp_model.specs.declared.limits.TheConstants.{HIGHEST_PRICE, MOST_ARGUMENTS, MOST_MEMORY_WORDS, MOST_PROCESSES, MOST_SUPERSTEPS}
+use Rattle.bsp_model.specs.Limits.{highest_price, most_arguments, most_memory_words, most_processes, most_supersteps}
 use Rattle.bsp_model.specs.declared.fault.InputFault.{InputFault}
 use Rattle.bsp_model.specs.declared.fault.InputFault.TheVariants.{NoProcess, TooMany, LengthsDiffer, MemoryTooLong, ArgsTooLong, BadLimit, BadPrice}
 use Rattle.bsp_engine.specs.Tree.{elements, elements_at, integer_at}
@@ -27,10 +27,10 @@ abbrev pub described_fault : Members → Option InputFault
 described_fault t =
     let memories = elements_at (codes "memory") t in
     if length memories == 0 then Some NoProcess
-    else (if nat_lt MOST_PROCESSES (length memories) then Some TooMany
+    else (if nat_lt most_processes (length memories) then Some TooMany
     else (if not (count_of_args (get_member (codes "args") t) (length memories) == length memories) then Some LengthsDiffer
-    else (if not (list_all (is_short MOST_MEMORY_WORDS) memories) then Some MemoryTooLong
-    else (if not (list_all (is_short MOST_ARGUMENTS) (elements_at (codes "args") t)) then Some ArgsTooLong
-    else (if not (is_between 1 MOST_SUPERSTEPS (integer_at (codes "limit") t)) then Some BadLimit
-    else (if not (is_between 0 HIGHEST_PRICE (integer_at (codes "g") t) && is_between 0 HIGHEST_PRICE (integer_at (codes "l") t)) then Some BadPrice
+    else (if not (list_all (is_short most_memory_words) memories) then Some MemoryTooLong
+    else (if not (list_all (is_short most_arguments) (elements_at (codes "args") t)) then Some ArgsTooLong
+    else (if not (is_between 1 most_supersteps (integer_at (codes "limit") t)) then Some BadLimit
+    else (if not (is_between 0 highest_price (integer_at (codes "g") t) && is_between 0 highest_price (integer_at (codes "l") t)) then Some BadPrice
     else None))))))

@@ -16,7 +16,7 @@ use toml::Table;
 pub trait Catalogue {
     ghost use Rattle.std.specs.Prelude.{true, is_some, Some};
     ghost use Rattle.toml.specs.View.{table_view};
-    ghost use Rattle.bsp_engine.specs.Catalogue.{Meaning};
+    ghost use Rattle.bsp_engine.specs.Catalogue.{Meaning, ReadsOwnKeys};
 
     /// What the documents name.
     type Program: Program + Drop;
@@ -48,4 +48,7 @@ pub trait Catalogue {
     fn program(alloc: Global, document: &Table) -> Result<Self::Program, OutOfMemory>
         requires { is_some (meaning.program_of (table_view document.now)) ≡ true }
         ensures { IfOk result (λ p. meaning.program_of (table_view document.now) ≡ Some p) };
+
+    // All of it depends on the values at the catalogue's own keys alone.
+    ghost reads_own_keys: { ReadsOwnKeys meaning };
 }

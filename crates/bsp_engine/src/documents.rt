@@ -1,16 +1,18 @@
 //! From the bytes of a document to the bytes of its report.
 
-ghost use Rattle.std.specs.Prelude.{◌≡◌, ◌≢◌, ◌<◌, ◌≤◌, ◌+◌, ◌-◌, ◌^◌, length, IfOk, OnOk, IfErr, IfSome, IsOkAnd, Ok, Err};
-ghost use Rattle.std.specs.Io.KnownBytes.{Appends, IsAtEnd};
-ghost use Rattle.bsp_engine.specs.Flow.{AppendsPrefix, TakesAtMost};
-ghost use Rattle.bsp_engine.specs.Refusal.{IfFault, IsErrorUnlessFailed};
+ghost use Rattle.std.specs.Prelude.{◌≡◌, ◌≢◌, ◌<◌, ◌≤◌, ◌+◌, ◌-◌, ◌^◌, length, IfOk, OnOk, IfErr, IfSome, Ok, Err};
+ghost use Rattle.std.specs.Io.KnownBytes.{IsAtEnd};
+ghost use Rattle.bsp_engine.specs.Answer.{Answers};
+ghost use Rattle.bsp_engine.specs.Flow.{TakesAtMost};
+ghost use Rattle.bsp_engine.specs.Limits.{most_document_bytes};
+ghost use Rattle.bsp_engine.specs.Refusal.{IfFault};
 ghost use Rattle.bsp_engine.specs.Report.{report_of};
 
 use crate::catalogue::Catalogue;
-use crate::errors::{EngineError, JobError, JobFault};
+use crate::errors::{EngineError, JobError};
 use crate::flow::{Sink, Source};
 use crate::jobs::read_job;
-use crate::reading::{LIMIT, read_all};
+use crate::reading::read_all;
 use crate::reporting::report;
 use crate::running::replies_to;
 use crate::writing::write_text;
@@ -27,7 +29,7 @@ fn answer<C: Catalogue, R: Threads + Sync, G: Gate>(
     scratch: bool,
     gate: &G,
 ) -> Result<Vec<u8>, JobError>
-    requires short { length bytes.now ≤ LIMIT }
+    requires short { length bytes.now ≤ most_document_bytes }
     requires workers { (0 < workers) × (workers ≤ 16) }
     ensures ok { IfOk result (λ text. report_of C.meaning C.Program.acts C.Program.ending C.Program.looks scratch bytes.now ≡ Ok text.items) }
     ensures fault { IfErr result (λ e. IfFault e (λ f. report_of C.meaning C.Program.acts C.Program.ending C.Program.looks scratch bytes.now ≡ Err (EngineError.Job f))) }
@@ -56,24 +58,14 @@ pub fn engine<C: Catalogue, R: Threads + Sync, S: Source, K: Sink, G: Gate>(
     requires source { S.failures reader.old < 2 ^ 64 - 1 }
     requires sink { K.failures writer.old < 2 ^ 64 - 1 }
 
-    // The document's report went out, and nothing else.
-    ensures ok { OnOk result (IfSome (S.remaining reader.old) (λ bytes.
-        IsOkAnd (report_of C.meaning C.Program.acts C.Program.ending C.Program.looks scratch bytes) (λ text. Appends (K.contents writer.old) (K.contents writer.new) text))) }
-    ensures write { result ≡ Err EngineError.Write → IfSome (S.remaining reader.old) (λ bytes.
-        IsOkAnd (report_of C.meaning C.Program.acts C.Program.ending C.Program.looks scratch bytes) (λ text. AppendsPrefix (K.contents writer.old) (K.contents writer.new) text)) }
+    // The document's report went out, or it has none for the reason that is answered, unless the machine failed; and nothing else went out.
+    ensures answer { IfSome (S.remaining reader.old) (λ bytes.
+        Answers (report_of C.meaning C.Program.acts C.Program.ending C.Program.looks scratch bytes) (K.contents writer.old) (K.contents writer.new) result) }
     ensures nothing { IfErr result (λ e. e ≢ EngineError.Write → writer.new ≡ writer.old) }
-
-    // The document has none, for this very reason; and each document that has none is refused so, unless a read failed or memory was refused.
-    ensures long { result ≡ Err EngineError.TooLong → IfSome (S.remaining reader.old) (λ bytes.
-        report_of C.meaning C.Program.acts C.Program.ending C.Program.looks scratch bytes ≡ Err EngineError.TooLong) }
-    ensures job { (fault : JobFault) → result ≡ Err (EngineError.Job fault) → IfSome (S.remaining reader.old) (λ bytes.
-        report_of C.meaning C.Program.acts C.Program.ending C.Program.looks scratch bytes ≡ Err (EngineError.Job fault)) }
-    ensures refused { IfSome (S.remaining reader.old) (λ bytes.
-        (error : EngineError) → report_of C.meaning C.Program.acts C.Program.ending C.Program.looks scratch bytes ≡ Err error → IsErrorUnlessFailed result error) }
 
     // All was read, and never more than one byte past the limit.
     ensures end { OnOk result (IsAtEnd (S.remaining reader.new)) }
-    ensures taken { TakesAtMost (LIMIT + 1) (S.remaining reader.old) (S.remaining reader.new) }
+    ensures taken { TakesAtMost (most_document_bytes + 1) (S.remaining reader.old) (S.remaining reader.new) }
 
     // Failures are counted where they are answered.
     ensures read_failed { result ≡ Err EngineError.Read → S.failures reader.new ≡ S.failures reader.old + 1 }

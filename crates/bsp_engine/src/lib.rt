@@ -7,6 +7,7 @@ mod documents;
 mod errors;
 mod flow;
 mod jobs;
+pub mod limits;
 mod lines;
 mod naming;
 mod options;

@@ -1,7 +1,7 @@
 //! The words of the command line.
 
 ghost use Rattle.std.specs.Prelude.{◌≡◌, ◌≢◌, ◌≤◌, IfOk, IfErr, codes, true, false, map};
-ghost use Rattle.clap.specs.Words.{app_of, found_of, kind_of, matches_of, one_text, rows_of, rule_of, takes};
+ghost use Rattle.clap.specs.Words.{FailsBy, app_of, fault_of, found_of, kind_of, matches_of, one_text, rows_of, rule_of, takes};
 ghost use Rattle.bsp_engine.specs.Options.{is_given, number_or_1, options_of, scratch_rule, tool_app, workers_of, workers_rule};
 
 use clap::error::ErrorKind;
@@ -24,8 +24,33 @@ pub struct Tool {
     pub name: &'static str,
     /// What the tool does, in a line.
     pub about: &'static str,
-    /// What the help says below the options: what a document of the tool has, for example.
+    /// What the help says below the options: `after_help!` of the tool's keys and an example.
     pub after_help: &'static str,
+}
+
+/// What the help of a tool says below the options. Given are what it says of the keys of a document, and an example.
+#[macro_export]
+macro_rules! after_help {
+    ($keys:literal, $example:literal) => {
+        concat!(
+            "\
+It reads a TOML document from standard input, and writes a report to standard output: for the input, and
+for each batch, the memories at the end, the printed lines and the costs.
+
+Keys of the document:
+",
+            $keys,
+            "
+
+Example:
+",
+            $example,
+            "
+
+The exit status is 0, or 1 after `fault read`, `fault write` or `fault memory`, 2 where the command line is
+refused, and 3 after `fault long` or `fault J1` to `fault J7`, where the document is."
+        )
+    };
 }
 
 fn workers_arg<'a>(alloc: Global) -> Arg<'a>
@@ -98,17 +123,19 @@ fn read_matches<'a>(
 ) -> Result<ArgMatches<'a>, Error>
     ensures rows { IfOk result (λ m. rows_of (found_of m) ≡ matches_of (tool_app tool.now.name.now) (map (λ w. w.now) words.entry.now)) }
     ensures refused { IfErr result (λ e. takes (tool_app tool.now.name.now) (map (λ w. w.now) words.entry.now) ≡ true → kind_of e ≡ ErrorKind.OutOfMemory) }
+    ensures kinds { FailsBy (fault_of (tool_app tool.now.name.now) (map (λ w. w.now) words.entry.now)) result }
 {
     command(alloc, tool)?.try_get_matches_from(words)
 }
 
 /// What the words ask for; the first word is the program's name. Words that the tool's options take are refused for want of memory alone. Others
-/// are refused as `clap` refuses them, and `--help` is such a refusal.
+/// are refused by an error of the kind that `clap`'s definition gives them, and `--help` is such a refusal.
 pub fn read_options<'a>(alloc: Global, tool: &Tool, words: &'a [&'a str]) -> Result<Options, Error>
     ensures options { IfOk result (λ o. o ≡ options_of (matches_of (tool_app tool.now.name.now) (map (λ w. w.now) words.entry.now))) }
     ensures least { IfOk result (λ o. 1 ≤ o.workers) }
     ensures most { IfOk result (λ o. o.workers ≤ 16) }
     ensures refused { IfErr result (λ e. takes (tool_app tool.now.name.now) (map (λ w. w.now) words.entry.now) ≡ true → kind_of e ≡ ErrorKind.OutOfMemory) }
+    ensures kinds { FailsBy (fault_of (tool_app tool.now.name.now) (map (λ w. w.now) words.entry.now)) result }
 {
     let matches = read_matches(alloc, tool, words)?;
     Ok(options_in(&matches))

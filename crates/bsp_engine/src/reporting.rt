@@ -7,7 +7,7 @@ ghost use Rattle.bsp_engine.specs.Text.{fault_word, fault_numbers, process_fault
 
 use crate::lines::{push_field, push_line, push_long_line, push_memory};
 use bsp_incr::{EditFault, EditRefusal, Reply, Update};
-use bsp_model::{CostRow, Fault, Memory, OutOfMemory, SyncFault, Words};
+use bsp_model::{CostRow, Fault, Memory, OutOfMemory, Shared, SyncFault, Words};
 use bsp_run::{Lines, ProcessFault, RunResult, Status};
 use std::alloc::Global;
 
@@ -127,7 +127,7 @@ fn push_lines(text: &mut Vec<u8>, pid: u64, lines: &[Words]) -> Result<(), OutOf
     Ok(())
 }
 
-fn push_all_lines(text: &mut Vec<u8>, lines: &[Lines]) -> Result<(), OutOfMemory>
+fn push_all_lines(text: &mut Vec<u8>, lines: &[Shared<Lines>]) -> Result<(), OutOfMemory>
     ensures { OnOk result (text.new.items ≡ text.old.items ++ numbered print_lines 0 lines.now) }
 {
     for (pid, lines) in lines.iter().enumerate() {

@@ -10,11 +10,12 @@ use crate::counting::Counted;
 use crate::documents::engine;
 use crate::errors::EngineError;
 use crate::options::{Options, Tool, read_options, words_status};
-use bsp_pool::Open;
+use bsp_pool::Timed;
 use std::alloc::Global;
 use std::env::Env;
 use std::process::ExitCode;
 use std::thread::Threads;
+use std::time::Clock;
 use std::{env, io};
 
 /// The words of the command line, the program's name first.
@@ -49,22 +50,25 @@ fn unread<R: Eprint>(rt: &R, error: io::Error) -> ExitCode {
     ExitCode::from(2)
 }
 
-/// Says why the words were refused, or what the help says.
+/// Says why the words were refused, or what the help says. Help that can't be written is a failed write, as of a report.
 fn refused<R: Print + Eprint>(rt: &R, error: clap::Error) -> ExitCode {
     let status = words_status(&error);
     if status == 1 {
         return failed(rt, EngineError::OutOfMemory);
     }
-    let _ = error.print(rt);
+    let printed = error.print(rt);
+    if status == 0 && printed.is_err() {
+        return failed(rt, EngineError::Write);
+    }
     ExitCode::from(status)
 }
 
 /// All that a tool does: it reads the words of its command line, and then runs the job of the document on standard input, of which the report
 /// goes to standard output. The `main` of a tool hands on its runtime, and what this answers.
-pub fn run_tool<C: Catalogue, R: Env + Alloc<A = Global> + Input + Print + Eprint + Threads + Sync>(
-    rt: &R,
-    tool: &Tool,
-) -> ExitCode {
+pub fn run_tool<
+    C: Catalogue,
+    R: Env + Alloc<A = Global> + Input + Print + Eprint + Threads + Clock + Sync,
+>(rt: &R, tool: &Tool) -> ExitCode {
     let words = match given_words(rt) {
         Ok(words) => words,
         Err(error) => return unread(rt, error),
@@ -83,7 +87,7 @@ pub fn run_tool<C: Catalogue, R: Env + Alloc<A = Global> + Input + Print + Eprin
         &mut writer,
         workers,
         scratch,
-        &Open,
+        &Timed::new(rt),
     ) {
         Ok(()) => ExitCode::SUCCESS,
         Err(error) => failed(rt, error),

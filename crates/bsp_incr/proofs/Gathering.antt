@@ -2,7 +2,9 @@
 use Rattle.std.proofs.Common.{◌≡◌, ◌<◌, ◌+◌, ℕ, zero, suc, Bool, true, false, cond, List, [], ◌∷◌, ◌++◌, All, map, length, get_or, arith, refl, sym, ap, ◌∙◌, subst}
 use Rattle.std.specs.Prelude.{filter, ◌&&◌, nat_eq}
 use Rattle.std.specs.List.{range_with_len}
-use Rattle.std.proofs.lemmas.List.FromFn.{filter_of_map_range_with_len_more, get_or-map-range_with_len, length-map-range_with_len}
+use Rattle.std.proofs.lemmas.List.FromFn.{filter_of_map_range_with_len_more, get_or-map-range_with_len, get_or-range_with_len, length-map-range_with_len, length-range_with_len}
+use Rattle.std.proofs.lemmas.List.Kept.{AllPairs-filter}
+use Rattle.bsp_deliver.specs.Condition.{IsAscending}
 use Rattle.bsp_deliver.specs.Requests.{each_below}
 use Rattle.bsp_run.proofs.Lists.{map_same}
 use Rattle.bsp_incr.specs.Changes.{processes_where}
@@ -50,6 +52,16 @@ below_from test m a (suc n) h k d l = below_if (filter test (range_with_len (a +
 
 pub processes_where-below : (n : ℕ) (test : ℕ → Bool) → All (λ p. p < n) (processes_where n test)
 processes_where-below n test = λ k d l. below_from test n 0 n (omega arith) k d l
+
+-- they stand in ascending order
+pub processes_where-ascending : (n : ℕ) (test : ℕ → Bool) → IsAscending (processes_where n test)
+processes_where-ascending n test =
+    λ j k l lk.
+    AllPairs-filter (λ a b. a < b) test (range_with_len 0 n)
+    (λ i m d before lm.
+    let inside : m < n = omega (arith, length-range_with_len 0 n) in
+    omega (arith, before, get_or-range_with_len 0 n i d (omega arith), get_or-range_with_len 0 n m d inside))
+    j k 0 l lk
 
 twice_if : (f g : ℕ → Bool) (b : Bool) (p : ℕ) (ps : List ℕ) → filter g (filter f ps) ≡ filter (λ k. f k && g k) ps → filter g (cond b (p ∷ filter f ps) (filter f ps)) ≡ cond (b && g p) (p ∷ filter (λ k. f k && g k) ps) (filter (λ k. f k && g k) ps)
 twice_if f g true p ps h = ap (λ ks. cond (g p) (p ∷ ks) ks) h

@@ -1,6 +1,6 @@
 -- Edits of an input (this profile).
 use Rattle.std.specs.Prelude.{ℕ, ◌+◌, List, [], ◌∷◌, Option, None, Some, length, slice_set, slice_index_or, nat_lt, nat_le, ◌&&◌, not, if◌then◌else◌}
-use Rattle.bsp_model.specs.declared.limits.TheConstants.{HIGHEST_PRICE, MOST_SUPERSTEPS}
+use Rattle.bsp_model.specs.Limits.{highest_price, most_supersteps}
 use Rattle.bsp_model.specs.declared.input.Input.{Input}
 use Rattle.bsp_incr.specs.declared.edit.Edit.{Edit}
 use Rattle.bsp_incr.specs.declared.edit.Edit.TheVariants.{Word, Arg, Limit, Prices}
@@ -16,8 +16,8 @@ edit_fault i (Word pid addr value) =
 edit_fault i (Arg pid index value) =
     if not (nat_lt pid (length i.mems)) then Some NoSuchProcess
     else (if not (nat_lt index (length (slice_index_or i.args pid []))) then Some NoSuchArg else None)
-edit_fault i (Limit n) = if not (nat_le 1 n && nat_le n MOST_SUPERSTEPS) then Some BadLimit else None
-edit_fault i (Prices g l) = if not (nat_le g HIGHEST_PRICE && nat_le l HIGHEST_PRICE) then Some BadPrice else None
+edit_fault i (Limit n) = if not (nat_le 1 n && nat_le n most_supersteps) then Some BadLimit else None
+edit_fault i (Prices g l) = if not (nat_le g highest_price && nat_le l highest_price) then Some BadPrice else None
 
 -- the first refusal, unless there is none
 abbrev pub refusal_or : ℕ → Option EditFault → Option EditRefusal → Option EditRefusal

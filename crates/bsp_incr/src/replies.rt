@@ -13,7 +13,7 @@ use crate::editing::{make_edits, refusal_of};
 use crate::{Batch, EditError, Reply, Session, Update};
 use bsp_model::{Input, OutOfMemory};
 use bsp_pool::Gate;
-use bsp_run::{History, RunError, run_plain};
+use bsp_run::{History, RunError, run_result};
 use bsp_step::Program;
 use std::alloc::{AllocError, Global};
 use std::thread::Threads;
@@ -103,8 +103,7 @@ fn scratch_done<P: Program>(alloc: Global, program: &P, input: &Input) -> Result
     ensures lawful { OnOk result (input_fault input.now ≡ None) }
     ensures input { IfErr result (λ e. input_fault input.now ≡ input_fault_of e) }
 {
-    let history = run_plain(alloc, program, input)?;
-    let result = history.result()?;
+    let result = run_result(alloc, program, input)?;
     Ok(Reply::Done {
         result,
         update: None,

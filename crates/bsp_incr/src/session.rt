@@ -97,7 +97,7 @@ impl<P: Program + Drop> Session<P> {
         &self.history
     }
 
-    /// Puts a batch of edits, and makes the run again as far as it has changed: 1 to 16 workers take the turns and make the deliveries that have
+    /// Applies a batch of edits, and makes the run again as far as it has changed: 1 to 16 workers take the turns and make the deliveries that have
     /// to be. `Refused` exactly where the batch is not accepted, with the first refused edit's place and fault; else `Ok` or `OutOfMemory`.
     /// After every `Err` nothing has changed.
     pub fn apply<R: Threads + Sync, G: Gate>(

@@ -1,10 +1,10 @@
 -- Writes of several words to pages. A page has 64 words, but for the last.
-use Rattle.std.proofs.Common.{◌≡◌, ◌≤◌, ◌<◌, ℕ, ◌+◌, ◌*◌, ◌/◌, ◌%◌, ◌-◌, List, [], ◌∷◌, ◌++◌, length, get_or, take, drop, refl, sym, ap, ◌∙◌, arith, rules, min, nat_le, nat_lt, true, false, ◌&&◌, cond}
-use Rattle.std.specs.Prelude.{slice_set, if◌then◌else◌}
+use Rattle.std.proofs.Common.{◌≡◌, ◌≤◌, ◌<◌, ℕ, ◌+◌, ◌*◌, ◌/◌, ◌%◌, ◌-◌, List, [], ◌∷◌, ◌++◌, length, get_or, take, drop, refl, sym, ap, ◌∙◌, arith, rules, min, nat_le, true, false}
+use Rattle.std.specs.Prelude.{slice_set}
 use Rattle.std.proofs.Math.ListN.{set}
 use Rattle.std.proofs.lemmas.Bool.{cases_eq, cases_lt}
 use Rattle.std.proofs.lemmas.Bool.Decides.{nat_tests}
-use Rattle.std.proofs.lemmas.List.{get_or-set_same, get_or-set_other, get_or_append_left, get_or_default, get_or_push, get_or-take, get_or-drop, get_or-append_right, length-append, length-drop, length-take-le, places}
+use Rattle.std.proofs.lemmas.List.{get_or-set_same, get_or-set_other, get_or_append_left, get_or_default, get_or-take, get_or-drop, get_or-append_right, length-append, length-drop, length-take-le, places}
 use borrow.Rule.Slice.PartMut.{put_mid}
 use mathlib.Core.Logic.{inl, inr}
 use Rattle.bsp_model.specs.Memory.{paged_word, words_of, HasPages, memory_written, word_after}

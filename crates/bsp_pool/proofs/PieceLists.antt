@@ -1,7 +1,11 @@
 -- Lists of pieces.
-use Rattle.std.proofs.Common.{◌≡◌, ℕ, List, [], ◌∷◌, ◌++◌, length, ◌<◌, arith, refl, ap, ◌∙◌, zero, suc, length-append, take, ◌+◌}
+use Rattle.std.proofs.Common.{◌≡◌, ℕ, List, [], ◌∷◌, ◌++◌, length, ◌<◌, ◌≤◌, sym, arith, refl, ap, ◌∙◌, zero, suc, length-append, take, ◌+◌}
 use Rattle.std.proofs.lemmas.Grind.{common_steps}
-use Rattle.std.specs.Prelude.{Some, slice_get, All, map, slice_index_or}
+use Rattle.std.specs.Prelude.{Some, slice_get, All, map, slice_index_or, nat_lt}
+use Rattle.std.specs.List.{filter}
+use Rattle.std.proofs.lemmas.List.{map-append, append-nil}
+use Rattle.std.proofs.lemmas.List.Elements.{filter-append}
+use Rattle.std.proofs.lemmas.Bool.Decides.{nat_tests}
 use Rattle.std.proofs.lemmas.List.Elements.{All-append}
 use Rattle.std.specs.List.Sorted.{IsPermutation}
 use Rattle.std.proofs.lemmas.List.Sorted.{All-permutation}
@@ -55,3 +59,19 @@ taken (x ∷ xs) (suc i) out at = let step : suc i + 1 ≡ suc (i + 1) = omega a
 
 pub output_more : {B : Type 0} (outs xs : List B) (i : ℕ) (out : B) → xs ≡ take i outs → slice_get outs i ≡ Some out → xs ++ out ∷ [] ≡ take (i + 1) outs
 output_more outs xs i out so_far at = ap (λ l. l ++ out ∷ []) so_far ∙ taken outs i out at
+
+-- the numbers of pieces, as those that were drawn below the end
+abbrev pub AreOf : {T : Type 0} → ℕ → List ℕ → List (Piece T) → Type 0
+AreOf end numbers pieces = map (λ p. p.number) pieces ≡ filter (λ x. nat_lt x end) numbers
+
+-- a number below the end was drawn, and its piece kept
+pub one_drawn : {T : Type 0} (end : ℕ) (numbers : List ℕ) (pieces : List (Piece T)) (p : Piece T) → p.number < end → AreOf end numbers pieces → AreOf end (numbers ++ p.number ∷ []) (pieces ++ p ∷ [])
+one_drawn end numbers pieces p below of =
+    let here : filter (λ x. nat_lt x end) (p.number ∷ []) ≡ p.number ∷ [] = grind (arith, nat_tests, common_steps) in
+    map-append (λ q. q.number) pieces (p ∷ []) ∙ (ap (λ l. l ++ p.number ∷ []) of ∙ (sym (ap (λ l. filter (λ x. nat_lt x end) numbers ++ l) here) ∙ sym (filter-append (λ x. nat_lt x end) numbers (p.number ∷ []))))
+
+-- a number past the end was drawn
+pub past_drawn : {T : Type 0} (end : ℕ) (numbers : List ℕ) (pieces : List (Piece T)) (number : ℕ) → end ≤ number → AreOf end numbers pieces → AreOf end (numbers ++ number ∷ []) pieces
+past_drawn end numbers pieces number past of =
+    let here : filter (λ x. nat_lt x end) (number ∷ []) ≡ [] = grind (arith, nat_tests, common_steps) in
+    of ∙ (sym (append-nil _) ∙ (sym (ap (λ l. filter (λ x. nat_lt x end) numbers ++ l) here) ∙ sym (filter-append (λ x. nat_lt x end) numbers (number ∷ []))))

@@ -2,10 +2,11 @@
 
 use crate::pass_view::PassView;
 use atomic_table::{Join, Play, Split, TableRule};
+use std::convert::Infallible;
 
 pub(crate) struct ClaimRule;
 
-impl TableRule<u8, PassView, ()> for ClaimRule {
+impl TableRule<Infallible, PassView, ()> for ClaimRule {
     ghost use Rattle.std.specs.Prelude.{[]};
     ghost use Rattle.bsp_pool.specs.Numbers.{all_units};
     ghost use Rattle.bsp_pool.specs.Claim.{view_of, IsClaimed};
@@ -18,7 +19,7 @@ impl TableRule<u8, PassView, ()> for ClaimRule {
 /// A draw: one `fetch_add` of 1.
 pub(crate) struct Draw;
 
-impl Play<u8, PassView> for Draw {
+impl Play<Infallible, PassView> for Draw {
     ghost use Rattle.std.specs.Prelude.{◌≡◌};
     ghost use Rattle.bsp_pool.specs.Claim.{Draws};
 
@@ -28,7 +29,7 @@ impl Play<u8, PassView> for Draw {
 /// A load, which tells a pass that its numbers are distinct and below the word.
 pub(crate) struct Look;
 
-impl Play<u8, PassView> for Look {
+impl Play<Infallible, PassView> for Look {
     ghost use Rattle.std.specs.Prelude.{◌≡◌};
     ghost use Rattle.bsp_pool.specs.Claim.{Looks};
 

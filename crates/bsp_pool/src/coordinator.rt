@@ -5,14 +5,14 @@ ghost use Rattle.bsp_pool.specs.Pieces.{ArePieces};
 
 use crate::piece::{Piece, lowest_last, next_output, no_pieces};
 use crate::work::{Gate, Work};
-use crate::worker::{Finished, Shared, run_workers};
+use crate::worker::{Finished, Jobs, run_phase};
 use crate::{Deck, OutOfMemory};
 use std::alloc::Global;
 use std::thread::Threads;
 
-/// The output of each input, in the order of the inputs, whoever worked it. `workers` (1 to 16), but no more than there
-/// are inputs, share the inputs: each draws numbers from one deck, passes the gate with the number, and works that
-/// input.
+/// The output of each input, in the order of the inputs, whoever worked it. There are `workers` (1 to 16), but no more
+/// than inputs. Each draws numbers from one deck, passes the gate with the number, and works that input.
+/// Where the gate tells the time, the calling thread begins alone, and starts the others once what is left seems worth it.
 ///
 /// No worker's want of memory ends the call. What no worker handed back, the calling thread works once all have
 /// left, and passes no gate for it.
@@ -37,7 +37,7 @@ pub fn phase<W: Work, G: Gate, R: Threads + Sync>(
     in_order(alloc, work, inputs, pieces)
 }
 
-/// The pieces that the workers hand back. Where there is no memory for a deck, nobody draws.
+/// The pieces that the workers hand back. Where there is no input, or no memory for a deck, nobody draws.
 fn worked<W: Work, G: Gate, R: Threads + Sync>(
     rt: &R,
     alloc: Global,
@@ -50,17 +50,20 @@ fn worked<W: Work, G: Gate, R: Threads + Sync>(
     requires accepts { All (W.accepts work.now) inputs.now }
     ensures { ArePieces (map (W.does work.now) inputs.now) result.items }
 {
+    if inputs.is_empty() {
+        return no_pieces(alloc);
+    }
     let Ok((deck, pass)) = Deck::open(alloc) else {
         return no_pieces(alloc);
     };
-    let shared = Shared {
+    let jobs = Jobs {
         alloc,
         deck: &deck,
         work,
         inputs,
         gate,
     };
-    let Finished { pass, pieces } = run_workers(rt, &shared, pass, workers);
+    let Finished { pass, pieces, .. } = run_phase(rt, &jobs, pass, workers);
     deck.close(pass);
     pieces
 }

@@ -9,6 +9,7 @@ use crate::claim::{ClaimRule, Draw, JoinPasses, Look, ShareUnit};
 use crate::pass_view::PassView;
 use atomic_table::{Seat, Table};
 use std::alloc::Global;
+use std::convert::Infallible;
 use std::marker::Model;
 
 /// A deck of the numbers 0, 1, 2, .. that threads draw, each number once. It is one claim word:
@@ -17,8 +18,8 @@ use std::marker::Model;
 /// Contracts see a deck as which one it is.
 #[derive(Drop)]
 pub struct Deck {
-    // A table of one word and no slots: `u8` stands for the items that slots would hold, and `()` for what a rule may be given.
-    table: Table<u8, PassView, (), ClaimRule, Global>,
+    // A table of one word. It has no slots, so nothing to put into them, and its rule is given nothing.
+    table: Table<Infallible, PassView, (), ClaimRule, Global>,
 }
 
 impl Model for Deck {
@@ -41,7 +42,7 @@ impl Model for Deck {
 /// passes of a deck have 2^31 units together, and a pass has at most 2^32 numbers for each of its units.
 #[derive(Drop)]
 pub struct Pass {
-    seat: Seat<u8, PassView>,
+    seat: Seat<Infallible, PassView>,
 }
 
 impl Model for Pass {
@@ -88,6 +89,14 @@ impl Deck {
         ensures drawn { pass.new ≡ drawn pass.old result }
     {
         self.table.shared.fetch_add::<Draw>(&mut pass.seat, 0, 1)
+    }
+
+    /// The number that is drawn next, unless other workers draw it first. It changes nothing.
+    pub(crate) fn next_number(&self, pass: &mut Pass) -> u64
+        requires { pass.old.deck ≡ self.now }
+        ensures { pass.new ≡ pass.old }
+    {
+        self.table.shared.load::<Look>(&mut pass.seat, 0)
     }
 
     /// Takes in the numbers and units of another pass. No number stands in both.

@@ -16,7 +16,8 @@ pub enum Event {
     Ran(usize),
     /// The worker leaves, and gives up a number that it holds.
     Left(usize),
-    /// Once all have left: what has no output is worked, the outputs are committed, and the next phase opens.
+    /// Once all have left: what has no output is worked, the outputs are committed, and the next phase opens. (It is the
+    /// machine that turns to its next phase. What a process does in a superstep is called a turn too.)
     Turn,
 }
 

@@ -15,6 +15,7 @@ mod piece;
 mod round;
 mod row;
 mod turning;
+mod watch;
 mod work;
 mod worker;
 
@@ -24,7 +25,7 @@ pub use event::{CoreRefusal, Event};
 pub use machine::Core;
 pub use row::Row;
 pub use std::alloc::AllocError as OutOfMemory;
-pub use work::{Gate, Open, Work};
+pub use work::{Gate, Open, Timed, Work};
 
 #[cfg(test)]
 mod tests;

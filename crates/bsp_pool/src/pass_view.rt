@@ -1,10 +1,17 @@
-//! What the claim word's table keeps of a pass.
+//! The view of a pass.
 
-use std::collections::LinkedList;
+use std::marker::Model;
 
-/// What a pass knows of itself: its units, and the numbers that it has drawn or taken in, in order. No value of it is made. Of the
-/// types that hold lists, `LinkedList` is the one that definitions see as the bare list.
-pub(crate) struct PassView {
-    pub(crate) units: u64,
-    pub(crate) numbers: LinkedList<u64>,
+/// What the table of the claim word calls the view of a pass: what the pass knows of itself. Contracts and the rule alone speak of views. No code
+/// makes one, and none has bytes.
+///
+/// Contracts see a view as the units of the pass, and the numbers that it has drawn or taken in, in order.
+pub(crate) struct PassView;
+
+impl Model for PassView {
+    ghost use Rattle.bsp_pool.specs.Views.{View, no_view};
+
+    ghost Value = { View };
+
+    ghost view = { λ _. no_view };
 }

@@ -1,8 +1,9 @@
 //! What workers hand back: pieces, each the output of one number.
 
-ghost use Rattle.std.specs.Prelude.{◌≡◌, IfSome, List, Some, slice_get};
+ghost use Rattle.std.specs.Prelude.{◌≡◌, ◌++◌, if◌then◌else◌, is_ok, IfSome, List, Some, slice_get};
 ghost use Rattle.bsp_pool.specs.Pieces.{ArePieces};
 
+use crate::OutOfMemory;
 use std::alloc::Global;
 
 /// The output of the input of this number.
@@ -19,19 +20,17 @@ pub(crate) fn no_pieces<T>(alloc: Global) -> Vec<Piece<T>>
     Vec::new(alloc)
 }
 
-/// The pieces of both, or of the first alone where there is no memory for more.
-#[tactic(auto, using(crate::proofs::PieceLists::more_pieces))]
-pub(crate) fn gathered<T: Drop>(
-    mut pieces: Vec<Piece<T>>,
+/// Puts the others behind the pieces, or leaves them away where there is no memory for both.
+///
+/// # Errors
+/// `OutOfMemory` where memory is refused.
+pub(crate) fn gather<T: Drop>(
+    pieces: &mut Vec<Piece<T>>,
     mut others: Vec<Piece<T>>,
-) -> Vec<Piece<T>>
-    ensures { (outs : List T) → ArePieces outs pieces.items → ArePieces outs others.items
-        → ArePieces outs result.items }
+) -> Result<(), OutOfMemory>
+    ensures { pieces.new.items ≡ (if is_ok result then pieces.old.items ++ others.items else pieces.old.items) }
 {
-    match pieces.append(&mut others) {
-        Ok(()) => pieces,
-        Err(_) => pieces,
-    }
+    pieces.append(&mut others)
 }
 
 /// The same pieces, with the lowest number last.

@@ -4,3 +4,4 @@ mod machine;
 mod phase;
 mod refusals;
 mod rows;
+mod timed;

@@ -4,6 +4,7 @@ ghost use Rattle.std.specs.Prelude.{◌≡◌, IfOk};
 
 use crate::OutOfMemory;
 use std::alloc::Global;
+use std::time::{Clock, Instant};
 
 /// A function of one input, which several threads may call at once.
 pub trait Work: Sync {
@@ -32,12 +33,39 @@ pub trait Work: Sync {
 pub trait Gate: Sync {
     /// Called by the worker that drew the job of this number (from 0), before its work.
     fn pass(&self, job: usize);
+
+    /// The time, by which a phase sees whether more threads are worth their start. Where there is none, a phase starts all its
+    /// threads at once.
+    fn now(&self) -> Option<Instant> {
+        None
+    }
 }
 
-/// The gate that does nothing.
+/// The gate that does nothing and tells no time.
 #[derive(Clone, Copy, Debug, Default)]
 pub struct Open;
 
 impl Gate for Open {
     fn pass(&self, _job: usize) {}
+}
+
+/// The gate that does nothing but tell the time of a clock, as a runtime has one.
+#[derive(Drop)]
+pub struct Timed<'a, C> {
+    clock: &'a C,
+}
+
+impl<'a, C> Timed<'a, C> {
+    /// The gate with this clock.
+    pub fn new(clock: &'a C) -> Timed<'a, C> {
+        Timed { clock }
+    }
+}
+
+impl<'a, C: Clock + Sync> Gate for Timed<'a, C> {
+    fn pass(&self, _job: usize) {}
+
+    fn now(&self) -> Option<Instant> {
+        Instant::now(self.clock).ok()
+    }
 }

@@ -12,3 +12,4 @@ pub mod Shares
 pub mod NextViews
 pub mod KeptCosts
 pub mod TakingOver
+pub mod UnrecordedRuns

@@ -3,6 +3,7 @@ use Rattle.std.proofs.Common.{◌≡◌, ◌<◌, ℕ, ◌+◌, List, [], ◌∷
 use Rattle.std.specs.List.{range_with_len}
 use Rattle.std.proofs.lemmas.List.FromFn.{map-range_with_len_more, length-range_with_len, get_or-range_with_len}
 use Rattle.bsp_deliver.specs.Requests.{each_below}
+use Rattle.bsp_deliver.specs.Condition.{IsAscending}
 
 pub map_twice : {X Y Z : Type 0} (f : Y → Z) (g : X → Y) (xs : List X) → map (λ x. f (g x)) xs ≡ map f (map g xs)
 map_twice f g [] = refl
@@ -28,3 +29,8 @@ pub range_below : (n : ℕ) → All (λ k. k < n) (range_with_len 0 n)
 range_below n = λ k d l.
     let here : k < n = omega (arith, length-range_with_len 0 n) in
     omega (arith, get_or-range_with_len 0 n k d here)
+
+pub range_ascending : (n : ℕ) → IsAscending (range_with_len 0 n)
+range_ascending n = λ j k l lk.
+    let here : k < n = omega (arith, length-range_with_len 0 n) in
+    omega (arith, l, get_or-range_with_len 0 n k 0 here, get_or-range_with_len 0 n j 0 (omega arith))

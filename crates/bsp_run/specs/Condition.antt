@@ -1,6 +1,6 @@
 -- What a run keeps, and what its calls ask.
 use Rattle.std.specs.Prelude.{◌≡◌, ◌≤◌, ◌<◌, ℕ, None, Some, Bool, true, false, List, [], map, length, All, slice_index_or}
-use Rattle.bsp_model.specs.declared.limits.TheConstants.{HIGHEST_PRICE, MOST_ARGUMENTS, MOST_MEMORY_WORDS, MOST_PROCESSES, MOST_SLOTS, MOST_SUPERSTEPS, MOST_TAG_WORDS}
+use Rattle.bsp_model.specs.Limits.{highest_price, most_arguments, most_memory_words, most_processes, most_slots, most_supersteps, most_tag_words}
 use Rattle.bsp_model.specs.declared.request.Message.{Message}
 use Rattle.bsp_table.specs.declared.area.Area.{Area}
 use Rattle.bsp_table.specs.NextTable.{AreFull, AreSlots, AreSlotsInside, AreSlotsWithin, ArePushesInside, AreWithin, table_fault}
@@ -35,32 +35,32 @@ deliveries_of os = each_below (length os) (λ d. (next_memory (delivery_parts os
 -- A state within the limits, whose areas lie inside its memories.
 pub record IsState (s : State) : Type 0 where
   pub some : 1 ≤ length s.memories
-  pub few : length s.memories ≤ MOST_PROCESSES
-  pub short_memories : All (λ m. length m ≤ MOST_MEMORY_WORDS) s.memories
+  pub few : length s.memories ≤ most_processes
+  pub short_memories : All (λ m. length m ≤ most_memory_words) s.memories
   pub same_count : length s.queues ≡ length s.memories
   pub queues : All IsQueue s.queues
   pub table : IsTableFor (length s.memories) s.table
   pub inside : AreSlotsInside (map (λ m. length m) s.memories) s.table
-  pub small_tag : s.tag_size ≤ MOST_TAG_WORDS
+  pub small_tag : s.tag_size ≤ most_tag_words
 
 -- A next table within the limits, whose areas lie inside the memories.
 pub record IsNextTable (n : ℕ) (ns : List ℕ) (slots : List (List Area)) : Type 0 where
-  pub few : length slots ≤ MOST_SLOTS
+  pub few : length slots ≤ most_slots
   pub full : AreFull n slots
   pub inside : AreSlotsInside ns slots
-  pub within : AreSlotsWithin MOST_MEMORY_WORDS slots
+  pub within : AreSlotsWithin most_memory_words slots
 
 -- What the step to the next table asks: the turns of processes that all see this table, at whose end there is no fault.
 pub record CanSync (slots : List (List Area)) (os : List OutcomeParts) : Type 0 where
   pub some : 1 ≤ length os
-  pub few : length os ≤ MOST_PROCESSES
+  pub few : length os ≤ most_processes
   pub full : AreFull (length os) slots
   pub pops : All (λ o. AreSlots slots o.pops) os
   pub faultless : table_fault slots (pops_of os) (pushes_of os) ≡ None
   pub inside : AreSlotsInside (map (λ o. length o.memory) os) slots
   pub pushes : ArePushesInside (map (λ o. length o.memory) os) (pushes_of os)
-  pub within : AreSlotsWithin MOST_MEMORY_WORDS slots
-  pub short_pushes : All (λ o. AreWithin MOST_MEMORY_WORDS o.pushes) os
+  pub within : AreSlotsWithin most_memory_words slots
+  pub short_pushes : All (λ o. AreWithin most_memory_words o.pushes) os
 
 -- What holds of a superstep that ended the run so.
 pub record IsEnd (r : Run) (status : Status) : Type 0 where
@@ -93,10 +93,10 @@ IsInPhase (Ended (SyncFaulted step fault)) r = IsEnd r (SyncFaulted step fault)
 -- What every run keeps (this profile).
 pub record IsRun (r : Run) : Type 0 where
   pub same_args : length r.args ≡ length r.state.memories
-  pub short_args : All (λ a. length a ≤ MOST_ARGUMENTS) r.args
-  pub few_supersteps : r.limit ≤ MOST_SUPERSTEPS
-  pub small_g : r.g ≤ HIGHEST_PRICE
-  pub small_l : r.l ≤ HIGHEST_PRICE
+  pub short_args : All (λ a. length a ≤ most_arguments) r.args
+  pub few_supersteps : r.limit ≤ most_supersteps
+  pub small_g : r.g ≤ highest_price
+  pub small_l : r.l ≤ highest_price
   pub past : All (λ s. AreDeliverable s.outcomes) r.past
   pub state : IsState r.state
   pub phase : IsInPhase r.phase r

@@ -13,3 +13,5 @@ pub mod Law
 pub mod Record
 pub mod Shares
 pub mod TakingOver
+pub mod Unrecorded
+pub mod IsUnrecorded

@@ -1,6 +1,6 @@
 -- What the opening of a superstep asks.
 use Rattle.std.specs.Prelude.{◌≡◌, ◌≤◌, ℕ, List, map, length, All}
-use Rattle.bsp_model.specs.declared.limits.TheConstants.{MOST_ARGUMENTS, MOST_MEMORY_WORDS, MOST_PROCESSES, MOST_TAG_WORDS}
+use Rattle.bsp_model.specs.Limits.{most_arguments, most_memory_words, most_processes, most_tag_words}
 use Rattle.bsp_model.specs.declared.request.Message.{Message}
 use Rattle.bsp_table.specs.declared.area.Area.{Area}
 use Rattle.bsp_step.specs.ViewParts.{ViewParts, IsQueue, IsTableFor}
@@ -13,13 +13,13 @@ state_of cells table tag_size =
 
 -- arguments and a state within the limits
 pub record CanOpen (args : List (List ℕ)) (s : State) : Type 0 where
-  pub few : length s.memories ≤ MOST_PROCESSES
+  pub few : length s.memories ≤ most_processes
   pub same_args : length args ≡ length s.memories
-  pub short_args : All (λ a. length a ≤ MOST_ARGUMENTS) args
-  pub short_memories : All (λ m. length m ≤ MOST_MEMORY_WORDS) s.memories
+  pub short_args : All (λ a. length a ≤ most_arguments) args
+  pub short_memories : All (λ m. length m ≤ most_memory_words) s.memories
   pub queues : All IsQueue s.queues
   pub table : IsTableFor (length s.memories) s.table
-  pub small_tag : s.tag_size ≤ MOST_TAG_WORDS
+  pub small_tag : s.tag_size ≤ most_tag_words
 
 -- the view of these parts
 abbrev pub view_with : ℕ → ℕ → ℕ → List ℕ → (List ℕ × List Message) → List (List Area) → ℕ → ViewParts

@@ -7,7 +7,7 @@ ghost use Rattle.bsp_run.specs.TapeInside.{IsSmall};
 
 use bsp_deliver::h_of;
 use bsp_model::limits::{HIGHEST_PRICE, MOST_SUPERSTEPS};
-use bsp_model::{CostRow, OutOfMemory, Seq, Shared};
+use bsp_model::{CostRow, OutOfMemory, Shared, SharedSeq};
 use bsp_step::Outcome;
 use std::alloc::Global;
 
@@ -62,7 +62,7 @@ pub fn cost_at(g: u64, l: u64, row: &CostRow) -> CostRow
 }
 
 /// The cost of the superstep that ended the run.
-fn cost_of_end(outcomes: &[Shared<Outcome>]) -> CostRow
+pub fn cost_of_end(outcomes: &[Shared<Outcome>]) -> CostRow
     ensures value { result ≡ cost_of_end outcomes.now }
     ensures small { result.cost < 2 ^ 50 }
 {
@@ -79,16 +79,16 @@ pub fn all_costs(
     alloc: Global,
     past: &[CostRow],
     last: Option<&[Shared<Outcome>]>,
-) -> Result<Seq<CostRow>, OutOfMemory>
+) -> Result<SharedSeq<CostRow>, OutOfMemory>
     requires { All (λ row. row.cost < 2 ^ 50) past.now }
     ensures rows { IfOk result (λ rows. rows ≡ past.now ++ map cost_of_end (turns_in (option_map (λ o. o.now) last.entry))) }
     ensures small { IfOk result (λ rows. All (λ row. row.cost < 2 ^ 50) rows) }
 {
-    let mut rows = Seq::from_vec(past.to_vec(alloc)?);
+    let mut rows = past.to_vec(alloc)?;
     if let Some(outcomes) = last {
         rows.push(cost_of_end(outcomes))?;
     }
-    Ok(rows)
+    Ok(SharedSeq::from_vec(rows)?)
 }
 
 /// The sum of the costs.

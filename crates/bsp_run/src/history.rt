@@ -10,7 +10,7 @@ use crate::costs::{all_costs, total_of};
 use crate::keeping::{is_limit, last_turn};
 use crate::lines::all_lines;
 use crate::{Lines, Phase, RunResult, Status, Superstep, Tape, Views};
-use bsp_model::{CostRow, Memory, OutOfMemory, Seq, Shared, TryCopy};
+use bsp_model::{CostRow, Memory, OutOfMemory, Seq, Shared, SharedSeq, TryCopy};
 use bsp_step::{Outcome, View};
 use std::alloc::Global;
 use std::marker::Model;
@@ -19,8 +19,8 @@ use std::marker::Model;
 #[derive(Drop)]
 pub struct History {
     pub(crate) run: Tape,
-    lines: Seq<Shared<Lines>>,
-    costs: Seq<CostRow>,
+    lines: SharedSeq<Shared<Lines>>,
+    costs: SharedSeq<CostRow>,
     total: u64,
 }
 
@@ -136,7 +136,10 @@ impl History {
 }
 
 /// The memories of these views.
-fn memories_of_views(alloc: Global, views: &[Shared<View>]) -> Result<Seq<Memory>, OutOfMemory>
+pub(crate) fn memories_of_views(
+    alloc: Global,
+    views: &[Shared<View>],
+) -> Result<Seq<Memory>, OutOfMemory>
     ensures { IfOk result (λ all. all ≡ map (λ v. v.memory) views.now) }
 {
     let mut all = Seq::new(alloc);
@@ -147,7 +150,7 @@ fn memories_of_views(alloc: Global, views: &[Shared<View>]) -> Result<Seq<Memory
 }
 
 /// The memories of these outcomes.
-fn memories_of_outcomes(
+pub(crate) fn memories_of_outcomes(
     alloc: Global,
     outcomes: &[Shared<Outcome>],
 ) -> Result<Seq<Memory>, OutOfMemory>
@@ -244,19 +247,7 @@ impl History {
         }
     }
 
-    /// The lines of all processes.
-    fn all_lines(&self) -> Result<Seq<Lines>, OutOfMemory>
-        ensures { IfOk result (λ all. all ≡ lines_of self.now) }
-    {
-        let mut all = Seq::new(self.lines.allocator());
-        for lines in self.lines.as_slice() {
-            let lines: &Lines = lines;
-            all.push(lines.copy()?)?;
-        }
-        Ok(all)
-    }
-
-    /// What the run gives to its user, or `OutOfMemory`.
+    /// What the run gives to its user, or `OutOfMemory`. It shares the lines and the costs with the history.
     #[tactic(auto, unfolding(crate::specs::Result::result_of))]
     pub fn result(&self) -> Result<RunResult, OutOfMemory>
         ensures { IfOk result (λ r. r ≡ result_of self.now) }
@@ -264,7 +255,7 @@ impl History {
         Ok(RunResult {
             status: self.status().copy()?,
             memories: self.memories()?,
-            lines: self.all_lines()?,
+            lines: self.lines.copy()?,
             costs: self.costs.copy()?,
             total: self.total,
         })

@@ -16,13 +16,14 @@ mod supersteps;
 mod taking;
 mod taking_over;
 mod tape;
+mod unrecorded;
 mod wide;
 mod works;
 
 pub use history::History;
 pub use opening::first_view;
 pub use phase::Phase;
-pub use plain::run_plain;
+pub use plain::{run_plain, run_result};
 pub use result::{Lines, ProcessFault, RunError, RunResult, Status};
 pub use seen::seen_by;
 pub use superstep::{Outcomes, Superstep, Views};

@@ -1,11 +1,12 @@
 //! The lines of a run.
 
-ghost use Rattle.std.specs.Prelude.{◌≡◌, ◌+◌, ◌≤◌, ◌++◌, length, map, option_map, take, true, IfOk, OnOk};
+ghost use Rattle.std.specs.Prelude.{◌≡◌, [], ◌+◌, ◌≤◌, ◌++◌, length, map, option_map, take, true, IfOk, OnOk};
 ghost use Rattle.bsp_deliver.specs.Requests.{each_below, outcome_of};
 ghost use Rattle.bsp_run.specs.Result.{lines_of_process, turns_in};
+ghost use Rattle.bsp_run.specs.Unrecorded.{lines_and};
 
 use crate::{Lines, Superstep};
-use bsp_model::{OutOfMemory, Same, Seq, Shared, TryCopy, Words};
+use bsp_model::{OutOfMemory, Same, Seq, Shared, SharedSeq, TryCopy, Words};
 use bsp_step::Outcome;
 use std::alloc::Global;
 
@@ -28,6 +29,41 @@ fn add_lines(lines: &mut Lines, outcomes: &[Shared<Outcome>], pid: usize) -> Res
         lines.push(line.copy()?)?;
     }
     Ok(())
+}
+
+/// Adds the lines of each process in one superstep to those that it printed before.
+pub fn add_all_lines(
+    lines: &mut Vec<Lines>,
+    outcomes: &[Shared<Outcome>],
+) -> Result<(), OutOfMemory>
+    ensures { OnOk result (lines.new.items ≡ lines_and lines.old.items outcomes.now) }
+{
+    for pid in 0..lines.len() {
+        add_lines(&mut lines[pid], outcomes, pid)?;
+    }
+    Ok(())
+}
+
+/// These lines of each process, for a result.
+pub fn share_lines(alloc: Global, all: Vec<Lines>) -> Result<SharedSeq<Shared<Lines>>, OutOfMemory>
+    ensures { IfOk result (λ shared. shared ≡ all.items) }
+{
+    let mut shared = Vec::with_capacity(alloc, all.len())?;
+    for lines in all {
+        shared.push(Shared::new(alloc, lines)?)?;
+    }
+    Ok(SharedSeq::from_vec(shared)?)
+}
+
+/// No lines, for each process.
+pub fn no_lines(alloc: Global, nprocs: usize) -> Result<Vec<Lines>, OutOfMemory>
+    ensures { IfOk result (λ all. all.items ≡ each_below nprocs (lines_of_process [])) }
+{
+    let mut all = Vec::with_capacity(alloc, nprocs)?;
+    for _pid in 0..nprocs {
+        all.push(Seq::new(alloc))?;
+    }
+    Ok(all)
 }
 
 /// The lines of a process in these supersteps.
@@ -126,12 +162,12 @@ pub fn all_lines(
     past: &[Superstep],
     last: Option<&[Shared<Outcome>]>,
     nprocs: usize,
-) -> Result<Seq<Shared<Lines>>, OutOfMemory>
+) -> Result<SharedSeq<Shared<Lines>>, OutOfMemory>
     ensures { IfOk result (λ all. all ≡ each_below nprocs (lines_of_process (map (λ s. s.outcomes) past.now ++ turns_in (option_map (λ o. o.now) last.entry)))) }
 {
-    let mut all = Seq::with_capacity(alloc, nprocs)?;
+    let mut all = Vec::with_capacity(alloc, nprocs)?;
     for pid in 0..nprocs {
         all.push(shared_lines(alloc, before.get(pid), past, last, pid)?)?;
     }
-    Ok(all)
+    Ok(SharedSeq::from_vec(all)?)
 }

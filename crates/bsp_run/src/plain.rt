@@ -1,17 +1,20 @@
 //! A run on one thread.
 
-ghost use Rattle.std.specs.Prelude.{◌≡◌, ◌<◌, All, None, IfOk, IfErr, OnOk, length};
+ghost use Rattle.std.specs.Prelude.{◌≡◌, ◌<◌, All, None, IfOk, IfErr, OnOk, length, map};
 ghost use Rattle.bsp_model.specs.Input.{input_fault};
 ghost use Rattle.bsp_step.specs.Turn.{turn_of};
-ghost use Rattle.bsp_deliver.specs.Condition.{AreDeliverable};
+ghost use Rattle.bsp_deliver.specs.Condition.{AreDeliverable, IsAscending};
 ghost use Rattle.bsp_run.specs.Shares.{turns_of, deliveries_to};
 ghost use Rattle.bsp_run.specs.Run.{run};
+ghost use Rattle.bsp_run.specs.Result.{result_of};
 ghost use Rattle.bsp_run.specs.Law.{IsBspRun};
 ghost use Rattle.bsp_run.specs.RunErrors.{input_fault_of};
 
+use crate::ending::end_of;
 use crate::supersteps::run_by;
-use crate::{History, RunError};
-use bsp_deliver::deliver;
+use crate::unrecorded::{ended, ended_at_limit, go_on, open_unrecorded};
+use crate::{History, RunError, RunResult};
+use bsp_deliver::deliver_some;
 use bsp_model::{Input, Memory, OutOfMemory, Shared};
 use bsp_step::{Outcome, Program, Queue, View, turn};
 use std::alloc::Global;
@@ -45,24 +48,6 @@ fn turns<P: Program>(
     Ok(outcomes)
 }
 
-/// The next memory and queue of each of these processes, in the order of the list.
-fn deliveries(
-    alloc: Global,
-    outcomes: &[Shared<Outcome>],
-    processes: &[usize],
-) -> Result<Vec<(Memory, Queue)>, OutOfMemory>
-    requires deliverable { AreDeliverable outcomes.now }
-    requires processes { All (λ d. d < length outcomes.now) processes.now }
-    ensures { IfOk result (λ all. all.items ≡ deliveries_to outcomes.now processes.now) }
-{
-    let mut cells = Vec::with_capacity(alloc, processes.len())?;
-    for process in processes {
-        let cell = deliver(alloc, *process, outcomes)?;
-        cells.push(cell)?;
-    }
-    Ok(cells)
-}
-
 /// The run of a program on an input, on one thread: every process from its first superstep, up to the superstep limit. `law` says what it is in
 /// the words of BSP. `Input(f)` comes exactly where the input's check answers f; or `OutOfMemory`.
 pub fn run_plain<P: Program>(alloc: Global, program: &P, input: &Input) -> Result<History, RunError>
@@ -88,7 +73,47 @@ pub fn run_plain<P: Program>(alloc: Global, program: &P, input: &Input) -> Resul
         >
             requires deliverable { AreDeliverable outcomes.now }
             requires processes { All (λ d. d < length outcomes.now) processes.now }
+            requires ascending { IsAscending processes.now }
             ensures { IfOk result (λ all. all.items ≡ deliveries_to outcomes.now processes.now) }
-        { deliveries(alloc, outcomes, processes) },
+        { deliver_some(alloc, outcomes, processes) },
     )
+}
+
+/// The turns of all processes.
+fn all_turns<P: Program>(
+    alloc: Global,
+    program: &P,
+    views: &[Shared<View>],
+) -> Result<Vec<Shared<Outcome>>, OutOfMemory>
+    ensures { IfOk result (λ all. all.items ≡ map (turn_of (P.acts program.now) (P.ending program.now)) views.now) }
+{
+    let mut outcomes = Vec::with_capacity(alloc, views.len())?;
+    for view in views {
+        let outcome = shared_turn(alloc, program, view)?;
+        outcomes.push(outcome)?;
+    }
+    Ok(outcomes)
+}
+
+/// What the run of a program on an input gives. It keeps no record of the run: beside the lines and the costs, memory for one superstep.
+/// `Input(f)` comes exactly where the input's check answers f; or `OutOfMemory`.
+pub fn run_result<P: Program>(
+    alloc: Global,
+    program: &P,
+    input: &Input,
+) -> Result<RunResult, RunError>
+    ensures lawful { OnOk result (input_fault input.now ≡ None) }
+    ensures result { IfOk result (λ r. r ≡ result_of (run (turn_of (P.acts program.now) (P.ending program.now)) input.now)) }
+    ensures input { IfErr result (λ e. input_fault input.now ≡ input_fault_of e) }
+{
+    let mut kept = open_unrecorded(alloc, input)?;
+    for step in 0..input.limit {
+        let outcomes = all_turns(alloc, program, kept.views.as_slice())?;
+        let outcomes = outcomes.as_slice();
+        if let Some(status) = end_of(alloc, step, &kept.table, outcomes)? {
+            return Ok(ended(alloc, kept, status, outcomes)?);
+        }
+        go_on(alloc, input, step + 1, &mut kept, outcomes)?;
+    }
+    Ok(ended_at_limit(alloc, kept)?)
 }

@@ -3,7 +3,10 @@
 ghost use Rattle.std.specs.Prelude.{◌≡◌};
 ghost use Rattle.bsp_run.specs.declared.result.RunError.TheVariants.{OutOfMemory};
 
-use bsp_model::{CostRow, Fault, InputFault, Memory, OutOfMemory, Seq, SyncFault, TryCopy, Words};
+use bsp_model::{
+    CostRow, Fault, InputFault, Memory, OutOfMemory, Seq, Shared, SharedSeq, SyncFault, TryCopy,
+    Words,
+};
 use std::alloc::AllocError;
 
 /// The lines that a process printed, in order.
@@ -45,9 +48,9 @@ pub struct RunResult {
     /// The memory of each process: after the last computing, or after the last delivery at `Limit`.
     pub memories: Seq<Memory>,
     /// The lines of each process, one superstep after the other.
-    pub lines: Seq<Lines>,
+    pub lines: SharedSeq<Shared<Lines>>,
     /// The cost of each superstep.
-    pub costs: Seq<CostRow>,
+    pub costs: SharedSeq<CostRow>,
     /// The sum of the costs.
     pub total: u64,
 }

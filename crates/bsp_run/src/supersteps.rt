@@ -4,7 +4,7 @@ ghost use Rattle.std.specs.Prelude.{◌≡◌, ◌<◌, All, None, IfOk, IfErr, 
 ghost use Rattle.std.specs.List.{range_with_len};
 ghost use Rattle.bsp_model.specs.Input.{input_fault};
 ghost use Rattle.bsp_step.specs.Turn.{turn_of};
-ghost use Rattle.bsp_deliver.specs.Condition.{AreDeliverable};
+ghost use Rattle.bsp_deliver.specs.Condition.{AreDeliverable, IsAscending};
 ghost use Rattle.bsp_run.specs.Run.{advance, run};
 ghost use Rattle.bsp_run.specs.Condition.{is_turned};
 ghost use Rattle.bsp_run.specs.Shares.{turns_of, deliveries_to};
@@ -18,7 +18,7 @@ use std::alloc::Global;
 
 /// The numbers of so many processes.
 #[tactic(auto, using(crate::proofs::Lists::range_more))]
-fn numbers(alloc: Global, count: usize) -> Result<Vec<usize>, OutOfMemory>
+pub fn numbers(alloc: Global, count: usize) -> Result<Vec<usize>, OutOfMemory>
     ensures { IfOk result (λ numbers. numbers.items ≡ range_with_len 0 count) }
 {
     let mut numbers = Vec::with_capacity(alloc, count)?;
@@ -38,7 +38,7 @@ fn advance<
     requires turn { (p : _) (views : _) (ps : _) → All (λ k. k < length views.now) ps.now → T.pre turns.now p views ps }
     requires turns { (p : _) (views : _) (ps : _) (r : _) → T.post turns.now p views ps r
         → IfOk r (λ all. all.items ≡ turns_of (turn_of (P.acts p.now) (P.ending p.now)) views.now ps.now) }
-    requires deliver { (os : _) (ds : _) → AreDeliverable os.now → All (λ d. d < length os.now) ds.now → D.pre deliveries.now os ds }
+    requires deliver { (os : _) (ds : _) → AreDeliverable os.now → All (λ d. d < length os.now) ds.now → IsAscending ds.now → D.pre deliveries.now os ds }
     requires deliveries { (os : _) (ds : _) (r : _) → D.post deliveries.now os ds r
         → IfOk r (λ all. all.items ≡ deliveries_to os.now ds.now) }
     ensures { OnOk result (tape.new ≡ advance (turn_of (P.acts program.now) (P.ending program.now)) tape.old) }
@@ -58,7 +58,7 @@ fn advance<
 }
 
 /// The run of a program on an input: every process from its first superstep, up to the superstep limit. `turns` takes the turns of the
-/// processes that it is given, and `deliveries` makes the deliveries to them.
+/// processes that it is given, and `deliveries` makes the deliveries to those that it is given, in ascending order.
 pub(crate) fn run_by<
     P: Program,
     T: Fn(&P, &[Shared<View>], &[usize]) -> Result<Vec<Shared<Outcome>>, OutOfMemory>,
@@ -67,7 +67,7 @@ pub(crate) fn run_by<
     requires turn { (p : _) (views : _) (ps : _) → All (λ k. k < length views.now) ps.now → T.pre turns.now p views ps }
     requires turns { (p : _) (views : _) (ps : _) (r : _) → T.post turns.now p views ps r
         → IfOk r (λ all. all.items ≡ turns_of (turn_of (P.acts p.now) (P.ending p.now)) views.now ps.now) }
-    requires deliver { (os : _) (ds : _) → AreDeliverable os.now → All (λ d. d < length os.now) ds.now → D.pre deliveries.now os ds }
+    requires deliver { (os : _) (ds : _) → AreDeliverable os.now → All (λ d. d < length os.now) ds.now → IsAscending ds.now → D.pre deliveries.now os ds }
     requires deliveries { (os : _) (ds : _) (r : _) → D.post deliveries.now os ds r
         → IfOk r (λ all. all.items ≡ deliveries_to os.now ds.now) }
     ensures lawful { OnOk result (input_fault input.now ≡ None) }

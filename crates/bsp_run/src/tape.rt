@@ -50,7 +50,7 @@ impl Model for Tape {
     ghost invariant = { IsLawful };
 }
 
-fn checked(input: &Input) -> Result<(), RunError>
+pub(crate) fn checked(input: &Input) -> Result<(), RunError>
     ensures ok { OnOk result (input_fault input.now ≡ None) }
     ensures err { IfErr result (λ e. input_fault input.now ≡ input_fault_of e) }
 {

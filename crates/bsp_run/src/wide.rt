@@ -3,7 +3,7 @@
 ghost use Rattle.std.specs.Prelude.{◌≡◌, ◌<◌, ◌≤◌, All, None, IfOk, IfErr, OnOk, length};
 ghost use Rattle.bsp_model.specs.Input.{input_fault};
 ghost use Rattle.bsp_step.specs.Turn.{turn_of};
-ghost use Rattle.bsp_deliver.specs.Condition.{AreDeliverable};
+ghost use Rattle.bsp_deliver.specs.Condition.{AreDeliverable, IsAscending};
 ghost use Rattle.bsp_run.specs.Shares.{turns_of, deliveries_to};
 ghost use Rattle.bsp_run.specs.Run.{run};
 ghost use Rattle.bsp_run.specs.Law.{IsBspRun};
@@ -12,6 +12,7 @@ ghost use Rattle.bsp_run.specs.RunErrors.{input_fault_of};
 use crate::supersteps::run_by;
 use crate::works::{Deliveries, Turns};
 use crate::{History, RunError};
+use bsp_deliver::{deliver_some, sort_requests};
 use bsp_model::{Input, Memory, OutOfMemory, Shared};
 use bsp_pool::{Gate, phase};
 use bsp_step::{Outcome, Program, Queue, View};
@@ -40,12 +41,62 @@ pub fn wide_turns<P: Program, G: Gate, R: Threads + Sync>(
     phase(rt, alloc, &turns, processes, workers, gate)
 }
 
+/// Passes the gate with each of so many places, in order.
+fn pass_all<G: Gate>(gate: &G, places: usize) {
+    for place in 0..places {
+        gate.pass(place);
+    }
+}
+
+/// How many nanoseconds the calling thread takes for a request and for a word of it, roughly, and from how many on several workers are worth
+/// their start and the sorting of the requests.
+const NANOS_A_REQUEST: usize = 100;
+
+const NANOS_A_WORD: usize = 1;
+
+const NANOS_WORTH_SHARING: usize = 150_000;
+
+/// What a request of so many words takes.
+fn nanos_of(words: usize) -> usize {
+    words
+        .saturating_mul(NANOS_A_WORD)
+        .saturating_add(NANOS_A_REQUEST)
+}
+
+/// What the requests of a process take.
+fn nanos_of_requests(outcome: &Outcome) -> usize {
+    let mut nanos: usize = 0;
+    for put in outcome.puts.as_slice() {
+        nanos = nanos.saturating_add(nanos_of(put.words.len()));
+    }
+    for get in outcome.gets.as_slice() {
+        nanos = nanos.saturating_add(nanos_of(get.len as usize));
+    }
+    for send in outcome.sends.as_slice() {
+        nanos = nanos.saturating_add(nanos_of(send.words.len()));
+    }
+    nanos
+}
+
+/// Whether the calling thread makes the deliveries sooner than threads are started for them.
+fn is_light(outcomes: &[Shared<Outcome>]) -> bool {
+    let mut nanos: usize = 0;
+    for outcome in outcomes {
+        nanos = nanos.saturating_add(nanos_of_requests(outcome));
+    }
+    nanos < NANOS_WORTH_SHARING
+}
+
 /// The next memory and queue of some processes, in the order of the list, shared by 1 to 16 workers. `processes` are places in
-/// `outcomes`, which are those of all processes. Whoever drew the place k of the list, counted from 0, passes the gate with k before
-/// that delivery.
+/// `outcomes`, which are those of all processes, in ascending order. Whoever drew the place k of the list, counted from 0, passes the
+/// gate with k before that delivery.
+///
+/// The requests are gone over once: one worker passes the gate with every place, and then makes the deliveries together; several sort the
+/// requests first. Where the gate tells the time and the requests are few, the calling thread is the one worker.
 ///
 /// # Errors
-/// `OutOfMemory` where the calling thread is refused memory for the list, or for a delivery that no worker handed in.
+/// `OutOfMemory` where the calling thread is refused memory for the list, to sort the requests, or for a delivery that no worker handed
+/// in.
 pub fn wide_deliveries<G: Gate, R: Threads + Sync>(
     rt: &R,
     alloc: Global,
@@ -56,10 +107,19 @@ pub fn wide_deliveries<G: Gate, R: Threads + Sync>(
 ) -> Result<Vec<(Memory, Queue)>, OutOfMemory>
     requires deliverable { AreDeliverable outcomes.now }
     requires processes { All (λ d. d < length outcomes.now) processes.now }
+    requires ascending { IsAscending processes.now }
     requires workers { (0 < workers) × (workers ≤ 16) }
     ensures { IfOk result (λ all. all.items ≡ deliveries_to outcomes.now processes.now) }
 {
-    let deliveries = Deliveries { outcomes };
+    if workers.min(processes.len()) < 2 || gate.now().is_some() && is_light(outcomes) {
+        pass_all(gate, processes.len());
+        return deliver_some(alloc, outcomes, processes);
+    }
+    let sorted = sort_requests(alloc, outcomes)?;
+    let deliveries = Deliveries {
+        outcomes,
+        sorted: &sorted,
+    };
     phase(rt, alloc, &deliveries, processes, workers, gate)
 }
 
@@ -97,6 +157,7 @@ pub fn run_wide<P: Program, G: Gate, R: Threads + Sync>(
         >
             requires deliverable { AreDeliverable outcomes.now }
             requires processes { All (λ d. d < length outcomes.now) processes.now }
+            requires ascending { IsAscending processes.now }
             requires workers { (0 < workers) × (workers ≤ 16) }
             ensures { IfOk result (λ all. all.items ≡ deliveries_to outcomes.now processes.now) }
         { wide_deliveries(rt, alloc, outcomes, processes, workers, gate) },

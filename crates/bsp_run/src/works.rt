@@ -4,10 +4,11 @@ ghost use Rattle.std.specs.Prelude.{◌<◌, length, slice_index_or};
 ghost use Rattle.bsp_step.specs.Turn.{turn_of};
 ghost use Rattle.bsp_deliver.specs.Condition.{AreDeliverable};
 ghost use Rattle.bsp_deliver.specs.Delivery.{delivery_parts, next_memory, next_queue};
+ghost use Rattle.bsp_deliver.specs.Sorting.{IsSortedFrom};
 ghost use Rattle.bsp_run.specs.Condition.{no_view};
 
 use crate::seen::seen_by;
-use bsp_deliver::deliver;
+use bsp_deliver::{SortedRequests, deliver_sorted};
 use bsp_model::{Memory, OutOfMemory, Shared};
 use bsp_pool::Work;
 use bsp_step::{Ctx, Outcome, Program, Queue, View};
@@ -38,11 +39,13 @@ impl<'a, P: Program> Work for Turns<'a, P> {
     }
 }
 
-/// The deliveries at the end of a superstep. A job is the number of a process.
+/// The deliveries at the end of a superstep, whose requests are sorted. A job is the number of a process.
 #[derive(Drop)]
 pub struct Deliveries<'a> {
     pub outcomes: &'a [Shared<Outcome>],
+    pub sorted: &'a SortedRequests,
     ghost deliverable: { AreDeliverable outcomes.now },
+    ghost sorted_from: { IsSortedFrom outcomes.now sorted.now },
 }
 
 impl<'a> Work for Deliveries<'a> {
@@ -56,6 +59,6 @@ impl<'a> Work for Deliveries<'a> {
         (next_memory (delivery_parts all.outcomes.now d), next_queue (delivery_parts all.outcomes.now d)) };
 
     fn work(&self, alloc: Global, process: &usize) -> Result<(Memory, Queue), OutOfMemory> {
-        deliver(alloc, *process, self.outcomes)
+        deliver_sorted(alloc, *process, self.sorted, self.outcomes)
     }
 }

@@ -1,11 +1,12 @@
 -- The catalogue whose documents write their program as a script, at the key `script` (this profile).
-use Rattle.std.specs.Prelude.{map, codes, Some}
+use Rattle.std.specs.Prelude.{map, codes, Some, is_some, refl}
 use Rattle.std.specs.List.{list_any}
 use Rattle.std.specs.Str.{bytes_eq}
+use Rattle.std.proofs.Common.{ap}
 use Rattle.toml.specs.Data.{Members, get_member}
 use Rattle.bsp_scripts.specs.declared.script.Script.{Script}
-use Rattle.bsp_engine.specs.Catalogue.{Meaning}
-use Rattle.bsp_engine.specs.Tree.{has, elements_at}
+use Rattle.bsp_engine.specs.Catalogue.{Meaning, ReadsOwnKeys}
+use Rattle.bsp_engine.specs.Tree.{has, elements_at, elements_in}
 use Rattle.bsp_engine.specs.Keys.{passes}
 use Rattle.bsp_script.specs.Shapes.{is_script}
 use Rattle.bsp_script.specs.Signs.{has_negative_turn}
@@ -19,9 +20,18 @@ script_of t = record { supersteps = map turns_of (elements_at (codes "script") t
 abbrev pub script_meaning : Meaning Script
 script_meaning =
     record {
-      is_key = λ key. bytes_eq key (codes "script");
       has_required_keys = λ t. has (codes "script") t;
       has_right_shapes = λ t. passes is_script (get_member (codes "script") t);
-      has_negative_word = λ t. list_any has_negative_turn (elements_at (codes "script") t);
+      is_key = λ key. bytes_eq key (codes "script");
       program_of = λ t. Some (script_of t);
+      has_negative_word = λ t. list_any has_negative_turn (elements_at (codes "script") t);
+    }
+
+pub script_meaning-reads_own_keys : ReadsOwnKeys script_meaning
+script_meaning-reads_own_keys =
+    record {
+      required_keys = λ t u agree. ap is_some (agree.values (codes "script") refl);
+      right_shapes = λ t u agree. ap (passes is_script) (agree.values (codes "script") refl);
+      program = λ t u agree. ap (λ value. Some (record { supersteps = map turns_of (elements_in value) })) (agree.values (codes "script") refl);
+      negative_word = λ t u agree. ap (λ value. list_any has_negative_turn (elements_in value)) (agree.values (codes "script") refl);
     }

@@ -16,11 +16,13 @@ use toml::Table;
 pub struct Scripts;
 
 impl Catalogue for Scripts {
-    ghost use Rattle.bsp_script.specs.Catalogue.{script_meaning};
+    ghost use Rattle.bsp_script.specs.Catalogue.{script_meaning, script_meaning-reads_own_keys};
 
     type Program = Script;
 
     ghost meaning = { script_meaning };
+
+    ghost reads_own_keys = { script_meaning-reads_own_keys };
 
     fn is_key(key: &str) -> bool {
         key == "script"

@@ -8,19 +8,15 @@ mod references;
 mod shapes;
 mod signs;
 
-use bsp_engine::{Tool, run_tool};
+use bsp_engine::{Tool, after_help, run_tool};
 use catalogue::Scripts;
 use std::process::ExitCode;
 
 const ABOUT: &str =
     "Runs the script of a document on its input, and again after each batch of edits";
 
-const AFTER_HELP: &str = "\
-It reads a TOML document from standard input, and writes a report to standard output: for the input, and
-for each batch, the memories at the end, the printed lines and the costs.
-
-Keys of the document:
-  script       for each superstep an array of turns, by process; a turn is an array of calls
+const AFTER_HELP: &str = after_help!(
+    "  script       for each superstep an array of turns, by process; a turn is an array of calls
   limit, g, l  the most supersteps, the price of a word, the price of a synchronisation
   memory       an array of words for each process
   args         an array of arguments for each process (may be left out)
@@ -34,17 +30,13 @@ Calls:
   [\"send\", pid, [tag, ..], [v, ..]]  [\"move_into\", room, into]  [\"set_tagsize\", n]
   [\"print_qsize\"]  [\"print_get_tag\"]  [\"print_tag_size\"]
   [\"sync\"]  [\"halt\"]  [\"abort\", code]
-An operand is a number, \"@A\" for the own word A as it is then, or \"$I\" for the own argument I.
-
-Example:
-  script = [[[[\"print\", \"@0\"], [\"halt\"]]]]
+An operand is a number, \"@A\" for the own word A as it is then, or \"$I\" for the own argument I.",
+    "  script = [[[[\"print\", \"@0\"], [\"halt\"]]]]
   limit = 16
   g = 4
   l = 10
-  memory = [[7]]
-
-The exit status is 0, or 1 after `fault read`, `fault write` or `fault memory`, 2 where the command line is
-refused, and 3 after `fault long` or `fault J1` to `fault J7`, where the document is.";
+  memory = [[7]]"
+);
 
 const TOOL: Tool = Tool {
     name: "bsp_script",

@@ -1,7 +1,7 @@
 -- What the calls of a script do.
 use Rattle.std.specs.Prelude.{ℕ, Bool, List, [], ◌∷◌, ◌++◌, ◌+◌, ◌-◌, ◌%◌, ◌^◌, Option, None, Some, Result, Ok, Err, length, take, min, sum_by}
 use Rattle.std.specs.List.{list_any}
-use Rattle.bsp_model.specs.declared.limits.TheConstants.{MOST_PAYLOAD_WORDS}
+use Rattle.bsp_model.specs.Limits.{most_payload_words}
 use Rattle.bsp_model.specs.declared.fault.End.{End}
 use Rattle.bsp_model.specs.declared.fault.End.TheVariants.{Sync as Synced, Halt as Halted, Abort as Aborted}
 use Rattle.bsp_step.specs.Context.{Context}
@@ -64,7 +64,7 @@ call_plan c (Print words) = given (words_of c words) (λ ws. makes (act.print ws
 call_plan c (Add address value) =
     given (word_of c (Word address)) (λ w. given (word_of c value) (λ v. makes (act.store address ((w + v) % 2 ^ 64) ∷ [])))
 call_plan c (MoveInto room into) =
-    makes (act.move_into (min room MOST_PAYLOAD_WORDS) ∷ stores into (take (min room MOST_PAYLOAD_WORDS) (first_words c.left)))
+    makes (act.move_into (min room most_payload_words) ∷ stores into (take (min room most_payload_words) (first_words c.left)))
 call_plan c PrintQsize = makes (act.print (length c.left ∷ sum_by (λ m. length m.words) c.left ∷ []) ∷ [])
 call_plan c PrintGetTag = makes (act.print (heading_line (heading (first_message c.left))) ∷ [])
 call_plan c PrintTagSize = makes (act.print (c.view.tag_size ∷ []) ∷ [])

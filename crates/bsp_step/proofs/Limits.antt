@@ -4,7 +4,7 @@ use Rattle.std.specs.Prelude.{nat_lt, nat_le, slice_set}
 use Rattle.std.proofs.lemmas.Bool.Decides.{nat_tests}
 use Rattle.std.proofs.lemmas.Grind.{common_steps}
 use Rattle.std.proofs.lemmas.List.Elements.{All-nil, All-push, All-drop, All-weaker}
-use Rattle.bsp_model.specs.declared.limits.TheConstants.{MOST_LINES, MOST_LINE_WORDS, MOST_PAYLOAD_WORDS, MOST_REQUESTS, MOST_TAG_WORDS, MOST_WORK}
+use Rattle.bsp_model.specs.Limits.{most_lines, most_line_words, most_payload_words, most_requests, most_tag_words, most_work}
 use Rattle.bsp_model.specs.declared.request.Put.{Put}
 use Rattle.bsp_model.specs.declared.request.Get.{Get}
 use Rattle.bsp_model.specs.declared.request.Send.{Send}
@@ -59,23 +59,23 @@ stored c a v h =
     let same : length (slice_set c.memory a v) ≡ length c.memory = grind (arith, common_steps) in
     record { view = h.view; memory = same ∙ h.memory; left = h.left; few_requests = h.few_requests; placed = h.placed; asked = h.asked; addressed = h.addressed; popped = h.popped; pushed = h.pushed; tag = h.tag; lines = h.lines; little_work = h.little_work }
 
-charged : (c : Context) (n : ℕ) → IsContext c → c.work + n ≤ MOST_WORK → IsContext (done c (charge n))
+charged : (c : Context) (n : ℕ) → IsContext c → c.work + n ≤ most_work → IsContext (done c (charge n))
 charged c n h little =
     record { view = h.view; memory = h.memory; left = h.left; few_requests = h.few_requests; placed = h.placed; asked = h.asked; addressed = h.addressed; popped = h.popped; pushed = h.pushed; tag = h.tag; lines = h.lines; little_work = little }
 
-put_done : (c : Context) (pid : ℕ) (words : List ℕ) (area offset : ℕ) (a : Area) → IsContext c → count_of_requests c < MOST_REQUESTS → pid < c.view.nprocs → target_area c.view pid area ≡ Some a → offset + length words ≤ a.len → IsContext (done c (put pid words area offset))
+put_done : (c : Context) (pid : ℕ) (words : List ℕ) (area offset : ℕ) (a : Area) → IsContext c → count_of_requests c < most_requests → pid < c.view.nprocs → target_area c.view pid area ≡ Some a → offset + length words ≤ a.len → IsContext (done c (put pid words area offset))
 put_done c pid words area offset a h few below found fits =
     let p : Put = record { target = pid; start = a.start + offset; words = words } in
     let more = one_more c.puts p in
     rw found record { view = h.view; memory = h.memory; left = h.left; few_requests = omega arith; placed = ArePlaced-push c.view c.puts pid area offset words a h.placed below found fits; asked = h.asked; addressed = h.addressed; popped = h.popped; pushed = h.pushed; tag = h.tag; lines = h.lines; little_work = h.little_work }
 
-get_done : (c : Context) (pid area offset into len : ℕ) (a : Area) → IsContext c → count_of_requests c < MOST_REQUESTS → pid < c.view.nprocs → target_area c.view pid area ≡ Some a → offset + len ≤ a.len → into + len ≤ length c.memory → IsContext (done c (get pid area offset into len))
+get_done : (c : Context) (pid area offset into len : ℕ) (a : Area) → IsContext c → count_of_requests c < most_requests → pid < c.view.nprocs → target_area c.view pid area ≡ Some a → offset + len ≤ a.len → into + len ≤ length c.memory → IsContext (done c (get pid area offset into len))
 get_done c pid area offset into len a h few below found fits own =
     let g : Get = record { owner = pid; start = a.start + offset; len = len; into = into } in
     let more = one_more c.gets g in
     rw found record { view = h.view; memory = h.memory; left = h.left; few_requests = omega arith; placed = h.placed; asked = AreAsked-push c.view c.gets pid area offset into len a h.asked below found fits (omega (arith, h.memory)); addressed = h.addressed; popped = h.popped; pushed = h.pushed; tag = h.tag; lines = h.lines; little_work = h.little_work }
 
-send_done : (c : Context) (pid : ℕ) (tag words : List ℕ) → IsContext c → count_of_requests c < MOST_REQUESTS → pid < c.view.nprocs → length tag ≡ c.view.tag_size → length words ≤ MOST_PAYLOAD_WORDS → IsContext (done c (send pid tag words))
+send_done : (c : Context) (pid : ℕ) (tag words : List ℕ) → IsContext c → count_of_requests c < most_requests → pid < c.view.nprocs → length tag ≡ c.view.tag_size → length words ≤ most_payload_words → IsContext (done c (send pid tag words))
 send_done c pid tag words h few below same short =
     let m : Send = record { target = pid; tag = tag; words = words } in
     let more = one_more c.sends m in
@@ -86,25 +86,25 @@ moved c room h =
     let fewer : length (drop 1 c.left) ≤ length c.left = grind (arith, common_steps) in
     record { view = h.view; memory = h.memory; left = record { few = omega (arith, h.left.few); short = All-drop IsShortMessage 1 c.left h.left.short }; few_requests = h.few_requests; placed = h.placed; asked = h.asked; addressed = h.addressed; popped = h.popped; pushed = h.pushed; tag = h.tag; lines = h.lines; little_work = h.little_work }
 
-push_done : (c : Context) (start len : ℕ) → IsContext c → count_of_requests c < MOST_REQUESTS → start + len ≤ length c.memory → IsContext (done c (push_reg start len))
+push_done : (c : Context) (start len : ℕ) → IsContext c → count_of_requests c < most_requests → start + len ≤ length c.memory → IsContext (done c (push_reg start len))
 push_done c start len h few fits =
     let a : Area = record { start = start; len = len } in
     let more = one_more c.pushes a in
     record { view = h.view; memory = h.memory; left = h.left; few_requests = omega arith; placed = h.placed; asked = h.asked; addressed = h.addressed; popped = h.popped; pushed = record { each = All-push (λ (a : Area). a.start + a.len ≤ length c.view.memory) c.pushes a h.pushed.each (omega (arith, h.memory)) }; tag = h.tag; lines = h.lines; little_work = h.little_work }
 
-pop_done : (c : Context) (start k : ℕ) → IsContext c → count_of_requests c < MOST_REQUESTS → newest_under c.view.table c.view.pid start c.pops ≡ Some k → IsContext (done c (pop_reg start))
+pop_done : (c : Context) (start k : ℕ) → IsContext c → count_of_requests c < most_requests → newest_under c.view.table c.view.pid start c.pops ≡ Some k → IsContext (done c (pop_reg start))
 pop_done c start k h few found =
     let more = one_more c.pops k in
     rw found record { view = h.view; memory = h.memory; left = h.left; few_requests = omega arith; placed = h.placed; asked = h.asked; addressed = h.addressed; popped = AreSlots-push c.view.table c.view.pid c.pops start k h.popped found; pushed = h.pushed; tag = h.tag; lines = h.lines; little_work = h.little_work }
 
-chosen : (c : Context) (size : ℕ) → IsContext c → size ≤ MOST_TAG_WORDS → IsContext (done c (set_tagsize size))
+chosen : (c : Context) (size : ℕ) → IsContext c → size ≤ most_tag_words → IsContext (done c (set_tagsize size))
 chosen c size h small =
     record { view = h.view; memory = h.memory; left = h.left; few_requests = h.few_requests; placed = h.placed; asked = h.asked; addressed = h.addressed; popped = h.popped; pushed = h.pushed; tag = small; lines = h.lines; little_work = h.little_work }
 
-printed : (c : Context) (words : List ℕ) → IsContext c → length c.lines < MOST_LINES → length words ≤ MOST_LINE_WORDS → IsContext (done c (print words))
+printed : (c : Context) (words : List ℕ) → IsContext c → length c.lines < most_lines → length words ≤ most_line_words → IsContext (done c (print words))
 printed c words h few short =
     let more = one_more c.lines words in
-    record { view = h.view; memory = h.memory; left = h.left; few_requests = h.few_requests; placed = h.placed; asked = h.asked; addressed = h.addressed; popped = h.popped; pushed = h.pushed; tag = h.tag; lines = record { few = omega arith; short = All-push (λ (line : List ℕ). length line ≤ MOST_LINE_WORDS) c.lines words h.lines.short short }; little_work = h.little_work }
+    record { view = h.view; memory = h.memory; left = h.left; few_requests = h.few_requests; placed = h.placed; asked = h.asked; addressed = h.addressed; popped = h.popped; pushed = h.pushed; tag = h.tag; lines = record { few = omega arith; short = All-push (λ (line : List ℕ). length line ≤ most_line_words) c.lines words h.lines.short short }; little_work = h.little_work }
 
 -- an act that passes its checks keeps the limits
 done-within : (c : Context) (a : Act) → IsContext c → refusal c a ≡ None → IsContext (done c a)
@@ -162,7 +162,7 @@ fresh-within v h =
       popped = record { each = All-nil (λ j. j < length v.table); distinct = λ i j d l k. absurd (omega arith) };
       pushed = record { each = All-nil (λ (a : Area). a.start + a.len ≤ length v.memory) };
       tag = tt;
-      lines = record { few = omega arith; short = All-nil (λ (line : List ℕ). length line ≤ MOST_LINE_WORDS) };
+      lines = record { few = omega arith; short = All-nil (λ (line : List ℕ). length line ≤ most_line_words) };
       little_work = omega arith;
     }
 

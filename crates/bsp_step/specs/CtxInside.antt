@@ -1,6 +1,6 @@
 -- The state of a turn, from the fields of its context.
 use Rattle.std.specs.Prelude.{◌≡◌, ◌≤◌, length}
-use Rattle.bsp_model.specs.declared.limits.TheConstants.{MOST_REQUESTS, MOST_WORK}
+use Rattle.bsp_model.specs.Limits.{most_requests, most_work}
 use Rattle.bsp_step.specs.declared.ctx.Ctx.TheInside.{Inside}
 use Rattle.bsp_step.specs.ViewParts.{IsView, IsQueue}
 use Rattle.bsp_step.specs.Context.{Context}
@@ -32,7 +32,7 @@ pub record IsContext (c : Context) : Type 0 where
   pub view : IsView c.view
   pub memory : length c.memory ≡ length c.view.memory
   pub left : IsQueue c.left
-  pub few_requests : count_of_requests c ≤ MOST_REQUESTS
+  pub few_requests : count_of_requests c ≤ most_requests
   pub placed : ArePlaced c.view c.puts
   pub asked : AreAsked c.view c.gets
   pub addressed : AreAddressed c.view c.sends
@@ -40,7 +40,7 @@ pub record IsContext (c : Context) : Type 0 where
   pub pushed : ArePushed c.view c.pushes
   pub tag : IsTagChoice c.tag
   pub lines : AreLines c.lines
-  pub little_work : c.work ≤ MOST_WORK
+  pub little_work : c.work ≤ most_work
 
 abbrev pub IsLawful : Inside → Type 0
 IsLawful c = IsContext (context_of c)

@@ -1,6 +1,6 @@
 -- What a turn leaves.
 use Rattle.std.specs.Prelude.{ℕ, List, Option, None, Some, ◌≤◌, ◌+◌, ◌≡◌, length, All}
-use Rattle.bsp_model.specs.declared.limits.TheConstants.{MOST_LINES, MOST_LINE_WORDS, MOST_MEMORY_WORDS, MOST_PAYLOAD_WORDS, MOST_REQUESTS, MOST_TAG_WORDS, MOST_WORK}
+use Rattle.bsp_model.specs.Limits.{most_lines, most_line_words, most_memory_words, most_payload_words, most_requests, most_tag_words, most_work}
 use Rattle.bsp_model.specs.declared.request.Put.{Put}
 use Rattle.bsp_model.specs.declared.request.Get.{Get}
 use Rattle.bsp_model.specs.declared.request.Send.{Send}
@@ -34,31 +34,31 @@ IsHaltOnFault (Some f) ended = ended ≡ Halt
 
 -- a message within the limits
 pub record IsShortSend (m : Send) : Type 0 where
-  pub tag : length m.tag ≤ MOST_TAG_WORDS
-  pub words : length m.words ≤ MOST_PAYLOAD_WORDS
+  pub tag : length m.tag ≤ most_tag_words
+  pub words : length m.words ≤ most_payload_words
 
 pub record AreShortSends (sends : List Send) : Type 0 where
   pub each : All IsShortSend sends
 
 -- lines within the limits
 pub record AreLines (lines : List (List ℕ)) : Type 0 where
-  pub few : length lines ≤ MOST_LINES
-  pub short : All (λ line. length line ≤ MOST_LINE_WORDS) lines
+  pub few : length lines ≤ most_lines
+  pub short : All (λ line. length line ≤ most_line_words) lines
 
 -- a choice within the limit, or none
 abbrev pub IsTagChoice : Option ℕ → Type 0
 IsTagChoice None = Unit {0}
-IsTagChoice (Some n) = n ≤ MOST_TAG_WORDS
+IsTagChoice (Some n) = n ≤ most_tag_words
 
 -- The limits that every outcome keeps (this profile).
 pub record IsOutcome (o : OutcomeParts) : Type 0 where
   pub halts : IsHaltOnFault o.fault o.ended
-  pub short_memory : length o.memory ≤ MOST_MEMORY_WORDS
-  pub few_requests : length o.puts + length o.gets + length o.sends + length o.pops + length o.pushes ≤ MOST_REQUESTS
+  pub short_memory : length o.memory ≤ most_memory_words
+  pub few_requests : length o.puts + length o.gets + length o.sends + length o.pops + length o.pushes ≤ most_requests
   pub sends : AreShortSends o.sends
   pub tag : IsTagChoice o.tag
   pub lines : AreLines o.lines
-  pub little_work : o.work ≤ MOST_WORK
+  pub little_work : o.work ≤ most_work
 
 -- What an outcome of a view's turn keeps: a memory of the view's length, and requests inside the areas of the view's table (this profile).
 pub record IsOutcomeOf (v : ViewParts) (o : OutcomeParts) : Type 0 where

@@ -1,6 +1,6 @@
 -- What each act makes of the state of a turn, and which check refuses it.
 use Rattle.std.specs.Prelude.{ℕ, Bool, List, [], ◌∷◌, ◌++◌, Option, None, Some, ◌+◌, length, nat_lt, nat_le, ◌==◌, if◌then◌else◌, slice_set, drop}
-use Rattle.bsp_model.specs.declared.limits.TheConstants.{MOST_LINES, MOST_LINE_WORDS, MOST_PAYLOAD_WORDS, MOST_REQUESTS, MOST_TAG_WORDS, MOST_WORK}
+use Rattle.bsp_model.specs.Limits.{most_lines, most_line_words, most_payload_words, most_requests, most_tag_words, most_work}
 use Rattle.bsp_model.specs.declared.request.Message.{Message}
 use Rattle.bsp_model.specs.declared.fault.Fault.{Fault}
 use Rattle.bsp_model.specs.declared.fault.Fault.TheVariants.{BadPid, NotRegistered, OutOfArea, BadLocal, TooManyRequests, WorkLimit, LineLimit, TooLong, TagLength, EmptyQueue, BadTagSize}
@@ -39,12 +39,12 @@ slot_fault None start = Some (NotRegistered start)
 slot_fault (Some slot) start = None
 
 abbrev pub request_fault : Context → Option Fault
-request_fault c = fault_unless (nat_lt (count_of_requests c) MOST_REQUESTS) TooManyRequests
+request_fault c = fault_unless (nat_lt (count_of_requests c) most_requests) TooManyRequests
 
 -- The first check of an act that fails, if one does: the checks of each call from left to right (this profile). Sums don't wrap.
 abbrev pub refusal : Context → Act → Option Fault
 refusal c (store a v) = fault_unless (nat_lt a (length c.memory)) BadLocal
-refusal c (charge n) = fault_unless (nat_le (c.work + n) MOST_WORK) WorkLimit
+refusal c (charge n) = fault_unless (nat_le (c.work + n) most_work) WorkLimit
 refusal c (put pid words area offset) =
     first_fault (request_fault c)
     (first_fault (fault_unless (nat_lt pid c.view.nprocs) (BadPid pid))
@@ -58,15 +58,15 @@ refusal c (send pid tag words) =
     first_fault (request_fault c)
     (first_fault (fault_unless (nat_lt pid c.view.nprocs) (BadPid pid))
     (first_fault (fault_unless (length tag == c.view.tag_size) TagLength)
-    (fault_unless (nat_le (length words) MOST_PAYLOAD_WORDS) TooLong)))
+    (fault_unless (nat_le (length words) most_payload_words) TooLong)))
 refusal c (move_into room) = queue_fault c.left
 refusal c (push_reg start len) =
     first_fault (request_fault c) (fault_unless (nat_le (start + len) (length c.memory)) BadLocal)
 refusal c (pop_reg start) =
     first_fault (request_fault c) (slot_fault (newest_under c.view.table c.view.pid start c.pops) start)
-refusal c (set_tagsize size) = fault_unless (nat_le size MOST_TAG_WORDS) BadTagSize
+refusal c (set_tagsize size) = fault_unless (nat_le size most_tag_words) BadTagSize
 refusal c (print words) =
-    first_fault (fault_unless (nat_lt (length c.lines) MOST_LINES) LineLimit) (fault_unless (nat_le (length words) MOST_LINE_WORDS) TooLong)
+    first_fault (fault_unless (nat_lt (length c.lines) most_lines) LineLimit) (fault_unless (nat_le (length words) most_line_words) TooLong)
 
 abbrev pub start_of : Option Area → ℕ
 start_of None = 0

@@ -1,6 +1,6 @@
 -- What every request that passed its checks keeps: it lies inside the areas of the view's table and inside the memories' limits (this profile).
 use Rattle.std.specs.Prelude.{ℕ, List, Option, None, Some, ◌≤◌, ◌<◌, ◌+◌, ◌≡◌, length, All}
-use Rattle.bsp_model.specs.declared.limits.TheConstants.{MOST_PAYLOAD_WORDS}
+use Rattle.bsp_model.specs.Limits.{most_payload_words}
 use Rattle.bsp_model.specs.declared.request.Put.{Put}
 use Rattle.bsp_model.specs.declared.request.Get.{Get}
 use Rattle.bsp_model.specs.declared.request.Send.{Send}
@@ -31,7 +31,7 @@ pub record IsAsked (v : ViewParts) (g : Get) : Type 0 where
 pub record IsAddressed (v : ViewParts) (m : Send) : Type 0 where
   pub target_below : m.target < v.nprocs
   pub tag : length m.tag ≡ v.tag_size
-  pub words : length m.words ≤ MOST_PAYLOAD_WORDS
+  pub words : length m.words ≤ most_payload_words
 
 pub record ArePlaced (v : ViewParts) (puts : List Put) : Type 0 where
   pub each : All (IsPlaced v) puts

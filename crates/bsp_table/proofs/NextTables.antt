@@ -11,7 +11,7 @@ use Rattle.std.proofs.lemmas.List.Filters.{length-filter_both}
 use Rattle.std.proofs.lemmas.List.Folds.{list_any_none, list_all-map, list_all_at}
 use Rattle.std.proofs.lemmas.List.Elements.{filter_agree, filter-append, All-nil, All-cons, All-tail, All-map, All-filter, All-append}
 use Rattle.std.proofs.lemmas.List.FromFn.{length-range_with_len, get_or-range_with_len, length-map-range_with_len, map-range_with_len_more}
-use Rattle.bsp_model.specs.declared.limits.TheConstants.{MOST_SLOTS}
+use Rattle.bsp_model.specs.Limits.{most_slots}
 use Rattle.bsp_model.specs.declared.fault.SyncFault.{SyncFault}
 use Rattle.bsp_model.specs.declared.fault.SyncFault.TheVariants.{PopMismatch, PushMismatch, TooManySlots}
 use Rattle.bsp_table.specs.declared.area.Area.{Area}
@@ -43,12 +43,12 @@ abbrev first_fault : Bool → Bool → Bool → Option SyncFault
 first_fault same_pops same_counts over = if not same_pops then Some PopMismatch else (if not same_counts then Some PushMismatch else (if over then Some TooManySlots else None))
 
 pub pop_mismatch : (slots : List (List Area)) (pops : List (List ℕ)) (pushes : List (List Area)) → are_alike (pointwise nat_eq) pops ≡ false → Some PopMismatch ≡ table_fault slots pops pushes
-pop_mismatch slots pops pushes h = ap (λ b. first_fault b (are_alike same_length pushes) (nat_lt MOST_SLOTS (length (kept_slots slots pops) + count_of_pushes pushes))) (sym h)
+pop_mismatch slots pops pushes h = ap (λ b. first_fault b (are_alike same_length pushes) (nat_lt most_slots (length (kept_slots slots pops) + count_of_pushes pushes))) (sym h)
 
 pub push_mismatch : (slots : List (List Area)) (pops : List (List ℕ)) (pushes : List (List Area)) → are_alike (pointwise nat_eq) pops ≡ true → are_alike same_length pushes ≡ false → Some PushMismatch ≡ table_fault slots pops pushes
-push_mismatch slots pops pushes h k = λ i. first_fault (sym h i) (sym k i) (nat_lt MOST_SLOTS (length (kept_slots slots pops) + count_of_pushes pushes))
+push_mismatch slots pops pushes h k = λ i. first_fault (sym h i) (sym k i) (nat_lt most_slots (length (kept_slots slots pops) + count_of_pushes pushes))
 
-pub by_size : (slots : List (List Area)) (pops : List (List ℕ)) (pushes : List (List Area)) (over : Bool) → are_alike (pointwise nat_eq) pops ≡ true → are_alike same_length pushes ≡ true → nat_lt MOST_SLOTS (length (kept_slots slots pops) + count_of_pushes pushes) ≡ over → first_fault true true over ≡ table_fault slots pops pushes
+pub by_size : (slots : List (List Area)) (pops : List (List ℕ)) (pushes : List (List Area)) (over : Bool) → are_alike (pointwise nat_eq) pops ≡ true → are_alike same_length pushes ≡ true → nat_lt most_slots (length (kept_slots slots pops) + count_of_pushes pushes) ≡ over → first_fault true true over ≡ table_fault slots pops pushes
 by_size slots pops pushes over h k e = λ i. first_fault (sym h i) (sym k i) (sym e i)
 
 -- where all popped the same, a slot is popped where the first popped it
@@ -138,7 +138,7 @@ counts_differ slots pops pushes all x l e h k =
     (are_alike-map same_length pushes all x l e (eq-eqb (length (pushes x)) (length (pushes x)) refl) ∙ sym k)
 
 pub counts_agree : {X : Type 0} (slots : List (List Area)) (pops : X → List ℕ) (pushes : X → List Area) (all : List X) (x : X) (over : Bool) → 1 ≤ length all → x ≡ get_or all 0 x → AreSlots slots (pops x)
-    → true ≡ list_all (λ r. pointwise nat_eq (pops x) (pops r)) all → true ≡ list_all (λ r. length (pushes x) == length (pushes r)) all → nat_lt MOST_SLOTS (length slots - length (pops x) + length (pushes x)) ≡ over
+    → true ≡ list_all (λ r. pointwise nat_eq (pops x) (pops r)) all → true ≡ list_all (λ r. length (pushes x) == length (pushes r)) all → nat_lt most_slots (length slots - length (pops x) + length (pushes x)) ≡ over
     → first_fault true true over ≡ table_fault slots (map pops all) (map pushes all)
 counts_agree slots pops pushes all x over l e here h k t =
     let some : 1 ≤ length (map pops all) = omega (arith, length-map all pops) in
@@ -147,7 +147,7 @@ counts_agree slots pops pushes all x over l e here h k t =
     by_size slots (map pops all) (map pushes all) over
     (are_alike-map (pointwise nat_eq) pops all x l e (same_itself (pops x)) ∙ sym h)
     (are_alike-map same_length pushes all x l e (eq-eqb (length (pushes x)) (length (pushes x)) refl) ∙ sym k)
-    ((λ i. nat_lt MOST_SLOTS (kept i + count_of_pushes-map pushes all x l e i)) ∙ t)
+    ((λ i. nat_lt most_slots (kept i + count_of_pushes-map pushes all x l e i)) ∙ t)
 
 range_more : (n : ℕ) → range_with_len 0 (n + 1) ≡ range_with_len 0 n ++ n ∷ []
 range_more n = sym (map-id (range_with_len 0 (n + 1))) ∙ map-range_with_len_more (λ (x : ℕ). x) 0 n n (omega arith) ∙ ap (λ xs. xs ++ n ∷ []) (map-id (range_with_len 0 n))
@@ -175,8 +175,8 @@ no_fault true false d h = cc
 no_fault false c d h = cc
 
 tests_of : (slots : List (List Area)) (pops : List (List ℕ)) (pushes : List (List Area)) → table_fault slots pops pushes ≡ None
-    → (are_alike (pointwise nat_eq) pops ≡ true) × (are_alike same_length pushes ≡ true) × (nat_lt MOST_SLOTS (length (kept_slots slots pops) + count_of_pushes pushes) ≡ false)
-tests_of slots pops pushes h = no_fault (are_alike (pointwise nat_eq) pops) (are_alike same_length pushes) (nat_lt MOST_SLOTS (length (kept_slots slots pops) + count_of_pushes pushes)) h
+    → (are_alike (pointwise nat_eq) pops ≡ true) × (are_alike same_length pushes ≡ true) × (nat_lt most_slots (length (kept_slots slots pops) + count_of_pushes pushes) ≡ false)
+tests_of slots pops pushes h = no_fault (are_alike (pointwise nat_eq) pops) (are_alike same_length pushes) (nat_lt most_slots (length (kept_slots slots pops) + count_of_pushes pushes)) h
 
 passes_at : {X : Type 0} (p : X → Bool) (xs : List X) (k : ℕ) (d : X) → list_all p xs ≡ true → k < length xs → p (get_or xs k d) ≡ true
 passes_at p xs k d h l = true_from_ne_false (p (get_or xs k d)) (λ e. false≢true (sym (list_all_at p xs k d l e) ∙ h))
@@ -226,7 +226,7 @@ pub full_after : (n : ℕ) (slots : List (List Area)) (pops : List (List ℕ)) (
 full_after n slots pops pushes h e =
     All-next_table (λ areas. length areas ≡ n) slots pops pushes h (λ k l. length-map pushes (λ pushed. get_or pushed k no_area) ∙ e)
 
-pub few_after : (slots : List (List Area)) (pops : List (List ℕ)) (pushes : List (List Area)) → table_fault slots pops pushes ≡ None → length (next_table slots pops pushes) ≤ MOST_SLOTS
+pub few_after : (slots : List (List Area)) (pops : List (List ℕ)) (pushes : List (List Area)) → table_fault slots pops pushes ≡ None → length (next_table slots pops pushes) ≤ most_slots
 few_after slots pops pushes h =
     omega (arith, length-append (kept_slots slots pops) (pushed_slots pushes), length-map-range_with_len (pushed_slot pushes) 0 (count_of_pushes pushes), ltb-false _ _ (tests_of slots pops pushes h).2)
 

@@ -2,7 +2,7 @@
 use Rattle.std.specs.Prelude.{ℕ, ◌+◌, ◌≤◌, ◌<◌, ◌≢◌, ◌≡◌, Bool, true, List, [], ◌∷◌, ◌++◌, Option, None, Some, length, map, filter, ◌==◌, if◌then◌else◌, not, nat_lt, nat_eq, slice_index, slice_index_or, All, AllPairs}
 use Rattle.std.specs.List.{list_any, list_all, range_with_len}
 use lib.Pointwise.{pointwise}
-use Rattle.bsp_model.specs.declared.limits.TheConstants.{MOST_SLOTS}
+use Rattle.bsp_model.specs.Limits.{most_slots}
 use Rattle.bsp_model.specs.declared.fault.SyncFault.{SyncFault}
 use Rattle.bsp_model.specs.declared.fault.SyncFault.TheVariants.{PopMismatch, PushMismatch, TooManySlots}
 use Rattle.bsp_table.specs.declared.area.Area.{Area}
@@ -45,7 +45,7 @@ abbrev pub table_fault : List (List Area) → List (List ℕ) → List (List Are
 table_fault slots pops pushes =
     if not (are_alike (pointwise nat_eq) pops) then Some PopMismatch
     else (if not (are_alike (λ p q. length p == length q) pushes) then Some PushMismatch
-    else (if nat_lt MOST_SLOTS (length (kept_slots slots pops) + count_of_pushes pushes) then Some TooManySlots
+    else (if nat_lt most_slots (length (kept_slots slots pops) + count_of_pushes pushes) then Some TooManySlots
     else None))
 
 -- distinct slots of a table

@@ -1,7 +1,7 @@
 //! Runs the job of a document on standard input, whose program is one of the bundled programs, and writes the report to standard output.
 #![tactic(auto)]
 
-use bsp_engine::{ByName, Named, Tool, run_tool};
+use bsp_engine::{ByName, Named, Tool, after_help, run_tool};
 use bsp_programs::Bundled;
 use std::process::ExitCode;
 
@@ -23,28 +23,20 @@ impl ByName for BundledPrograms {
 const ABOUT: &str =
     "Runs a BSP program on the input of a document, and again after each batch of edits";
 
-const AFTER_HELP: &str = "\
-It reads a TOML document from standard input, and writes a report to standard output: for the input, and
-for each batch, the memories at the end, the printed lines and the costs.
-
-Keys of the document:
-  program      broadcast, prefix, matvec or rank
+const AFTER_HELP: &str = after_help!(
+    "  program      broadcast, prefix, matvec or rank
   limit, g, l  the most supersteps, the price of a word, the price of a synchronisation
   memory       an array of words for each process
   args         an array of arguments for each process (may be left out)
   batches      batches of edits [\"word\", pid, addr, value], [\"arg\", pid, index, value],
-               [\"limit\", n], [\"prices\", g, l] (may be left out)
-
-Example:
-  program = \"prefix\"
+               [\"limit\", n], [\"prices\", g, l] (may be left out)",
+    "  program = \"prefix\"
   limit = 16
   g = 4
   l = 10
   memory = [[1, 0], [2, 0], [3, 0], [4, 0]]
-  batches = [[[\"word\", 3, 0, 5]]]
-
-The exit status is 0, or 1 after `fault read`, `fault write` or `fault memory`, 2 where the command line is
-refused, and 3 after `fault long` or `fault J1` to `fault J7`, where the document is.";
+  batches = [[[\"word\", 3, 0, 5]]]"
+);
 
 const TOOL: Tool = Tool {
     name: "bsp_tool",

@@ -26,14 +26,15 @@ next_cells memory = map (next_cell_at memory) (range_with_len 1 (length memory -
 abbrev pub cell_stores : List ℕ → List ℕ → List Act
 cell_stores memory addresses = map (λ i. store i (next_cell_at memory i)) addresses
 
--- The last own cell goes to the process above, as its word 0, if there is one.
+-- The last own cell goes to the process above, if there is one: over its first word, which is the area that goes by the address of the own first word.
 abbrev pub put_above : ViewParts → List ℕ → List Act
 put_above v cells = if nat_lt (v.pid + 1) v.nprocs then put (v.pid + 1) (slice_index cells (length cells - 1) ∷ []) 0 0 ∷ [] else []
 
--- The first own cell goes to the process below before that, as its word after as many cells as there are here, if there is one.
+-- The first own cell goes to the process below before that, if there is one: over its last word, wherever that lies, which is the area that goes by
+-- the address of the own last word. This comes after word 0 and the own cells.
 abbrev pub puts_to_neighbours : ViewParts → List ℕ → List Act
 puts_to_neighbours v cells =
-    if v.pid == 0 then put_above v cells else put (v.pid - 1) (slice_index cells 0 ∷ []) 0 (length cells + 1) ∷ put_above v cells
+    if v.pid == 0 then put_above v cells else put (v.pid - 1) (slice_index cells 0 ∷ []) (length cells + 1) 0 ∷ put_above v cells
 
 -- Where time steps are left the outer cells are put to the neighbours. After the last one the sum of the own cells is printed, modulo 2^64.
 abbrev pub heat_telling : ViewParts → ℕ → List ℕ → Plan
@@ -50,10 +51,10 @@ abbrev pub heat_advancing : ViewParts → ℕ → List ℕ → Plan
 heat_advancing v time_steps memory =
     after (cell_stores memory (range_with_len 1 (length memory - 2))) (heat_charging v time_steps (next_cells memory))
 
--- Superstep 0 registers the memory, and each superstep from 2 on begins with a time step.
+-- Superstep 0 registers the first word and the last, each as an area of its own, and each superstep from 2 on begins with a time step.
 abbrev pub heat_working : ViewParts → ℕ → List ℕ → Plan
 heat_working v time_steps memory =
-    if v.step == 0 then does (push_reg 0 (length memory) ∷ []) Sync
+    if v.step == 0 then does (push_reg 0 1 ∷ push_reg (length memory - 1) 1 ∷ []) Sync
     else (if v.step == 1 then heat_telling v time_steps (own_cells memory)
     else heat_advancing v time_steps memory)
 

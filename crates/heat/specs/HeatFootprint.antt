@@ -26,9 +26,9 @@ put_above-alike v xs ys same =
 puts-alike : (v : ViewParts) (xs ys : List ℕ) → length xs ≡ length ys → ((v.pid == 0) ≡ false → get_or xs 0 0 ≡ get_or ys 0 0) → put_above v xs ≡ put_above v ys → puts_to_neighbours v xs ≡ puts_to_neighbours v ys
 puts-alike v xs ys long below above =
     if-alike (v.pid == 0) _ _ _ _ (λ none. above) (λ one.
-    ap (λ x. put (v.pid - 1) (x ∷ []) 0 (length xs + 1) ∷ put_above v xs) (below one)
-    ∙ ap (λ len. put (v.pid - 1) (get_or ys 0 0 ∷ []) 0 (len + 1) ∷ put_above v xs) long
-    ∙ ap (λ acts. put (v.pid - 1) (get_or ys 0 0 ∷ []) 0 (length ys + 1) ∷ acts) above)
+    ap (λ x. put (v.pid - 1) (x ∷ []) (length xs + 1) 0 ∷ put_above v xs) (below one)
+    ∙ ap (λ len. put (v.pid - 1) (get_or ys 0 0 ∷ []) (len + 1) 0 ∷ put_above v xs) long
+    ∙ ap (λ acts. put (v.pid - 1) (get_or ys 0 0 ∷ []) (length ys + 1) 0 ∷ acts) above)
 
 last_cell : (m : List ℕ) → nat_lt (length m) 3 ≡ false → get_or (own_cells m) (length (own_cells m) - 1) 0 ≡ get_or m (length m - 2) 0
 last_cell m h =
@@ -65,7 +65,7 @@ heat_plan-alike v n long same =
     given_argument-alike (slice_get v.args 0) _ _ (λ time_steps has.
     if-alike (nat_lt (length m) 3) (does [] (Abort 1)) (heat_working v time_steps m) (does [] (Abort 1)) (heat_working v time_steps n) (λ short. refl) (λ enough.
     let some : 2 < length m = grind (arith, nat_tests, enough) in
-    if-alike (v.step == 0) _ _ _ _ (λ first. ap (λ len. does (push_reg 0 len ∷ []) Sync) long) (λ later.
+    if-alike (v.step == 0) _ _ _ _ (λ first. ap (λ len. does (push_reg 0 1 ∷ push_reg (len - 1) 1 ∷ []) Sync) long) (λ later.
     if-alike (v.step == 1) _ _ _ _
     (λ second. heat_telling-alike v time_steps m n long enough
     (λ left other. same_word m n 1 long (omega arith) (same 1 (rw (has, enough, later, second, left) (first_is_put v (length m) other))))

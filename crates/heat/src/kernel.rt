@@ -14,8 +14,9 @@ use std::alloc::Global;
 /// before it, twice its own and the word after it, modulo 2^64 and rounded down. After the last one each process prints the sum of its cells.
 ///
 /// A memory has at least three words. The first and the last are the nearest cells of the processes below and above, or, at both ends of the
-/// rod, a fixed temperature; the others are own cells. Argument 0 is the number of time steps. A missing argument ends the turn by
-/// `Abort(2)`, a shorter memory by `Abort(1)`.
+/// rod, a fixed temperature; the others are own cells. Each of these two words is registered as an area of its own, so that neighbours reach it
+/// however long the memories are. Argument 0 is the number of time steps. A missing argument ends the turn by `Abort(2)`, a shorter memory by
+/// `Abort(1)`.
 #[derive(Clone, Copy, Debug, PartialEq, Eq)]
 pub struct Heat;
 
@@ -67,7 +68,8 @@ fn run(ctx: &mut Ctx<'_>) -> Result<End, Stop>
     }
     match ctx.step() {
         0 => {
-            ctx.push_reg(0, len)?;
+            ctx.push_reg(0, 1)?;
+            ctx.push_reg(len - 1, 1)?;
             Ok(End::Sync)
         }
         1 => tell(ctx, time_steps),
@@ -132,7 +134,7 @@ fn tell(ctx: &mut Ctx<'_>, time_steps: u64) -> Result<End, Stop>
         return put_above(ctx);
     }
     let first = word_at(ctx, 1);
-    ctx.put(pid - 1, &[first], 0, ctx.memory_len() - 1)?;
+    ctx.put(pid - 1, &[first], ctx.memory_len() - 1, 0)?;
     put_above(ctx)
 }
 

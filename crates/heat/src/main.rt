@@ -3,7 +3,7 @@
 
 mod kernel;
 
-use bsp_engine::{ByName, Named, Tool, run_tool};
+use bsp_engine::{ByName, Named, Tool, after_help, run_tool};
 use kernel::Heat;
 use std::process::ExitCode;
 
@@ -25,24 +25,19 @@ impl ByName for Programs {
     }
 }
 
-const AFTER_HELP: &str = "\
-It reads a TOML document from standard input, and writes a report to standard output: for the input, and
-for each batch, the memories at the end, the printed lines and the costs.
-
-Keys of the document:
-  program      heat
+const AFTER_HELP: &str = after_help!(
+    "  program      heat
   limit, g, l  the most supersteps, the price of a word, the price of a synchronisation
   memory       an array of words for each process: the word before its cells, its cells, the word after them
   args         an array of one argument for each process: the number of time steps
-  batches      batches of edits (may be left out)
-
-Example:
-  program = \"heat\"
+  batches      batches of edits (may be left out)",
+    "  program = \"heat\"
   limit = 16
   g = 4
   l = 10
   memory = [[100, 0, 0, 0, 0], [0, 0, 0, 0, 400]]
-  args = [[6], [6]]";
+  args = [[6], [6]]"
+);
 
 const TOOL: Tool = Tool {
     name: "heat",

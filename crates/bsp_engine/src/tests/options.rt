@@ -1,6 +1,6 @@
-//! Command lines. Which words are refused, and how, is shown by documents that the built program is run on.
+//! Command lines: which words are taken, what they ask for, and with which status others end.
 
-use crate::options::{Options, Tool, read_options};
+use crate::options::{Options, Tool, read_options, words_status};
 use std::alloc::Global;
 use std::process::Abort;
 
@@ -10,29 +10,42 @@ const TOOL: Tool = Tool {
     after_help: "It reads a document.",
 };
 
-/// Words, and what they ask for.
-const TAKEN: [(&[&str], usize, bool); 6] = [
-    (&["bsp_tool"], 1, false),
-    (&["bsp_tool", "--workers", "1"], 1, false),
-    (&["bsp_tool", "--workers=16"], 16, false),
-    (&["bsp_tool", "--scratch"], 1, true),
-    (&["bsp_tool", "--workers", "3", "--scratch"], 3, true),
-    (&["bsp_tool", "--scratch", "--workers", "+7"], 7, true),
+/// What comes of words: how many workers they ask for and whether from scratch; of those that are refused the exit status.
+type Meaning = Result<(usize, bool), u8>;
+
+/// Words, the name of the program first, and what comes of them.
+const LINES: [(&[&str], Meaning); 14] = [
+    (&["bsp_tool"], Ok((1, false))),
+    (&["bsp_tool", "--workers", "1"], Ok((1, false))),
+    (&["bsp_tool", "--workers=16"], Ok((16, false))),
+    (&["bsp_tool", "--scratch"], Ok((1, true))),
+    (&["bsp_tool", "--workers", "3", "--scratch"], Ok((3, true))),
+    (&["bsp_tool", "--scratch", "--workers", "+7"], Ok((7, true))),
+    (&["bsp_tool", "--help"], Err(0)),
+    (&["bsp_tool", "--workers", "0"], Err(2)),
+    (&["bsp_tool", "--workers", "17"], Err(2)),
+    (&["bsp_tool", "--workers", "x"], Err(2)),
+    (&["bsp_tool", "--workers"], Err(2)),
+    (&["bsp_tool", "--scratch", "--scratch"], Err(2)),
+    (&["bsp_tool", "--colour"], Err(2)),
+    (&["bsp_tool", "job.toml"], Err(2)),
 ];
 
-fn options_of(alloc: Global, words: &'static [&'static str]) -> Option<Options> {
-    read_options(alloc, &TOOL, words).ok()
+fn meaning_of(alloc: Global, words: &'static [&'static str]) -> Meaning {
+    match read_options(alloc, &TOOL, words) {
+        Ok(Options { workers, scratch }) => Ok((workers, scratch)),
+        Err(error) => Err(words_status(&error)),
+    }
 }
 
-fn find_taken(rt: &impl Abort, alloc: Global, words: &'static [&'static str], want: Options) {
-    assert!(rt; options_of(alloc, words) == Some(want), "{words:?}");
+fn expect_meaning(rt: &impl Abort, alloc: Global, words: &'static [&'static str], want: Meaning) {
+    assert!(rt; meaning_of(alloc, words) == want, "{words:?}");
 }
 
 #[test]
-fn words_that_are_taken(rt: HostRuntime) {
-    for i in 0..TAKEN.len() {
-        let (words, workers, scratch) = TAKEN[i];
-        let want = Options { workers, scratch };
-        find_taken(&rt, rt.alloc(), words, want);
+fn words_and_what_comes_of_them(rt: HostRuntime) {
+    for i in 0..LINES.len() {
+        let (words, want) = LINES[i];
+        expect_meaning(&rt, rt.alloc(), words, want);
     }
 }

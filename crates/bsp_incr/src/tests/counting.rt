@@ -1,6 +1,7 @@
-//! Programs that count their steps.
+//! Programs that count their steps, and a gate that counts the jobs.
 
 use bsp_model::{End, OutOfMemory};
+use bsp_pool::Gate;
 use bsp_step::{Ctx, Program, View};
 use std::alloc::Global;
 use std::sync::atomic::AtomicU64;
@@ -29,6 +30,31 @@ impl<P: Program> Program for Counting<'_, P> {
     fn step(&self, alloc: Global, ctx: &mut Ctx<'_>) -> Result<End, OutOfMemory> {
         self.steps.fetch_add(1, SeqCst);
         self.program.step(alloc, ctx)
+    }
+}
+
+/// Counts the turns and the deliveries that workers make: each passes the gate once, on the thread that makes it.
+#[derive(Drop)]
+pub struct Passing {
+    jobs: AtomicU64,
+}
+
+impl Passing {
+    pub fn new() -> Passing {
+        Passing {
+            jobs: AtomicU64::new(0),
+        }
+    }
+
+    /// How many jobs have passed.
+    pub fn jobs(&self) -> u64 {
+        self.jobs.load(SeqCst)
+    }
+}
+
+impl Gate for Passing {
+    fn pass(&self, _job: usize) {
+        self.jobs.fetch_add(1, SeqCst);
     }
 }
 

@@ -1,6 +1,6 @@
 //! What updates do again, and how many places they look at.
 
-use super::counting::Counting;
+use super::counting::{Counting, Passing};
 use super::inputs::Start;
 use crate::counts::Counts;
 use crate::{Edit, Place, Session, Update};
@@ -58,7 +58,8 @@ fn are_counts(counts: &Counts, row: &Row) -> bool {
         && counts.delivered == row.redelivered.len() as u64
 }
 
-/// Whether the row's batch is put, and its update, its counts and the total are the row's, with a step for each executed place.
+/// Whether the row's batch is put by 3 workers, and its update, its counts and the total are the row's. As many turns are taken, and as many
+/// deliveries made, on all threads together, as the row has executed and redelivered places.
 fn updates<P: Program + Drop, R: Threads + Sync>(
     rt: &R,
     alloc: Global,
@@ -67,13 +68,16 @@ fn updates<P: Program + Drop, R: Threads + Sync>(
     row: &Row,
 ) -> bool {
     let before = steps.load(SeqCst);
+    let gate = Passing::new();
     session.counts = Counts::new();
-    let is_right = match session.apply(rt, alloc, row.batch, 1, &Open) {
+    let is_right = match session.apply(rt, alloc, row.batch, 3, &gate) {
         Ok(update) => is_update(&update, row) && are_counts(&session.counts, row),
         Err(_) => false,
     };
-    let made = steps.load(SeqCst).wrapping_sub(before);
-    is_right && made == row.executed.len() as u64 && session.history().total() == row.total
+    let taken = steps.load(SeqCst).wrapping_sub(before);
+    let delivered = gate.jobs().wrapping_sub(taken);
+    let are_made = taken == row.executed.len() as u64 && delivered == row.redelivered.len() as u64;
+    is_right && are_made && session.history().total() == row.total
 }
 
 /// How many of the rows, from the first one on, have their updates.

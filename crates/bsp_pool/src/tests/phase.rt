@@ -51,12 +51,12 @@ struct Meeting {
     gave_up: AtomicU64,
 }
 
-const MOST_TURNS: u32 = 10000000;
+const MOST_LOOKS: u32 = 10000000;
 
 impl Gate for Meeting {
     fn pass(&self, job: usize) {
         count(&self.calls, job);
-        for _turn in 0..MOST_TURNS {
+        for _look in 0..MOST_LOOKS {
             if self.calls.iter().all(|calls| calls.load(SeqCst) > 0) {
                 return;
             }
@@ -72,7 +72,7 @@ fn count(calls: &Vec<AtomicU64>, at: usize) {
     }
 }
 
-fn counters(alloc: Global, number: usize) -> Result<Vec<AtomicU64>, AllocError> {
+pub(crate) fn counters(alloc: Global, number: usize) -> Result<Vec<AtomicU64>, AllocError> {
     let mut counters = Vec::new(alloc);
     for _ in 0..number {
         counters.push(AtomicU64::new(0))?;

@@ -79,20 +79,26 @@ const EIGHT: [u32; 8] = [0, 1, 2, 3, 4, 5, 6, 7];
 
 const DOUBLES: [u64; 8] = [0, 2, 4, 6, 8, 10, 12, 14];
 
-fn find_doubles(rt: &impl Abort, answer: &Result<Vec<u64>, OutOfMemory>) {
-    if let Ok(outputs) = answer {
-        find_outputs(rt, outputs.as_slice(), &DOUBLES);
-    }
+/// What a phase over the eight answers, by 3 workers.
+fn eight_doubles<R: Threads + Sync>(rt: &R, alloc: Global) -> Result<Vec<u64>, OutOfMemory> {
+    phase(rt, alloc, &Doubling, &EIGHT, 3, &Open)
 }
 
 /// `ci/refuse_allocations` runs this with each allocation refused in turn that is made between the lines `begin` and `end` of its output. The
-/// answer is whole, unless the calling thread was the one that found no memory.
+/// answer is whole, unless the calling thread was the one that found no memory. After the line `end` none is refused, and so the same call is
+/// answered.
 #[test]
 fn phase_with_an_allocation_refused(rt: HostRuntime) -> Result<(), Fail> {
     println!(rt; "begin")?;
-    let answer = phase(&rt, rt.alloc(), &Doubling, &EIGHT, 3, &Open);
+    let refused = eight_doubles(&rt, rt.alloc());
     let ended = println!(rt; "end");
-    find_doubles(&rt, &answer);
-    drop(answer);
-    Ok(ended?)
+    if let Ok(outputs) = &refused {
+        find_outputs(&rt, outputs.as_slice(), &DOUBLES);
+    }
+    drop(refused);
+    ended?;
+    let outputs = eight_doubles(&rt, rt.alloc())?;
+    find_outputs(&rt, outputs.as_slice(), &DOUBLES);
+    drop(outputs);
+    Ok(())
 }

@@ -1,9 +1,10 @@
 //! Calls that find no memory. `ci/refuse_allocations` runs the tests of this file that say so with each allocation refused in turn that is made between
 //! the lines `begin` and `end` of their output.
 
+use super::changes::{Change, LONGER, SUCCESSORS, TwoChanges, WORDS};
 use super::known::{Known, row};
-use super::running::plain;
-use super::sessions::{Change, SUCCESSORS, TwoChanges, WORDS, changes, has, opened};
+use super::running::{plain, unrecorded};
+use super::sessions::{both_change, changes, has, opened};
 use super::wide::wide;
 use crate::Clash;
 use bsp_incr::{Edit, EditError, Session};
@@ -26,16 +27,22 @@ fn end(rt: &impl Print) -> bool {
     println!(rt; "end").is_ok()
 }
 
-/// Finds that a run is the known one or was refused memory, between the two lines.
+/// Finds that a run is the known one or was refused memory, between the two lines, and that the same run after them, where nothing is refused any
+/// more, is the known one.
 fn find_run(
     rt: &impl Abort,
     begun: bool,
     found: Result<bool, RunError>,
     ended: bool,
+    again: Result<bool, RunError>,
     known: Known,
 ) {
     let is_run = found == Ok(true) || found == Err(RunError::OutOfMemory);
-    assert!(rt; begun && is_run && ended, "{}", row(known).name);
+    assert!(rt;
+        begun && is_run && ended && again == Ok(true),
+        "{}",
+        row(known).name
+    );
 }
 
 /// Runs a program by the calling thread.
@@ -43,7 +50,17 @@ fn find_plain<P: Program, R: Print + Abort>(rt: &R, alloc: Global, program: &P, 
     let begun = begin(rt);
     let found = plain(alloc, program, known);
     let ended = end(rt);
-    find_run(rt, begun, found, ended, known);
+    let again = plain(alloc, program, known);
+    find_run(rt, begun, found, ended, again, known);
+}
+
+/// Runs a program by the calling thread, without a record.
+fn find_unrecorded<P: Program, R: Print + Abort>(rt: &R, alloc: Global, program: &P, known: Known) {
+    let begun = begin(rt);
+    let found = unrecorded(alloc, program, known);
+    let ended = end(rt);
+    let again = unrecorded(alloc, program, known);
+    find_run(rt, begun, found, ended, again, known);
 }
 
 /// Runs a program by 2 workers.
@@ -56,7 +73,8 @@ fn find_wide<P: Program, R: Threads + Sync + Print + Abort>(
     let begun = begin(rt);
     let found = wide(rt, alloc, program, known, 2, &Open);
     let ended = end(rt);
-    find_run(rt, begun, found, ended, known);
+    let again = wide(rt, alloc, program, known, 2, &Open);
+    find_run(rt, begun, found, ended, again, known);
 }
 
 #[test]
@@ -64,6 +82,13 @@ fn plain_runs_with_an_allocation_refused(rt: HostRuntime) {
     find_plain(&rt, rt.alloc(), &MatVec, Known::Product);
     find_plain(&rt, rt.alloc(), &Rank, Known::Ranks);
     find_plain(&rt, rt.alloc(), &Clash, Known::Clash);
+}
+
+#[test]
+fn unrecorded_runs_with_an_allocation_refused(rt: HostRuntime) {
+    find_unrecorded(&rt, rt.alloc(), &MatVec, Known::Product);
+    find_unrecorded(&rt, rt.alloc(), &Rank, Known::BrokenRanks);
+    find_unrecorded(&rt, rt.alloc(), &Prefix, Known::CutSums);
 }
 
 #[test]
@@ -90,7 +115,8 @@ fn an_opening_with_an_allocation_refused(rt: HostRuntime) {
     let begun = begin(&rt);
     let found = opens(&rt, rt.alloc(), Prefix, Known::Sums);
     let ended = end(&rt);
-    find_run(&rt, begun, found, ended, Known::Sums);
+    let again = opens(&rt, rt.alloc(), Prefix, Known::Sums);
+    find_run(&rt, begun, found, ended, again, Known::Sums);
 }
 
 /// Changes a session by 2 workers; where memory is refused, nothing has changed, and the same call then succeeds.
@@ -110,7 +136,7 @@ fn find_change<P: Program + Drop, R: Threads + Sync + Print + Abort>(
     assert!(rt; begun && is_changed && ended, "{}", row(change.after).name);
 }
 
-/// Changes a session two times.
+/// Changes a session two times, of which each may be refused memory.
 fn find_changes<P: Program + Drop, R: Threads + Sync + Print + Abort>(
     rt: &R,
     alloc: Global,
@@ -131,16 +157,31 @@ fn find_changes<P: Program + Drop, R: Threads + Sync + Print + Abort>(
     Ok(())
 }
 
+/// Changes another session two times, where nothing is refused.
+fn find_both<P: Program + Drop, R: Threads + Sync + Abort>(
+    rt: &R,
+    alloc: Global,
+    program: P,
+    changing: &TwoChanges,
+) {
+    let found = both_change(rt, alloc, program, changing, 1, 2, 2);
+    assert!(rt; found == Ok(true), "{}", row(changing.before).name);
+}
+
 #[test]
 fn an_update_with_an_allocation_refused(rt: HostRuntime) -> Result<(), Fail> {
-    find_changes(&rt, rt.alloc(), Prefix, &WORDS)
+    find_changes(&rt, rt.alloc(), Prefix, &WORDS)?;
+    find_both(&rt, rt.alloc(), Prefix, &WORDS);
+    Ok(())
 }
 
 #[test]
 fn runs_that_become_shorter_and_longer_with_an_allocation_refused(
     rt: HostRuntime,
 ) -> Result<(), Fail> {
-    find_changes(&rt, rt.alloc(), Rank, &SUCCESSORS)
+    find_changes(&rt, rt.alloc(), Rank, &SUCCESSORS)?;
+    find_both(&rt, rt.alloc(), Rank, &SUCCESSORS);
+    Ok(())
 }
 
 /// The limit becomes 2, and 16 again.
@@ -148,19 +189,16 @@ const LIMITS: TwoChanges = TwoChanges {
     before: Known::Sums,
     first: Change {
         batch: &[Edit::Limit(2)],
-        executed: 0,
-        redelivered: 0,
+        executed: &[],
+        redelivered: &[],
         after: Known::CutSums,
     },
-    second: Change {
-        batch: &[Edit::Limit(16)],
-        executed: 8,
-        redelivered: 4,
-        after: Known::Sums,
-    },
+    second: LONGER,
 };
 
 #[test]
 fn limits_with_an_allocation_refused(rt: HostRuntime) -> Result<(), Fail> {
-    find_changes(&rt, rt.alloc(), Prefix, &LIMITS)
+    find_changes(&rt, rt.alloc(), Prefix, &LIMITS)?;
+    find_both(&rt, rt.alloc(), Prefix, &LIMITS);
+    Ok(())
 }

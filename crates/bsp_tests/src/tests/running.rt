@@ -1,8 +1,8 @@
 //! Runs, and what they have to give.
 
 use super::known::{Known, row};
-use bsp_model::{Fault, Input, Memory, OutOfMemory, Seq, Words};
-use bsp_run::{History, ProcessFault, RunError, Status, run_plain};
+use bsp_model::{CostRow, Fault, Input, Memory, OutOfMemory, Seq, Words};
+use bsp_run::{History, ProcessFault, RunError, RunResult, Status, run_plain, run_result};
 use bsp_step::Program;
 use std::alloc::Global;
 use std::process::Abort;
@@ -156,8 +156,7 @@ fn has_lines(history: &History, want: &[&[&[u64]]]) -> bool {
     history.lines(want.len() as u64).is_none()
 }
 
-fn has_costs(history: &History, want: &[u64]) -> bool {
-    let rows = history.costs();
+fn are_costs(rows: &[CostRow], total: u64, want: &[u64]) -> bool {
     if rows.len() != want.len() {
         return false;
     }
@@ -168,7 +167,7 @@ fn has_costs(history: &History, want: &[u64]) -> bool {
         }
         sum = sum.wrapping_add(want[step]);
     }
-    history.total() == sum
+    total == sum
 }
 
 /// Whether it is the run of the row.
@@ -176,7 +175,28 @@ pub fn is_run(history: &History, row: &Row) -> bool {
     is_finish(history.status(), row.finish)
         && has_memories(history, row.memories)
         && has_lines(history, row.lines)
-        && has_costs(history, row.costs)
+        && are_costs(history.costs(), history.total(), row.costs)
+}
+
+fn gives_lines(given: &RunResult, want: &[&[&[u64]]]) -> bool {
+    let lines = given.lines.as_slice();
+    if lines.len() != want.len() {
+        return false;
+    }
+    for pid in 0..want.len() {
+        if !are_lines(lines[pid].as_slice(), want[pid]) {
+            return false;
+        }
+    }
+    true
+}
+
+/// Whether it is what the run of the row gives.
+pub fn is_result(given: &RunResult, row: &Row) -> bool {
+    is_finish(&given.status, row.finish)
+        && are_memories(given.memories.as_slice(), row.memories)
+        && gives_lines(given, row.lines)
+        && are_costs(given.costs.as_slice(), given.total, row.costs)
 }
 
 /// A program's run by the calling thread on the input of the row.
@@ -193,6 +213,18 @@ pub fn plain<P: Program>(alloc: Global, program: &P, known: Known) -> Result<boo
     let history = history_of(alloc, program, row)?;
     let is_right = is_run(&history, row);
     drop(history);
+    Ok(is_right)
+}
+
+/// Whether what a program's run gives, of which no record is kept, is what the known one gives.
+pub fn unrecorded<P: Program>(alloc: Global, program: &P, known: Known) -> Result<bool, RunError> {
+    let row = row(known);
+    let input = row.input(alloc)?;
+    let run = run_result(alloc, program, &input);
+    drop(input);
+    let given = run?;
+    let is_right = is_result(&given, row);
+    drop(given);
     Ok(is_right)
 }
 

@@ -2,11 +2,12 @@
 
 ghost use Rattle.std.specs.Prelude.{◌<◌, ◌≤◌};
 
+use super::changes::{Change, OTHER_VECTOR, SUCCESSORS, TwoChanges, WORDS, is_update};
 use super::known::{Known, row};
-use super::running::{Row, is_input, is_run};
+use super::running::{Finish, Row, is_input, is_run};
 use super::wide::is_met;
 use crate::Pairs;
-use bsp_incr::{Edit, EditError, Session, Update};
+use bsp_incr::{EditError, Session, Update};
 use bsp_pool::{Gate, Open};
 use bsp_programs::{MatVec, Prefix, Rank};
 use bsp_run::RunError;
@@ -14,10 +15,13 @@ use bsp_step::Program;
 use std::alloc::Global;
 use std::thread::Threads;
 
-/// Whether the update has each turn of the row's run, and a delivery to each process after each superstep but the last.
-fn has_all(update: &Update, row: &Row) -> bool {
+/// Whether the update has each turn of the row's run, and a delivery to each process after each superstep but the one that ended the run.
+pub fn has_all(update: &Update, row: &Row) -> bool {
     let turns = row.start.len().wrapping_mul(row.costs.len());
-    let deliveries = turns.wrapping_sub(row.start.len());
+    let deliveries = match row.finish {
+        Finish::Limit => turns,
+        _ => turns.wrapping_sub(row.start.len()),
+    };
     update.executed.len() == turns && update.redelivered.len() == deliveries
 }
 
@@ -46,15 +50,6 @@ pub fn has<P: Program + Drop>(session: &Session<P>, known: Known) -> bool {
     is_run(session.history(), row) && is_input(session.input(), row)
 }
 
-/// A batch, how many turns and deliveries it takes, and the run after it.
-#[derive(Clone, Copy)]
-pub struct Change {
-    pub batch: &'static [Edit],
-    pub executed: usize,
-    pub redelivered: usize,
-    pub after: Known,
-}
-
 /// Whether a change comes out as it has to by so many workers that pass a gate.
 pub fn changes<P: Program + Drop, R: Threads + Sync, G: Gate>(
     rt: &R,
@@ -67,31 +62,10 @@ pub fn changes<P: Program + Drop, R: Threads + Sync, G: Gate>(
     requires { (0 < workers) × (workers ≤ 16) }
 {
     let update = session.apply(rt, alloc, change.batch, workers, gate)?;
-    let executed = update.executed.len();
-    let redelivered = update.redelivered.len();
+    let is_right = is_update(&update, change);
     drop(update);
-    let has_counts = executed == change.executed && redelivered == change.redelivered;
-    Ok(has_counts && has(session, change.after))
+    Ok(is_right && has(session, change.after))
 }
-
-/// The vector of the product becomes 7, 8.
-const OTHER_VECTOR: Change = Change {
-    batch: &[
-        Edit::Word {
-            pid: 0,
-            addr: 2,
-            value: 7,
-        },
-        Edit::Word {
-            pid: 1,
-            addr: 2,
-            value: 8,
-        },
-    ],
-    executed: 4,
-    redelivered: 4,
-    after: Known::OtherProduct,
-};
 
 /// Whether 2 workers meet at each pair of 8 calls of a gate, where the vector of a product is edited.
 fn meet_in_edits<P: Program + Drop, R: Threads + Sync>(
@@ -122,66 +96,8 @@ fn two_workers_meet_in_each_phase_of_a_session(rt: HostRuntime) {
     assert!(rt; meet(&rt, rt.alloc(), MatVec) == Ok(true));
 }
 
-/// A known run, and two changes after it.
-#[derive(Clone, Copy)]
-pub struct TwoChanges {
-    pub before: Known,
-    pub first: Change,
-    pub second: Change,
-}
-
-/// The first word of the sums becomes 2, and 1 again.
-pub const WORDS: TwoChanges = TwoChanges {
-    before: Known::Sums,
-    first: Change {
-        batch: &[Edit::Word {
-            pid: 0,
-            addr: 0,
-            value: 2,
-        }],
-        executed: 7,
-        redelivered: 7,
-        after: Known::OtherSums,
-    },
-    second: Change {
-        batch: &[Edit::Word {
-            pid: 0,
-            addr: 0,
-            value: 1,
-        }],
-        executed: 7,
-        redelivered: 7,
-        after: Known::Sums,
-    },
-};
-
-/// Element 0 of the list gets a successor that there is not, and its former one again.
-pub const SUCCESSORS: TwoChanges = TwoChanges {
-    before: Known::Ranks,
-    first: Change {
-        batch: &[Edit::Word {
-            pid: 0,
-            addr: 0,
-            value: 9,
-        }],
-        executed: 1,
-        redelivered: 1,
-        after: Known::BrokenRanks,
-    },
-    second: Change {
-        batch: &[Edit::Word {
-            pid: 0,
-            addr: 0,
-            value: 3,
-        }],
-        executed: 9,
-        redelivered: 9,
-        after: Known::Ranks,
-    },
-};
-
 /// Whether two changes come out as they have to, with these numbers of workers for the opening and for each.
-fn both_change<P: Program + Drop, R: Threads + Sync>(
+pub fn both_change<P: Program + Drop, R: Threads + Sync>(
     rt: &R,
     alloc: Global,
     program: P,

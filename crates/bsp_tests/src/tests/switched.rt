@@ -1,6 +1,7 @@
 //! A program that finds no memory for a while.
 
-use super::sessions::{WORDS, changes, has, opened};
+use super::changes::WORDS;
+use super::sessions::{changes, has, opened};
 use bsp_incr::{EditError, Session};
 use bsp_model::{End, OutOfMemory};
 use bsp_pool::Open;

@@ -1,6 +1,6 @@
-use Rattle.std.proofs.Common.{◌≡◌, subst, map, true}
+use Rattle.std.proofs.Common.{◌≡◌, sym, refl, subst, map, true}
 use Rattle.std.specs.Prelude.{IfErr}
-use Rattle.clap.specs.Words.{App, kind_of, takes}
+use Rattle.clap.specs.Words.{App, FailsBy, fault_of, is_simple_and_free, kind_of, takes}
 use Rattle.clap.specs.declared.error.kind.ErrorKind.TheVariants.{OutOfMemory}
 use Rattle.bsp_engine.proofs.options.read_matches.Goals as goal
 
@@ -8,3 +8,8 @@ pub returns-clause-refused : goal.returns-clause-refused
 returns-clause-refused c =
     subst (λ (a : App). IfErr c.try_get_matches_from.result (λ e. takes a (map (λ w. w.now) c.args.words.now) ≡ true → kind_of e ≡ OutOfMemory))
     c.in_ok-command.ensures c.try_get_matches_from.ensures.passes
+
+pub returns-clause-kinds : goal.returns-clause-kinds
+returns-clause-kinds c =
+    subst (λ (a : App). FailsBy (fault_of a (map (λ w. w.now) c.args.words.now)) c.try_get_matches_from.result)
+    c.in_ok-command.ensures (c.try_get_matches_from.ensures.kinds (subst (λ (a : App). is_simple_and_free a ≡ true) (sym c.in_ok-command.ensures) refl))

@@ -2,11 +2,12 @@ use Rattle.std.proofs.Common.{◌<◌, ◌∙◌, ◌++◌, ℕ, Bool, true, fal
 use Rattle.std.specs.Prelude.{option_map, ◌||◌}
 use Rattle.std.proofs.lemmas.List.FromFn.{length-map-range_with_len}
 use Rattle.bsp_step.specs.OutcomeParts.{OutcomeParts}
+use Rattle.bsp_deliver.specs.Condition.{IsAscending}
 use Rattle.bsp_run.specs.Run.{Run}
 use Rattle.bsp_run.proofs.Runs.{outcomes_shown-turned}
 use Rattle.bsp_incr.specs.Changes.{is_touched, processes_where, places_of}
 use Rattle.bsp_incr.specs.Before.{delivered_outcomes}
-use Rattle.bsp_incr.proofs.Gathering.{processes_where-each_below, listed_below, answers_with}
+use Rattle.bsp_incr.proofs.Gathering.{processes_where-ascending, processes_where-each_below, listed_below, answers_with}
 use Rattle.bsp_incr.proofs.Carrying.{touched_of}
 use Rattle.bsp_incr.proofs.ending.make_deliveries.Goals as goal
 
@@ -21,6 +22,11 @@ wide_deliveries-requires-clause-processes g c κs within =
     let now_again = c.outcomes-2.ensures.outcomes ∙ outcomes_shown-turned r c.requires.turned in
     subst (λ (os : List OutcomeParts). All (λ p. p < length os) c.as_slice-3.result.now) (sym now_again)
     (listed_below (length r.outcomes) (is_touched (delivered_outcomes old (length r.past)) r.outcomes) c.as_slice-3.result.now (c.as_slice-3.ensures.value ∙ c.in_ok-processes.ensures ∙ ap (λ (bs : List Bool). processes_where (length bs) (λ p. get_or bs p false)) c.as_slice.ensures.value ∙ processes_where-each_below (length r.outcomes) (is_touched (delivered_outcomes old (length r.past)) r.outcomes) answers is))
+
+pub wide_deliveries-requires-clause-ascending : goal.wide_deliveries-requires-clause-ascending
+wide_deliveries-requires-clause-ascending g c κs within =
+    let answers = c.as_slice.result.now in
+    subst IsAscending (sym (c.as_slice-3.ensures.value ∙ c.in_ok-processes.ensures)) (processes_where-ascending (length answers) (λ p. get_or answers p false))
 
 pub open_next-requires-clause-touched : goal.open_next-requires-clause-touched
 open_next-requires-clause-touched g c κs within =

@@ -1,4 +1,4 @@
 use Rattle.bsp_pool.proofs.worker.+fn-run_workers-join+arg3+run_workers.Goals as goal
 
-pub returns-clause-pieces : goal.returns-clause-pieces
-returns-clause-pieces g t c = c.joined.ensures.pieces _ c.join-one.ensures.first.1 c.join-one.ensures.second.1
+pub returns : goal.returns
+returns g t c = c.joined.ensures _ c.join-one.ensures.first c.join-one.ensures.second

@@ -4,7 +4,8 @@ use Rattle.bsp_step.specs.OutcomeParts.{OutcomeParts}
 use Rattle.bsp_step.specs.Turn.{turn_of}
 use Rattle.bsp_run.specs.Run.{Run, after_turns, after_delivery}
 use Rattle.bsp_run.specs.Condition.{is_turned, deliveries_of}
-use Rattle.bsp_run.proofs.Lists.{range_below}
+use Rattle.bsp_deliver.specs.Condition.{IsAscending}
+use Rattle.bsp_run.proofs.Lists.{range_ascending, range_below}
 use Rattle.bsp_run.proofs.Runs.{open_phase, turned_phase_is, advance-closed, advance-delivers, advance-ends}
 use Rattle.bsp_run.proofs.Shares.{turns_made, outcomes_made, deliveries_made}
 use Rattle.bsp_run.proofs.supersteps.advance.Goals as goal
@@ -35,6 +36,7 @@ deliveries-requires g c =
     let count : length c.outcomes.result.now ≡ length c.views-views.result.now = ap (λ (os : List OutcomeParts). length os) shown.1 ∙ made.count in
     c.requires.deliver c.outcomes.result c.as_slice-then-delivers.result (c.outcomes.ensures.deliverable (turned_phase_is c.turned.new.self.phase delivers))
     (subst (All (λ d. d < length c.outcomes.result.now)) (sym (c.as_slice-then-delivers.ensures.value ∙ c.in_ok-processes.ensures ∙ ap (range_with_len 0) (sym count))) (range_below (length c.outcomes.result.now)))
+    (subst IsAscending (sym (c.as_slice-then-delivers.ensures.value ∙ c.in_ok-processes.ensures)) (range_ascending (length c.views-views.result.now)))
 
 pub delivered-requires-clause-cells : goal.delivered-requires-clause-cells
 delivered-requires-clause-cells g c =

@@ -1,4 +1,4 @@
-use Rattle.std.proofs.Common.{◌≡◌, ◌+◌, ◌≤◌, take, length, vec_len}
+use Rattle.std.proofs.Common.{◌≡◌, take, length, vec_len}
 use Rattle.std.specs.Vec.{vec_capacity}
 use Rattle.bsp_model.proofs.memory.MemoryTryCopy.copy.Given as goal
 

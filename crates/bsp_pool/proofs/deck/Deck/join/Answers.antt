@@ -4,7 +4,7 @@ use Rattle.atomic_table.specs.Table.{keeps}
 use Rattle.bsp_pool.specs.Passes.{PassContent}
 use Rattle.bsp_pool.specs.Numbers.{occurrences}
 use Rattle.bsp_pool.specs.Claim.{once_below}
-use Rattle.bsp_pool.specs.declared.pass_view.PassView.{PassView}
+use Rattle.bsp_pool.specs.Views.{View}
 use Rattle.bsp_pool.proofs.ClaimSteps.{joins, looked, looks_once, looks_whole, apart}
 use Rattle.bsp_pool.proofs.deck.Deck.join.Goals as goal
 
@@ -44,5 +44,5 @@ returns-clause-apart c =
     let theirs : c.other.inside.seat.me.0.numbers ≡ c.args.other.numbers = ap (λ (p : PassContent). p.numbers) c.other.view_is in
     λ x. apart x c.args.pass.now.numbers c.args.other.numbers c.load.result
     (subst (λ (l : List ℕ). occurrences x l ≤ once_below x c.load.result)
-    (ap (λ (v : PassView). v.numbers) me ∙ (ap (λ l. l ++ c.other.inside.seat.me.0.numbers) mine ∙ ap (λ l. c.args.pass.now.numbers ++ l) theirs))
+    (ap (λ (v : View). v.numbers) me ∙ (ap (λ l. l ++ c.other.inside.seat.me.0.numbers) mine ∙ ap (λ l. c.args.pass.now.numbers ++ l) theirs))
     (c.load.ensures.2.0.once x))

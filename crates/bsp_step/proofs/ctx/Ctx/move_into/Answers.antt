@@ -1,5 +1,5 @@
 use Rattle.std.proofs.Common.{◌≡◌, ◌≤◌, List, ◌∷◌, length, suc, subst, arith}
-use Rattle.bsp_model.specs.declared.limits.TheConstants.{MOST_MESSAGES}
+use Rattle.bsp_model.specs.Limits.{most_messages}
 use Rattle.bsp_model.specs.declared.request.Message.{Message}
 use Rattle.bsp_step.specs.ViewParts.{IsQueue}
 use Rattle.bsp_step.proofs.ctx.Ctx.move_into.Goals as goal
@@ -8,7 +8,7 @@ use Rattle.bsp_step.proofs.ctx.Ctx.move_into.Goals as goal
 IsQueue-rest : (queue : List Message) (m : Message) (later : List Message) → IsQueue queue → queue ≡ m ∷ later → IsQueue later
 IsQueue-rest queue m later h e =
     let whole : IsQueue (m ∷ later) = subst IsQueue e h in
-    let few : suc (length later) ≤ MOST_MESSAGES = whole.few in
+    let few : suc (length later) ≤ most_messages = whole.few in
     record { few = omega arith; short = λ k d l. whole.short (suc k) d (omega arith) }
 
 pub invariant_of-self : goal.invariant_of-self

@@ -1,6 +1,6 @@
 use Rattle.std.proofs.Common.{◌≤◌, ◌*◌, ℕ, length, take, sum_by, arith, sym, subst}
 use Rattle.std.proofs.lemmas.List.Sums.{sum_by-le, sum_by-take-le}
-use Rattle.bsp_model.specs.declared.limits.TheConstants.{MOST_MESSAGES, MOST_PAYLOAD_WORDS}
+use Rattle.bsp_model.specs.Limits.{most_messages, most_payload_words}
 use Rattle.bsp_model.specs.declared.request.Message.{Message}
 use Rattle.bsp_step.proofs.ctx.messages.count_of_words.Goals as goal
 
@@ -11,7 +11,7 @@ overflow_add-words c =
     let m = c.message-item.result in
     let size : Message → ℕ = λ m. length m.words in
     let so_far : sum_by size (take i ms) ≤ sum_by size ms = sum_by-take-le size ms i in
-    let all : sum_by size ms ≤ length ms * MOST_PAYLOAD_WORDS = sum_by-le size MOST_PAYLOAD_WORDS ms (λ k d l. (c.requires.short k d l).words) in
-    let here : length m.words ≤ MOST_PAYLOAD_WORDS = subst (λ (x : Message). length x.words ≤ MOST_PAYLOAD_WORDS) (sym c.message-item.is) (c.requires.short i m c.loop-message-test.true).words in
-    let few : length ms ≤ MOST_MESSAGES = c.requires.few in
+    let all : sum_by size ms ≤ length ms * most_payload_words = sum_by-le size most_payload_words ms (λ k d l. (c.requires.short k d l).words) in
+    let here : length m.words ≤ most_payload_words = subst (λ (x : Message). length x.words ≤ most_payload_words) (sym c.message-item.is) (c.requires.short i m c.loop-message-test.true).words in
+    let few : length ms ≤ most_messages = c.requires.few in
     omega (arith, c.loop-message.invariant, c.len-words.ensures)

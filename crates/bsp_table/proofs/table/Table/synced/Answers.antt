@@ -3,7 +3,7 @@ use Rattle.std.specs.List.{range_with_len}
 use Rattle.std.proofs.lemmas.List.{length-map, append_assoc}
 use Rattle.std.proofs.lemmas.List.Elements.{All-map}
 use Rattle.std.proofs.lemmas.List.FromFn.{map-range_with_len_more}
-use Rattle.bsp_model.specs.declared.limits.TheConstants.{MOST_SLOTS}
+use Rattle.bsp_model.specs.Limits.{most_slots}
 use Rattle.bsp_table.specs.declared.area.Area.{Area}
 use Rattle.bsp_table.specs.NextTable.{table_fault, kept_slots, pushed_slot, pushed_slots, count_of_pushes, AreFull, AreSlotsInside, AreSlotsWithin, AreWithin}
 use Rattle.bsp_table.proofs.NextTables.{count_of_all, kept_of_all, count_of_pushes-map, full_after, few_after, inside_after, within_after}
@@ -44,7 +44,7 @@ returns-clause-full_after g c =
 pub returns-clause-few_after : goal.returns-clause-few_after
 returns-clause-few_after g c =
     let none : table_fault c.args.self.now (map g.R.Registers.pops c.args.all.now) (map g.R.Registers.pushes c.args.all.now) ≡ None = search rules in
-    subst (λ (slots : List (List Area)). length slots ≤ MOST_SLOTS) (sym (returns-clause-next g c))
+    subst (λ (slots : List (List Area)). length slots ≤ most_slots) (sym (returns-clause-next g c))
     (few_after c.args.self.now (map g.R.Registers.pops c.args.all.now) (map g.R.Registers.pushes c.args.all.now) none)
 
 pub returns-clause-inside : goal.returns-clause-inside

@@ -1,0 +1,7 @@
+use Rattle.std.proofs.Common.{◌≡◌, take, fold}
+use Rattle.bsp_deliver.specs.Requests.{all_sends}
+use Rattle.bsp_deliver.specs.Gathering.{sent_at}
+use Rattle.bsp_deliver.proofs.gathering.add_all_messages.Given as goal
+
+abbrev pub invariant-loop-outcome : goal.invariant-loop-outcome
+invariant-loop-outcome l = l.queues ≡ fold (λ qs s. sent_at l.places qs s.1) l.initial.queues (all_sends (take l.outcome-index l.outcomes))

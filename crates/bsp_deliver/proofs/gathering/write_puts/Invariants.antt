@@ -1,0 +1,6 @@
+use Rattle.std.proofs.Common.{◌≡◌, take, fold}
+use Rattle.bsp_deliver.specs.Gathering.{put_at}
+use Rattle.bsp_deliver.proofs.gathering.write_puts.Given as goal
+
+abbrev pub invariant-loop-put : goal.invariant-loop-put
+invariant-loop-put l = l.memories ≡ fold (put_at l.places) l.initial.memories (take l.put-index l.puts)

@@ -1,0 +1,131 @@
+-- How a superstep ends whose outcomes are described process by process, and the table after it.
+use Rattle.std.proofs.Common.{◌&&◌, ◌+◌, ◌++◌, ◌<◌, ◌==◌, Bool, List, None, Option, Some, [], ap, arith, cond, false, filter, get_or, length, map, nat_lt, not, refl, suc, sym, true, zero, ℕ, ◌∙◌, ◌∷◌, ◌≡◌, ◌≤◌}
+use Rattle.std.proofs.lemmas.List.{append-nil}
+use Rattle.std.proofs.lemmas.List.FromFn.{fill_by_all}
+use Rattle.std.specs.Prelude.{is_some, nat_eq}
+use Rattle.std.specs.List.{list_all, list_any, range_with_len}
+use Rattle.std.proofs.lemmas.Bool.Decides.{nat_tests}
+use lib.Pointwise.{pointwise}
+use Rattle.bsp_model.specs.declared.fault.SyncFault.TheVariants.{MixedEnd, PopMismatch, PushMismatch, TagMismatch, TooManySlots}
+use Rattle.bsp_model.specs.declared.fault.SyncFault.{SyncFault}
+use Rattle.bsp_table.specs.declared.area.Area.{Area}
+use Rattle.bsp_table.specs.NextTable.{are_alike, count_of_pushes, is_popped, kept_slots, next_table, pushed_slot, table_fault}
+use Rattle.bsp_table.proofs.NextTables.{same_itself}
+use Rattle.bsp_step.specs.declared.outcome.Ended.TheVariants.{Halt, Sync}
+use Rattle.bsp_step.specs.OutcomeParts.{OutcomeParts}
+use Rattle.bsp_deliver.specs.Requests.{each_below}
+use Rattle.bsp_deliver.specs.SyncFault.{is_sync, same_tag, sync_fault}
+use Rattle.bsp_run.specs.declared.result.Status.TheVariants.{Faulted, Halted}
+use Rattle.bsp_run.specs.Ending.{end_of, end_without_fault, faults_from}
+use Rattle.bsp_run.specs.State.{pops_of, pushes_of}
+use Rattle.bsp_right.proofs.Ranges.{all_range, any_range-first, any_range-none, each_same, map_range-const}
+
+-- processes that pop nothing and push the same areas, and go on to the next superstep
+pub record AllSync (nprocs : ℕ) (pushed : List Area) (out : ℕ → OutcomeParts) : Type 0 where
+  pub some : 1 ≤ nprocs
+  pub faultless : (p : ℕ) → p < nprocs → (out p).fault ≡ None
+  pub syncs : (p : ℕ) → p < nprocs → (out p).ended ≡ Sync
+  pub pops : (p : ℕ) → p < nprocs → (out p).pops ≡ []
+  pub pushes : (p : ℕ) → p < nprocs → (out p).pushes ≡ pushed
+  pub tags : (p : ℕ) → p < nprocs → (out p).tag ≡ None
+
+pub record AllHalt (nprocs : ℕ) (out : ℕ → OutcomeParts) : Type 0 where
+  pub some : 1 ≤ nprocs
+  pub faultless : (p : ℕ) → p < nprocs → (out p).fault ≡ None
+  pub halts : (p : ℕ) → p < nprocs → (out p).ended ≡ Halt
+
+no_fault : (n : ℕ) (out : ℕ → OutcomeParts) → ((p : ℕ) → p < n → (out p).fault ≡ None) → list_any (λ (o : OutcomeParts). is_some o.fault) (each_below n out) ≡ false
+no_fault n out h = any_range-none (λ (o : OutcomeParts). is_some o.fault) out n 0 (λ p l m. ap is_some (h p (omega arith)))
+
+-- the fault of a superstep's end from its tests
+ending_by : Bool → Bool → Bool → Option SyncFault → Option SyncFault
+ending_by syncs halts tags table = cond (syncs && halts) (Some MixedEnd) (cond (not syncs) None (cond (not tags) (Some TagMismatch) table))
+
+-- Where all halt, the run has halted.
+pub end_of-halts : (n step : ℕ) (slots : List (List Area)) (out : ℕ → OutcomeParts) → AllHalt n out → end_of step slots (each_below n out) ≡ Some Halted
+unfolding end_of ending_by
+end_of-halts n step slots out h =
+    let os = each_below n out in
+    let halted : list_any (λ (o : OutcomeParts). is_sync o.ended) os ≡ false = any_range-none (λ (o : OutcomeParts). is_sync o.ended) out n 0 (λ p l m. ap is_sync (h.halts p (omega arith))) in
+    ap (λ b. cond b (Some (Faulted step (faults_from 0 os))) (end_without_fault step os (sync_fault os slots))) (no_fault n out h.faultless)
+    ∙ ap (λ f. end_without_fault step os f) (ap (λ b. ending_by b (list_any (λ (o : OutcomeParts). not (is_sync o.ended)) os) (are_alike same_tag (map (λ (o : OutcomeParts). o.tag) os)) (table_fault slots (pops_of os) (pushes_of os))) halted)
+    ∙ ap (λ b. cond b None (Some Halted)) halted
+
+all_alike-const : {X : Type 0} (same : X → X → Bool) (x : X) (n a : ℕ) → same x x ≡ true → list_all (same x) (map (λ p. x) (range_with_len a n)) ≡ true
+all_alike-const same x n a h = all_range (same x) (λ p. x) n a (λ p l m. h)
+
+are_alike-const : {X : Type 0} (same : X → X → Bool) (x : X) (n a : ℕ) → same x x ≡ true → are_alike same (map (λ p. x) (range_with_len a n)) ≡ true
+are_alike-const same x zero a h = refl
+are_alike-const same x (suc n) a h = all_alike-const same x n (a + 1) h
+
+same_length-itself : (n : ℕ) → (n == n) ≡ true
+same_length-itself n = grind (arith, nat_tests)
+
+-- what a table makes of processes that pop nothing and push these
+popped_none : (n a slot : ℕ) → is_popped (map (λ p. []) (range_with_len a n)) slot ≡ false
+popped_none n a slot = any_range-none (λ popped. list_any (λ k. k == slot) popped) (λ p. []) n a (λ p l m. refl)
+
+kept_from : (slots : List (List Area)) (n a b count : ℕ) → filter (λ slot. not (is_popped (map (λ p. []) (range_with_len a n)) slot)) (range_with_len b count) ≡ range_with_len b count
+kept_from slots n a b zero = refl
+kept_from slots n a b (suc count) =
+    ap (λ t. cond (not t) (b ∷ filter (λ slot. not (is_popped (map (λ p. []) (range_with_len a n)) slot)) (range_with_len (b + 1) count)) (filter (λ slot. not (is_popped (map (λ p. []) (range_with_len a n)) slot)) (range_with_len (b + 1) count))) (popped_none n a b)
+    ∙ ap (λ xs. b ∷ xs) (kept_from slots n a (b + 1) count)
+
+pub kept_slots-all : (slots : List (List Area)) (n : ℕ) → kept_slots slots (map (λ p. []) (range_with_len 0 n)) ≡ slots
+kept_slots-all slots n =
+    ap (map (λ slot. get_or slots slot [])) (kept_from slots n 0 0 (length slots))
+    ∙ sym (fill_by_all (λ slot. get_or slots slot []) slots (length slots) [] refl (λ k l. refl))
+
+count_of_pushes-const : (pushed : List Area) (n a : ℕ) → 1 ≤ n → count_of_pushes (map (λ p. pushed) (range_with_len a n)) ≡ length pushed
+count_of_pushes-const pushed zero a l = absurd (omega arith)
+count_of_pushes-const pushed (suc n) a l = refl
+
+pops-const : (n : ℕ) (pushed : List Area) (out : ℕ → OutcomeParts) → AllSync n pushed out → pops_of (each_below n out) ≡ map (λ p. []) (range_with_len 0 n)
+pops-const n pushed out h = map_range-const (λ (o : OutcomeParts). o.pops) out [] n 0 (λ p l m. h.pops p (omega arith))
+
+pushes-const : (n : ℕ) (pushed : List Area) (out : ℕ → OutcomeParts) → AllSync n pushed out → pushes_of (each_below n out) ≡ map (λ p. pushed) (range_with_len 0 n)
+pushes-const n pushed out h = map_range-const (λ (o : OutcomeParts). o.pushes) out pushed n 0 (λ p l m. h.pushes p (omega arith))
+
+table_by : Bool → Bool → Bool → Option SyncFault
+table_by pops pushes over = cond (not pops) (Some PopMismatch) (cond (not pushes) (Some PushMismatch) (cond over (Some TooManySlots) None))
+
+not_over : (n : ℕ) → n ≤ 256 → nat_lt 256 n ≡ false
+not_over n h = grind (arith, nat_tests)
+
+pub table_fault-none : (slots : List (List Area)) (pushed : List Area) (n : ℕ) → 1 ≤ n → length slots + length pushed ≤ 256 → table_fault slots (map (λ p. []) (range_with_len 0 n)) (map (λ p. pushed) (range_with_len 0 n)) ≡ None
+unfolding table_by
+table_fault-none slots pushed n some few =
+    let pops : List (List ℕ) = map (λ p. []) (range_with_len 0 n) in
+    let pushes : List (List Area) = map (λ p. pushed) (range_with_len 0 n) in
+    let same_pops : are_alike (pointwise nat_eq) pops ≡ true = are_alike-const (pointwise nat_eq) [] n 0 (same_itself []) in
+    let same_pushes : are_alike (λ (x y : List Area). length x == length y) pushes ≡ true = are_alike-const (λ (x y : List Area). length x == length y) pushed n 0 (same_length-itself (length pushed)) in
+    let slots_left : length (kept_slots slots pops) ≡ length slots = ap (λ (xs : List (List Area)). length xs) (kept_slots-all slots n) in
+    let count : count_of_pushes pushes ≡ length pushed = count_of_pushes-const pushed n 0 some in
+    let over : nat_lt 256 (length (kept_slots slots pops) + count_of_pushes pushes) ≡ false = not_over (length (kept_slots slots pops) + count_of_pushes pushes) (omega arith) in
+    λ i. table_by (same_pops i) (same_pushes i) (over i)
+
+pub end_of-syncs : (n step : ℕ) (slots : List (List Area)) (pushed : List Area) (out : ℕ → OutcomeParts) → AllSync n pushed out → length slots + length pushed ≤ 256 → end_of step slots (each_below n out) ≡ None
+unfolding end_of ending_by
+end_of-syncs n step slots pushed out h few =
+    let os = each_below n out in
+    let syncs : list_any (λ (o : OutcomeParts). is_sync o.ended) os ≡ true = any_range-first (λ (o : OutcomeParts). is_sync o.ended) out n 0 h.some (ap is_sync (h.syncs 0 (omega (arith, h.some)))) in
+    let halts : list_any (λ (o : OutcomeParts). not (is_sync o.ended)) os ≡ false = any_range-none (λ (o : OutcomeParts). not (is_sync o.ended)) out n 0 (λ p l m. ap (λ e. not (is_sync e)) (h.syncs p (omega arith))) in
+    let tags : are_alike same_tag (map (λ (o : OutcomeParts). o.tag) os) ≡ true = ap (are_alike same_tag) (map_range-const (λ (o : OutcomeParts). o.tag) out None n 0 (λ p l m. h.tags p (omega arith))) ∙ are_alike-const same_tag None n 0 refl in
+    let table : table_fault slots (pops_of os) (pushes_of os) ≡ None = (λ i. table_fault slots (pops-const n pushed out h i) (pushes-const n pushed out h i)) ∙ table_fault-none slots pushed n h.some few in
+    let sync : sync_fault os slots ≡ None = λ i. ending_by (syncs i) (halts i) (tags i) (table i) in
+    ap (λ b. cond b (Some (Faulted step (faults_from 0 os))) (end_without_fault step os (sync_fault os slots))) (no_fault n out h.faultless)
+    ∙ ap (λ f. end_without_fault step os f) sync
+    ∙ ap (λ b. cond b None (Some Halted)) syncs
+
+pub next_table-syncs : (n : ℕ) (slots : List (List Area)) (pushed : List Area) (out : ℕ → OutcomeParts) → AllSync n pushed out
+    → next_table slots (pops_of (each_below n out)) (pushes_of (each_below n out)) ≡ slots ++ map (λ k. map (λ p. get_or pushed k record { start = 0; len = 0 }) (range_with_len 0 n)) (range_with_len 0 (length pushed))
+next_table-syncs n slots pushed out h =
+    let os = each_below n out in
+    (λ i. next_table slots (pops-const n pushed out h i) (pushes-const n pushed out h i))
+    ∙ (λ i. kept_slots-all slots n i ++ map (pushed_slot (map (λ p. pushed) (range_with_len 0 n))) (range_with_len 0 (count_of_pushes-const pushed n 0 h.some i)))
+    ∙ ap (λ xs. slots ++ xs) (each_same (length pushed) (pushed_slot (map (λ p. pushed) (range_with_len 0 n))) (λ k. map (λ p. get_or pushed k record { start = 0; len = 0 }) (range_with_len 0 n))
+    (λ k. map_range-const (λ (areas : List Area). get_or areas k record { start = 0; len = 0 }) (λ p. pushed) (get_or pushed k record { start = 0; len = 0 }) n 0 (λ p l m. refl)) 0)
+
+-- where the areas are none, the table stays
+pub next_table-stays : (n : ℕ) (slots : List (List Area)) (out : ℕ → OutcomeParts) → AllSync n [] out → next_table slots (pops_of (each_below n out)) (pushes_of (each_below n out)) ≡ slots
+next_table-stays n slots out h = next_table-syncs n slots [] out h ∙ append-nil slots

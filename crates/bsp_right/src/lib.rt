@@ -1,0 +1,14 @@
+//! What the bundled programs compute: laws of their whole runs, in runs and in sessions.
+#![tactic(auto)]
+
+mod broadcast;
+mod bundled;
+mod computes;
+mod prefix;
+
+pub use broadcast::{broadcast_tells, run_broadcast};
+pub use computes::{Computes, run_computing, session_computes};
+pub use prefix::{prefix_sums, run_prefix};
+
+#[cfg(test)]
+mod tests;
