@@ -113,3 +113,20 @@ edit_count i (Prices g l) = refl
 pub edited_count : (i : Input) (edits : List Edit) → length (edited i edits).mems ≡ length i.mems
 edited_count i [] = refl
 edited_count i (e ∷ later) = edited_count (edited_by i e) later ∙ edit_count i e
+
+abbrev lengths : List (List ℕ) → List ℕ
+lengths lists = map (λ (m : List ℕ). length m) lists
+
+edit_lengths : (i : Input) (e : Edit) → (lengths (edited_by i e).mems ≡ lengths i.mems) × (lengths (edited_by i e).args ≡ lengths i.args)
+edit_lengths i (Word pid addr value) = (set_own i.mems pid addr value, refl)
+edit_lengths i (Arg pid index value) = (refl, set_own i.args pid index value)
+edit_lengths i (Limit n) = (refl, refl)
+edit_lengths i (Prices g l) = (refl, refl)
+
+-- It changes no length either.
+pub same_lengths : (i : Input) (edits : List Edit) → (lengths (edited i edits).mems ≡ lengths i.mems) × (lengths (edited i edits).args ≡ lengths i.args)
+same_lengths i [] = (refl, refl)
+same_lengths i (e ∷ later) =
+    let rest = same_lengths (edited_by i e) later in
+    let first = edit_lengths i e in
+    (rest.0 ∙ first.0, rest.1 ∙ first.1)

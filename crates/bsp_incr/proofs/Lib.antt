@@ -14,3 +14,8 @@ pub mod FirstViews
 pub mod Unchanged
 pub mod Restoring
 pub mod Staying
+pub mod PlacesGathered
+pub mod Exactness
+pub mod EditParts
+pub mod EditSequences
+pub mod TakingBack

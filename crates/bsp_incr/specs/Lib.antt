@@ -3,6 +3,8 @@ pub mod Formers
 pub mod Comparing
 pub mod Reuse
 pub mod Changes
+pub mod Exact
+pub mod Undo
 pub mod Marks
 pub mod Next
 pub mod Replaced

@@ -22,6 +22,7 @@ mod reuse;
 mod session;
 mod superstep;
 mod turns;
+mod undo;
 mod workers;
 
 pub use edit::{Batch, Edit, EditFault, EditRefusal};

@@ -32,11 +32,11 @@ pub superstep_at-past_end : (ss : List Superstep) (s : ℕ) → length ss ≤ s 
 superstep_at-past_end ss s l = grind (arith, common_steps)
 
 -- the supersteps of a run: those that ended by delivery, and at most one more, whose views are those of the open superstep
-record IsLast (p : Phase) (x : Superstep) : Type 0 where
+pub record IsLast (p : Phase) (x : Superstep) : Type 0 where
   pub at_limit : is_limit p ≡ true → last_superstep p x ≡ []
   pub before : is_limit p ≡ false → last_superstep p x ≡ x ∷ []
 
-last_superstep-ended : (p : Phase) (x : Superstep) → is_ended p ≡ true → IsLast p x
+pub last_superstep-ended : (p : Phase) (x : Superstep) → is_ended p ≡ true → IsLast p x
 last_superstep-ended Open x h = cc
 last_superstep-ended Turned x h = cc
 last_superstep-ended (Ended Limit) x h = record { at_limit = λ _. refl; before = λ k. cc }
@@ -104,14 +104,21 @@ law_cut turn input r some h e b =
     let end = (last_end turn input (length r.past) r.phase e h.end).cut b in
     let last : end_in turn input (length (supersteps_of r) - 1) ≡ None = h.goes_on (length (supersteps_of r) - 1) (omega (arith, end.1)) in
     record {
+      args = h.args;
+      limit = h.limit;
+      g = h.g;
+      l = h.l;
       some = omega (arith, end.1);
       few = omega (arith, end.1);
       views = λ s l. (taken turn input r h s l).views;
       outcomes = λ s l. (taken turn input r h s l).outcomes;
       goes_on = λ s l. h.goes_on s (omega arith);
       status = end.0 ∙ ap (λ (o : Option Status). unwrap_or o Limit) (sym last);
-      limit = (λ _. last, λ _. end.0);
+      ended = e;
+      delivered = (λ _. last, λ _. end.0);
       cut = λ _. count ∙ end.1;
+      state = h.state;
+      untaken = λ _. h.untaken b;
     }
 
 law_ended : (turn : ViewParts → OutcomeParts) (input : Input) (r : Run) → IsRecord turn input r → is_ended r.phase ≡ true → is_limit r.phase ≡ false → IsBspRun turn input r
@@ -123,14 +130,21 @@ law_ended turn input r h e b =
     let at : length (supersteps_of r) - 1 ≡ length r.past = omega arith in
     let last : end_in turn input (length (supersteps_of r) - 1) ≡ Some (status_of r) = ap (end_in turn input) at ∙ end.0 in
     record {
+      args = h.args;
+      limit = h.limit;
+      g = h.g;
+      l = h.l;
       some = omega arith;
       few = omega (arith, h.room b);
       views = λ s l. (taken turn input r h s l).views;
       outcomes = λ s l. (taken turn input r h s l).outcomes;
       goes_on = λ s l. h.goes_on s (omega arith);
       status = ap (λ (o : Option Status). unwrap_or o Limit) (sym last);
-      limit = (λ k. absurd (end.1 k), λ k. cc);
+      ended = e;
+      delivered = (λ k. absurd (end.1 k), λ k. cc);
       cut = λ k. absurd (end.1 k);
+      state = h.state;
+      untaken = λ k. absurd (end.1 k);
     }
 
 law_by : (b : Bool) (turn : ViewParts → OutcomeParts) (input : Input) (r : Run) → 1 ≤ input.limit → IsRecord turn input r → is_ended r.phase ≡ true → is_limit r.phase ≡ b → IsBspRun turn input r

@@ -7,6 +7,7 @@ pub mod Runs
 pub mod Opens
 pub mod Records
 pub mod Laws
+pub mod OneRun
 pub mod Turns
 pub mod Shares
 pub mod NextViews

@@ -146,6 +146,13 @@ ended_in turn input s (Some Limit) h k = absurd (h refl)
 ended_in turn input s (Some (Faulted step faults)) h k = sym k
 ended_in turn input s (Some (SyncFaulted step fault)) h k = sym k
 
+not_limit_after : (e : Option Status) → (e ≡ Some Limit → ⊥) → is_limit (phase_after e) ≡ true → ⊥
+not_limit_after None h k = cc
+not_limit_after (Some Halted) h k = cc
+not_limit_after (Some Limit) h k = h refl
+not_limit_after (Some (Faulted step faults)) h k = cc
+not_limit_after (Some (SyncFaulted step fault)) h k = cc
+
 -- taking the turns keeps the record
 pub IsRecord-turned : (turn : ViewParts → OutcomeParts) (input : Input) (r : Run) → IsRecord turn input r → r.phase ≡ Open → IsRecord turn input (after_turns r (map turn (open_views r)))
 unfolding after_turns
@@ -155,12 +162,15 @@ IsRecord-turned turn input r h e =
     record {
       args = h.args;
       limit = h.limit;
+      g = h.g;
+      l = h.l;
       state = h.state;
       views = h.views;
       turns = all_turns_push turn r (supersteps_of (after_turns r (map turn (open_views r)))) h.turns e (supersteps-turned r (map turn (open_views r)));
       goes_on = h.goes_on;
       room = λ _. before;
       end = ended_in turn input (length r.past) end (end_of-limit (length r.past) r.state.table (map turn (open_views r))) (end-in turn input r h);
+      untaken = λ k. absurd (not_limit_after end (end_of-limit (length r.past) r.state.table (map turn (open_views r))) k);
     }
 
 -- the views that there were stay after a delivery
@@ -192,6 +202,10 @@ parts-delivered : (r : Run) (os : List OutcomeParts) → ((after_delivery (after
 unfolding after_turns after_delivery
 parts-delivered r os = (refl, refl, refl)
 
+rest-delivered : (r : Run) (os : List OutcomeParts) → ((after_delivery (after_turns r os)).g ≡ r.g) × ((after_delivery (after_turns r os)).l ≡ r.l) × ((after_delivery (after_turns r os)).outcomes ≡ [])
+unfolding after_turns after_delivery
+rest-delivered r os = (refl, refl, refl)
+
 end_if : (turn : ViewParts → OutcomeParts) (input : Input) (n limit : ℕ) (b : Bool) → (n == limit) ≡ b → limit ≡ input.limit → IsEndIn turn input n (cond b (Ended Limit) Open)
 end_if turn input n limit true e h = let at : n ≡ limit = grind (arith, nat_tests) in at ∙ h
 end_if turn input n limit false e h = tt
@@ -216,6 +230,7 @@ IsRecord-delivered turn input r h e none =
     let next : Run = after_delivery (after_turns r os) in
     let long : length next.past ≡ length r.past + 1 = ap (λ (xs : List Superstep). length xs) (past-delivered r os) ∙ length-append r.past (x ∷ []) in
     let parts = parts-delivered r os in
+    let rest = rest-delivered r os in
     let turns : os ≡ outcomes_in turn input (length r.past) = ap (map turn) (open_views-in turn input r h) in
     let state : next_state r.state os ≡ state_at turn input (length r.past + 1) =
     ap (λ (s : State). next_state s os) h.state ∙ ap (next_state (state_at turn input (length r.past))) turns ∙ sym (state_at-next turn input (length r.past)) in
@@ -225,6 +240,8 @@ IsRecord-delivered turn input r h e none =
     record {
       args = parts.0 ∙ h.args;
       limit = parts.1 ∙ h.limit;
+      g = rest.0 ∙ h.g;
+      l = rest.1 ∙ h.l;
       state = parts.2 ∙ state ∙ ap (state_at turn input) (sym long);
       views = λ s l. elim (cases_lt s (length r.past + 1)) [
         | inl w ↦ views_at-delivered r os s (omega arith) ∙ h.views s (omega arith)
@@ -237,6 +254,7 @@ IsRecord-delivered turn input r h e none =
       ];
       room = λ k. let after = room-delivered r os before k in omega (arith, h.limit);
       end = subst (λ n. IsEndIn turn input n next.phase) (sym long) (end-delivered turn input r os h.limit);
+      untaken = λ _. rest.2;
     }
 
 goes_on_if : (e : Option Status) → is_turned (phase_after e) ≡ true → e ≡ None
@@ -278,12 +296,15 @@ IsRecord-start turn input some =
     record {
       args = refl;
       limit = refl;
+      g = refl;
+      l = refl;
       state = refl;
       views = first_views turn input;
       turns = All-nil (λ (s : Superstep). s.outcomes ≡ map turn s.views);
       goes_on = λ s l. absurd (omega arith);
       room = λ _. omega arith;
       end = tt;
+      untaken = λ _. refl;
     }
 
 times_record : (turn : ViewParts → OutcomeParts) (input : Input) (n : ℕ) (r : Run) → IsRecord turn input r → IsRecord turn input (times n (advance turn) r)

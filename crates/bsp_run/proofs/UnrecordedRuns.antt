@@ -1,6 +1,5 @@
 -- Runs of which no record is kept.
 use Rattle.std.proofs.Common.{◌≡◌, ◌≢◌, ◌≤◌, ◌<◌, ◌+◌, ◌-◌, ◌==◌, ◌++◌, ◌∷◌, ℕ, zero, suc, Bool, true, false, cond, List, [], map, length, All, Option, None, Some, get_or, refl, sym, ap, ◌∙◌, subst, arith, length-append}
-use Rattle.std.specs.List.{flat_map, range_with_len}
 use Rattle.std.proofs.lemmas.Grind.{flat_map-append}
 use Rattle.std.proofs.lemmas.List.{map-append, append-nil, length-map}
 use Rattle.std.proofs.lemmas.List.Concat.{flat_map-cons}
@@ -18,10 +17,8 @@ use Rattle.bsp_step.specs.ViewParts.{ViewParts}
 use Rattle.bsp_step.specs.OutcomeParts.{OutcomeParts}
 use Rattle.bsp_deliver.specs.Requests.{each_below, outcome_of}
 use Rattle.bsp_deliver.specs.Condition.{AreDeliverable}
-use Rattle.bsp_run.specs.declared.result.RunResult.{RunResult}
 use Rattle.bsp_run.specs.declared.result.Status.{Status}
 use Rattle.bsp_run.specs.declared.result.Status.TheVariants.{Halted, Limit, Faulted, SyncFaulted}
-use Rattle.bsp_run.specs.declared.phase.Phase.{Phase}
 use Rattle.bsp_run.specs.declared.phase.Phase.TheVariants.{Open, Turned, Ended}
 use Rattle.bsp_run.specs.declared.superstep.Superstep.{Superstep}
 use Rattle.bsp_run.specs.declared.unrecorded.Unrecorded.{Unrecorded}
@@ -36,7 +33,6 @@ use Rattle.bsp_run.specs.Unrecorded.{lines_and, state_after}
 use Rattle.bsp_run.specs.IsUnrecorded.{IsUnrecorded}
 use Rattle.bsp_run.proofs.Conditions.{count_of_outcomes, AreDeliverable-from_turns, pops_are_slots}
 use Rattle.bsp_run.proofs.Opens.{start_is_run, state_seen-views_of}
-use Rattle.std.proofs.lemmas.Bool.{false≢true}
 use Rattle.std.proofs.lemmas.Bool.Decides.{nat_tests}
 use Rattle.bsp_run.proofs.Phases.{turned_is_run, is_turned_run, next_is_run, can_sync, can_open_next, count-next_state, state_of-deliveries, end_of-limit}
 use Rattle.bsp_run.proofs.Runs.{IsBetween, start-between, advance-between, advance-delivers, advance-ends, advance-closed, times_more, turns_closed}

@@ -1,14 +1,17 @@
 -- What a whole run is, in the words of BSP: its states, one superstep after the other (Valiant 1990; Hill et al. 1998).
-use Rattle.std.specs.Prelude.{◌≡◌, ◌<◌, ◌≤◌, ◌↔◌, ℕ, ◌+◌, ◌-◌, zero, suc, List, map, length, Option, None, unwrap_or}
+use Rattle.std.specs.Prelude.{◌≡◌, ◌<◌, ◌≤◌, ◌↔◌, ℕ, ◌+◌, ◌-◌, zero, suc, List, [], map, length, Option, None, true, unwrap_or}
 use Rattle.bsp_model.specs.declared.input.Input.{Input}
+use Rattle.bsp_model.specs.Input.{input_fault}
 use Rattle.bsp_step.specs.ViewParts.{ViewParts}
 use Rattle.bsp_step.specs.OutcomeParts.{OutcomeParts}
 use Rattle.bsp_run.specs.declared.result.Status.{Status}
 use Rattle.bsp_run.specs.declared.result.Status.TheVariants.{Limit}
+use Rattle.bsp_run.specs.declared.result.RunResult.{RunResult}
 use Rattle.bsp_run.specs.State.{State, first_state, next_state, views_of}
 use Rattle.bsp_run.specs.Ending.{end_of}
-use Rattle.bsp_run.specs.Run.{Run}
-use Rattle.bsp_run.specs.Result.{status_of}
+use Rattle.bsp_run.specs.Run.{Run, run}
+use Rattle.bsp_run.specs.Condition.{is_ended}
+use Rattle.bsp_run.specs.Result.{status_of, result_of}
 use Rattle.bsp_run.specs.Supersteps.{supersteps_of, superstep_at}
 
 -- The state of superstep s: that of the input, and then what each delivery makes of the turns before it.
@@ -28,8 +31,13 @@ outcomes_in turn input s = map turn (views_in turn input s)
 abbrev pub end_in : (ViewParts → OutcomeParts) → Input → ℕ → Option Status
 end_in turn input s = end_of s (state_at turn input s).table (outcomes_in turn input s)
 
--- A run that has ended: its supersteps and its status.
+-- A run that has ended, on this input.
 pub record IsBspRun (turn : ViewParts → OutcomeParts) (input : Input) (r : Run) : Type 0 where
+  -- its arguments, its limit and its prices are those of the input
+  pub args : r.args ≡ input.args
+  pub limit : r.limit ≡ input.limit
+  pub g : r.g ≡ input.g
+  pub l : r.l ≡ input.l
   -- there is a first superstep, and there are at most as many as the limit
   pub some : 1 ≤ length (supersteps_of r)
   pub few : length (supersteps_of r) ≤ input.limit
@@ -39,6 +47,20 @@ pub record IsBspRun (turn : ViewParts → OutcomeParts) (input : Input) (r : Run
   -- no superstep but the last ends the run
   pub goes_on : (s : ℕ) → s + 1 < length (supersteps_of r) → end_in turn input s ≡ None
   -- a last one that ends by fault, sync fault or halt gives that status; the status is Limit exactly where it ends by delivery, and then there are as many as the limit
+  pub ended : is_ended r.phase ≡ true
   pub status : status_of r ≡ unwrap_or (end_in turn input (length (supersteps_of r) - 1)) Limit
-  pub limit : (status_of r ≡ Limit) ↔ (end_in turn input (length (supersteps_of r) - 1) ≡ None)
+  pub delivered : (status_of r ≡ Limit) ↔ (end_in turn input (length (supersteps_of r) - 1) ≡ None)
   pub cut : status_of r ≡ Limit → length (supersteps_of r) ≡ input.limit
+  -- the state at the end is that of the last superstep, or at the limit that of the one after it, of which no turn is taken
+  pub state : r.state ≡ state_at turn input (length r.past)
+  pub untaken : status_of r ≡ Limit → r.outcomes ≡ []
+
+-- What is given to the user of such a run.
+pub record IsBspResult (turn : ViewParts → OutcomeParts) (input : Input) (result : RunResult) : Type 0 where
+  pub run : Run
+  pub law : IsBspRun turn input run
+  pub gives : result ≡ result_of run
+
+-- There is one run of a lawful input, and this is the machine's.
+abbrev pub OneRun : Type 0
+OneRun = (turn : ViewParts → OutcomeParts) (input : Input) (r : Run) → input_fault input ≡ None → IsBspRun turn input r ↔ (r ≡ run turn input)

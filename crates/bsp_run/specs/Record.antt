@@ -1,5 +1,5 @@
 -- What the record of a run tells while it is made. Of a run that has ended, Law.antt says it in the words of BSP.
-use Rattle.std.specs.Prelude.{◌≡◌, ◌≤◌, ◌<◌, ℕ, false, map, length, All, None, Some}
+use Rattle.std.specs.Prelude.{◌≡◌, ◌≤◌, ◌<◌, ℕ, true, false, [], map, length, All, None, Some}
 use Rattle.bsp_model.specs.declared.input.Input.{Input}
 use Rattle.bsp_step.specs.ViewParts.{ViewParts}
 use Rattle.bsp_step.specs.OutcomeParts.{OutcomeParts}
@@ -23,9 +23,12 @@ IsEndIn turn input s (Ended (SyncFaulted step fault)) = end_in turn input s ≡ 
 pub record IsRecord (turn : ViewParts → OutcomeParts) (input : Input) (r : Run) : Type 0 where
   pub args : r.args ≡ input.args
   pub limit : r.limit ≡ input.limit
+  pub g : r.g ≡ input.g
+  pub l : r.l ≡ input.l
   pub state : r.state ≡ state_at turn input (length r.past)
   pub views : (s : ℕ) → s ≤ length r.past → views_at r s ≡ views_in turn input s
   pub turns : All (λ s. s.outcomes ≡ map turn s.views) (supersteps_of r)
   pub goes_on : (s : ℕ) → s < length r.past → end_in turn input s ≡ None
   pub room : is_limit r.phase ≡ false → length r.past < input.limit
   pub end : IsEndIn turn input (length r.past) r.phase
+  pub untaken : is_limit r.phase ≡ true → r.outcomes ≡ []

@@ -5,6 +5,7 @@ mod costs;
 mod ending;
 mod history;
 mod keeping;
+mod law;
 mod lines;
 mod opening;
 mod phase;
@@ -21,6 +22,7 @@ mod wide;
 mod works;
 
 pub use history::History;
+pub use law::one_run;
 pub use opening::first_view;
 pub use phase::Phase;
 pub use plain::{run_plain, run_result};

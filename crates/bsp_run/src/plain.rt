@@ -7,7 +7,7 @@ ghost use Rattle.bsp_deliver.specs.Condition.{AreDeliverable, IsAscending};
 ghost use Rattle.bsp_run.specs.Shares.{turns_of, deliveries_to};
 ghost use Rattle.bsp_run.specs.Run.{run};
 ghost use Rattle.bsp_run.specs.Result.{result_of};
-ghost use Rattle.bsp_run.specs.Law.{IsBspRun};
+ghost use Rattle.bsp_run.specs.Law.{IsBspRun, IsBspResult};
 ghost use Rattle.bsp_run.specs.RunErrors.{input_fault_of};
 
 use crate::ending::end_of;
@@ -95,9 +95,8 @@ fn all_turns<P: Program>(
     Ok(outcomes)
 }
 
-/// What the run of a program on an input gives. It keeps no record of the run: beside the lines and the costs, memory for one superstep.
-/// `Input(f)` comes exactly where the input's check answers f; or `OutOfMemory`.
-pub fn run_result<P: Program>(
+/// What the run of a program on an input gives, superstep by superstep.
+fn unrecorded_result<P: Program>(
     alloc: Global,
     program: &P,
     input: &Input,
@@ -116,4 +115,20 @@ pub fn run_result<P: Program>(
         go_on(alloc, input, step + 1, &mut kept, outcomes)?;
     }
     Ok(ended_at_limit(alloc, kept)?)
+}
+
+/// What the run of a program on an input gives. It keeps no record of the run: beside the lines and the costs, memory for one superstep.
+/// `law` says what it is in the words of BSP. `Input(f)` comes exactly where the input's check answers f; or `OutOfMemory`.
+pub fn run_result<P: Program>(
+    alloc: Global,
+    program: &P,
+    input: &Input,
+) -> Result<RunResult, RunError>
+    ensures lawful { OnOk result (input_fault input.now ≡ None) }
+    ensures result { IfOk result (λ r. r ≡ result_of (run (turn_of (P.acts program.now) (P.ending program.now)) input.now)) }
+    ensures law { IfOk result (λ r. IsBspResult (turn_of (P.acts program.now) (P.ending program.now)) input.now r) }
+    ensures input { IfErr result (λ e. input_fault input.now ≡ input_fault_of e) }
+{
+    let result = unrecorded_result(alloc, program, input)?;
+    Ok(result)
 }

@@ -10,4 +10,5 @@ mod replies;
 mod running;
 mod sessions;
 mod switched;
+mod undone;
 mod wide;

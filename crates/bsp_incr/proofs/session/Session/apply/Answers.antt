@@ -1,9 +1,14 @@
-use Rattle.std.proofs.Common.{◌≡◌, ◌∙◌, None, ap, sym, subst}
+use Rattle.std.proofs.Common.{◌≡◌, ◌∙◌, None, Some, ap, sym, subst}
 use Rattle.bsp_model.specs.declared.input.Input.{Input}
 use Rattle.bsp_model.specs.Input.{input_fault}
 use Rattle.bsp_step.specs.Turn.{turn_of}
 use Rattle.bsp_run.specs.Run.{run}
+use Rattle.bsp_run.specs.Law.{IsBspRun}
+use Rattle.bsp_run.proofs.OneRun.{one_run}
 use Rattle.bsp_incr.specs.Edits.{refusal_of}
+use Rattle.bsp_incr.specs.Exact.{IsExact}
+use Rattle.bsp_incr.specs.Replies.{SessionParts}
+use Rattle.bsp_incr.proofs.Exactness.{exact_of}
 use Rattle.bsp_incr.proofs.Lawful.{edited_lawful}
 use Rattle.bsp_incr.proofs.Unchanged.{no-update}
 use Rattle.bsp_incr.proofs.session.Session.apply.Goals as goal
@@ -23,3 +28,28 @@ pub returns-then-are_there-clause-update : goal.returns-then-are_there-clause-up
 returns-then-are_there-clause-update g c =
     let none = no-update (g.P.Program.looks c.args.self.now.program) c.args.self.now.history in
     record { executed = c.new.ensures ∙ none.executed; redelivered = c.new-then-are_there.ensures ∙ none.redelivered }
+
+pub returns-then-are_there-clause-exact : goal.returns-then-are_there-clause-exact
+returns-then-are_there-clause-exact g c = exact_of (returns-then-are_there-clause-update g c)
+
+pub returns-then-are_there-clause-law : goal.returns-then-are_there-clause-law
+returns-then-are_there-clause-law g c =
+    let turn = turn_of (g.P.Program.acts c.self.inside.program) (g.P.Program.ending c.self.inside.program) in
+    subst (λ (s : SessionParts _). IsBspRun (turn_of (g.P.Program.acts s.program) (g.P.Program.ending s.program)) s.input s.history) c.self.view_is
+    ((one_run turn c.self.inside.input c.self.inside.history c.self.invariant.lawful).1 c.self.invariant.is)
+
+pub returns-clause-exact : goal.returns-clause-exact
+returns-clause-exact g c =
+    subst (λ (s : SessionParts _). IsExact (g.P.Program.looks s.program) (Some s.history) c.in_ok-history.history c.in_ok-history.update) c.self.view_is
+    (exact_of c.in_ok-history.ensures.update)
+
+pub returns-clause-law : goal.returns-clause-law
+returns-clause-law g c =
+    let turn = turn_of (g.P.Program.acts c.self.inside.program) (g.P.Program.ending c.self.inside.program) in
+    let input : Input = c.self.inside.input in
+    let none : refusal_of input c.args.edits.now ≡ None = sym c.in-None.ensures in
+    let given = c.in_ok-history.ensures.given in
+    let lawful : input_fault c.rerun_edited.new.input ≡ None =
+    subst (λ (i : Input). input_fault i ≡ None) (sym given) (edited_lawful input c.args.edits.now none c.self.invariant.lawful) in
+    subst (λ (s : SessionParts _). IsBspRun (turn_of (g.P.Program.acts s.program) (g.P.Program.ending s.program)) c.rerun_edited.new.input c.in_ok-history.history) c.self.view_is
+    ((one_run turn c.rerun_edited.new.input c.in_ok-history.history lawful).1 (c.in_ok-history.ensures.run ∙ sym (ap (run turn) given)))

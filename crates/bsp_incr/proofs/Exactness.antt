@@ -1,0 +1,160 @@
+-- An update, place by place.
+use Rattle.std.proofs.Common.{◌≡◌, ◌<◌, ◌≤◌, ◌↔◌, ◌+◌, ℕ, Bool, true, false, List, [], ◌∷◌, ◌++◌, Option, length, get_or, not, slice_get, arith, refl, sym, ap, ◌∙◌, subst, inl, inr}
+use Rattle.std.specs.Prelude.{Contains}
+use Rattle.std.specs.Bool.{Decides}
+use Rattle.std.proofs.lemmas.Bool.{cases_lt, false≢true}
+use Rattle.std.proofs.lemmas.Option.{slice_get-get_or, slice_get_past}
+use Rattle.bsp_step.specs.ViewParts.{ViewParts}
+use Rattle.bsp_step.specs.OutcomeParts.{OutcomeParts}
+use Rattle.bsp_step.specs.Footprint.{AreAlike}
+use Rattle.bsp_deliver.specs.Delivery.{delivery_parts}
+use Rattle.bsp_run.specs.declared.superstep.Superstep.{Superstep}
+use Rattle.bsp_run.specs.Run.{Run}
+use Rattle.bsp_run.specs.Supersteps.{supersteps_of, superstep_at}
+use Rattle.bsp_run.specs.Condition.{no_view}
+use Rattle.bsp_run.proofs.Laws.{superstep_at-past_end}
+use Rattle.bsp_incr.specs.declared.reply.Place.{Place}
+use Rattle.bsp_incr.specs.declared.reply.Update.{Update}
+use Rattle.bsp_incr.specs.Reuse.{serves, needs_turn}
+use Rattle.bsp_incr.specs.Changes.{supersteps_before, delivered_before, differs, differ_in, differ_from, differ, is_touched, touched_in, touched_from, touched, IsUpdate}
+use Rattle.bsp_incr.proofs.Propagation.{Decides-untouched}
+use Rattle.bsp_incr.proofs.Serving.{Decides-serves}
+use Rattle.bsp_incr.specs.Exact.{view_there, IsServed, IsKept, AreInOrder, IsExact}
+use Rattle.bsp_incr.proofs.PlacesGathered.{gathered, in_gathered, of_gathered, gathered_in_order}
+
+-- what the definitions of the update's lists gather
+
+abbrev turns_in : Superstep → ℕ
+turns_in s = length s.views
+
+abbrev turn_test : (ViewParts → ℕ → Bool) → List Superstep → ℕ → Superstep → ℕ → Bool
+turn_test looks olds n s p = differs looks (superstep_at olds n).views s.views p
+
+abbrev deliveries_in : Superstep → ℕ
+deliveries_in s = length s.outcomes
+
+abbrev delivery_test : List Superstep → ℕ → Superstep → ℕ → Bool
+delivery_test olds n s p = is_touched (superstep_at olds n).outcomes s.outcomes p
+
+differ_gathers : (looks : ViewParts → ℕ → Bool) (olds : List Superstep) (n : ℕ) (ss : List Superstep) → differ_from looks n olds ss ≡ gathered turns_in (turn_test looks olds) n ss
+differ_gathers looks olds n [] = refl
+differ_gathers looks olds n (s ∷ later) = ap (λ (ps : List Place). differ_in looks n (superstep_at olds n).views s.views ++ ps) (differ_gathers looks olds (n + 1) later)
+
+touched_gathers : (olds : List Superstep) (n : ℕ) (ss : List Superstep) → touched_from n olds ss ≡ gathered deliveries_in (delivery_test olds) n ss
+touched_gathers olds n [] = refl
+touched_gathers olds n (s ∷ later) = ap (λ (ps : List Place). touched_in n (superstep_at olds n).outcomes s.outcomes ++ ps) (touched_gathers olds (n + 1) later)
+
+differ_is : (looks : ViewParts → ℕ → Bool) (olds news : List Superstep) → differ looks olds news ≡ gathered turns_in (turn_test looks olds) 0 news
+unfolding differ
+differ_is looks olds news = differ_gathers looks olds 0 news
+
+touched_is : (olds news : List Superstep) → touched olds news ≡ gathered deliveries_in (delivery_test olds) 0 news
+unfolding touched
+touched_is olds news = touched_gathers olds 0 news
+
+-- a superstep with something in it is there
+inside : (count : Superstep → ℕ) (ss : List Superstep) (k p : ℕ) → ((s : ℕ) → length ss ≤ s → count (superstep_at ss s) ≡ 0) → p < count (superstep_at ss k) → k < length ss
+inside count ss k p none l =
+    elim (cases_lt k (length ss)) [ inl w ↦ w | inr w ↦ absurd (omega (arith, l, none k w)) ]
+
+-- the places of a list that gathers are those that pass
+abbrev Gathers : (Superstep → ℕ) → (ℕ → Superstep → ℕ → Bool) → List Superstep → List Place → Type 0
+Gathers count test ss places =
+    (q : Place) → Contains places q ↔ ((q.pid < count (superstep_at ss q.step)) × (test q.step (superstep_at ss q.step) q.pid ≡ true))
+
+gathers : (count : Superstep → ℕ) (test : ℕ → Superstep → ℕ → Bool) (ss : List Superstep) → ((s : ℕ) → length ss ≤ s → count (superstep_at ss s) ≡ 0) → Gathers count test ss (gathered count test 0 ss)
+gathers count test ss none = λ q. (
+  λ h.
+      let g = in_gathered count test 0 ss q h in
+      let at : g.k ≡ q.step = omega (arith, g.at) in
+      (subst (λ k. q.pid < count (superstep_at ss k)) at g.below, ap (λ k. test q.step (superstep_at ss k) q.pid) (sym at) ∙ g.passes),
+  λ h.
+      let at : 0 + q.step ≡ q.step = omega arith in
+      subst (λ k. Contains (gathered count test 0 ss) (record { step = k; pid = q.pid })) at
+      (of_gathered count test 0 q.step ss q.pid (inside count ss q.step q.pid none h.0) h.0 (ap (λ k. test k (superstep_at ss q.step) q.pid) at ∙ h.1)),
+)
+
+no_views : (ss : List Superstep) (s : ℕ) → length ss ≤ s → turns_in (superstep_at ss s) ≡ 0
+no_views ss s l = ap turns_in (superstep_at-past_end ss s l)
+
+no_outcomes : (ss : List Superstep) (s : ℕ) → length ss ≤ s → deliveries_in (superstep_at ss s) ≡ 0
+no_outcomes ss s l = ap deliveries_in (superstep_at-past_end ss s l)
+
+-- the tests
+
+twice : (b : Bool) → not (not b) ≡ true → b ≡ true
+twice true h = refl
+twice false h = h
+
+again : (b : Bool) → b ≡ true → not (not b) ≡ true
+again true h = refl
+again false h = h
+
+no_to_yes : (b : Bool) → b ≡ true → not b ≡ false
+no_to_yes true h = refl
+no_to_yes false h = cc
+
+yes_or_no : (b : Bool) → (b ≡ true → ⊥) → not b ≡ true
+yes_or_no true h = absurd (h refl)
+yes_or_no false h = refl
+
+served_or_not : (looks : ViewParts → ℕ → Bool) (vs : List ViewParts) (p : ℕ) (w : ViewParts) → Decides (not (needs_turn looks (slice_get vs p) w)) ((p < length vs) × AreAlike (looks (get_or vs p no_view)) (get_or vs p no_view) w)
+served_or_not looks vs p w =
+    elim (cases_lt p (length vs)) [
+      | inl l ↦
+          let v = get_or vs p no_view in
+          let is : needs_turn looks (slice_get vs p) w ≡ not (serves looks v w) = ap (λ o. needs_turn looks o w) (slice_get-get_or vs p no_view l) in (
+            λ t. (l, (Decides-serves looks v w).0 (twice (serves looks v w) (ap not (sym is) ∙ t))),
+            λ h. ap not is ∙ again (serves looks v w) ((Decides-serves looks v w).1 h.1),
+          )
+      | inr m ↦
+          let is : needs_turn looks (slice_get vs p) w ≡ true = ap (λ o. needs_turn looks o w) (slice_get_past vs p m) in
+          (λ t. absurd (false≢true (sym (ap not is) ∙ t)), λ h. absurd (omega (arith, h.0, m)))
+    ]
+
+turn_passes : (looks : ViewParts → ℕ → Bool) (olds news : List Superstep) (q : Place) → Decides (not (turn_test looks olds q.step (superstep_at news q.step) q.pid)) (IsServed looks olds news q)
+turn_passes looks olds news q =
+    let d = served_or_not looks (superstep_at olds q.step).views q.pid (view_there news q) in
+    (λ t. let h = d.0 t in record { there = h.0; alike = h.1 }, λ h. d.1 (h.there, h.alike))
+
+kept_or_not : (os us : List OutcomeParts) (p : ℕ) → Decides (not (is_touched os us p)) ((p < length os) × (delivery_parts os p ≡ delivery_parts us p))
+kept_or_not os us p = let d = Decides-untouched os us p in (λ t. d.0 (twice _ t), λ h. again _ (d.1 h))
+
+delivery_passes : (olds news : List Superstep) (q : Place) → Decides (not (delivery_test olds q.step (superstep_at news q.step) q.pid)) (IsKept olds news q)
+delivery_passes olds news q =
+    let d = kept_or_not (superstep_at olds q.step).outcomes (superstep_at news q.step).outcomes q.pid in
+    (λ t. let h = d.0 t in record { there = h.0; same = h.1 }, λ h. d.1 (h.there, h.same))
+
+-- a test that holds exactly where something does not
+opposite : (b : Bool) (P : Type 0) → Decides (not b) P → (b ≡ true) ↔ (P → ⊥)
+opposite true P d = (λ _ h. false≢true (d.1 h), λ _. refl)
+opposite false P d = (λ t h. false≢true t, λ no. absurd (no (d.0 refl)))
+
+exactly : (count : Superstep → ℕ) (test : ℕ → Superstep → ℕ → Bool) (ss : List Superstep) (places : List Place) (P : Place → Type 0) → Gathers count test ss places → ((q : Place) → Decides (not (test q.step (superstep_at ss q.step) q.pid)) (P q))
+    → (q : Place) → Contains places q ↔ ((q.pid < count (superstep_at ss q.step)) × (P q → ⊥))
+exactly count test ss places P g d q =
+    let t = test q.step (superstep_at ss q.step) q.pid in
+    let both = opposite t (P q) (d q) in
+    (λ h. let x = (g q).0 h in (x.0, both.0 x.1), λ h. (g q).1 (h.0, both.1 h.1))
+
+pub update_is_exact : (looks : ViewParts → ℕ → Bool) (old : Option Run) (new : Run) (update : Update) → IsUpdate looks old new update → IsExact looks old new update
+update_is_exact looks old new update h =
+    let olds = supersteps_before old in
+    let news = supersteps_of new in
+    let turns : Gathers turns_in (turn_test looks olds) news update.executed =
+    subst (Gathers turns_in (turn_test looks olds) news) (sym (h.executed ∙ differ_is looks olds news)) (gathers turns_in (turn_test looks olds) news (no_views news)) in
+    let deliveries : Gathers deliveries_in (delivery_test (delivered_before old)) new.past update.redelivered =
+    subst (Gathers deliveries_in (delivery_test (delivered_before old)) new.past) (sym (h.redelivered ∙ touched_is (delivered_before old) new.past))
+    (gathers deliveries_in (delivery_test (delivered_before old)) new.past (no_outcomes new.past)) in
+    let executed = exactly turns_in (turn_test looks olds) news update.executed (IsServed looks olds news) turns (turn_passes looks olds news) in
+    let redelivered = exactly deliveries_in (delivery_test (delivered_before old)) new.past update.redelivered (IsKept (delivered_before old) new.past) deliveries (delivery_passes (delivered_before old) new.past) in
+    record {
+      executed = executed;
+      redelivered = redelivered;
+      executed_in_order = subst AreInOrder (sym (h.executed ∙ differ_is looks olds news)) (gathered_in_order turns_in (turn_test looks olds) 0 news);
+      redelivered_in_order = subst AreInOrder (sym (h.redelivered ∙ touched_is (delivered_before old) new.past)) (gathered_in_order deliveries_in (delivery_test (delivered_before old)) 0 new.past);
+    }
+
+-- the same, of whatever update that is
+pub exact_of : {looks : ViewParts → ℕ → Bool} {old : Option Run} {new : Run} {update : Update} → IsUpdate looks old new update → IsExact looks old new update
+exact_of {looks} {old} {new} {update} h = update_is_exact looks old new update h

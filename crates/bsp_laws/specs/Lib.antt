@@ -1,0 +1,4 @@
+pub mod Batches
+pub mod Updates
+pub mod Reach
+pub mod Least

@@ -1,0 +1,42 @@
+-- What an update leaves undone (this profile).
+use Rattle.std.specs.Prelude.{◌≡◌, ◌≤◌, ℕ, Bool, [], None, Some, length, Contains}
+use Rattle.bsp_model.specs.declared.input.Input.{Input}
+use Rattle.bsp_model.specs.Input.{input_fault}
+use Rattle.bsp_step.specs.ViewParts.{ViewParts}
+use Rattle.bsp_step.specs.OutcomeParts.{OutcomeParts}
+use Rattle.bsp_run.specs.Run.{Run, run}
+use Rattle.bsp_run.specs.Supersteps.{supersteps_of}
+use Rattle.bsp_incr.specs.declared.reply.Place.{Place}
+use Rattle.bsp_incr.specs.declared.reply.Update.{Update}
+use Rattle.bsp_incr.specs.Exact.{IsExact}
+
+-- no turn was taken, and no delivery was made
+pub record DoesNothing (update : Update) : Type 0 where
+  pub executed : update.executed ≡ []
+  pub redelivered : update.redelivered ≡ []
+
+-- Where the run is the run before, nothing was done.
+abbrev pub NothingForTheSameRun : Type 0
+NothingForTheSameRun = (looks : ViewParts → ℕ → Bool) (run : Run) (update : Update) → IsExact looks (Some run) run update → DoesNothing update
+
+-- inputs that differ in the limit and the prices alone
+pub record DifferInLimitAndPrices (i j : Input) : Type 0 where
+  pub memories : i.mems ≡ j.mems
+  pub arguments : i.args ≡ j.args
+
+-- turns were taken and deliveries made only in supersteps where the old run has none
+pub record GoesOnAfter (old : Run) (update : Update) : Type 0 where
+  pub executed : (place : Place) → Contains update.executed place → length (supersteps_of old) ≤ place.step
+  pub redelivered : (place : Place) → Contains update.redelivered place → length old.past ≤ place.step
+
+-- Other prices and another limit take no turn again ..
+abbrev pub LimitsAndPricesGoOn : Type 0
+LimitsAndPricesGoOn =
+    (turn : ViewParts → OutcomeParts) (looks : ViewParts → ℕ → Bool) (i j : Input) (update : Update) → input_fault i ≡ None → input_fault j ≡ None → DifferInLimitAndPrices i j
+    → IsExact looks (Some (run turn i)) (run turn j) update → GoesOnAfter (run turn i) update
+
+-- .. and with a limit that is no higher nothing is done.
+abbrev pub LowerLimitsDoNothing : Type 0
+LowerLimitsDoNothing =
+    (turn : ViewParts → OutcomeParts) (looks : ViewParts → ℕ → Bool) (i j : Input) (update : Update) → input_fault i ≡ None → input_fault j ≡ None → DifferInLimitAndPrices i j → j.limit ≤ i.limit
+    → IsExact looks (Some (run turn i)) (run turn j) update → DoesNothing update

@@ -1,0 +1,17 @@
+//! Laws of edits, updates and their reach, and calls on batches that keep them.
+#![tactic(auto)]
+
+mod batches;
+mod reach;
+mod updates;
+
+pub use batches::{
+    acceptance_stays, coalesce, edits_of_different_parts_commute, join, last_edit_wins,
+    lengths_stay,
+};
+pub use reach::{
+    no_turn_without_a_cause, out_of_reach_sees_the_same, tables_stay, updates_are_within_reach,
+};
+pub use updates::{
+    limits_and_prices_go_on, lower_limits_do_nothing, no_turn_serves_more, nothing_for_the_same_run,
+};
