@@ -6,6 +6,10 @@ pub mod WordsWritten
 pub mod NextSuperstep
 pub mod SuperstepCosts
 pub mod PutsAllowed
+pub mod ActsPerformed
+pub mod MessagesDelivered
+pub mod SumsOver
+pub mod RequestCosts
 pub mod BroadcastTurns
 pub mod BroadcastWords
 pub mod BroadcastCosts
@@ -17,4 +21,11 @@ pub mod PrefixSums
 pub mod PrefixMemories
 pub mod PrefixCosts
 pub mod PrefixRun
+pub mod MatVecStores
+pub mod MatVecTurns
+pub mod MatVecReceiving
+pub mod MatVecProduct
+pub mod MatVecAnswers
+pub mod MatVecCosts
+pub mod MatVecRun
 pub mod BundledRuns

@@ -30,6 +30,14 @@ largest_work-none n out h =
     let least : largest (map (λ (p : ℕ). 0) (range_with_len 0 n)) ≤ 0 = largest-le 0 (λ p. 0) n 0 (λ p l m. omega arith) in
     ap largest works ∙ omega arith
 
+-- where all charge the same, it is the work of the superstep
+pub largest_work-same : (n work : ℕ) (out : ℕ → OutcomeParts) → 1 ≤ n → ((p : ℕ) → p < n → (out p).work ≡ work) → largest_work (each_below n out) ≡ work
+largest_work-same n work out some h =
+    let works : map (λ (o : OutcomeParts). o.work) (each_below n out) ≡ map (λ p. work) (range_with_len 0 n) = map_range-agree (λ (o : OutcomeParts). o.work) out (λ p. work) n 0 (λ p l m. h p (omega arith)) in
+    let most : largest (map (λ (p : ℕ). work) (range_with_len 0 n)) ≤ work = largest-le work (λ p. work) n 0 (λ p l m. omega arith) in
+    let least : work ≤ largest (map (λ (p : ℕ). work) (range_with_len 0 n)) = largest-ge 0 (λ p. work) n 0 (omega arith) (omega arith) in
+    ap largest works ∙ omega arith
+
 -- no process has such a request
 pub requests-none : {R : Type 0} (of : OutcomeParts → List R) (n k : ℕ) (out : ℕ → OutcomeParts) → ((p : ℕ) → k ≤ p → p < k + n → of (out p) ≡ []) → requests_from of k (map out (range_with_len k n)) ≡ []
 requests-none of zero k out h = refl

@@ -20,14 +20,18 @@ use Rattle.bsp_run.specs.Ending.{end_of, end_without_fault, faults_from}
 use Rattle.bsp_run.specs.State.{pops_of, pushes_of}
 use Rattle.bsp_right.proofs.Ranges.{all_range, any_range-first, any_range-none, each_same, map_range-const}
 
--- processes that pop nothing and push the same areas, and go on to the next superstep
-pub record AllSync (nprocs : ℕ) (pushed : List Area) (out : ℕ → OutcomeParts) : Type 0 where
+-- processes that pop nothing, push the same areas and choose the same tag size, or none, and go on to the next superstep
+pub record AllSyncWith (nprocs : ℕ) (pushed : List Area) (tag : Option ℕ) (out : ℕ → OutcomeParts) : Type 0 where
   pub some : 1 ≤ nprocs
   pub faultless : (p : ℕ) → p < nprocs → (out p).fault ≡ None
   pub syncs : (p : ℕ) → p < nprocs → (out p).ended ≡ Sync
   pub pops : (p : ℕ) → p < nprocs → (out p).pops ≡ []
   pub pushes : (p : ℕ) → p < nprocs → (out p).pushes ≡ pushed
-  pub tags : (p : ℕ) → p < nprocs → (out p).tag ≡ None
+  pub tags : (p : ℕ) → p < nprocs → (out p).tag ≡ tag
+
+-- such processes that choose none
+abbrev pub AllSync : ℕ → List Area → (ℕ → OutcomeParts) → Type 0
+AllSync nprocs pushed out = AllSyncWith nprocs pushed None out
 
 pub record AllHalt (nprocs : ℕ) (out : ℕ → OutcomeParts) : Type 0 where
   pub some : 1 ≤ nprocs
@@ -58,6 +62,10 @@ are_alike-const : {X : Type 0} (same : X → X → Bool) (x : X) (n a : ℕ) →
 are_alike-const same x zero a h = refl
 are_alike-const same x (suc n) a h = all_alike-const same x n (a + 1) h
 
+same_tag-itself : (tag : Option ℕ) → same_tag tag tag ≡ true
+same_tag-itself None = refl
+same_tag-itself (Some n) = grind (arith, nat_tests)
+
 same_length-itself : (n : ℕ) → (n == n) ≡ true
 same_length-itself n = grind (arith, nat_tests)
 
@@ -80,10 +88,10 @@ count_of_pushes-const : (pushed : List Area) (n a : ℕ) → 1 ≤ n → count_o
 count_of_pushes-const pushed zero a l = absurd (omega arith)
 count_of_pushes-const pushed (suc n) a l = refl
 
-pops-const : (n : ℕ) (pushed : List Area) (out : ℕ → OutcomeParts) → AllSync n pushed out → pops_of (each_below n out) ≡ map (λ p. []) (range_with_len 0 n)
+pops-const : {tag : Option ℕ} (n : ℕ) (pushed : List Area) (out : ℕ → OutcomeParts) → AllSyncWith n pushed tag out → pops_of (each_below n out) ≡ map (λ p. []) (range_with_len 0 n)
 pops-const n pushed out h = map_range-const (λ (o : OutcomeParts). o.pops) out [] n 0 (λ p l m. h.pops p (omega arith))
 
-pushes-const : (n : ℕ) (pushed : List Area) (out : ℕ → OutcomeParts) → AllSync n pushed out → pushes_of (each_below n out) ≡ map (λ p. pushed) (range_with_len 0 n)
+pushes-const : {tag : Option ℕ} (n : ℕ) (pushed : List Area) (out : ℕ → OutcomeParts) → AllSyncWith n pushed tag out → pushes_of (each_below n out) ≡ map (λ p. pushed) (range_with_len 0 n)
 pushes-const n pushed out h = map_range-const (λ (o : OutcomeParts). o.pushes) out pushed n 0 (λ p l m. h.pushes p (omega arith))
 
 table_by : Bool → Bool → Bool → Option SyncFault
@@ -104,20 +112,20 @@ table_fault-none slots pushed n some few =
     let over : nat_lt 256 (length (kept_slots slots pops) + count_of_pushes pushes) ≡ false = not_over (length (kept_slots slots pops) + count_of_pushes pushes) (omega arith) in
     λ i. table_by (same_pops i) (same_pushes i) (over i)
 
-pub end_of-syncs : (n step : ℕ) (slots : List (List Area)) (pushed : List Area) (out : ℕ → OutcomeParts) → AllSync n pushed out → length slots + length pushed ≤ 256 → end_of step slots (each_below n out) ≡ None
+pub end_of-syncs : {tag : Option ℕ} (n step : ℕ) (slots : List (List Area)) (pushed : List Area) (out : ℕ → OutcomeParts) → AllSyncWith n pushed tag out → length slots + length pushed ≤ 256 → end_of step slots (each_below n out) ≡ None
 unfolding end_of ending_by
-end_of-syncs n step slots pushed out h few =
+end_of-syncs {tag = tag} n step slots pushed out h few =
     let os = each_below n out in
     let syncs : list_any (λ (o : OutcomeParts). is_sync o.ended) os ≡ true = any_range-first (λ (o : OutcomeParts). is_sync o.ended) out n 0 h.some (ap is_sync (h.syncs 0 (omega (arith, h.some)))) in
     let halts : list_any (λ (o : OutcomeParts). not (is_sync o.ended)) os ≡ false = any_range-none (λ (o : OutcomeParts). not (is_sync o.ended)) out n 0 (λ p l m. ap (λ e. not (is_sync e)) (h.syncs p (omega arith))) in
-    let tags : are_alike same_tag (map (λ (o : OutcomeParts). o.tag) os) ≡ true = ap (are_alike same_tag) (map_range-const (λ (o : OutcomeParts). o.tag) out None n 0 (λ p l m. h.tags p (omega arith))) ∙ are_alike-const same_tag None n 0 refl in
+    let tags : are_alike same_tag (map (λ (o : OutcomeParts). o.tag) os) ≡ true = ap (are_alike same_tag) (map_range-const (λ (o : OutcomeParts). o.tag) out tag n 0 (λ p l m. h.tags p (omega arith))) ∙ are_alike-const same_tag tag n 0 (same_tag-itself tag) in
     let table : table_fault slots (pops_of os) (pushes_of os) ≡ None = (λ i. table_fault slots (pops-const n pushed out h i) (pushes-const n pushed out h i)) ∙ table_fault-none slots pushed n h.some few in
     let sync : sync_fault os slots ≡ None = λ i. ending_by (syncs i) (halts i) (tags i) (table i) in
     ap (λ b. cond b (Some (Faulted step (faults_from 0 os))) (end_without_fault step os (sync_fault os slots))) (no_fault n out h.faultless)
     ∙ ap (λ f. end_without_fault step os f) sync
     ∙ ap (λ b. cond b None (Some Halted)) syncs
 
-pub next_table-syncs : (n : ℕ) (slots : List (List Area)) (pushed : List Area) (out : ℕ → OutcomeParts) → AllSync n pushed out
+pub next_table-syncs : {tag : Option ℕ} (n : ℕ) (slots : List (List Area)) (pushed : List Area) (out : ℕ → OutcomeParts) → AllSyncWith n pushed tag out
     → next_table slots (pops_of (each_below n out)) (pushes_of (each_below n out)) ≡ slots ++ map (λ k. map (λ p. get_or pushed k record { start = 0; len = 0 }) (range_with_len 0 n)) (range_with_len 0 (length pushed))
 next_table-syncs n slots pushed out h =
     let os = each_below n out in

@@ -1,3 +1,5 @@
+pub mod Sums
 pub mod Told
 pub mod Summed
+pub mod Multiplied
 pub mod Claims

@@ -1,6 +1,6 @@
 //! The runs of the documents in `examples/`.
 
-use crate::{run_broadcast, run_prefix};
+use crate::{run_broadcast, run_matvec, run_prefix};
 use bsp_model::{Input, Memory, OutOfMemory, Seq, Words};
 use bsp_run::History;
 use std::alloc::Global;
@@ -21,6 +21,15 @@ fn input(alloc: Global, memories: &[&[u64]], arguments: &[u64]) -> Result<Input,
         g: 4,
         l: 10,
     })
+}
+
+/// What a process printed, where that is one line of one word.
+fn printed(history: &History, pid: u64) -> Option<u64> {
+    let lines = history.lines(pid)?.as_slice();
+    if lines.len() != 1 || lines[0].len() != 1 {
+        return None;
+    }
+    Some(lines[0].as_slice()[0])
 }
 
 /// Word 0 of a process at the end.
@@ -48,5 +57,19 @@ fn sums_of_the_example(rt: HostRuntime) -> Result<(), Fail> {
         assert_eq!(rt; first_word(&history, pid as u64), Some(sums[pid]));
     }
     assert_eq!(rt; history.total(), 40);
+    Ok(())
+}
+
+#[test]
+fn product_of_the_example(rt: HostRuntime) -> Result<(), Fail> {
+    let input = input(
+        rt.alloc(),
+        &[&[1, 2, 5, 0, 0, 0], &[3, 4, 6, 0, 0, 0]],
+        &[1],
+    )?;
+    let history = run_matvec(rt.alloc(), &input)?;
+    assert_eq!(rt; printed(&history, 0), Some(17));
+    assert_eq!(rt; printed(&history, 1), Some(39));
+    assert_eq!(rt; history.total(), 30);
     Ok(())
 }
