@@ -8,7 +8,9 @@ pub mod SuperstepCosts
 pub mod PutsAllowed
 pub mod ActsPerformed
 pub mod MessagesDelivered
+pub mod GetsRead
 pub mod SumsOver
+pub mod Permutations
 pub mod RequestCosts
 pub mod BroadcastTurns
 pub mod BroadcastWords
@@ -28,4 +30,9 @@ pub mod MatVecProduct
 pub mod MatVecAnswers
 pub mod MatVecCosts
 pub mod MatVecRun
+pub mod RankTurns
+pub mod RankWords
+pub mod RankSupersteps
+pub mod RankCosts
+pub mod RankRun
 pub mod BundledRuns

@@ -1,6 +1,6 @@
 //! The runs of the documents in `examples/`.
 
-use crate::{run_broadcast, run_matvec, run_prefix};
+use crate::{run_broadcast, run_matvec, run_prefix, run_rank};
 use bsp_model::{Input, Memory, OutOfMemory, Seq, Words};
 use bsp_run::History;
 use std::alloc::Global;
@@ -71,5 +71,18 @@ fn product_of_the_example(rt: HostRuntime) -> Result<(), Fail> {
     assert_eq!(rt; printed(&history, 0), Some(17));
     assert_eq!(rt; printed(&history, 1), Some(39));
     assert_eq!(rt; history.total(), 30);
+    Ok(())
+}
+
+#[test]
+fn ranks_of_the_example(rt: HostRuntime) -> Result<(), Fail> {
+    let memories: [&[u64]; 4] = [&[3, 1, 0, 0], &[1, 0, 0, 0], &[0, 1, 0, 0], &[1, 1, 0, 0]];
+    let input = input(rt.alloc(), &memories, &[])?;
+    let history = run_rank(rt.alloc(), &input)?;
+    let ranks = [2, 0, 3, 1];
+    for pid in 0..4 {
+        assert_eq!(rt; printed(&history, pid as u64), Some(ranks[pid]));
+    }
+    assert_eq!(rt; history.total(), 56);
     Ok(())
 }
