@@ -5,6 +5,7 @@ pub mod SuperstepEnds
 pub mod WordsWritten
 pub mod NextSuperstep
 pub mod SuperstepCosts
+pub mod AreasPushed
 pub mod PutsAllowed
 pub mod ActsPerformed
 pub mod MessagesDelivered
