@@ -1,19 +1,20 @@
 -- Tables in whose slots all processes have the same area, as pushes leave them that all make alike.
-use Rattle.std.proofs.Common.{◌&&◌, ◌+◌, ◌++◌, ◌<◌, ◌==◌, Bool, List, None, Option, Some, [], ap, arith, cond, false, get_or, length, map, refl, suc, sym, take, true, zero, ℕ, ◌∙◌, ◌∷◌, ◌≡◌, ◌≤◌}
-use Rattle.std.proofs.lemmas.List.{length-map, map-append, take_all, take_more}
+use Rattle.std.proofs.Common.{◌&&◌, ◌+◌, ◌++◌, ◌<◌, ◌==◌, Bool, List, None, Some, [], ap, arith, cond, false, filter, get_or, length, map, not, refl, suc, sym, take, true, zero, ℕ, ◌∙◌, ◌∷◌, ◌≡◌, ◌≤◌}
+use Rattle.std.proofs.lemmas.List.{get_or-map, length-map, map-append, take_all, take_more}
 use Rattle.std.proofs.lemmas.List.FromFn.{fill_by_all, get_or-map-range_with_len, length-map-range_with_len}
 use Rattle.std.proofs.lemmas.Option.{slice_get-get_or, slice_get-map}
 use Rattle.std.specs.List.{range_with_len}
 use Rattle.std.specs.Option.{option_map}
 use Rattle.std.specs.Prelude.{slice_get}
 use Rattle.bsp_table.specs.declared.area.Area.{Area}
-use Rattle.bsp_table.specs.NextTable.{no_area}
+use Rattle.bsp_table.specs.NextTable.{is_popped, no_area}
 use Rattle.bsp_table.specs.Table.{area_at, area_in, has_start, newest, newest_below, starts_at}
 use Rattle.bsp_step.specs.Perform.{target_area}
 use Rattle.bsp_step.specs.ViewParts.{ViewParts}
 use Rattle.bsp_deliver.specs.Delivery.{last_of, later}
 use Rattle.bsp_right.proofs.NextSuperstep.{slots_of}
 use Rattle.bsp_right.proofs.Ranges.{map_range-agree}
+use Rattle.bsp_right.proofs.SuperstepEnds.{slots_left}
 
 -- a slot for each of these areas, which is that of every process
 abbrev pub alike_slot : ℕ → Area → List Area
@@ -72,3 +73,25 @@ target_area-alike n own pid start areas l h v is table =
     ∙ ap (λ m. area_at slots (newest_below slots own start [] m) pid) count
     ∙ found_below n own pid start areas l h (length areas) (omega arith)
     ∙ ap (last_of (λ (a : Area). a.start == start)) (take_all (length areas) areas (omega arith))
+
+-- the areas that are left where all pop these slots
+abbrev pub areas_left : List Area → List ℕ → List Area
+areas_left areas popped = map (λ slot. get_or areas slot no_area) (filter (λ slot. not (is_popped (popped ∷ []) slot)) (range_with_len 0 (length areas)))
+
+left_from : (n : ℕ) (areas : List Area) (keep : ℕ → Bool) (count k : ℕ) → k + count ≤ length areas
+    → map (λ slot. get_or (alike_slots n areas) slot []) (filter keep (range_with_len k count)) ≡ alike_slots n (map (λ slot. get_or areas slot no_area) (filter keep (range_with_len k count)))
+left_from n areas keep zero k h = refl
+left_from n areas keep (suc count) k h =
+    let slot : get_or (alike_slots n areas) k [] ≡ alike_slot n (get_or areas k no_area) = get_or-map (alike_slot n) areas k no_area [] (omega arith) in
+    let rest = filter keep (range_with_len (k + 1) count) in
+    elim (keep k) as (λ b. map (λ s. get_or (alike_slots n areas) s []) (cond b (k ∷ rest) rest) ≡ alike_slots n (map (λ s. get_or areas s no_area) (cond b (k ∷ rest) rest))) [
+      | true ↦ λ i. slot i ∷ left_from n areas keep count (k + 1) (omega arith) i
+      | false ↦ left_from n areas keep count (k + 1) (omega arith)
+    ]
+
+-- Pops that all make alike leave such slots.
+pub slots_left-alike : (n : ℕ) (areas : List Area) (popped : List ℕ) → slots_left (alike_slots n areas) popped ≡ alike_slots n (areas_left areas popped)
+slots_left-alike n areas popped =
+    let keep : ℕ → Bool = λ slot. not (is_popped (popped ∷ []) slot) in
+    ap (λ count. map (λ slot. get_or (alike_slots n areas) slot []) (filter keep (range_with_len 0 count))) (length-map areas (alike_slot n))
+    ∙ left_from n areas keep (length areas) 0 (omega arith)

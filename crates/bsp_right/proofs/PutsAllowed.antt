@@ -1,14 +1,10 @@
 -- Puts that pass their checks, and the areas of a table of one slot.
-use Rattle.std.proofs.Common.{◌&&◌, ◌+◌, ◌++◌, ◌<◌, ◌==◌, List, None, Some, [], ap, arith, cond, length, map, nat_le, nat_lt, true, ℕ, ◌∙◌, ◌∷◌, ◌≡◌, ◌≤◌}
-use Rattle.std.proofs.lemmas.List.FromFn.{get_or-map-range_with_len, length-map-range_with_len}
+use Rattle.std.proofs.Common.{◌+◌, ◌++◌, ◌<◌, ◌==◌, None, Some, [], ap, arith, cond, map, nat_le, nat_lt, true, ℕ, ◌∙◌, ◌∷◌, ◌≡◌, ◌≤◌}
 use Rattle.std.proofs.lemmas.Bool.{le-leb}
 use Rattle.std.proofs.lemmas.Bool.Decides.{nat_tests}
 use Rattle.std.specs.List.{range_with_len}
-use Rattle.std.specs.Prelude.{slice_get}
-use Rattle.std.proofs.lemmas.Option.{slice_get-get_or}
 use Rattle.bsp_model.specs.declared.fault.Fault.TheVariants.{BadPid, TooManyRequests}
 use Rattle.bsp_table.specs.declared.area.Area.{Area}
-use Rattle.bsp_table.specs.Table.{area_at, starts_at}
 use Rattle.bsp_step.specs.Context.{Context}
 use Rattle.bsp_step.specs.ViewParts.{ViewParts}
 use Rattle.bsp_step.specs.Perform.{area_fault, count_of_requests, fault_unless, first_fault, perform, performed, start_of, target_area}
