@@ -5,9 +5,9 @@ pub mod SuperstepEnds
 pub mod WordsWritten
 pub mod NextSuperstep
 pub mod SuperstepCosts
-pub mod AreasPushed
+pub mod TablesAlike
 pub mod PutsAllowed
-pub mod ActsPerformed
+pub mod ActsAllowed
 pub mod MessagesDelivered
 pub mod GetsRead
 pub mod SumsOver

@@ -16,7 +16,7 @@ use Rattle.bsp_step.specs.Plan.{Plan, does}
 use Rattle.bsp_step.specs.Turn.{closed}
 use Rattle.bsp_programs.specs.MatVec.{block_start, columns, given_words, matvec_answering, matvec_multiplying, product_of, product_start, stored, stores, vector_start, words_at}
 use Rattle.bsp_right.specs.Multiplied.{matvec_turn, memory_multiplied, own_product, product_word}
-use Rattle.bsp_right.proofs.ActsPerformed.{leaves, leaves-after, perform-charge, perform-print}
+use Rattle.bsp_right.proofs.ActsAllowed.{leaves, leaves-after, perform-charge, perform-print}
 use Rattle.bsp_right.proofs.DescribedStates.{quiet, view_described}
 use Rattle.bsp_right.proofs.MatVecProduct.{block_in, gathered, length-block_in, length-gathered, matrix_in, memory_at_end, memory_in, product_is}
 use Rattle.bsp_right.proofs.MatVecReceiving.{block_message, blocks_taken, received_log, taken}

@@ -7,7 +7,7 @@ use Rattle.std.proofs.Common.{get_or}
 use Rattle.bsp_deliver.specs.Cost.{Transfer, h_relation, send_transfer}
 use Rattle.bsp_deliver.specs.Requests.{each_below}
 use Rattle.bsp_programs.specs.MatVec.{block_start}
-use Rattle.bsp_right.proofs.ActsPerformed.{message_to}
+use Rattle.bsp_right.proofs.ActsAllowed.{message_to}
 use Rattle.bsp_right.proofs.MatVecTurns.{block_of, sends_block}
 use Rattle.bsp_right.proofs.Ranges.{map_range-agree}
 use Rattle.bsp_right.proofs.RequestCosts.{h_relation-is, leaves_process, reaches_process, words_moved, words_of, words_of-range}

@@ -51,16 +51,16 @@ supersteps input b h =
     let short : (p : ℕ) → p < n → length (memory p) ≤ 4096 = λ p l. lawful.short_memories p [] l in
     let few : b ≤ 64 = few_rows n b (length (memory 0)) lawful.some_process (room 0 (omega (arith, lawful.some_process))) (short 0 (omega (arith, lawful.some_process))) in
     let named : (p : ℕ) → p < n → slice_get (get_or input.args p []) 0 ≡ Some b = λ p l. h.rows p [] (omega (arith, lawful.same_count)) in
-    let first = goes_on_with matvec_turn input 0 n memory memory no_queue no_queue [] 0 [] [] (Some 1) (chooses_tags memory)
+    let first = goes_on_with matvec_turn input 0 n memory memory no_queue no_queue [] 0 [] 0 (λ p. []) (Some 1) (chooses_tags memory)
     (first-described matvec_turn input)
     (λ p l. turn_chooses input.args n b memory p (named p l) few (room p l))
-    (record { some = lawful.some_process; faultless = λ p _. refl; syncs = λ p _. refl; pops = λ p _. refl; pushes = λ p _. refl; tags = λ p _. refl })
+    (record { some = lawful.some_process; faultless = λ p _. refl; syncs = λ p _. refl; pops = λ p _. refl; counts = λ p _. refl; pushes = λ p _. refl; tags = λ p _. refl })
     (omega arith) (λ d _. next_queue-none n d (chooses_tags memory) (λ p _. refl))
     (λ d l. next_memory-is n d (chooses_tags memory) (memory d) l refl refl (λ a _. written_by-none d a (chooses_tags memory) n 0 (get_or (memory d) a 0) (λ p _ _. refl))) in
-    let second = goes_on_with matvec_turn input 1 n memory memory no_queue (blocks_sent input b) [] 1 [] [] None (sends_block n b memory)
+    let second = goes_on_with matvec_turn input 1 n memory memory no_queue (blocks_sent input b) [] 1 [] 0 (λ p. []) None (sends_block n b memory)
     first.state
     (λ p l. turn_sends input.args n b memory p lawful.few_processes (named p l) few (room p l))
-    (record { some = lawful.some_process; faultless = λ p _. refl; syncs = λ p _. refl; pops = λ p _. refl; pushes = λ p _. refl; tags = λ p _. refl })
+    (record { some = lawful.some_process; faultless = λ p _. refl; syncs = λ p _. refl; pops = λ p _. refl; counts = λ p _. refl; pushes = λ p _. refl; tags = λ p _. refl })
     (omega arith) (λ d l. queue_is input b d l)
     (λ d l. next_memory-is n d (sends_block n b memory) (memory d) l refl refl (λ a _. written_by-none d a (sends_block n b memory) n 0 (get_or (memory d) a 0) (λ p _ _. refl))) in
     let third = halts matvec_turn input 2 n memory (blocks_sent input b) [] 1 (multiplies input b)

@@ -5,7 +5,7 @@ use Rattle.bsp_model.specs.declared.request.Store.{Store}
 use Rattle.bsp_step.specs.Context.{Context}
 use Rattle.bsp_step.specs.Perform.{perform_all}
 use Rattle.bsp_programs.specs.MatVec.{stored, stores}
-use Rattle.bsp_right.proofs.ActsPerformed.{perform-store}
+use Rattle.bsp_right.proofs.ActsAllowed.{perform-store}
 
 -- the record of these stores
 abbrev pub logged : ℕ → List ℕ → List Store

@@ -16,7 +16,7 @@ use Rattle.bsp_step.specs.Turn.{closed}
 use Rattle.bsp_step.specs.ViewParts.{ViewParts}
 use Rattle.bsp_programs.specs.MatVec.{block_start, given_words, matvec_checking, matvec_working, product_start, sends_to_all, words_at}
 use Rattle.bsp_right.specs.Multiplied.{matvec_turn}
-use Rattle.bsp_right.proofs.ActsPerformed.{message_to, perform_all-sends}
+use Rattle.bsp_right.proofs.ActsAllowed.{message_to, perform_all-sends}
 use Rattle.bsp_right.proofs.DescribedStates.{no_queue, of_plan, quiet, view_described}
 
 -- where b rows of that many columns fit into a memory, b is small

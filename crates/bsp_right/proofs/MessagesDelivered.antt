@@ -10,7 +10,7 @@ use Rattle.bsp_model.specs.declared.request.Send.{Send}
 use Rattle.bsp_step.specs.OutcomeParts.{OutcomeParts}
 use Rattle.bsp_deliver.specs.Delivery.{delivery_parts, message_of, next_queue}
 use Rattle.bsp_deliver.specs.Requests.{all_sends, each_below, requests_from}
-use Rattle.bsp_right.proofs.ActsPerformed.{message_to}
+use Rattle.bsp_right.proofs.ActsAllowed.{message_to}
 
 -- the messages of a process to process d
 abbrev pub sent_to : ℕ → OutcomeParts → List Message

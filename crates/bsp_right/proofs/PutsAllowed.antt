@@ -9,7 +9,7 @@ use Rattle.bsp_step.specs.Context.{Context}
 use Rattle.bsp_step.specs.ViewParts.{ViewParts}
 use Rattle.bsp_step.specs.Perform.{area_fault, count_of_requests, fault_unless, first_fault, perform, performed, start_of, target_area}
 use Rattle.bsp_step.specs.Act.{put}
-use Rattle.bsp_right.proofs.AreasPushed.{target_area-alike}
+use Rattle.bsp_right.proofs.TablesAlike.{target_area-alike}
 
 -- A put that is allowed.
 pub perform-put : (c : Context) (pid word area offset : ℕ) (a : Area) → c.fault ≡ None → count_of_requests c < 1024 → pid < c.view.nprocs → target_area c.view pid area ≡ Some a → offset + 1 ≤ a.len

@@ -19,9 +19,6 @@ range-agree f h (suc n) a e =
     ap (λ z. z ∷ map f (range_with_len (a + 1) n)) (e a (omega arith) (omega arith))
     ∙ ap (λ zs. h a ∷ zs) (range-agree f h n (a + 1) (λ p l m. e p (omega arith) (omega arith)))
 
-pub each_same : {X : Type 0} (n : ℕ) (f g : ℕ → X) → ((k : ℕ) → f k ≡ g k) → (a : ℕ) → map f (range_with_len a n) ≡ map g (range_with_len a n)
-each_same n f g h a = range-agree f g n a (λ p l m. h p)
-
 -- the same of two ranges, side by side
 pub range-shifted : {Y : Type 0} (f h : ℕ → Y) (n a b : ℕ) → ((j : ℕ) → j < n → f (a + j) ≡ h (b + j)) → map f (range_with_len a n) ≡ map h (range_with_len b n)
 range-shifted f h zero a b e = refl

@@ -18,7 +18,7 @@ use Rattle.bsp_step.specs.ViewParts.{ViewParts}
 use Rattle.bsp_programs.specs.Doubling.{distance}
 use Rattle.bsp_programs.specs.Rank.{rank_adding, rank_asking}
 use Rattle.bsp_right.specs.Ranked.{rank_turn}
-use Rattle.bsp_right.proofs.ActsPerformed.{leaves, leaves-after, perform-store}
+use Rattle.bsp_right.proofs.ActsAllowed.{leaves, leaves-after, perform-store}
 use Rattle.bsp_right.proofs.GetsRead.{perform-get}
 use Rattle.bsp_right.proofs.PrefixTurns.{two_slot, two_words}
 use Rattle.bsp_right.proofs.PutsAllowed.{area-one_slot}

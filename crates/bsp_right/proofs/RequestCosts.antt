@@ -88,3 +88,19 @@ words_of-range test transfer (suc n) k =
       | true ↦ sum_by-cons (λ (t : Transfer). t.count) (transfer k) rest ∙ ap (λ x. (transfer k).count + x) later
       | false ↦ omega (arith, later)
     ]
+
+-- those of the numbers that pass another test
+pub words_of-filtered : (test : Transfer → Bool) (keep : ℕ → Bool) (transfer : ℕ → Transfer) (n k : ℕ) → words_of test (map transfer (filter keep (range_with_len k n))) ≡ sum_over (λ j. cond (keep j && test (transfer j)) (transfer j).count 0) k n
+words_of-filtered test keep transfer zero k = refl
+words_of-filtered test keep transfer (suc n) k =
+    let rest = filter keep (range_with_len (k + 1) n) in
+    let kept = filter test (map transfer rest) in
+    let later : sum_by (λ (t : Transfer). t.count) kept ≡ sum_over (λ j. cond (keep j && test (transfer j)) (transfer j).count 0) (k + 1) n = words_of-filtered test keep transfer n (k + 1) in
+    elim (keep k) as (λ b. words_of test (map transfer (cond b (k ∷ rest) rest)) ≡ cond (b && test (transfer k)) (transfer k).count 0 + sum_over (λ j. cond (keep j && test (transfer j)) (transfer j).count 0) (k + 1) n) [
+      | true ↦
+          elim (test (transfer k)) as (λ b. sum_by (λ (t : Transfer). t.count) (cond b (transfer k ∷ kept) kept) ≡ cond b (transfer k).count 0 + sum_over (λ j. cond (keep j && test (transfer j)) (transfer j).count 0) (k + 1) n) [
+            | true ↦ sum_by-cons (λ (t : Transfer). t.count) (transfer k) kept ∙ ap (λ x. (transfer k).count + x) later
+            | false ↦ omega (arith, later)
+          ]
+      | false ↦ omega (arith, later)
+    ]

@@ -1,6 +1,5 @@
 -- What a superstep costs whose outcomes are described process by process.
-use Rattle.std.proofs.Common.{◌+◌, ◌++◌, ◌<◌, List, [], ap, arith, inl, inr, map, refl, suc, zero, ℕ, ◌∙◌, ◌≡◌, ◌≢◌, ◌≤◌}
-use Rattle.std.proofs.lemmas.List.{append-nil}
+use Rattle.std.proofs.Common.{◌+◌, ◌++◌, ◌<◌, List, [], ap, arith, inl, inr, map, refl, suc, zero, ℕ, ◌∙◌, ◌≡◌, ◌≤◌}
 use Rattle.std.proofs.lemmas.Bool.{cases_lt}
 use Rattle.std.proofs.lemmas.List.FromFn.{length-map-range_with_len}
 use Rattle.std.specs.Prelude.{max}
@@ -44,21 +43,6 @@ requests-none of zero k out h = refl
 requests-none {R = R} of (suc n) k out h =
     ap (λ (ms : List R). map (λ (r : R). (k, r)) ms ++ requests_from of (k + 1) (map out (range_with_len (k + 1) n))) (h k (omega arith) (omega arith))
     ∙ requests-none of n (k + 1) out (λ p l m. h p (omega arith) (omega arith))
-
--- one process alone has such requests
-pub requests-one : {R : Type 0} (of : OutcomeParts → List R) (s n k : ℕ) (out : ℕ → OutcomeParts) → k ≤ s → s < k + n → ((p : ℕ) → p ≢ s → of (out p) ≡ []) → requests_from of k (map out (range_with_len k n)) ≡ map (λ r. (s, r)) (of (out s))
-requests-one of s zero k out l m h = absurd (omega arith)
-requests-one {R = R} of s (suc n) k out l m h =
-    elim (cases_lt k s) [
-      | inl less ↦
-          ap (λ (ms : List R). map (λ (r : R). (k, r)) ms ++ requests_from of (k + 1) (map out (range_with_len (k + 1) n))) (h k (λ e. omega (arith, e)))
-          ∙ requests-one of s n (k + 1) out (omega arith) (omega arith) h
-      | inr more ↦
-          let here : k ≡ s = omega arith in
-          ap (λ (xs : List (ℕ × R)). map (λ (r : R). (k, r)) (of (out k)) ++ xs) (requests-none of n (k + 1) out (λ p q r. h p (λ e. omega (arith, e))))
-          ∙ append-nil (map (λ (r : R). (k, r)) (of (out k)))
-          ∙ ap (λ j. map (λ (r : R). (j, r)) (of (out j))) here
-    ]
 
 -- processes that ask for nothing move nothing
 pub record AllSilent (n : ℕ) (out : ℕ → OutcomeParts) : Type 0 where
