@@ -1,7 +1,10 @@
 //! The runs of the documents in `examples/`.
 
-use crate::{run_broadcast, run_matvec, run_prefix, run_rank};
+use crate::{run_broadcast, run_matvec, run_prefix, run_rank, session_computes};
+use bsp_incr::{Edit, Session};
 use bsp_model::{Input, Memory, OutOfMemory, Seq, Words};
+use bsp_pool::Open;
+use bsp_programs::Rank;
 use bsp_run::History;
 use std::alloc::Global;
 use std::test::Fail;
@@ -84,5 +87,38 @@ fn ranks_of_the_example(rt: HostRuntime) -> Result<(), Fail> {
         assert_eq!(rt; printed(&history, pid as u64), Some(ranks[pid]));
     }
     assert_eq!(rt; history.total(), 56);
+    Ok(())
+}
+
+/// The list 2, 0, 3, 1 becomes 2, 3, 0, 1.
+const REORDERED: [Edit; 3] = [
+    Edit::Word {
+        pid: 2,
+        addr: 0,
+        value: 3,
+    },
+    Edit::Word {
+        pid: 3,
+        addr: 0,
+        value: 0,
+    },
+    Edit::Word {
+        pid: 0,
+        addr: 0,
+        value: 1,
+    },
+];
+
+#[test]
+fn ranks_in_a_session(rt: HostRuntime) -> Result<(), Fail> {
+    let memories: [&[u64]; 4] = [&[3, 1, 0, 0], &[1, 0, 0, 0], &[0, 1, 0, 0], &[1, 1, 0, 0]];
+    let input = input(rt.alloc(), &memories, &[])?;
+    let (mut session, _opening) = Session::open(&rt, rt.alloc(), Rank, input, 1, &Open)?;
+    let _update = session.apply(&rt, rt.alloc(), &REORDERED, 1, &Open)?;
+    session_computes(&session);
+    let ranks = [1, 0, 3, 2];
+    for pid in 0..4 {
+        assert_eq!(rt; printed(session.history(), pid as u64), Some(ranks[pid]));
+    }
     Ok(())
 }
