@@ -106,15 +106,23 @@ kept_slots-alike : (slots : List (List Area)) (popped : List ℕ) (n : ℕ) → 
 kept_slots-alike slots popped n some =
     ap (map (λ slot. get_or slots slot [])) (filter-agree (λ slot. not (is_popped (map (λ p. popped) (range_with_len 0 n)) slot)) (λ slot. not (is_popped (popped ∷ []) slot)) (λ slot. ap not (popped_if (list_any (λ k. k == slot) popped) popped n 0 slot some refl)) (range_with_len 0 (length slots)))
 
-kept_all : (b count : ℕ) → filter (λ slot. not (is_popped ([] ∷ []) slot)) (range_with_len b count) ≡ range_with_len b count
-kept_all b zero = refl
-kept_all b (suc count) = ap (λ xs. b ∷ xs) (kept_all (b + 1) count)
+popped_none : (n a slot : ℕ) → is_popped (map (λ p. []) (range_with_len a n)) slot ≡ false
+popped_none n a slot = any_range-none (λ popped. list_any (λ k. k == slot) popped) (λ p. []) n a (λ p l m. refl)
+
+kept_from : (n b count : ℕ) → filter (λ slot. not (is_popped (map (λ p. []) (range_with_len 0 n)) slot)) (range_with_len b count) ≡ range_with_len b count
+kept_from n b zero = refl
+kept_from n b (suc count) =
+    let rest = filter (λ slot. not (is_popped (map (λ p. []) (range_with_len 0 n)) slot)) (range_with_len (b + 1) count) in
+    ap (λ t. cond (not t) (b ∷ rest) rest) (popped_none n 0 b) ∙ ap (λ xs. b ∷ xs) (kept_from n (b + 1) count)
 
 -- where none is popped, all are left
-pub slots_left-all : (slots : List (List Area)) → slots_left slots [] ≡ slots
-slots_left-all slots =
-    ap (map (λ slot. get_or slots slot [])) (kept_all 0 (length slots))
+pub kept_slots-all : (slots : List (List Area)) (n : ℕ) → kept_slots slots (map (λ p. []) (range_with_len 0 n)) ≡ slots
+kept_slots-all slots n =
+    ap (map (λ slot. get_or slots slot [])) (kept_from n 0 (length slots))
     ∙ sym (fill_by_all (λ slot. get_or slots slot []) slots (length slots) [] refl (λ k l. refl))
+
+pub slots_left-all : (slots : List (List Area)) → slots_left slots [] ≡ slots
+slots_left-all slots = kept_slots-all slots 1
 
 count_of_pushes-is : (pushed : ℕ → List Area) (count n : ℕ) → 1 ≤ n → ((p : ℕ) → p < n → length (pushed p) ≡ count) → count_of_pushes (map pushed (range_with_len 0 n)) ≡ count
 count_of_pushes-is pushed count zero l h = absurd (omega arith)
