@@ -1,5 +1,5 @@
 -- The run of a broadcast.
-use Rattle.std.proofs.Common.{◌*◌, ◌+◌, ◌++◌, ◌-◌, ◌<◌, ◌==◌, List, None, Some, [], ap, arith, cond, false, get_or, length, map, refl, set, suc, sym, true, zero, ℕ, ◌∙◌, ◌∷◌, ◌≡◌, ◌≤◌}
+use Rattle.std.proofs.Common.{◌*◌, ◌+◌, ◌++◌, ◌-◌, ◌<◌, List, None, Some, [], ap, arith, get_or, length, map, refl, set, suc, sym, zero, ℕ, ◌∙◌, ◌∷◌, ◌≡◌, ◌≤◌}
 use Rattle.std.proofs.lemmas.List.FromFn.{fill_by_all}
 use Rattle.std.proofs.lemmas.List.{get_or-set_same, length-set}
 use Rattle.std.proofs.lemmas.Bool.Decides.{nat_tests}
@@ -19,11 +19,11 @@ use Rattle.bsp_right.specs.Told.{IsBroadcastInput, IsTold, broadcast_turn, costs
 use Rattle.bsp_right.proofs.NextSuperstep.{GoesOn, Halts, first-described, goes_on, halts, slots_of}
 use Rattle.bsp_right.proofs.RunsFromSupersteps.{ended_at, run-ended}
 use Rattle.bsp_right.proofs.SuperstepCosts.{h_relation-none, largest_work-none}
-use Rattle.bsp_right.proofs.BroadcastCosts.{h_relation-tells, other_root}
+use Rattle.bsp_right.proofs.BroadcastCosts.{h_relation-tells}
 use Rattle.bsp_right.proofs.Ranges.{map_range-agree, range-agree}
 use Rattle.bsp_right.proofs.WordsWritten.{next_memory-is, outcome_of-each_below, written_by-none}
 use Rattle.bsp_right.proofs.DescribedStates.{no_queue}
-use Rattle.bsp_right.proofs.BroadcastTurns.{others, prints, registers, tell, tells, turn_prints, turn_registers, turn_tells, word_area}
+use Rattle.bsp_right.proofs.BroadcastTurns.{prints, registers, tells, turn_prints, turn_registers, turn_tells, word_area}
 use Rattle.bsp_right.proofs.BroadcastWords.{tells_written}
 
 -- the supersteps of a broadcast
@@ -116,9 +116,7 @@ costs_are input root known h =
     let w1 = largest_work-none n (tells n root word memory) (λ p _. refl) in
     let w2 = largest_work-none n (prints word new) (λ p _. refl) in
     let h0 = h_relation-none n (registers memory) (record { puts = λ p _. refl; gets = λ p _. refl; sends = λ p _. refl }) in
-    let at_root : (root == root) ≡ true = grind (arith, nat_tests) in
-    let h1 = h_relation-tells n root word (tells n root word memory) known (ap (λ t. cond t (map (tell word) (others root 0 n)) []) at_root)
-    (λ p apart. let off : (root == p) ≡ false = other_root root p apart in ap (λ t. cond t (map (tell word) (others p 0 n)) []) off) (λ p. refl) (λ p. refl) in
+    let h1 = h_relation-tells n root word memory known in
     (λ i. map (cost_of_delivery input.g input.l) (h.first.outcomes i ∷ h.second.outcomes i ∷ []) ++ map cost_of_end (h.third.outcomes i ∷ []))
     ∙ (λ i. row input.g input.l (w0 i) (h0 i) ∷ row input.g input.l (w1 i) (h1 i) ∷ record { work = w2 i; h = 0; cost = w2 i } ∷ [])
     ∙ (λ i. record { work = 0; h = 0; cost = cost_first input.g input.l i } ∷ record { work = 0; h = n - 1; cost = cost_second ((n - 1) * input.g) input.l i } ∷ record { work = 0; h = 0; cost = 0 } ∷ [])

@@ -46,9 +46,6 @@ turn_registers args n memory p h =
     let v = view_described args 0 n memory no_queue [] 0 p in
     ap (λ b. closed (performed None (fault_unless b BadLocal) (fresh v) (record (fresh v) { pushes = word_area ∷ [] })) Sync) (le-leb 1 (length (memory p)) h)
 
-quiet_view : (v : ViewParts) → of_plan v (does [] Sync) ≡ quiet v.memory
-quiet_view v = refl
-
 empty_queue : (v : ViewParts) (plan : Plan) (puts : List Put) (own : Bool) → own ≡ false → of_plan v (cond own plan (does [] Sync)) ≡ record (quiet v.memory) { puts = cond own puts [] }
 empty_queue v plan puts own e = ap (λ b. of_plan v (cond b plan (does [] Sync))) e ∙ ap (λ b. record (quiet v.memory) { puts = cond b puts [] }) (sym e)
 

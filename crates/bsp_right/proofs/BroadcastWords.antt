@@ -14,9 +14,6 @@ use Rattle.bsp_right.proofs.WordsWritten.{writes_to, written_by, written_by-last
 abbrev pub told : ℕ → ℕ → ℕ → ℕ → ℕ → ℕ → ℕ → ℕ
 told own word d a k m w = written (map write_of (filter (λ (q : Put). q.target == d) (map (tell word) (others own k m)))) a w
 
-one_zero : (word pid w : ℕ) → written (write_of (tell word pid) ∷ []) 0 w ≡ word
-one_zero word pid w = refl
-
 not_covered : (b : ℕ) → (nat_le 0 (suc b) && nat_lt (suc b) 1) ≡ false
 not_covered b = grind (arith, nat_tests)
 

@@ -1,21 +1,18 @@
 -- What the supersteps of prefix sums cost.
-use Rattle.std.proofs.Common.{◌≡◌, ◌≢◌, ◌≤◌, ◌<◌, ◌+◌, ◌-◌, ◌*◌, ◌==◌, ◌&&◌, not, ℕ, zero, suc, Bool, true, false, cond, List, [], ◌∷◌, ◌++◌, map, length, filter, get_or, nat_le, nat_lt, arith, refl, ap, ◌∙◌, inl, inr}
-use Rattle.std.specs.Prelude.{sum_by}
+use Rattle.std.proofs.Common.{◌≡◌, ◌≢◌, ◌≤◌, ◌<◌, ◌+◌, ◌-◌, ◌*◌, ◌&&◌, ℕ, zero, suc, Bool, true, false, cond, List, [], ◌∷◌, ◌++◌, map, length, get_or, nat_le, nat_lt, arith, refl, ap, ◌∙◌}
+use Rattle.std.specs.Prelude.{min, sum_by}
 use Rattle.std.specs.List.{range_with_len}
 use Rattle.std.proofs.Math.Nat.{suc-mul, zero-mul}
 use Rattle.std.proofs.lemmas.Nat.{pow_pos}
-use Rattle.std.proofs.lemmas.Bool.{cases_eq}
 use Rattle.std.proofs.lemmas.Bool.Decides.{nat_tests}
-use Rattle.std.proofs.lemmas.List.{append-nil}
 use Rattle.std.proofs.lemmas.List.Sums.{sum_by-append, sum_by-cons}
-use Rattle.std.proofs.lemmas.List.FromFn.{length-map-range_with_len}
 use Rattle.bsp_model.specs.declared.input.Input.{Input}
 use Rattle.bsp_model.specs.declared.cost.CostRow.{CostRow}
 use Rattle.bsp_model.specs.declared.request.Put.{Put}
 use Rattle.bsp_model.proofs.Inputs.{lawful_input}
 use Rattle.bsp_step.specs.OutcomeParts.{OutcomeParts}
-use Rattle.bsp_deliver.specs.Requests.{each_below, requests_from, all_puts, all_gets, all_sends}
-use Rattle.bsp_deliver.specs.Cost.{Transfer, put_transfer, get_transfer, send_transfer, transfers, count_sent, count_received, largest, h_relation}
+use Rattle.bsp_deliver.specs.Requests.{each_below}
+use Rattle.bsp_deliver.specs.Cost.{Transfer, put_transfer, largest, h_relation}
 use Rattle.bsp_programs.specs.Doubling.{distance}
 use Rattle.bsp_run.specs.declared.result.Status.TheVariants.{Halted}
 use Rattle.bsp_run.specs.declared.superstep.Superstep.{Superstep}
@@ -24,7 +21,9 @@ use Rattle.bsp_run.specs.Result.{largest_work, costs_of, cost_of_delivery, cost_
 use Rattle.bsp_right.specs.Summed.{prefix_turn, adding_work, doubling_cost, costs_summed}
 use Rattle.bsp_right.proofs.Ranges.{map_range-agree}
 use Rattle.bsp_right.proofs.RunsFromSupersteps.{superstep_in, ended_at}
-use Rattle.bsp_right.proofs.SuperstepCosts.{largest-le, largest-ge, largest_work-none, requests-none, h_relation-none, h_of}
+use Rattle.bsp_right.proofs.SuperstepCosts.{largest-le, largest-ge, largest_work-none, h_relation-none}
+use Rattle.bsp_right.proofs.RequestCosts.{h_relation-is, leaves_process, reaches_process, words_moved, words_of}
+use Rattle.bsp_right.proofs.SumsOver.{sum_over, sum_over-one}
 use Rattle.bsp_right.proofs.PrefixTurns.{added, passes, prints_sum, registers_two, work_if}
 use Rattle.bsp_right.proofs.PrefixSupersteps.{EndsAfter, first_of, memory_after, step_zero, step_more, state_after, last_step}
 
@@ -32,105 +31,48 @@ use Rattle.bsp_right.proofs.PrefixSupersteps.{EndsAfter, first_of, memory_after,
 abbrev pub one_word : ℕ → ℕ → Transfer
 one_word far k = record { source = k; target = k + far; count = 1 }
 
--- the words that processes from k on pass on, to those that are that far off
-abbrev pub on_way : ℕ → ℕ → ℕ → ℕ → List Transfer
-on_way n far k zero = []
-on_way n far k (suc m) = cond (nat_lt (k + far) n) (one_word far k ∷ on_way n far (k + 1) m) (on_way n far (k + 1) m)
+none : (b : Bool) (words : ℕ) → cond (b && false) words 0 ≡ 0
+none true words = refl
+none false words = refl
 
-passed_transfers : (n s : ℕ) (memory : ℕ → List ℕ) (m k : ℕ) → map (λ (p : ℕ × Put). put_transfer p.0 p.1) (requests_from (λ (o : OutcomeParts). o.puts) k (map (passes n s memory) (range_with_len k m))) ≡ on_way n (distance s) k m
-passed_transfers n s memory zero k = refl
-passed_transfers n s memory (suc m) k =
-    let rest = requests_from (λ (o : OutcomeParts). o.puts) (k + 1) (map (passes n s memory) (range_with_len (k + 1) m)) in
-    let x : Put = record { target = k + distance s; start = 1; words = get_or (added s memory k) 0 0 ∷ [] } in
-    elim (nat_lt (k + distance s) n) as (λ b. map (λ (p : ℕ × Put). put_transfer p.0 p.1) (map (λ (r : Put). (k, r)) (cond b (x ∷ []) []) ++ rest) ≡ cond b (one_word (distance s) k ∷ on_way n (distance s) (k + 1) m) (on_way n (distance s) (k + 1) m)) [
-      | true ↦ ap (λ (ts : List Transfer). one_word (distance s) k ∷ ts) (passed_transfers n s memory m (k + 1))
-      | false ↦ passed_transfers n s memory m (k + 1)
+-- what the put of process q moves
+moved : (n s : ℕ) (memory : ℕ → List ℕ) (test : Transfer → Bool) (q : ℕ) → words_moved test (passes n s memory) q ≡ cond (nat_lt (q + distance s) n && test (one_word (distance s) q)) 1 0
+moved n s memory test q =
+    let x : Put = record { target = q + distance s; start = 1; words = get_or (added s memory q) 0 0 ∷ [] } in
+    elim (nat_lt (q + distance s) n) as (λ b. words_of test (map (put_transfer q) (cond b (x ∷ []) [])) + 0 + 0 ≡ cond (b && test (one_word (distance s) q)) 1 0) [
+      | true ↦ elim (test (one_word (distance s) q)) as (λ b. sum_by (λ (t : Transfer). t.count) (cond b (one_word (distance s) q ∷ []) []) + 0 + 0 ≡ cond b 1 0) [ true ↦ refl | false ↦ refl ]
+      | false ↦ refl
     ]
 
--- the words of those that pass a test
-words_of : (Transfer → Bool) → List Transfer → ℕ
-words_of test ts = sum_by (λ (t : Transfer). t.count) (filter test ts)
+-- One process alone passes a word on that a test lets pass.
+moved_one : (n s : ℕ) (memory : ℕ → List ℕ) (test : Transfer → Bool) (p : ℕ) → p < n → ((q : ℕ) → q ≢ p → test (one_word (distance s) q) ≡ false)
+    → sum_over (words_moved test (passes n s memory)) 0 n ≡ cond (nat_lt (p + distance s) n && test (one_word (distance s) p)) 1 0
+moved_one n s memory test p l off =
+    sum_over-one (words_moved test (passes n s memory)) p n 0 (omega arith) (omega arith) (λ q _ _ apart. moved n s memory test q ∙ (λ i. cond (nat_lt (q + distance s) n && off q apart i) 1 0) ∙ none (nat_lt (q + distance s) n) 1)
+    ∙ moved n s memory test p
 
-words_of-none : (test : Transfer → Bool) (n far m k : ℕ) → ((j : ℕ) → k ≤ j → test (one_word far j) ≡ false) → words_of test (on_way n far k m) ≡ 0
-unfolding words_of
-words_of-none test n far zero k h = refl
-words_of-none test n far (suc m) k h =
-    let rest = on_way n far (k + 1) m in
-    let later : sum_by (λ (t : Transfer). t.count) (filter test rest) ≡ 0 = words_of-none test n far m (k + 1) (λ j l. h j (omega arith)) in
-    elim (nat_lt (k + far) n) as (λ b. sum_by (λ (t : Transfer). t.count) (filter test (cond b (one_word far k ∷ rest) rest)) ≡ 0) [
-      | true ↦ ap (λ b. sum_by (λ (t : Transfer). t.count) (cond b (one_word far k ∷ filter test rest) (filter test rest))) (h k (omega arith)) ∙ later
-      | false ↦ later
-    ]
+at_most_one : (b : Bool) → cond b 1 0 ≤ 1
+at_most_one true = omega arith
+at_most_one false = omega arith
 
--- where one process alone can pass the test
-words_of-one : (test : Transfer → Bool) (s n far m k : ℕ) → ((j : ℕ) → j ≢ s → test (one_word far j) ≡ false) → words_of test (on_way n far k m) ≤ 1
-unfolding words_of
-words_of-one test s n far zero k h = omega arith
-words_of-one test s n far (suc m) k h =
-    let rest = on_way n far (k + 1) m in
-    let kept = filter test rest in
-    elim (cases_eq k s) [
-      | inl same ↦
-          let later : sum_by (λ (t : Transfer). t.count) kept ≡ 0 = words_of-none test n far m (k + 1) (λ j l. h j (λ e. omega (arith, e))) in
-          elim (nat_lt (k + far) n) as (λ b. sum_by (λ (t : Transfer). t.count) (filter test (cond b (one_word far k ∷ rest) rest)) ≤ 1) [
-            | true ↦
-                elim (test (one_word far k)) as (λ b. sum_by (λ (t : Transfer). t.count) (cond b (one_word far k ∷ kept) kept) ≤ 1) [
-                  | true ↦ omega (arith, sum_by-cons (λ (t : Transfer). t.count) (one_word far k) kept, later)
-                  | false ↦ omega (arith, later)
-                ]
-            | false ↦ omega (arith, later)
-          ]
-      | inr apart ↦
-          let later : sum_by (λ (t : Transfer). t.count) kept ≤ 1 = words_of-one test s n far m (k + 1) h in
-          elim (nat_lt (k + far) n) as (λ b. sum_by (λ (t : Transfer). t.count) (filter test (cond b (one_word far k ∷ rest) rest)) ≤ 1) [
-            | true ↦
-                let off : sum_by (λ (t : Transfer). t.count) (cond (test (one_word far k)) (one_word far k ∷ kept) kept) ≡ sum_by (λ (t : Transfer). t.count) kept = ap (λ b. sum_by (λ (t : Transfer). t.count) (cond b (one_word far k ∷ kept) kept)) (h k apart) in
-                omega (arith, off, later)
-            | false ↦ later
-          ]
-    ]
-
--- process 0 passes a word on
-words_of-first : (test : Transfer → Bool) (n far m : ℕ) → 1 ≤ m → far < n → test (one_word far 0) ≡ true → 1 ≤ words_of test (on_way n far 0 m)
-unfolding words_of
-words_of-first test n far zero some l h = absurd (omega arith)
-words_of-first test n far (suc m) some l h =
-    let rest = on_way n far 1 m in
-    let kept = filter test rest in
-    let there : nat_lt (0 + far) n ≡ true = grind (arith, nat_tests) in
-    let is : sum_by (λ (t : Transfer). t.count) (filter test (on_way n far 0 (suc m))) ≡ sum_by (λ (t : Transfer). t.count) (one_word far 0 ∷ kept) =
-    ap (λ b. sum_by (λ (t : Transfer). t.count) (filter test (cond b (one_word far 0 ∷ rest) rest))) there
-    ∙ ap (λ b. sum_by (λ (t : Transfer). t.count) (cond b (one_word far 0 ∷ kept) kept)) h in
-    omega (arith, is, sum_by-cons (λ (t : Transfer). t.count) (one_word far 0) kept)
-
-other_source : (far p j : ℕ) → j ≢ p → ((j == p) && not ((j + far) == p)) ≡ false
+other_source : (far p j : ℕ) → j ≢ p → leaves_process p (one_word far j) ≡ false
 other_source far p j h = grind (arith, nat_tests)
 
-other_target : (far p j : ℕ) → j ≢ p - far → (((j + far) == p) && not (j == p)) ≡ false
+other_target : (far p j : ℕ) → j ≢ p - far → reaches_process p (one_word far j) ≡ false
 other_target far p j h = let off : j + far ≢ p = λ e. h (omega arith) in grind (arith, nat_tests)
 
-to_another : (far : ℕ) → 1 ≤ far → ((0 == 0) && not ((0 + far) == 0)) ≡ true
-to_another far h = grind (arith, nat_tests)
+first_sends : (n far : ℕ) → 1 ≤ far → far < n → (nat_lt (0 + far) n && leaves_process 0 (one_word far 0)) ≡ true
+first_sends n far h l = grind (arith, nat_tests)
 
 -- No process sends or receives more than one word, and process 0 sends one.
 h_relation-passes : (n s : ℕ) (memory : ℕ → List ℕ) → distance s < n → h_relation (each_below n (passes n s memory)) ≡ 1
-unfolding h_relation transfers all_puts all_gets all_sends h_of words_of
 h_relation-passes n s memory l =
-    let out = passes n s memory in
     let far = distance s in
-    let moved = on_way n far 0 n in
-    let ts : transfers (each_below n out) ≡ moved =
-    (λ i. map (λ p. put_transfer p.0 p.1) (requests_from (λ (o : OutcomeParts). o.puts) 0 (each_below n out))
-    ++ map (λ g. get_transfer g.0 g.1) (requests-none (λ o. o.gets) n 0 out (λ p _ _. refl) i)
-    ++ map (λ m. send_transfer m.0 m.1) (requests-none (λ o. o.sends) n 0 out (λ p _ _. refl) i))
-    ∙ append-nil (map (λ (p : ℕ × Put). put_transfer p.0 p.1) (requests_from (λ (o : OutcomeParts). o.puts) 0 (each_below n out)) ++ [])
-    ∙ append-nil (map (λ (p : ℕ × Put). put_transfer p.0 p.1) (requests_from (λ (o : OutcomeParts). o.puts) 0 (each_below n out)))
-    ∙ passed_transfers n s memory n 0 in
-    let sent : largest (each_below n (count_sent moved)) ≤ 1 = largest-le 1 (count_sent moved) n 0 (λ p _ _. words_of-one (λ t. (t.source == p) && not (t.target == p)) p n far n 0 (λ j h. other_source far p j h)) in
-    let received : largest (each_below n (count_received moved)) ≤ 1 = largest-le 1 (count_received moved) n 0 (λ p _ _. words_of-one (λ t. (t.target == p) && not (t.source == p)) (p - far) n far n 0 (λ j h. other_target far p j h)) in
-    let first : 1 ≤ count_sent moved 0 = words_of-first (λ t. (t.source == 0) && not (t.target == 0)) n far n (omega arith) l (to_another far (pow_pos (Rattle.std.specs.Prelude.min s 8 - 1))) in
-    let most : count_sent moved 0 ≤ largest (each_below n (count_sent moved)) = largest-ge 0 (count_sent moved) n 0 (omega arith) (omega arith) in
-    (λ i. h_of (length-map-range_with_len out 0 n i) (ts i)) ∙ omega arith
+    let some : 1 ≤ far = pow_pos (min s 8 - 1) in
+    h_relation-is n 1 0 (passes n s memory) (omega arith)
+    (λ p m. omega (arith, moved_one n s memory (leaves_process p) p m (λ q apart. other_source far p q apart), at_most_one (nat_lt (p + far) n && leaves_process p (one_word far p))))
+    (λ p m. omega (arith, moved_one n s memory (reaches_process p) (p - far) (omega arith) (λ q apart. other_target far p q apart), at_most_one (nat_lt (p - far + far) n && reaches_process p (one_word far (p - far)))))
+    (moved_one n s memory (leaves_process 0) 0 (omega arith) (λ q apart. other_source far 0 q apart) ∙ ap (λ b. cond b 1 0) (first_sends n far some l))
 
 -- Work is done by those to which a word came.
 works_if : (late : Bool) (n s : ℕ) (out : ℕ → OutcomeParts) → nat_le 2 s ≡ late → 1 ≤ n → (2 ≤ s → distance (s - 1) < n) → ((p : ℕ) → p < n → (out p).work ≡ work_if (late && nat_le (distance (s - 1)) p)) → largest_work (each_below n out) ≡ cond late 1 0

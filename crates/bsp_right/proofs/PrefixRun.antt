@@ -1,5 +1,5 @@
 -- The run of prefix sums.
-use Rattle.std.proofs.Common.{◌≤◌, ◌%◌, ◌++◌, ◌<◌, [], ◌^◌, ap, arith, get_or, length, map, refl, suc, zero, ℕ, ◌∙◌, ◌∷◌, ◌≡◌}
+use Rattle.std.proofs.Common.{All, ◌≤◌, ◌%◌, ◌++◌, ◌<◌, [], ◌^◌, ap, arith, get_or, length, map, refl, suc, zero, ℕ, ◌∙◌, ◌∷◌, ◌≡◌}
 use Rattle.std.specs.List.{range_with_len}
 use Rattle.bsp_model.specs.declared.input.Input.{Input}
 use Rattle.bsp_step.specs.OutcomeParts.{OutcomeParts}
@@ -54,10 +54,10 @@ printed_is input k h p l =
     sums input k h k (omega arith) p l ∙ ap (λ w. w % 2 ^ 64) (window-all (word_of_process input) p (distance (suc k)) (omega (arith, h.reached)))
 
 -- Prefix sums are the sums.
-pub prefix_sums : (input : Input) (k : ℕ) → IsPrefixInput input k → IsSummed input k (run prefix_turn input)
+pub prefix_sums : (input : Input) → All (λ memory. get_or memory 0 0 < 2 ^ 64) input.mems → (k : ℕ) → IsPrefixInput input k → IsSummed input k (run prefix_turn input)
 unfolding printed
-prefix_sums input k given =
-    let h = ends_after input k given in
+prefix_sums input bits k given =
+    let h = ends_after input k bits given in
     let n = length input.mems in
     let is = prefix_run input k h in
     let costs : costs_of (run prefix_turn input) ≡ costs_summed k input.g input.l = ap costs_of is ∙ costs_are_summed input k h in

@@ -8,7 +8,8 @@ use Rattle.bsp_model.specs.declared.input.Input.{Input}
 use Rattle.bsp_model.proofs.Inputs.{lawful_input}
 use Rattle.bsp_programs.specs.Doubling.{distance}
 use Rattle.bsp_programs.specs.Prefix.{has_received}
-use Rattle.bsp_right.specs.Summed.{sum_before, word_of_process}
+use Rattle.bsp_right.specs.Sums.{sum_before}
+use Rattle.bsp_right.specs.Summed.{word_of_process}
 use Rattle.bsp_right.proofs.PrefixSupersteps.{EndsAfter, first_of, has_words, memory_after}
 use Rattle.bsp_right.proofs.PrefixTurns.{added, added_if, length-added_at}
 use Rattle.bsp_right.proofs.PrefixWords.{passed_on}

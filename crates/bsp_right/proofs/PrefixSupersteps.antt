@@ -37,14 +37,14 @@ few_doublings k n few least =
       | inr less ↦ omega arith
     ]
 
-pub ends_after : (input : Input) (k : ℕ) → IsPrefixInput input k → EndsAfter input k
-ends_after input k h =
+pub ends_after : (input : Input) (k : ℕ) → All (λ memory. get_or memory 0 0 < 2 ^ 64) input.mems → IsPrefixInput input k → EndsAfter input k
+ends_after input k bits h =
     let n = length input.mems in
     let few : k ≤ 6 = few_doublings k n (lawful_input input h.lawful).few_processes h.least in
     record {
       lawful = h.lawful;
       words = h.words;
-      small = h.bits;
+      small = bits;
       reached = (let e : distance (suc k) ≡ 2 ^ k = distance-is k (omega arith) in let r : n ≤ 2 ^ k = h.reaches in omega arith);
       before = λ t l. (let e : distance (suc t) ≡ 2 ^ t = distance-is t (omega arith) in let r : 2 ^ t < n = h.least t l in omega arith);
       room = h.room;

@@ -1,18 +1,15 @@
 -- Puts that pass their checks, and the areas of a table of one slot.
-use Rattle.std.proofs.Common.{◌&&◌, ◌+◌, ◌++◌, ◌<◌, ◌==◌, List, None, Some, [], ap, arith, cond, length, map, nat_le, nat_lt, true, ℕ, ◌∙◌, ◌∷◌, ◌≡◌, ◌≤◌}
-use Rattle.std.proofs.lemmas.List.FromFn.{get_or-map-range_with_len, length-map-range_with_len}
+use Rattle.std.proofs.Common.{◌+◌, ◌++◌, ◌<◌, ◌==◌, None, Some, [], ap, arith, cond, map, nat_le, nat_lt, true, ℕ, ◌∙◌, ◌∷◌, ◌≡◌, ◌≤◌}
 use Rattle.std.proofs.lemmas.Bool.{le-leb}
 use Rattle.std.proofs.lemmas.Bool.Decides.{nat_tests}
 use Rattle.std.specs.List.{range_with_len}
-use Rattle.std.specs.Prelude.{slice_get}
-use Rattle.std.proofs.lemmas.Option.{slice_get-get_or}
 use Rattle.bsp_model.specs.declared.fault.Fault.TheVariants.{BadPid, TooManyRequests}
 use Rattle.bsp_table.specs.declared.area.Area.{Area}
-use Rattle.bsp_table.specs.Table.{area_at, starts_at}
 use Rattle.bsp_step.specs.Context.{Context}
 use Rattle.bsp_step.specs.ViewParts.{ViewParts}
 use Rattle.bsp_step.specs.Perform.{area_fault, count_of_requests, fault_unless, first_fault, perform, performed, start_of, target_area}
 use Rattle.bsp_step.specs.Act.{put}
+use Rattle.bsp_right.proofs.TablesAlike.{target_area-alike}
 
 -- A put that is allowed.
 pub perform-put : (c : Context) (pid word area offset : ℕ) (a : Area) → c.fault ≡ None → count_of_requests c < 1024 → pid < c.view.nprocs → target_area c.view pid area ≡ Some a → offset + 1 ≤ a.len
@@ -28,11 +25,5 @@ perform-put c pid word area offset a faultless few known at inside =
 -- Of a table of one slot, in which every process has the same area.
 pub area-one_slot : (n own pid : ℕ) (a : Area) → own < n → pid < n → (v : ViewParts) → v.pid ≡ own → v.table ≡ map (λ p. a) (range_with_len 0 n) ∷ [] → target_area v pid a.start ≡ Some a
 area-one_slot n own pid a l m v is table =
-    let slot : List Area = map (λ p. a) (range_with_len 0 n) in
-    let count : length slot ≡ n = length-map-range_with_len (λ p. a) 0 n in
-    let at : (p : ℕ) → p < n → slice_get slot p ≡ Some a = λ p h. slice_get-get_or slot p a (omega arith) ∙ ap Some (get_or-map-range_with_len (λ k. a) 0 n p p a h (omega arith)) in
     let same : (a.start == a.start) ≡ true = grind (arith, nat_tests) in
-    (λ i. area_at (table i) (Rattle.bsp_table.specs.Table.newest (table i) (is i) a.start) pid)
-    ∙ ap (λ o. area_at (slot ∷ []) (cond (starts_at a.start o && true) (Some 0) None) pid) (at own l)
-    ∙ ap (λ b. area_at (slot ∷ []) (cond (b && true) (Some 0) None) pid) same
-    ∙ at pid m
+    target_area-alike n own pid a.start (a ∷ []) l m v is table ∙ ap (λ b. cond b (Some a) None) same

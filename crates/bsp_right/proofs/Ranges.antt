@@ -19,8 +19,16 @@ range-agree f h (suc n) a e =
     ap (λ z. z ∷ map f (range_with_len (a + 1) n)) (e a (omega arith) (omega arith))
     ∙ ap (λ zs. h a ∷ zs) (range-agree f h n (a + 1) (λ p l m. e p (omega arith) (omega arith)))
 
-pub each_same : {X : Type 0} (n : ℕ) (f g : ℕ → X) → ((k : ℕ) → f k ≡ g k) → (a : ℕ) → map f (range_with_len a n) ≡ map g (range_with_len a n)
-each_same n f g h a = range-agree f g n a (λ p l m. h p)
+-- the same of two ranges, side by side
+pub range-shifted : {Y : Type 0} (f h : ℕ → Y) (n a b : ℕ) → ((j : ℕ) → j < n → f (a + j) ≡ h (b + j)) → map f (range_with_len a n) ≡ map h (range_with_len b n)
+range-shifted f h zero a b e = refl
+range-shifted f h (suc n) a b e =
+    let from : a ≡ a + 0 = omega arith in
+    let to : b + 0 ≡ b = omega arith in
+    let first : f a ≡ h b = ap f from ∙ e 0 (omega arith) ∙ ap h to in
+    let later : map f (range_with_len (a + 1) n) ≡ map h (range_with_len (b + 1) n) =
+    range-shifted f h n (a + 1) (b + 1) (λ j l. (let there : a + 1 + j ≡ a + (j + 1) = omega arith in let here : b + (j + 1) ≡ b + 1 + j = omega arith in ap f there ∙ e (j + 1) (omega arith) ∙ ap h here)) in
+    λ i. first i ∷ later i
 
 pub any_range-none : {X : Type 0} (test : X → Bool) (f : ℕ → X) (n a : ℕ) → ((p : ℕ) → a ≤ p → p < a + n → test (f p) ≡ false) → list_any test (map f (range_with_len a n)) ≡ false
 any_range-none test f zero a h = refl

@@ -1,6 +1,5 @@
 -- What a superstep costs whose outcomes are described process by process.
-use Rattle.std.proofs.Common.{◌+◌, ◌++◌, ◌<◌, List, [], ap, arith, inl, inr, map, refl, suc, zero, ℕ, ◌∙◌, ◌≡◌, ◌≢◌, ◌≤◌}
-use Rattle.std.proofs.lemmas.List.{append-nil}
+use Rattle.std.proofs.Common.{◌+◌, ◌++◌, ◌<◌, List, [], ap, arith, inl, inr, map, refl, suc, zero, ℕ, ◌∙◌, ◌≡◌, ◌≤◌}
 use Rattle.std.proofs.lemmas.Bool.{cases_lt}
 use Rattle.std.proofs.lemmas.List.FromFn.{length-map-range_with_len}
 use Rattle.std.specs.Prelude.{max}
@@ -30,27 +29,20 @@ largest_work-none n out h =
     let least : largest (map (λ (p : ℕ). 0) (range_with_len 0 n)) ≤ 0 = largest-le 0 (λ p. 0) n 0 (λ p l m. omega arith) in
     ap largest works ∙ omega arith
 
+-- where all charge the same, it is the work of the superstep
+pub largest_work-same : (n work : ℕ) (out : ℕ → OutcomeParts) → 1 ≤ n → ((p : ℕ) → p < n → (out p).work ≡ work) → largest_work (each_below n out) ≡ work
+largest_work-same n work out some h =
+    let works : map (λ (o : OutcomeParts). o.work) (each_below n out) ≡ map (λ p. work) (range_with_len 0 n) = map_range-agree (λ (o : OutcomeParts). o.work) out (λ p. work) n 0 (λ p l m. h p (omega arith)) in
+    let most : largest (map (λ (p : ℕ). work) (range_with_len 0 n)) ≤ work = largest-le work (λ p. work) n 0 (λ p l m. omega arith) in
+    let least : work ≤ largest (map (λ (p : ℕ). work) (range_with_len 0 n)) = largest-ge 0 (λ p. work) n 0 (omega arith) (omega arith) in
+    ap largest works ∙ omega arith
+
 -- no process has such a request
 pub requests-none : {R : Type 0} (of : OutcomeParts → List R) (n k : ℕ) (out : ℕ → OutcomeParts) → ((p : ℕ) → k ≤ p → p < k + n → of (out p) ≡ []) → requests_from of k (map out (range_with_len k n)) ≡ []
 requests-none of zero k out h = refl
 requests-none {R = R} of (suc n) k out h =
     ap (λ (ms : List R). map (λ (r : R). (k, r)) ms ++ requests_from of (k + 1) (map out (range_with_len (k + 1) n))) (h k (omega arith) (omega arith))
     ∙ requests-none of n (k + 1) out (λ p l m. h p (omega arith) (omega arith))
-
--- one process alone has such requests
-pub requests-one : {R : Type 0} (of : OutcomeParts → List R) (s n k : ℕ) (out : ℕ → OutcomeParts) → k ≤ s → s < k + n → ((p : ℕ) → p ≢ s → of (out p) ≡ []) → requests_from of k (map out (range_with_len k n)) ≡ map (λ r. (s, r)) (of (out s))
-requests-one of s zero k out l m h = absurd (omega arith)
-requests-one {R = R} of s (suc n) k out l m h =
-    elim (cases_lt k s) [
-      | inl less ↦
-          ap (λ (ms : List R). map (λ (r : R). (k, r)) ms ++ requests_from of (k + 1) (map out (range_with_len (k + 1) n))) (h k (λ e. omega (arith, e)))
-          ∙ requests-one of s n (k + 1) out (omega arith) (omega arith) h
-      | inr more ↦
-          let here : k ≡ s = omega arith in
-          ap (λ (xs : List (ℕ × R)). map (λ (r : R). (k, r)) (of (out k)) ++ xs) (requests-none of n (k + 1) out (λ p q r. h p (λ e. omega (arith, e))))
-          ∙ append-nil (map (λ (r : R). (k, r)) (of (out k)))
-          ∙ ap (λ j. map (λ (r : R). (j, r)) (of (out j))) here
-    ]
 
 -- processes that ask for nothing move nothing
 pub record AllSilent (n : ℕ) (out : ℕ → OutcomeParts) : Type 0 where

@@ -29,7 +29,7 @@ own_puts d k (q ∷ qs) =
       | false ↦ own_puts d k qs
     ]
 
-written-all : (d a : ℕ) (out : ℕ → OutcomeParts) (n k word : ℕ) → written (map put_write (filter (λ (p : ℕ × Put). p.1.target == d) (requests_from (λ o. o.puts) k (map out (range_with_len k n))))) a word ≡ written_by d a out k n word
+pub written-all : (d a : ℕ) (out : ℕ → OutcomeParts) (n k word : ℕ) → written (map put_write (filter (λ (p : ℕ × Put). p.1.target == d) (requests_from (λ o. o.puts) k (map out (range_with_len k n))))) a word ≡ written_by d a out k n word
 written-all d a out zero k word = refl
 written-all d a out (suc n) k word =
     let test : ℕ × Put → Bool = λ (p : ℕ × Put). p.1.target == d in

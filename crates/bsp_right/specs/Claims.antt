@@ -5,10 +5,11 @@ use Rattle.bsp_programs.specs.declared.bundled.Bundled.TheVariants.{Broadcast, P
 use Rattle.bsp_run.specs.Run.{Run}
 use Rattle.bsp_right.specs.Told.{Tells}
 use Rattle.bsp_right.specs.Summed.{Sums}
+use Rattle.bsp_right.specs.Multiplied.{Multiplies}
+use Rattle.bsp_right.specs.Ranked.{Ranks}
 
--- Of the product and the ranks nothing is claimed.
 abbrev pub bundled_claim : Programs → Input → Run → Type 0
 bundled_claim (Broadcast p) input r = Tells input r
 bundled_claim (Prefix p) input r = Sums input r
-bundled_claim (MatVec p) input r = Unit {0}
-bundled_claim (Rank p) input r = Unit {0}
+bundled_claim (MatVec p) input r = Multiplies input r
+bundled_claim (Rank p) input r = Ranks input r

@@ -12,25 +12,20 @@ use Rattle.bsp_programs.specs.Prefix.{prefix_plan}
 use Rattle.bsp_run.specs.declared.result.Status.TheVariants.{Halted}
 use Rattle.bsp_run.specs.Run.{Run}
 use Rattle.bsp_run.specs.Result.{status_of, memories_of, lines_of, costs_of, total_of}
+use Rattle.bsp_right.specs.Sums.{sum_before}
 
 -- the turn of prefix sums
 abbrev pub prefix_turn : ViewParts → OutcomeParts
 prefix_turn = turn_of (λ v. (prefix_plan v v.memory).acts) (λ v. (prefix_plan v v.memory).ending)
 
--- An input of prefix sums, where k is the least number with 2^k not below the number of processes: every process has two words, the first of 64
--- bits, and the limit leaves room for k + 2 supersteps.
+-- An input of prefix sums, where k is the least number with 2^k not below the number of processes: every process has two words, and the limit
+-- leaves room for k + 2 supersteps.
 pub record IsPrefixInput (input : Input) (k : ℕ) : Type 0 where
   pub lawful : input_fault input ≡ None
   pub words : All (λ memory. 2 ≤ length memory) input.mems
-  pub bits : All (λ memory. slice_index memory 0 < 2 ^ 64) input.mems
   pub reaches : length input.mems ≤ 2 ^ k
   pub least : (j : ℕ) → j < k → 2 ^ j < length input.mems
   pub room : k + 2 ≤ input.limit
-
--- the first n of these numbers, summed
-abbrev pub sum_before : (ℕ → ℕ) → ℕ → ℕ
-sum_before number zero = 0
-sum_before number (suc n) = sum_before number n + number n
 
 -- word 0 of a process in the input
 abbrev pub word_of_process : Input → ℕ → ℕ

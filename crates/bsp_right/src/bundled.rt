@@ -1,6 +1,6 @@
 //! What the bundled programs compute, of those of which it is proved.
 
-use crate::Computes;
+use crate::{Computes, prefix_sums};
 use bsp_model::Input;
 use bsp_programs::Bundled;
 
@@ -9,5 +9,7 @@ impl Computes for Bundled {
 
     ghost computes = { bundled_claim };
 
-    fn law(_input: &Input) {}
+    fn law(input: &Input) {
+        prefix_sums(input);
+    }
 }

@@ -4,11 +4,15 @@
 mod broadcast;
 mod bundled;
 mod computes;
+mod matvec;
 mod prefix;
+mod rank;
 
 pub use broadcast::{broadcast_tells, run_broadcast};
 pub use computes::{Computes, run_computing, session_computes};
+pub use matvec::{matvec_multiplies, run_matvec};
 pub use prefix::{prefix_sums, run_prefix};
+pub use rank::{rank_counts, run_rank};
 
 #[cfg(test)]
 mod tests;
