@@ -18,3 +18,9 @@ pub mod PrefixMemories
 pub mod PrefixCosts
 pub mod PrefixRun
 pub mod BundledRuns
+pub mod ActsPerformed
+pub mod AreasPushed
+pub mod OneWordPuts
+pub mod WordsMoved
+pub mod RowPuts
+pub mod EndedRuns
