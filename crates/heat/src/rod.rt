@@ -22,9 +22,10 @@ impl Computes for Heat {
     }
 }
 
-/// The run of heat in a rod halts. The cells of all processes, one after the other, are then those of the rod in one piece after as many time
-/// steps as argument 0 says, and each process has printed the sum of its own, modulo 2^64. With P processes, T time steps and at most c cells of a
-/// process the total cost is `T * (min(P - 1, 2) * g + l + c) + l`.
+/// Where each memory has three words or more, all processes name one number T of time steps, and the limit is T + 2 at least, the run of heat halts.
+/// The cells of all processes, one process after the other, are then those of the rod in one piece after T time steps, and each process has printed
+/// the sum of its own, modulo 2^64. With P processes, of which one has c cells and none has more, the total cost is
+/// `T * (min(P - 1, 2) * g + l + c) + l`.
 pub fn heat_advances(input: &Input)
     ensures { Advances input.now (run heat_turn input.now) }
 {}
