@@ -2,6 +2,7 @@
 import os
 import resource
 import subprocess
+import unicodedata
 from dataclasses import dataclass, replace
 
 ROOT = os.path.dirname(os.path.dirname(os.path.realpath(__file__)))
@@ -49,6 +50,11 @@ def without_updates(report):
     return b"".join(line for line in report.splitlines(True) if not line.startswith(b"executed "))
 
 
+def without_places(report):
+    """The report of the same document without --places."""
+    return b"".join(line for line in report.splitlines(True) if not line.startswith((b"turns ", b"deliveries ")))
+
+
 def built_program(crate, *of_tests):
     """The path of the program of a crate, or with "tests" of its tests, which is built where it is absent or older than its sources. None where it can't
     be built."""
@@ -56,14 +62,19 @@ def built_program(crate, *of_tests):
     return None if built.returncode else built.stdout.strip()
 
 
-def with_words(case):
-    """A case that has no words of its own, with each number of workers and with --scratch too."""
+def with_word(case, word, report):
+    return replace(case, name=f"{case.name} {word}", report=report, words=(word,))
+
+
+def with_words(case, placed=None):
+    """A case that has no words of its own, with each number of workers and with --scratch too, and with --places where that report is known."""
     if isinstance(case, str) or case.words:
         return [case]
     return [
         case,
         *(replace(case, name=f"{case.name} --workers {count}", words=("--workers", count)) for count in WORKERS),
-        replace(case, name=f"{case.name} --scratch", report=without_updates(case.report), words=("--scratch",)),
+        with_word(case, "--scratch", without_updates(case.report)),
+        *([] if placed is None else [with_word(case, "--places", placed)]),
     ]
 
 
@@ -94,10 +105,34 @@ def difference(what, found, wanted):
     return [f"{what}, line {at + 1}: {row!r} in place of {other!r}"]
 
 
+def first_line(text):
+    return b"".join(text.splitlines(True)[:1])
+
+
+def wrong_explanation(error):
+    """What is wrong with what stands below a document's fault line: it is one line, without a control character."""
+    try:
+        line = error.removeprefix(first_line(error)).decode()
+    except UnicodeDecodeError:
+        return ["standard error, line 2: not UTF-8"]
+    if len(line) > 1 and line[-1] == "\n" and not any(unicodedata.category(c) == "Cc" for c in line[:-1]):
+        return []
+    return [f"standard error, line 2: {line[:80]!r} is no line"]
+
+
+def error_differences(error, wanted):
+    """What differs on standard error. Where of a document's fault the first line alone is known, another one stands below it."""
+    if not wanted.startswith(b"fault J"):
+        return difference("standard error", error, wanted)
+    found = wrong_explanation(error)
+    if wanted == first_line(wanted):
+        error = first_line(error)
+    return found + difference("standard error", error, wanted)
+
+
 def unlike(case, report, error, status):
-    """What of an answer is not what must come of the case's document."""
-    found = difference("standard output", report, case.report)
-    found += difference("standard error", error, case.error)
+    """What of a program's answer is not what must come of the case's document."""
+    found = difference("standard output", report, case.report) + error_differences(error, case.error)
     if status != case.status:
         found.append(f"status {status} in place of {case.status}")
     return [f"{case.name}: {it}" for it in found]

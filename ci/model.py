@@ -1,10 +1,10 @@
 #!/usr/bin/env python3
 """A plain model of the programs, written from docs/ and the definitions of specs/ alone, with which ci/random compares what was built.
 
-usage: ci/model.py TOOL [--workers N] [--scratch] < DOCUMENT
+usage: ci/model.py TOOL [--workers N] [--scratch] [--places] < DOCUMENT
 
-TOOL is bsp_tool, heat or bsp_script. Report, standard error and exit status are those of the program of that name; the number of workers counts for
-nothing. Every process of every superstep is run, what is delivered is said word by word, and two whole runs are compared: nothing is reused, so the
+TOOL is bsp_tool, heat or bsp_script. Report, fault line and exit status are those of the program of that name; the number of workers counts for
+nothing, and the line that says where a document's fault is can't be had here. Every process of every superstep is run, what is delivered is said word by word, and two whole runs are compared: nothing is reused, so the
 model is for small inputs. A run of heat that halts is compared with the rod in one piece too (modelled/rods.py). It reads TOML 1.0 by `tomllib`: what
 TOML 1.1 added (newlines in inline tables, `\\e`, `\\x`, times without seconds) is refused here and not by the programs.
 """
@@ -17,7 +17,8 @@ sys.dont_write_bytecode = True
 
 from modelled.documents import TOOLS, Job, Refused, job_of  # noqa: E402
 from modelled.runs import Input, Run, Superstep, h_relation, run  # noqa: E402
-from modelled.sessions import count_executed, count_redelivered  # noqa: E402
+from modelled.sessions import places_executed, places_redelivered  # noqa: E402
+from modelled.turns import Program  # noqa: E402
 
 MOST_BYTES = 16_777_216  # of a document
 
@@ -46,7 +47,20 @@ def result_lines(made: Run) -> list[str]:
     return [*lines, line("total", sum(cost for _, _, cost in rows))]
 
 
-def report_of(job: Job, scratch: bool) -> str:
+def place_lines(word: str, places: list[tuple[int, int]]) -> list[str]:
+    """A line for each superstep in which there is a place, with its processes."""
+    steps = sorted({step for step, _ in places})
+    return [line(word, step, *sorted(pid for at, pid in places if at == step)) for step in steps]
+
+
+def update_lines(program: Program, old: Run | None, new: Run, places: bool) -> list[str]:
+    """What a run was made anew, against the run before."""
+    executed, redelivered = places_executed(program, old, new), places_redelivered(old, new)
+    told = place_lines("turns", executed) + place_lines("deliveries", redelivered) if places else []
+    return [*told, line("executed", len(executed), "redelivered", len(redelivered))]
+
+
+def report_of(job: Job, scratch: bool, places: bool) -> str:
     """The reply to the input, and then one to each batch, which is made on what the accepted batches before it left."""
     made: Run | None = None
     given = job.input
@@ -63,24 +77,24 @@ def report_of(job: Job, scratch: bool) -> str:
         job.program.check(made)
         lines += result_lines(made)
         if not scratch:
-            lines.append(line("executed", count_executed(job.program, old, made), "redelivered", count_redelivered(old, made)))
+            lines += update_lines(job.program, old, made, places)
     return "".join(f"{each}\n" for each in lines)
 
 
 @dataclass(frozen=True)
 class Answer:
-    """What a tool writes to standard output and to standard error, and its exit status."""
+    """What a tool writes to standard output, the fault line on standard error, and the exit status."""
 
     report: str
     error: str
     status: int
 
 
-def answer(tool: str, document: bytes, scratch: bool = False) -> Answer:
+def answer(tool: str, document: bytes, scratch: bool = False, places: bool = False) -> Answer:
     if len(document) > MOST_BYTES:
         return Answer("", "fault long\n", 3)
     try:
-        return Answer(report_of(job_of(TOOLS[tool], document), scratch), "", 0)
+        return Answer(report_of(job_of(TOOLS[tool], document), scratch, places), "", 0)
     except Refused as fault:
         return Answer("", f"fault {fault}\n", 3)
 
@@ -89,7 +103,7 @@ def main(words: list[str]) -> int:
     if not words or words[0] not in TOOLS:
         print(__doc__, end="", file=sys.stderr)
         return 2
-    given = answer(words[0], sys.stdin.buffer.read(), "--scratch" in words)
+    given = answer(words[0], sys.stdin.buffer.read(), "--scratch" in words, "--places" in words)
     sys.stdout.write(given.report)
     sys.stderr.write(given.error)
     return given.status

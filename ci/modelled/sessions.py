@@ -53,21 +53,23 @@ def serves(program: Program, old: View, new: View) -> bool:
     return all(a == b or not program.looks(old, address) for address, (a, b) in pairs)
 
 
-def count_executed(program: Program, old: Run | None, new: Run) -> int:
+def places_executed(program: Program, old: Run | None, new: Run) -> list[tuple[int, int]]:
     """The places of the new run whose turn has to be taken: the old run has no such superstep, or a view that doesn't serve."""
     before = old.supersteps if old else []
-    count = 0
-    for step, superstep in enumerate(new.supersteps):
-        for pid, view in enumerate(superstep.views):
-            count += step >= len(before) or not serves(program, before[step].views[pid], view)
-    return count
+    return [
+        (step, pid)
+        for step, superstep in enumerate(new.supersteps)
+        for pid, view in enumerate(superstep.views)
+        if step >= len(before) or not serves(program, before[step].views[pid], view)
+    ]
 
 
-def count_redelivered(old: Run | None, new: Run) -> int:
+def places_redelivered(old: Run | None, new: Run) -> list[tuple[int, int]]:
     """The places of the new run to which a superstep delivers, where the old run delivered nothing there or on something else."""
     before = [s for s in old.supersteps if s.is_delivered] if old else []
-    count = 0
-    for step, superstep in enumerate(s for s in new.supersteps if s.is_delivered):
-        for pid in range(len(superstep.outcomes)):
-            count += step >= len(before) or delivery_to(pid, before[step].outcomes) != delivery_to(pid, superstep.outcomes)
-    return count
+    return [
+        (step, pid)
+        for step, superstep in enumerate(s for s in new.supersteps if s.is_delivered)
+        for pid in range(len(superstep.outcomes))
+        if step >= len(before) or delivery_to(pid, before[step].outcomes) != delivery_to(pid, superstep.outcomes)
+    ]

@@ -9,6 +9,7 @@ pub mod Limits
 pub mod Lines
 pub mod Naming
 pub mod Options
+pub mod Places
 pub mod Refusal
 pub mod Replies
 pub mod Report

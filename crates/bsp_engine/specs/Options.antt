@@ -1,5 +1,5 @@
 -- What the words of the command line ask for (this profile).
-use Rattle.std.specs.Prelude.{ℕ, Bool, false, ◌&&◌, nat_le, List, [], ◌∷◌, Option, Some, None, codes, pos, if◌then◌else◌}
+use Rattle.std.specs.Prelude.{ℕ, Bool, true, false, ◌&&◌, nat_le, List, [], ◌∷◌, Option, Some, None, codes, pos, if◌then◌else◌}
 use Rattle.std.specs.Str.{bytes_eq}
 use Rattle.std.specs.Str.Parse.{digits_value, without_leading_plus}
 use Rattle.clap.specs.ValueTests.{is_numeral}
@@ -16,9 +16,17 @@ workers_rule = record (new_rule (codes "workers")) { long = Some (codes "workers
 abbrev pub scratch_rule : Rule
 scratch_rule = record (new_rule (codes "scratch")) { long = Some (codes "scratch"); action = Some SetTrue }
 
--- the command of a tool with this name: these two options
+-- `--places`
+abbrev pub places_rule : Rule
+places_rule = record (new_rule (codes "places")) { long = Some (codes "places"); action = Some SetTrue }
+
+-- a command that has a version, which `--version` tells
+abbrev pub with_version : App → App
+with_version a = record a { top = record a.top { has_version = true } }
+
+-- the command of a tool with this name: its version, and these three options
 abbrev pub tool_app : List ℕ → App
-tool_app name = with_rule (with_rule (new_app name) workers_rule) scratch_rule
+tool_app name = with_rule (with_rule (with_rule (with_version (new_app name)) workers_rule) scratch_rule) places_rule
 
 -- the number that a text writes
 abbrev pub number_of : Text → ℕ
@@ -46,4 +54,8 @@ is_given (Some text) = bytes_eq text (codes "true")
 -- the options that the matches of the words name, 1 and false where absent
 abbrev pub options_of : List Row → Options
 options_of rows =
-    record { workers = workers_of (one_of (codes "workers") rows); scratch = is_given (one_of (codes "scratch") rows) }
+    record {
+      workers = workers_of (one_of (codes "workers") rows);
+      scratch = is_given (one_of (codes "scratch") rows);
+      places = is_given (one_of (codes "places") rows);
+    }

@@ -14,12 +14,12 @@ use Rattle.bsp_engine.specs.Replies.{replies_of}
 use Rattle.bsp_engine.specs.Text.{text_of}
 
 -- the text of the replies to a job
-abbrev pub job_report : {P : Type 0} → (P → ViewParts → List Act) → (P → ViewParts → End) → (P → ViewParts → ℕ → Bool) → Bool → Result (Job P) JobFault → Result (List ℕ) EngineError
-job_report acts ending looks scratch (Ok job) = Ok (text_of (replies_of acts ending looks scratch job))
-job_report acts ending looks scratch (Err fault) = Err (Refused fault)
+abbrev pub job_report : {P : Type 0} → (P → ViewParts → List Act) → (P → ViewParts → End) → (P → ViewParts → ℕ → Bool) → Bool → Bool → Result (Job P) JobFault → Result (List ℕ) EngineError
+job_report acts ending looks scratch places (Ok job) = Ok (text_of places (replies_of acts ending looks scratch job))
+job_report acts ending looks scratch places (Err fault) = Err (Refused fault)
 
--- The report of a document, with or without updates, or why it has none: it is too long, or the first of J1 to J7. The catalogue's meaning says
+-- The report of a document, with or without updates, and these with or without their places, or why it has none: it is too long, or the first of J1 to J7. The catalogue's meaning says
 -- which program it names, and the acts, the endings and the footprints of programs what that does.
-abbrev pub report_of : {P : Type 0} → Meaning P → (P → ViewParts → List Act) → (P → ViewParts → End) → (P → ViewParts → ℕ → Bool) → Bool → List ℕ → Result (List ℕ) EngineError
-report_of meaning acts ending looks scratch bytes =
-    if nat_lt most_document_bytes (length bytes) then Err TooLong else job_report acts ending looks scratch (job_of meaning bytes)
+abbrev pub report_of : {P : Type 0} → Meaning P → (P → ViewParts → List Act) → (P → ViewParts → End) → (P → ViewParts → ℕ → Bool) → Bool → Bool → List ℕ → Result (List ℕ) EngineError
+report_of meaning acts ending looks scratch places bytes =
+    if nat_lt most_document_bytes (length bytes) then Err TooLong else job_report acts ending looks scratch places (job_of meaning bytes)

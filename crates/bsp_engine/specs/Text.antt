@@ -1,5 +1,5 @@
 -- The text of a report, one definition per kind of line (this profile).
-use Rattle.std.specs.Prelude.{ℕ, List, [], ◌∷◌, ◌++◌, length, codes, Option, None, Some}
+use Rattle.std.specs.Prelude.{ℕ, Bool, true, false, List, [], ◌∷◌, ◌++◌, length, codes, Option, None, Some}
 use Rattle.std.specs.List.{flat_map}
 use Rattle.bsp_model.specs.declared.cost.CostRow.{CostRow}
 use Rattle.bsp_model.specs.declared.fault.Fault.{Fault}
@@ -17,6 +17,7 @@ use Rattle.bsp_incr.specs.declared.reply.Reply.{Reply}
 use Rattle.bsp_incr.specs.declared.reply.Reply.TheVariants.{Done, Refused}
 use Rattle.bsp_incr.specs.declared.reply.Update.{Update}
 use Rattle.bsp_engine.specs.Lines.{field, line, numbered}
+use Rattle.bsp_engine.specs.Places.{place_lines}
 
 -- the faults of a process, by number
 abbrev pub fault_word : Fault → List ℕ
@@ -81,10 +82,15 @@ result_lines r =
 abbrev pub counts_line : ℕ → ℕ → List ℕ
 counts_line executed redelivered = codes "executed" ++ field executed ++ codes " " ++ line (codes "redelivered") (redelivered ∷ [])
 
--- how long the lists of an update are, where there is one
-abbrev pub update_line : Option Update → List ℕ
-update_line None = []
-update_line (Some u) = counts_line (length u.executed) (length u.redelivered)
+-- `turns S P P ..` and then `deliveries S P P ..` for each superstep in which there were such, where they are asked for
+abbrev pub update_places : Bool → Update → List ℕ
+update_places false u = []
+update_places true u = place_lines (codes "turns") u.executed ++ place_lines (codes "deliveries") u.redelivered
+
+-- the lists of an update, where they are asked for, and how long they are; nothing where there is no update
+abbrev pub update_lines : Bool → Option Update → List ℕ
+update_lines places None = []
+update_lines places (Some u) = update_places places u ++ counts_line (length u.executed) (length u.redelivered)
 
 -- the faults of an edit, by number
 abbrev pub edit_fault_word : EditFault → List ℕ
@@ -99,14 +105,14 @@ abbrev pub refusal_line : EditRefusal → List ℕ
 refusal_line r = codes "refused " ++ edit_fault_word r.fault ++ codes " " ++ line (codes "at") (r.place ∷ [])
 
 -- what follows the line `run K`
-abbrev pub reply_lines : Reply → List ℕ
-reply_lines (Done result update) = result_lines result ++ update_line update
-reply_lines (Refused refusal) = refusal_line refusal
+abbrev pub reply_lines : Bool → Reply → List ℕ
+reply_lines places (Done result update) = result_lines result ++ update_lines places update
+reply_lines places (Refused refusal) = refusal_line refusal
 
 -- the block of reply K
-abbrev pub reply_block : ℕ → Reply → List ℕ
-reply_block k reply = line (codes "run") (k ∷ []) ++ reply_lines reply
+abbrev pub reply_block : Bool → ℕ → Reply → List ℕ
+reply_block places k reply = line (codes "run") (k ∷ []) ++ reply_lines places reply
 
--- the text of a report
-abbrev pub text_of : List Reply → List ℕ
-text_of replies = numbered reply_block 0 replies
+-- the text of a report, with the places of its updates or without
+abbrev pub text_of : Bool → List Reply → List ℕ
+text_of places replies = numbered (reply_block places) 0 replies

@@ -28,6 +28,10 @@ pub trait Catalogue {
     fn is_key(key: &str) -> bool
         ensures { result ≡ meaning.is_key key.now };
 
+    /// The key of the catalogue's own that is named to the user where its keys have the fault J2, J3, J5 or J7.
+    fn key_at_fault(document: &Table) -> &'static str
+        ensures { meaning.is_key result.now ≡ true };
+
     /// Whether no key that the catalogue needs is absent (else J2).
     fn has_required_keys(document: &Table) -> bool
         ensures { result ≡ meaning.has_required_keys (table_view document.now) };

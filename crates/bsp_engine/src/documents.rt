@@ -9,9 +9,10 @@ ghost use Rattle.bsp_engine.specs.Refusal.{IfFault};
 ghost use Rattle.bsp_engine.specs.Report.{report_of};
 
 use crate::catalogue::Catalogue;
-use crate::errors::{EngineError, JobError};
+use crate::errors::{EngineError, JobError, JobFault};
 use crate::flow::{Sink, Source};
 use crate::jobs::read_job;
+use crate::options::Options;
 use crate::reading::read_all;
 use crate::reporting::report;
 use crate::running::replies_to;
@@ -25,47 +26,49 @@ fn answer<C: Catalogue, R: Threads + Sync, G: Gate>(
     rt: &R,
     alloc: Global,
     bytes: &[u8],
-    workers: usize,
-    scratch: bool,
+    options: Options,
     gate: &G,
 ) -> Result<Vec<u8>, JobError>
     requires short { length bytes.now ≤ most_document_bytes }
-    requires workers { (0 < workers) × (workers ≤ 16) }
-    ensures ok { IfOk result (λ text. report_of C.meaning C.Program.acts C.Program.ending C.Program.looks scratch bytes.now ≡ Ok text.items) }
-    ensures fault { IfErr result (λ e. IfFault e (λ f. report_of C.meaning C.Program.acts C.Program.ending C.Program.looks scratch bytes.now ≡ Err (EngineError.Job f))) }
+    requires workers { (0 < options.workers) × (options.workers ≤ 16) }
+    ensures ok { IfOk result (λ text. report_of C.meaning C.Program.acts C.Program.ending C.Program.looks options.scratch options.places bytes.now ≡ Ok text.items) }
+    ensures fault { IfErr result (λ e. IfFault e (λ f. report_of C.meaning C.Program.acts C.Program.ending C.Program.looks options.scratch options.places bytes.now ≡ Err (EngineError.Job f))) }
 {
     let job = read_job::<C>(alloc, bytes)?;
-    let replies = replies_to(rt, alloc, job, workers, scratch, gate)?;
-    Ok(report(alloc, replies.as_slice())?)
+    let replies = replies_to(rt, alloc, job, options.workers, options.scratch, gate)?;
+    Ok(report(alloc, replies.as_slice(), options.places)?)
 }
 
 /// Reads a document to its end, runs its job by 1 to 16 workers, and writes the report: all of it is made before the first write.
 ///
-/// From scratch each input is run from its start on the calling thread, and the report has no updates.
-/// At most 16,777,217 bytes are taken from the reader, and more than 16,777,216 are `TooLong`.
+/// From scratch each input is run from its start on the calling thread, and the report has no updates. With places each update tells its own.
+/// At most 16,777,217 bytes are taken from the reader, and more than 16,777,216 are `TooLong`. Others are left in `document`.
 /// `Job` is answered where the bytes are no job, `Read` where a read failed, `Write` where a write failed or took no byte; then a beginning of
 /// the report went out. After every other error nothing was written.
 pub fn engine<C: Catalogue, R: Threads + Sync, S: Source, K: Sink, G: Gate>(
     rt: &R,
     alloc: Global,
+    options: Options,
     reader: &mut S,
     writer: &mut K,
-    workers: usize,
-    scratch: bool,
+    document: &mut Vec<u8>,
     gate: &G,
 ) -> Result<(), EngineError>
-    requires workers { (0 < workers) × (workers ≤ 16) }
+    requires workers { (0 < options.workers) × (options.workers ≤ 16) }
     requires source { S.failures reader.old < 2 ^ 64 - 1 }
     requires sink { K.failures writer.old < 2 ^ 64 - 1 }
 
     // The document's report went out, or it has none for the reason that is answered, unless the machine failed; and nothing else went out.
     ensures answer { IfSome (S.remaining reader.old) (λ bytes.
-        Answers (report_of C.meaning C.Program.acts C.Program.ending C.Program.looks scratch bytes) (K.contents writer.old) (K.contents writer.new) result) }
+        Answers (report_of C.meaning C.Program.acts C.Program.ending C.Program.looks options.scratch options.places bytes) (K.contents writer.old) (K.contents writer.new) result) }
     ensures nothing { IfErr result (λ e. e ≢ EngineError.Write → writer.new ≡ writer.old) }
 
     // All was read, and never more than one byte past the limit.
     ensures end { OnOk result (IsAtEnd (S.remaining reader.new)) }
     ensures taken { TakesAtMost (most_document_bytes + 1) (S.remaining reader.old) (S.remaining reader.new) }
+
+    // The document is there for whoever tells more of its fault.
+    ensures document { (fault : JobFault) → result ≡ Err (EngineError.Job fault) → IfSome (S.remaining reader.old) (λ bytes. document.new.items ≡ bytes) }
 
     // Failures are counted where they are answered.
     ensures read_failed { result ≡ Err EngineError.Read → S.failures reader.new ≡ S.failures reader.old + 1 }
@@ -74,7 +77,8 @@ pub fn engine<C: Catalogue, R: Threads + Sync, S: Source, K: Sink, G: Gate>(
     ensures write_calm { result ≢ Err EngineError.Write → K.failures writer.new ≡ K.failures writer.old }
 {
     let bytes = read_all(alloc, reader)?;
-    let text = answer::<C, _, _>(rt, alloc, bytes.as_slice(), workers, scratch, gate)?;
+    *document = bytes;
+    let text = answer::<C, _, _>(rt, alloc, document.as_slice(), options, gate)?;
     match write_text(writer, text.as_slice()) {
         Ok(()) => Ok(()),
         Err(_) => Err(EngineError::Write),

@@ -25,8 +25,12 @@ use bsp_incr::Batch;
 use bsp_model::{Input, Seq};
 use inputs::read_input;
 use keys::key_fault;
+pub use keys::{integer_passes, is_known_key, rows_pass};
+pub use shapes::{is_batch, is_edit, is_row};
+pub use signs::has_negative;
 use signs::has_negative_word;
 use sizes::described_fault;
+pub use sizes::{count_of_args, is_between};
 use std::alloc::Global;
 use toml::Table;
 

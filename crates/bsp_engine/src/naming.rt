@@ -41,6 +41,10 @@ impl<N: ByName> Catalogue for Named<N> {
         key == "program"
     }
 
+    fn key_at_fault(_document: &Table) -> &'static str {
+        "program"
+    }
+
     fn has_required_keys(document: &Table) -> bool {
         has(document, "program")
     }

@@ -2,11 +2,14 @@
 
 ghost use Rattle.std.specs.Prelude.{◌≡◌, ◌≢◌, ◌≤◌, IfOk, IfErr, codes, true, false, map};
 ghost use Rattle.clap.specs.Words.{FailsBy, app_of, fault_of, found_of, kind_of, matches_of, one_text, rows_of, rule_of, takes};
-ghost use Rattle.bsp_engine.specs.Options.{is_given, number_or_1, options_of, scratch_rule, tool_app, workers_of, workers_rule};
+ghost use Rattle.bsp_engine.specs.Options.{is_given, number_or_1, options_of, places_rule, scratch_rule, tool_app, workers_of, workers_rule};
 
 use clap::error::ErrorKind;
 use clap::{Arg, ArgAction, ArgMatches, Command, Error, value_parser};
 use std::alloc::{AllocError, Global};
+
+/// The version of every tool: of the options, the document and the report.
+pub const VERSION: &str = "0.1.0";
 
 /// What the words ask for.
 #[derive(Clone, Copy, Debug, PartialEq, Eq)]
@@ -15,6 +18,8 @@ pub struct Options {
     pub workers: usize,
     /// Whether each input is run from its start, on one thread.
     pub scratch: bool,
+    /// Whether the report tells at which places turns were taken and deliveries made.
+    pub places: bool,
 }
 
 /// A tool: how its command line is called, and what the help tells. The options are those of every tool.
@@ -28,10 +33,11 @@ pub struct Tool {
     pub after_help: &'static str,
 }
 
-/// What the help of a tool says below the options. Given are what it says of the keys of a document, and an example.
+/// What the help of a tool says below the options. Given are what it says of the tool's own keys of a document, what it says after the other keys
+/// (nothing, or lines that begin with an empty one), and an example.
 #[macro_export]
 macro_rules! after_help {
-    ($keys:literal, $example:literal) => {
+    ($keys:literal, $notes:literal, $example:literal) => {
         concat!(
             "\
 It reads a TOML document from standard input, and writes a report to standard output: for the input, and
@@ -41,14 +47,22 @@ Keys of the document:
 ",
             $keys,
             "
-
+  limit, g, l  the most supersteps, the price of a word, the price of a synchronisation
+  memory       an array of words for each process
+  args         an array of arguments for each process (may be left out)
+  batches      batches of edits [\"word\", pid, addr, value], [\"arg\", pid, index, value],
+               [\"limit\", n], [\"prices\", g, l] (may be left out)
+",
+            $notes,
+            "
 Example:
 ",
             $example,
             "
 
 The exit status is 0, or 1 after `fault read`, `fault write` or `fault memory`, 2 where the command line is
-refused, and 3 after `fault long` or `fault J1` to `fault J7`, where the document is."
+refused, and 3 after `fault long` or `fault J1` to `fault J7`, where the document is. A line below `fault J1`
+to `fault J7` says where the fault is."
         )
     };
 }
@@ -75,14 +89,26 @@ fn scratch_arg<'a>(alloc: Global) -> Arg<'a>
         .action(ArgAction::SetTrue)
 }
 
+fn places_arg<'a>(alloc: Global) -> Arg<'a>
+    ensures own { result.global ≡ false }
+    ensures rule { rule_of result ≡ places_rule }
+{
+    Arg::new(alloc, "places")
+        .long("places")
+        .help("Tells which turns were taken and which deliveries made, by superstep and process")
+        .action(ArgAction::SetTrue)
+}
+
 fn command<'a>(alloc: Global, tool: &Tool) -> Result<Command<'a>, AllocError>
     ensures { IfOk result (λ c. app_of c ≡ tool_app tool.now.name.now) }
 {
     Command::new(alloc, tool.name)
+        .version(VERSION)
         .about(tool.about)
         .after_help(tool.after_help)
         .arg(workers_arg(alloc))?
-        .arg(scratch_arg(alloc))
+        .arg(scratch_arg(alloc))?
+        .arg(places_arg(alloc))
 }
 
 /// The number, if it is from 1 to 16, else 1.
@@ -101,18 +127,22 @@ fn workers_in(matches: &ArgMatches<'_>) -> usize
     number_or_1(matches.get_one::<u8>("workers"))
 }
 
-fn scratch_in(matches: &ArgMatches<'_>) -> bool
-    ensures { result ≡ is_given (one_text (found_of matches.now) (codes "scratch")) }
+/// Whether a flag was given.
+fn is_given(matches: &ArgMatches<'_>, flag: &str) -> bool
+    ensures { result ≡ is_given (one_text (found_of matches.now) flag.now) }
 {
-    matches.get_one::<bool>("scratch").unwrap_or(false)
+    matches.get_one::<bool>(flag).unwrap_or(false)
 }
 
 fn options_in(matches: &ArgMatches<'_>) -> Options
     ensures { result ≡ options_of (rows_of (found_of matches.now)) }
 {
+    let scratch = is_given(matches, "scratch");
+    let places = is_given(matches, "places");
     Options {
         workers: workers_in(matches),
-        scratch: scratch_in(matches),
+        scratch,
+        places,
     }
 }
 
@@ -129,7 +159,7 @@ fn read_matches<'a>(
 }
 
 /// What the words ask for; the first word is the program's name. Words that the tool's options take are refused for want of memory alone. Others
-/// are refused by an error of the kind that `clap`'s definition gives them, and `--help` is such a refusal.
+/// are refused by an error of the kind that `clap`'s definition gives them; `--help` and `--version` are such refusals.
 pub fn read_options<'a>(alloc: Global, tool: &Tool, words: &'a [&'a str]) -> Result<Options, Error>
     ensures options { IfOk result (λ o. o ≡ options_of (matches_of (tool_app tool.now.name.now) (map (λ w. w.now) words.entry.now))) }
     ensures least { IfOk result (λ o. 1 ≤ o.workers) }
@@ -141,14 +171,15 @@ pub fn read_options<'a>(alloc: Global, tool: &Tool, words: &'a [&'a str]) -> Res
     Ok(options_in(&matches))
 }
 
-/// The exit status where the words were refused: 0 where that is the help, 1 where memory was refused, else 2. It takes no memory.
+/// The exit status where the words were refused: 0 where that is the help or the version, 1 where memory was refused, else 2. It takes no memory.
 pub fn words_status(error: &Error) -> u8
     ensures help { kind_of error.now ≡ ErrorKind.DisplayHelp → result ≡ 0 }
+    ensures version { kind_of error.now ≡ ErrorKind.DisplayVersion → result ≡ 0 }
     ensures memory { kind_of error.now ≡ ErrorKind.OutOfMemory → result ≡ 1 }
-    ensures refused { kind_of error.now ≢ ErrorKind.DisplayHelp → kind_of error.now ≢ ErrorKind.OutOfMemory → result ≡ 2 }
+    ensures refused { kind_of error.now ≢ ErrorKind.DisplayHelp → kind_of error.now ≢ ErrorKind.DisplayVersion → kind_of error.now ≢ ErrorKind.OutOfMemory → result ≡ 2 }
 {
     match error.kind() {
-        ErrorKind::DisplayHelp => 0,
+        ErrorKind::DisplayHelp | ErrorKind::DisplayVersion => 0,
         ErrorKind::OutOfMemory => 1,
         _ => 2,
     }

@@ -3,9 +3,10 @@
 ghost use Rattle.std.specs.Prelude.{◌≡◌, ◌++◌, OnOk, IfOk};
 ghost use Rattle.std.specs.List.{flat_map};
 ghost use Rattle.bsp_engine.specs.Lines.{line, numbered};
-ghost use Rattle.bsp_engine.specs.Text.{fault_word, fault_numbers, process_fault_line, sync_fault_word, status_lines, memory_line, print_lines, cost_line, result_lines, counts_line, update_line, edit_fault_word, refusal_line, reply_lines, reply_block, text_of};
+ghost use Rattle.bsp_engine.specs.Text.{fault_word, fault_numbers, process_fault_line, sync_fault_word, status_lines, memory_line, print_lines, cost_line, result_lines, counts_line, update_places, update_lines, edit_fault_word, refusal_line, reply_lines, reply_block, text_of};
 
 use crate::lines::{push_field, push_line, push_long_line, push_memory};
+use crate::places::push_places;
 use bsp_incr::{EditFault, EditRefusal, Reply, Update};
 use bsp_model::{CostRow, Fault, Memory, OutOfMemory, Shared, SyncFault, Words};
 use bsp_run::{Lines, ProcessFault, RunResult, Status};
@@ -170,9 +171,20 @@ fn push_counts(text: &mut Vec<u8>, executed: u64, redelivered: u64) -> Result<()
     push_line(text, "redelivered", &[redelivered])
 }
 
-fn push_update(text: &mut Vec<u8>, update: &Update) -> Result<(), OutOfMemory>
-    ensures { OnOk result (text.new.items ≡ text.old.items ++ update_line (Some update.now)) }
+fn push_update_places(text: &mut Vec<u8>, places: bool, update: &Update) -> Result<(), OutOfMemory>
+    ensures { OnOk result (text.new.items ≡ text.old.items ++ update_places places update.now) }
 {
+    if !places {
+        return Ok(());
+    }
+    push_places(text, "turns", update.executed.as_slice())?;
+    push_places(text, "deliveries", update.redelivered.as_slice())
+}
+
+fn push_update(text: &mut Vec<u8>, places: bool, update: &Update) -> Result<(), OutOfMemory>
+    ensures { OnOk result (text.new.items ≡ text.old.items ++ update_lines places (Some update.now)) }
+{
+    push_update_places(text, places, update)?;
     push_counts(
         text,
         update.executed.len() as u64,
@@ -201,8 +213,8 @@ fn push_refusal(text: &mut Vec<u8>, refusal: EditRefusal) -> Result<(), OutOfMem
     push_line(text, "at", &[refusal.place as u64])
 }
 
-fn push_reply(text: &mut Vec<u8>, reply: &Reply) -> Result<(), OutOfMemory>
-    ensures { OnOk result (text.new.items ≡ text.old.items ++ reply_lines reply.now) }
+fn push_reply(text: &mut Vec<u8>, places: bool, reply: &Reply) -> Result<(), OutOfMemory>
+    ensures { OnOk result (text.new.items ≡ text.old.items ++ reply_lines places reply.now) }
 {
     match reply {
         Reply::Done {
@@ -211,7 +223,7 @@ fn push_reply(text: &mut Vec<u8>, reply: &Reply) -> Result<(), OutOfMemory>
         } => {
             push_result(text, run)?;
             match update {
-                Some(update) => push_update(text, update),
+                Some(update) => push_update(text, places, update),
                 None => Ok(()),
             }
         }
@@ -219,20 +231,25 @@ fn push_reply(text: &mut Vec<u8>, reply: &Reply) -> Result<(), OutOfMemory>
     }
 }
 
-fn push_block(text: &mut Vec<u8>, number: u64, reply: &Reply) -> Result<(), OutOfMemory>
-    ensures { OnOk result (text.new.items ≡ text.old.items ++ reply_block number reply.now) }
+fn push_block(
+    text: &mut Vec<u8>,
+    places: bool,
+    number: u64,
+    reply: &Reply,
+) -> Result<(), OutOfMemory>
+    ensures { OnOk result (text.new.items ≡ text.old.items ++ reply_block places number reply.now) }
 {
     push_line(text, "run", &[number])?;
-    push_reply(text, reply)
+    push_reply(text, places, reply)
 }
 
-/// The text of a report: for each reply a block of lines, which ends with LF.
-pub fn report(alloc: Global, replies: &[Reply]) -> Result<Vec<u8>, OutOfMemory>
-    ensures { IfOk result (λ text. text.items ≡ text_of replies.now) }
+/// The text of a report: for each reply a block of lines, which ends with LF. With `places` each update tells its turns and its deliveries.
+pub fn report(alloc: Global, replies: &[Reply], places: bool) -> Result<Vec<u8>, OutOfMemory>
+    ensures { IfOk result (λ text. text.items ≡ text_of places replies.now) }
 {
     let mut text = Vec::new(alloc);
     for (number, reply) in replies.iter().enumerate() {
-        push_block(&mut text, number as u64, reply)?;
+        push_block(&mut text, places, number as u64, reply)?;
     }
     Ok(text)
 }

@@ -1,7 +1,7 @@
 //! A whole tool: its command line, standard input, standard output and exit status.
 //!
 //! Where there is no report, a fault line goes to standard error, and the exit status is 1 (the machine failed), 2 (the command line is refused)
-//! or 3 (the document is refused).
+//! or 3 (the document is refused). Where the document has a fault, a second line says where, unless memory for it is refused.
 
 ghost use Rattle.std.specs.Prelude.{◌≤◌, IfOk};
 
@@ -9,6 +9,7 @@ use crate::catalogue::Catalogue;
 use crate::counting::Counted;
 use crate::documents::engine;
 use crate::errors::EngineError;
+use crate::explaining::explanation;
 use crate::options::{Options, Tool, read_options, words_status};
 use bsp_pool::Timed;
 use std::alloc::Global;
@@ -41,6 +42,13 @@ fn failed<R: Eprint>(rt: &R, error: EngineError) -> ExitCode {
     ExitCode::from(error.status())
 }
 
+/// Says on standard error what is wrong with a document that is no job.
+fn explain<C: Catalogue, R: Alloc<A = Global> + Eprint>(rt: &R, document: &[u8]) {
+    if let Ok(Some(line)) = explanation::<C>(rt.alloc(), document) {
+        let _ = eprintln!(rt; "{line}");
+    }
+}
+
 /// Says why no words could be read: memory was refused, or one of them is not UTF-8.
 fn unread<R: Eprint>(rt: &R, error: io::Error) -> ExitCode {
     if error.kind() == io::ErrorKind::OutOfMemory {
@@ -50,7 +58,7 @@ fn unread<R: Eprint>(rt: &R, error: io::Error) -> ExitCode {
     ExitCode::from(2)
 }
 
-/// Says why the words were refused, or what the help says. Help that can't be written is a failed write, as of a report.
+/// Says why the words were refused, or what the help or the version says. Help that can't be written is a failed write, as of a report.
 fn refused<R: Print + Eprint>(rt: &R, error: clap::Error) -> ExitCode {
     let status = words_status(&error);
     if status == 1 {
@@ -79,17 +87,23 @@ pub fn run_tool<
     };
     let mut reader = Counted::new(rt.reader());
     let mut writer = Counted::new(io::writer(rt));
-    let Options { workers, scratch } = options;
+    let mut document = Vec::new(rt.alloc());
     match engine::<C, R, _, _, _>(
         rt,
         rt.alloc(),
+        options,
         &mut reader,
         &mut writer,
-        workers,
-        scratch,
+        &mut document,
         &Timed::new(rt),
     ) {
         Ok(()) => ExitCode::SUCCESS,
-        Err(error) => failed(rt, error),
+        Err(error) => {
+            let status = failed(rt, error);
+            if matches!(error, EngineError::Job(_)) {
+                explain::<C, R>(rt, document.as_slice());
+            }
+            status
+        }
     }
 }

@@ -28,6 +28,10 @@ impl Catalogue for Scripts {
         key == "script"
     }
 
+    fn key_at_fault(_document: &Table) -> &'static str {
+        "script"
+    }
+
     fn has_required_keys(document: &Table) -> bool {
         has(document, "script")
     }

@@ -16,13 +16,8 @@ const ABOUT: &str =
     "Runs the script of a document on its input, and again after each batch of edits";
 
 const AFTER_HELP: &str = after_help!(
-    "  script       for each superstep an array of turns, by process; a turn is an array of calls
-  limit, g, l  the most supersteps, the price of a word, the price of a synchronisation
-  memory       an array of words for each process
-  args         an array of arguments for each process (may be left out)
-  batches      batches of edits [\"word\", pid, addr, value], [\"arg\", pid, index, value],
-               [\"limit\", n], [\"prices\", g, l] (may be left out)
-
+    "  script       for each superstep an array of turns, by process; a turn is an array of calls",
+    "
 Calls:
   [\"store\", a, v]  [\"add\", A, v]  [\"charge\", n]  [\"print\", v, ..]
   [\"push_reg\", start, len]  [\"pop_reg\", start]
@@ -30,7 +25,8 @@ Calls:
   [\"send\", pid, [tag, ..], [v, ..]]  [\"move_into\", room, into]  [\"set_tagsize\", n]
   [\"print_qsize\"]  [\"print_get_tag\"]  [\"print_tag_size\"]
   [\"sync\"]  [\"halt\"]  [\"abort\", code]
-An operand is a number, \"@A\" for the own word A as it is then, or \"$I\" for the own argument I.",
+An operand is a number, \"@A\" for the own word A as it is then, or \"$I\" for the own argument I.
+",
     "  script = [[[[\"print\", \"@0\"], [\"halt\"]]]]
   limit = 16
   g = 4

@@ -24,12 +24,8 @@ const ABOUT: &str =
     "Runs a BSP program on the input of a document, and again after each batch of edits";
 
 const AFTER_HELP: &str = after_help!(
-    "  program      broadcast, prefix, matvec or rank
-  limit, g, l  the most supersteps, the price of a word, the price of a synchronisation
-  memory       an array of words for each process
-  args         an array of arguments for each process (may be left out)
-  batches      batches of edits [\"word\", pid, addr, value], [\"arg\", pid, index, value],
-               [\"limit\", n], [\"prices\", g, l] (may be left out)",
+    "  program      broadcast, prefix, matvec or rank",
+    "",
     "  program = \"prefix\"
   limit = 16
   g = 4

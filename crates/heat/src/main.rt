@@ -27,11 +27,11 @@ impl ByName for Programs {
 }
 
 const AFTER_HELP: &str = after_help!(
-    "  program      heat
-  limit, g, l  the most supersteps, the price of a word, the price of a synchronisation
-  memory       an array of words for each process: the word before its cells, its cells, the word after them
-  args         an array of one argument for each process: the number of time steps
-  batches      batches of edits (may be left out)",
+    "  program      heat",
+    "
+The memory of a process is the word before its cells, its cells, and the word after them. Its one argument
+is the number of time steps.
+",
     "  program = \"heat\"
   limit = 16
   g = 4

@@ -21,7 +21,7 @@ fn has_required_keys<C: Catalogue>(table: &Table) -> bool
         && has(table, "memory")
 }
 
-fn integer_passes(table: &Table, key: &str) -> bool
+pub fn integer_passes(table: &Table, key: &str) -> bool
     ensures { result ≡ passes is_integer (get_member key.now (table_view table.now)) }
 {
     match value_at(table, key) {
@@ -30,7 +30,7 @@ fn integer_passes(table: &Table, key: &str) -> bool
     }
 }
 
-fn rows_pass(table: &Table, key: &str) -> bool
+pub fn rows_pass(table: &Table, key: &str) -> bool
     ensures { result ≡ passes is_rows (get_member key.now (table_view table.now)) }
 {
     match value_at(table, key) {
@@ -60,7 +60,7 @@ fn has_right_shapes<C: Catalogue>(table: &Table) -> bool
         && batches_pass(table, "batches")
 }
 
-fn is_known_key<C: Catalogue>(key: &str) -> bool
+pub fn is_known_key<C: Catalogue>(key: &str) -> bool
     ensures { result ≡ is_known_key C.meaning key.now }
 {
     C::is_key(key)

@@ -15,7 +15,7 @@ fn are_integers(values: &[Value]) -> bool
 }
 
 /// Whether the value is an array of integers.
-fn is_row(value: &Value) -> bool
+pub fn is_row(value: &Value) -> bool
     ensures { result ≡ is_row (view value.now) }
 {
     value.is_array() && are_integers(elements(value))
@@ -36,7 +36,7 @@ fn is_form(values: &[Value], word: &str, count: usize) -> bool
 }
 
 /// Whether the value is an edit, of one of the four forms.
-fn is_edit(value: &Value) -> bool
+pub fn is_edit(value: &Value) -> bool
     ensures { result ≡ is_edit (view value.now) }
 {
     let values = elements(value);
@@ -47,7 +47,7 @@ fn is_edit(value: &Value) -> bool
 }
 
 /// Whether the value is an array of edits.
-fn is_batch(value: &Value) -> bool
+pub fn is_batch(value: &Value) -> bool
     ensures { result ≡ is_batch (view value.now) }
 {
     value.is_array() && elements(value).iter().all(|element| is_edit(element))

@@ -10,7 +10,7 @@ use crate::tree::{elements, elements_at, is_negative};
 use toml::{Table, Value};
 
 /// Whether an element of the row or edit is negative.
-fn has_negative(value: &Value) -> bool
+pub fn has_negative(value: &Value) -> bool
     ensures { result ≡ has_negative (view value.now) }
 {
     elements(value).iter().any(|element| is_negative(element))

@@ -27,7 +27,7 @@ fn are_short(rows: &[Value], most: usize) -> bool
 }
 
 /// How many argument lists there are for so many memories.
-fn count_of_args(table: &Table, memories: usize) -> usize
+pub fn count_of_args(table: &Table, memories: usize) -> usize
     ensures { result ≡ count_of_args (get_member (codes "args") (table_view table.now)) memories }
 {
     match value_at(table, "args") {
@@ -37,7 +37,7 @@ fn count_of_args(table: &Table, memories: usize) -> usize
 }
 
 /// Whether the integer is there, and from `low` to `high`.
-fn is_between(low: u64, high: u64, integer: Option<i64>) -> bool
+pub fn is_between(low: u64, high: u64, integer: Option<i64>) -> bool
     ensures { result ≡ is_between low high integer }
 {
     match integer {

@@ -6,6 +6,7 @@ use super::failing::{sink, source};
 use crate::documents::engine;
 use crate::errors::EngineError;
 use crate::naming::{ByName, Named};
+use crate::options::Options;
 use bsp_pool::Gate;
 use bsp_programs::Bundled;
 use std::alloc::Global;
@@ -78,13 +79,19 @@ pub fn run<R: Threads + Sync, G: Gate>(
 {
     let mut reader = source(document, flow);
     let mut writer = sink(alloc, flow);
+    let mut left = Vec::new(alloc);
+    let options = Options {
+        workers,
+        scratch: flow.scratch,
+        places: false,
+    };
     let done = engine::<AllBundled, _, _, _, _>(
         rt,
         alloc,
+        options,
         &mut reader,
         &mut writer,
-        workers,
-        flow.scratch,
+        &mut left,
         gate,
     );
     let answer = Answer {

@@ -10,18 +10,32 @@ const TOOL: Tool = Tool {
     after_help: "It reads a document.",
 };
 
-/// What comes of words: how many workers they ask for and whether from scratch; of those that are refused the exit status.
-type Meaning = Result<(usize, bool), u8>;
+/// What comes of words: how many workers they ask for, whether from scratch, and whether places are told; of those that are refused the exit status.
+type Meaning = Result<(usize, bool, bool), u8>;
 
 /// Words, the name of the program first, and what comes of them.
-const LINES: [(&[&str], Meaning); 14] = [
-    (&["bsp_tool"], Ok((1, false))),
-    (&["bsp_tool", "--workers", "1"], Ok((1, false))),
-    (&["bsp_tool", "--workers=16"], Ok((16, false))),
-    (&["bsp_tool", "--scratch"], Ok((1, true))),
-    (&["bsp_tool", "--workers", "3", "--scratch"], Ok((3, true))),
-    (&["bsp_tool", "--scratch", "--workers", "+7"], Ok((7, true))),
+const LINES: [(&[&str], Meaning); 19] = [
+    (&["bsp_tool"], Ok((1, false, false))),
+    (&["bsp_tool", "--workers", "1"], Ok((1, false, false))),
+    (&["bsp_tool", "--workers=16"], Ok((16, false, false))),
+    (&["bsp_tool", "--scratch"], Ok((1, true, false))),
+    (
+        &["bsp_tool", "--workers", "3", "--scratch"],
+        Ok((3, true, false)),
+    ),
+    (
+        &["bsp_tool", "--scratch", "--workers", "+7"],
+        Ok((7, true, false)),
+    ),
+    (&["bsp_tool", "--places"], Ok((1, false, true))),
+    (
+        &["bsp_tool", "--scratch", "--places", "--workers", "2"],
+        Ok((2, true, true)),
+    ),
     (&["bsp_tool", "--help"], Err(0)),
+    (&["bsp_tool", "--version"], Err(0)),
+    (&["bsp_tool", "-V"], Err(0)),
+    (&["bsp_tool", "--places", "--places"], Err(2)),
     (&["bsp_tool", "--workers", "0"], Err(2)),
     (&["bsp_tool", "--workers", "17"], Err(2)),
     (&["bsp_tool", "--workers", "x"], Err(2)),
@@ -33,7 +47,13 @@ const LINES: [(&[&str], Meaning); 14] = [
 
 fn meaning_of(alloc: Global, words: &'static [&'static str]) -> Meaning {
     match read_options(alloc, &TOOL, words) {
-        Ok(Options { workers, scratch }) => Ok((workers, scratch)),
+        Ok(
+            Options {
+                workers,
+                scratch,
+                places,
+            },
+        ) => Ok((workers, scratch, places)),
         Err(error) => Err(words_status(&error)),
     }
 }

@@ -4,4 +4,4 @@ use Rattle.bsp_engine.specs.Text.{reply_block}
 use Rattle.bsp_engine.proofs.reporting.report.Given as goal
 
 abbrev pub invariant-loop-number : goal.invariant-loop-number
-invariant-loop-number l = l.text.items ≡ numbered reply_block 0 (take l.number l.replies)
+invariant-loop-number l = l.text.items ≡ numbered (reply_block l.places) 0 (take l.number l.replies)
