@@ -37,3 +37,9 @@ pub mod RankSupersteps
 pub mod RankCosts
 pub mod RankRun
 pub mod BundledRuns
+pub mod ActsPerformed
+pub mod AreasPushed
+pub mod OneWordPuts
+pub mod WordsMoved
+pub mod RowPuts
+pub mod EndedRuns

@@ -36,10 +36,14 @@ abbrev pub puts_to_neighbours : ViewParts → List ℕ → List Act
 puts_to_neighbours v cells =
     if v.pid == 0 then put_above v cells else put (v.pid - 1) (slice_index cells 0 ∷ []) (length cells + 1) 0 ∷ put_above v cells
 
+-- whether time steps are left: superstep s comes before time step s
+abbrev pub are_steps_left : ViewParts → ℕ → Bool
+are_steps_left v time_steps = nat_le v.step time_steps
+
 -- Where time steps are left the outer cells are put to the neighbours. After the last one the sum of the own cells is printed, modulo 2^64.
 abbrev pub heat_telling : ViewParts → ℕ → List ℕ → Plan
 heat_telling v time_steps cells =
-    if nat_le v.step time_steps then does (puts_to_neighbours v cells) Sync
+    if are_steps_left v time_steps then does (puts_to_neighbours v cells) Sync
     else does (print (sum cells % 2 ^ 64 ∷ []) ∷ []) Halt
 
 -- the same after a time step, for which each own cell is charged
@@ -76,7 +80,7 @@ heat_looks_with v len None address = false
 heat_looks_with v len (Some time_steps) address =
     if nat_lt len 3 then false
     else (if v.step == 0 then false
-    else (if v.step == 1 then (if nat_le v.step time_steps then is_put_cell v len address else is_own_cell len address)
+    else (if v.step == 1 then (if are_steps_left v time_steps then is_put_cell v len address else is_own_cell len address)
     else true))
 
 -- It looks at nothing in superstep 0, in superstep 1 at the cells that it puts (at all own cells where there is no time step), and at all words later.

@@ -1,5 +1,5 @@
 -- Heat depends on the words at which it looks, and on no others.
-use Rattle.std.proofs.Common.{◌≡◌, ◌<◌, ◌-◌, ◌+◌, ◌%◌, ◌^◌, ℕ, true, false, cond, List, [], ◌∷◌, Some, length, get_or, sum, refl, sym, ap, ◌∙◌, ◌==◌, nat_lt, nat_le, arith}
+use Rattle.std.proofs.Common.{◌≡◌, ◌<◌, ◌-◌, ◌+◌, ◌%◌, ◌^◌, ℕ, true, false, cond, List, [], ◌∷◌, Some, length, get_or, sum, refl, sym, ap, ◌∙◌, ◌==◌, nat_lt, arith}
 use Rattle.std.specs.List.{slice_get}
 use Rattle.std.proofs.lemmas.Bool.Decides.{nat_tests}
 use Rattle.std.proofs.lemmas.Option.{slice_get-get_or}
@@ -10,7 +10,7 @@ use Rattle.bsp_step.specs.Plan.{does}
 use Rattle.bsp_step.specs.Footprint.{IsFootprint}
 use Rattle.bsp_step.specs.Footprints.{if-alike, given_argument-alike, AreAlike-words, IsFootprint-of_plan}
 use Rattle.bsp_step.specs.LooksEverywhere.{same_memories}
-use Rattle.heat.specs.Heat.{heat_plan, heat_working, heat_telling, heat_advancing, heat_looks, is_put_cell, is_own_cell, put_above, puts_to_neighbours, own_cells}
+use Rattle.heat.specs.Heat.{are_steps_left, heat_plan, heat_working, heat_telling, heat_advancing, heat_looks, is_put_cell, is_own_cell, put_above, puts_to_neighbours, own_cells}
 use Rattle.heat.specs.Cells.{length_of_own_cells, own_cell, own_cells-alike}
 
 -- equal words, read as numbers
@@ -36,15 +36,15 @@ last_cell m h =
     ap (λ k. get_or (own_cells m) (k - 1) 0) (length_of_own_cells m) ∙ own_cell m (length m - 2 - 1) (omega arith) ∙ ap (λ k. get_or m k 0) (omega arith)
 
 heat_telling-alike : (v : ViewParts) (time_steps : ℕ) (m n : List ℕ) → length m ≡ length n → nat_lt (length m) 3 ≡ false
-    → (nat_le v.step time_steps ≡ true → (v.pid == 0) ≡ false → get_or m 1 0 ≡ get_or n 1 0)
-    → (nat_le v.step time_steps ≡ true → nat_lt (v.pid + 1) v.nprocs ≡ true → get_or m (length m - 2) 0 ≡ get_or n (length m - 2) 0)
-    → (nat_le v.step time_steps ≡ false → (k : ℕ) → k < length m - 2 → get_or m (k + 1) 0 ≡ get_or n (k + 1) 0)
+    → (are_steps_left v time_steps ≡ true → (v.pid == 0) ≡ false → get_or m 1 0 ≡ get_or n 1 0)
+    → (are_steps_left v time_steps ≡ true → nat_lt (v.pid + 1) v.nprocs ≡ true → get_or m (length m - 2) 0 ≡ get_or n (length m - 2) 0)
+    → (are_steps_left v time_steps ≡ false → (k : ℕ) → k < length m - 2 → get_or m (k + 1) 0 ≡ get_or n (k + 1) 0)
     → heat_telling v time_steps (own_cells m) ≡ heat_telling v time_steps (own_cells n)
 heat_telling-alike v time_steps m n long enough below above cells =
     let other : nat_lt (length n) 3 ≡ false = ap (λ len. nat_lt len 3) (sym long) ∙ enough in
     let some : 2 < length m = grind (arith, nat_tests, enough) in
     let count : length (own_cells m) ≡ length (own_cells n) = length_of_own_cells m ∙ ap (λ len. len - 2) long ∙ sym (length_of_own_cells n) in
-    if-alike (nat_le v.step time_steps) _ _ _ _
+    if-alike (are_steps_left v time_steps) _ _ _ _
     (λ left. ap (λ acts. does acts Sync) (puts-alike v (own_cells m) (own_cells n) count
     (λ one. own_cell m 0 (omega arith) ∙ below left one ∙ sym (own_cell n 0 (omega arith)))
     (put_above-alike v (own_cells m) (own_cells n) (λ one. last_cell m enough ∙ above left one ∙ ap (λ len. get_or n (len - 2) 0) long ∙ sym (last_cell n other)))))

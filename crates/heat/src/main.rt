@@ -2,6 +2,7 @@
 #![tactic(auto)]
 
 mod kernel;
+mod rod;
 
 use bsp_engine::{ByName, Named, Tool, after_help, run_tool};
 use kernel::Heat;
@@ -48,3 +49,6 @@ const TOOL: Tool = Tool {
 fn main(rt: HostRuntime) -> ExitCode {
     run_tool::<Named<Programs>, _>(&rt, &TOOL)
 }
+
+#[cfg(test)]
+mod tests;

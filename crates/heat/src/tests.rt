@@ -1,0 +1,74 @@
+//! The run of the stored document.
+
+use crate::rod::run_heat;
+use bsp_model::{Input, Memory, OutOfMemory, Seq, Words};
+use bsp_run::History;
+use std::alloc::Global;
+use std::test::Fail;
+
+/// A rod of 12 cells between the temperatures 100 and 400.
+const MEMORIES: [[u64; 5]; 4] = [
+    [100, 0, 0, 0, 0],
+    [0, 0, 0, 0, 0],
+    [0, 0, 0, 0, 0],
+    [0, 0, 0, 0, 400],
+];
+
+/// Its memories after six time steps, as the report has them.
+const LEFT: [[u64; 5]; 4] = [
+    [100, 57, 25, 7, 0],
+    [5, 1, 0, 0, 0],
+    [0, 0, 1, 8, 25],
+    [4, 36, 106, 232, 400],
+];
+
+/// What the processes print, by the report.
+const SUMS: [u64; 4] = [89, 1, 9, 374];
+
+fn stored_input(alloc: Global) -> Result<Input, OutOfMemory> {
+    let mut mems = Seq::new(alloc);
+    let mut args = Seq::new(alloc);
+    for words in &MEMORIES {
+        mems.push(Memory::from_words(alloc, words)?)?;
+        args.push(Words::from_slice(alloc, &[6])?)?;
+    }
+    Ok(Input {
+        mems,
+        args,
+        limit: 16,
+        g: 4,
+        l: 10,
+    })
+}
+
+/// A word of a process at the end.
+fn word_left(history: &History, pid: u64, address: u64) -> Option<u64> {
+    history.memory(pid)?.load(address)
+}
+
+/// The only word of the only line that a process printed.
+fn word_printed(history: &History, pid: u64) -> Option<u64> {
+    match history.lines(pid)?.as_slice() {
+        [line] => match line.as_slice() {
+            [word] => Some(*word),
+            _ => None,
+        },
+        _ => None,
+    }
+}
+
+#[test]
+fn rod_of_the_stored_document(rt: HostRuntime) -> Result<(), Fail> {
+    let history = run_heat(rt.alloc(), &stored_input(rt.alloc())?)?;
+    for pid in 0..4 {
+        for address in 0..5 {
+            assert_eq!(rt;
+                word_left(&history, pid as u64, address as u64),
+                Some(LEFT[pid][address])
+            );
+        }
+        assert_eq!(rt; word_printed(&history, pid as u64), Some(SUMS[pid]));
+    }
+    assert_eq!(rt; history.total(), 136);
+    Ok(())
+}
