@@ -37,7 +37,8 @@ pub record IsListInput (input : Input) (element successors : ℕ → ℕ) (k : �
   pub least : (j : ℕ) → j < k → 2 ^ j < length input.mems
   pub room : k + 2 ≤ input.limit
 
--- The memory of a process at the end: the last element, the number of its successors, and the two words that it received last.
+-- The memory of a process at the end: the number of the last element, how many successors the process has, and the two words that it received last.
+-- A single process receives none.
 abbrev pub memory_ranked : Input → (ℕ → ℕ) → (ℕ → ℕ) → ℕ → ℕ → List ℕ
 memory_ranked input element successors k p =
     if k == 0 then slice_index_or input.mems p []
