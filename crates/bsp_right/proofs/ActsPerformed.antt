@@ -3,13 +3,14 @@ use Rattle.std.proofs.Common.{◌≡◌, ◌≤◌, ◌<◌, ◌+◌, ◌++◌, 
 use Rattle.std.specs.List.{range_with_len}
 use Rattle.std.proofs.lemmas.Bool.{cases_lt, le-leb, lt-ltb}
 use Rattle.std.proofs.lemmas.List.{append-nil, length-set, get_or-set_same, get_or-set_other}
-use Rattle.bsp_model.specs.Limits.{most_requests, most_work}
-use Rattle.bsp_model.specs.declared.fault.Fault.TheVariants.{BadLocal, TooManyRequests, WorkLimit}
+use Rattle.bsp_model.specs.Limits.{most_requests}
+use Rattle.bsp_model.specs.declared.fault.Fault.TheVariants.{BadLocal, TooManyRequests}
 use Rattle.bsp_model.specs.declared.request.Store.{Store}
 use Rattle.bsp_table.specs.declared.area.Area.{Area}
-use Rattle.bsp_step.specs.Act.{charge, push_reg, put, store}
+use Rattle.bsp_step.specs.Act.{push_reg, put, store}
 use Rattle.bsp_step.specs.Context.{Context}
 use Rattle.bsp_step.specs.Perform.{count_of_requests, fault_unless, first_fault, perform, perform_all, performed, target_area}
+use Rattle.bsp_right.proofs.ActsAllowed.{perform-store}
 use Rattle.bsp_right.proofs.PutsAllowed.{perform-put}
 
 -- A put of a word to the start of an area.
@@ -27,19 +28,6 @@ perform-push_reg c start len faultless few inside =
     let room : nat_lt (count_of_requests c) most_requests ≡ true = lt-ltb (count_of_requests c) 1024 few in
     let fits : nat_le (start + len) (length c.memory) ≡ true = le-leb (start + len) (length c.memory) inside in
     λ i. performed (faultless i) (first_fault (fault_unless (room i) TooManyRequests) (fault_unless (fits i) BadLocal)) c (record c { pushes = c.pushes ++ record { start = start; len = len } ∷ [] })
-
--- Work within the limit.
-pub perform-charge : (c : Context) (amount : ℕ) → c.fault ≡ None → c.work + amount ≤ 4294967295 → perform c (charge amount) ≡ record c { work = c.work + amount }
-perform-charge c amount faultless little =
-    let fits : nat_le (c.work + amount) most_work ≡ true = le-leb (c.work + amount) 4294967295 little in
-    λ i. performed (faultless i) (fault_unless (fits i) WorkLimit) c (record c { work = c.work + amount })
-
--- A store within the memory.
-pub perform-store : (c : Context) (address word : ℕ) → c.fault ≡ None → address < length c.memory
-    → perform c (store address word) ≡ record c { memory = set c.memory address word; stores = c.stores ++ record { addr = address; value = word } ∷ [] }
-perform-store c address word faultless inside =
-    let within : nat_lt address (length c.memory) ≡ true = lt-ltb address (length c.memory) inside in
-    λ i. performed (faultless i) (fault_unless (within i) BadLocal) c (record c { memory = set c.memory address word; stores = c.stores ++ record { addr = address; value = word } ∷ [] })
 
 -- a memory after stores at n addresses in a row, the word of each being a function of the address
 abbrev pub stored : (ℕ → ℕ) → ℕ → ℕ → List ℕ → List ℕ

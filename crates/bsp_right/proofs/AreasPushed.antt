@@ -1,40 +1,26 @@
 -- A superstep in which each process pushes areas of its own, as many as every other, and what the slots of these areas say.
-use Rattle.std.proofs.Common.{◌≡◌, ◌≢◌, ◌≤◌, ◌<◌, ◌+◌, ◌++◌, ◌==◌, ◌&&◌, ◌∙◌, ℕ, zero, suc, Bool, true, false, not, cond, List, Option, None, Some, [], map, length, get_or, nat_lt, arith, ap, refl, inl, inr}
-use Rattle.std.specs.Prelude.{is_some, nat_eq, unwrap_or, slice_get}
-use Rattle.std.specs.List.{list_any, range_with_len}
+use Rattle.std.proofs.Common.{◌≡◌, ◌≢◌, ◌≤◌, ◌<◌, ◌+◌, ◌++◌, ◌==◌, ◌&&◌, ◌∙◌, ℕ, zero, suc, true, false, cond, List, None, Some, [], map, length, get_or, arith, ap, subst, inl, inr}
+use Rattle.std.specs.Prelude.{slice_get}
+use Rattle.std.specs.List.{range_with_len}
 use Rattle.std.proofs.lemmas.Bool.{cases_lt}
 use Rattle.std.proofs.lemmas.Bool.Decides.{nat_tests}
 use Rattle.std.proofs.lemmas.List.FromFn.{get_or-map-range_with_len, length-map-range_with_len}
 use Rattle.std.proofs.lemmas.Option.{slice_get-get_or}
-use lib.Pointwise.{pointwise}
-use Rattle.bsp_model.specs.declared.fault.SyncFault.{SyncFault}
-use Rattle.bsp_model.specs.declared.fault.SyncFault.TheVariants.{MixedEnd, PopMismatch, PushMismatch, TagMismatch, TooManySlots}
 use Rattle.bsp_model.specs.declared.input.Input.{Input}
 use Rattle.bsp_model.specs.declared.request.Message.{Message}
 use Rattle.bsp_table.specs.declared.area.Area.{Area}
-use Rattle.bsp_table.specs.NextTable.{are_alike, count_of_pushes, kept_slots, next_table, no_area, pushed_slot, table_fault}
+use Rattle.bsp_table.specs.NextTable.{no_area}
 use Rattle.bsp_table.specs.Table.{area_at, area_in, has_start, is_slot_named, newest, newest_below, starts_at}
-use Rattle.bsp_table.proofs.NextTables.{same_itself}
 use Rattle.bsp_step.specs.declared.outcome.Ended.TheVariants.{Sync}
 use Rattle.bsp_step.specs.OutcomeParts.{OutcomeParts}
 use Rattle.bsp_step.specs.Perform.{target_area}
 use Rattle.bsp_step.specs.ViewParts.{ViewParts}
-use Rattle.bsp_deliver.specs.Delivery.{delivery_parts, next_memory, next_queue}
+use Rattle.bsp_deliver.specs.Delivery.{delivery_parts, next_memory}
 use Rattle.bsp_deliver.specs.Requests.{each_below}
-use Rattle.bsp_deliver.specs.SyncFault.{is_sync, next_tag_size, same_tag, sync_fault}
-use Rattle.bsp_run.specs.declared.result.Status.TheVariants.{Faulted, Halted}
-use Rattle.bsp_run.specs.Ending.{end_of, end_without_fault, faults_from}
-use Rattle.bsp_run.specs.Law.{outcomes_in, state_at}
-use Rattle.bsp_run.specs.State.{next_state, pops_of, pushes_of}
-use Rattle.bsp_run.proofs.Records.{state_at-next}
+use Rattle.bsp_run.specs.Law.{state_at}
 use Rattle.bsp_right.proofs.DescribedStates.{described, no_queue, view_described}
-use Rattle.bsp_right.proofs.NextSuperstep.{GoesOn, next_queue-none, outcomes-described}
-use Rattle.bsp_right.proofs.Ranges.{all_range, any_range-first, any_range-none, map_range-agree, map_range-const, range-agree}
-use Rattle.bsp_right.proofs.SuperstepEnds.{kept_slots-all}
-
--- the slots of these areas, of which every process has so many
-abbrev pub slots_pushed : ℕ → ℕ → (ℕ → List Area) → List (List Area)
-slots_pushed nprocs count pushed = map (λ k. map (λ p. get_or (pushed p) k no_area) (range_with_len 0 nprocs)) (range_with_len 0 count)
+use Rattle.bsp_right.proofs.NextSuperstep.{GoesOn, goes_on_with, next_queue-none}
+use Rattle.bsp_right.proofs.SuperstepEnds.{AllSyncWith, slots_left, slots_left-all, slots_pushed}
 
 -- processes that pop nothing and push so many areas, each its own, and go on to the next superstep
 pub record AllPush (nprocs count : ℕ) (pushed : ℕ → List Area) (out : ℕ → OutcomeParts) : Type 0 where
@@ -46,77 +32,17 @@ pub record AllPush (nprocs count : ℕ) (pushed : ℕ → List Area) (out : ℕ 
   pub pushes : (p : ℕ) → p < nprocs → (out p).pushes ≡ pushed p
   pub tags : (p : ℕ) → p < nprocs → (out p).tag ≡ None
 
-alike_const : {X : Type 0} (same : X → X → Bool) (x : X) (n a : ℕ) → same x x ≡ true → are_alike same (map (λ p. x) (range_with_len a n)) ≡ true
-alike_const same x zero a h = refl
-alike_const same x (suc n) a h = all_range (same x) (λ p. x) n (a + 1) (λ p l m. h)
-
-same_count : (m n k : ℕ) → m ≡ k → n ≡ k → (m == n) ≡ true
-same_count m n k e f = grind (arith, nat_tests)
-
-alike_counts : (pushed : ℕ → List Area) (count n a : ℕ) → ((p : ℕ) → a ≤ p → p < a + n → length (pushed p) ≡ count) → are_alike (λ (x y : List Area). length x == length y) (map pushed (range_with_len a n)) ≡ true
-alike_counts pushed count zero a h = refl
-alike_counts pushed count (suc n) a h =
-    all_range (λ (y : List Area). length (pushed a) == length y) pushed n (a + 1) (λ p l m. same_count (length (pushed a)) (length (pushed p)) count (h a (omega arith) (omega arith)) (h p (omega arith) (omega arith)))
-
-count-pushed : (pushed : ℕ → List Area) (count n : ℕ) → 1 ≤ n → ((p : ℕ) → p < n → length (pushed p) ≡ count) → count_of_pushes (map pushed (range_with_len 0 n)) ≡ count
-count-pushed pushed count zero l h = absurd (omega arith)
-count-pushed pushed count (suc n) l h = h 0 (omega arith)
-
-pops-none : (n count : ℕ) (pushed : ℕ → List Area) (out : ℕ → OutcomeParts) → AllPush n count pushed out → pops_of (each_below n out) ≡ map (λ p. []) (range_with_len 0 n)
-pops-none n count pushed out h = map_range-const (λ (o : OutcomeParts). o.pops) out [] n 0 (λ p l m. h.pops p (omega arith))
-
-pushes-own : (n count : ℕ) (pushed : ℕ → List Area) (out : ℕ → OutcomeParts) → AllPush n count pushed out → pushes_of (each_below n out) ≡ map pushed (range_with_len 0 n)
-pushes-own n count pushed out h = map_range-agree (λ (o : OutcomeParts). o.pushes) out pushed n 0 (λ p l m. h.pushes p (omega arith))
-
--- the fault of a table, and of a superstep's end, from their tests
-table_by : Bool → Bool → Bool → Option SyncFault
-table_by pops pushes over = cond (not pops) (Some PopMismatch) (cond (not pushes) (Some PushMismatch) (cond over (Some TooManySlots) None))
-
-ending_by : Bool → Bool → Bool → Option SyncFault → Option SyncFault
-ending_by syncs halts tags table = cond (syncs && halts) (Some MixedEnd) (cond (not syncs) None (cond (not tags) (Some TagMismatch) table))
-
-not_over : (n : ℕ) → n ≤ 256 → nat_lt 256 n ≡ false
-not_over n h = grind (arith, nat_tests)
-
-table_fault-pushed : (slots : List (List Area)) (n count : ℕ) (pushed : ℕ → List Area) → 1 ≤ n → ((p : ℕ) → p < n → length (pushed p) ≡ count) → length slots + count ≤ 256
-    → table_fault slots (map (λ p. []) (range_with_len 0 n)) (map pushed (range_with_len 0 n)) ≡ None
-unfolding table_by
-table_fault-pushed slots n count pushed some counts few =
-    let pops : List (List ℕ) = map (λ p. []) (range_with_len 0 n) in
-    let pushes : List (List Area) = map pushed (range_with_len 0 n) in
-    let same_pops : are_alike (pointwise nat_eq) pops ≡ true = alike_const (pointwise nat_eq) [] n 0 (same_itself []) in
-    let same_counts : are_alike (λ (x y : List Area). length x == length y) pushes ≡ true = alike_counts pushed count n 0 (λ p l m. counts p (omega arith)) in
-    let slots_left : length (kept_slots slots pops) ≡ length slots = ap (λ (xs : List (List Area)). length xs) (kept_slots-all slots n) in
-    let number : count_of_pushes pushes ≡ count = count-pushed pushed count n some counts in
-    let over : nat_lt 256 (length (kept_slots slots pops) + count_of_pushes pushes) ≡ false = not_over (length (kept_slots slots pops) + count_of_pushes pushes) (omega arith) in
-    λ i. table_by (same_pops i) (same_counts i) (over i)
-
-end_of-pushes : (n step count : ℕ) (slots : List (List Area)) (pushed : ℕ → List Area) (out : ℕ → OutcomeParts) → AllPush n count pushed out → length slots + count ≤ 256 → end_of step slots (each_below n out) ≡ None
-unfolding end_of ending_by
-end_of-pushes n step count slots pushed out h few =
-    let os = each_below n out in
-    let faultless : list_any (λ (o : OutcomeParts). is_some o.fault) os ≡ false = any_range-none (λ (o : OutcomeParts). is_some o.fault) out n 0 (λ p l m. ap is_some (h.faultless p (omega arith))) in
-    let syncs : list_any (λ (o : OutcomeParts). is_sync o.ended) os ≡ true = any_range-first (λ (o : OutcomeParts). is_sync o.ended) out n 0 h.some (ap is_sync (h.syncs 0 (omega (arith, h.some)))) in
-    let halts : list_any (λ (o : OutcomeParts). not (is_sync o.ended)) os ≡ false = any_range-none (λ (o : OutcomeParts). not (is_sync o.ended)) out n 0 (λ p l m. ap (λ e. not (is_sync e)) (h.syncs p (omega arith))) in
-    let tags : are_alike same_tag (map (λ (o : OutcomeParts). o.tag) os) ≡ true = ap (are_alike same_tag) (map_range-const (λ (o : OutcomeParts). o.tag) out None n 0 (λ p l m. h.tags p (omega arith))) ∙ alike_const same_tag None n 0 refl in
-    let table : table_fault slots (pops_of os) (pushes_of os) ≡ None = (λ i. table_fault slots (pops-none n count pushed out h i) (pushes-own n count pushed out h i)) ∙ table_fault-pushed slots n count pushed h.some h.counts few in
-    let sync : sync_fault os slots ≡ None = λ i. ending_by (syncs i) (halts i) (tags i) (table i) in
-    ap (λ b. cond b (Some (Faulted step (faults_from 0 os))) (end_without_fault step os (sync_fault os slots))) faultless
-    ∙ ap (λ f. end_without_fault step os f) sync
-    ∙ ap (λ b. cond b None (Some Halted)) syncs
-
-next_table-pushes : (n count : ℕ) (slots : List (List Area)) (pushed : ℕ → List Area) (out : ℕ → OutcomeParts) → AllPush n count pushed out
-    → next_table slots (pops_of (each_below n out)) (pushes_of (each_below n out)) ≡ slots ++ slots_pushed n count pushed
-next_table-pushes n count slots pushed out h =
-    let pushes : List (List Area) = map pushed (range_with_len 0 n) in
-    (λ i. next_table slots (pops-none n count pushed out h i) (pushes-own n count pushed out h i))
-    ∙ (λ i. kept_slots-all slots n i ++ map (pushed_slot pushes) (range_with_len 0 (count-pushed pushed count n h.some h.counts i)))
-    ∙ ap (λ xs. slots ++ xs) (range-agree (pushed_slot pushes) (λ k. map (λ p. get_or (pushed p) k no_area) (range_with_len 0 n)) count 0
-    (λ k _ _. map_range-agree (λ (areas : List Area). get_or areas k no_area) pushed (λ p. get_or (pushed p) k no_area) n 0 (λ p _ _. refl)))
-
-tag-same : (n tag : ℕ) (out : ℕ → OutcomeParts) → 1 ≤ n → (out 0).tag ≡ None → next_tag_size tag (each_below n out) ≡ tag
-tag-same zero tag out l h = absurd (omega arith)
-tag-same (suc n) tag out l h = ap (λ o. unwrap_or o tag) h
+AllPush-with : (n count : ℕ) (pushed : ℕ → List Area) (out : ℕ → OutcomeParts) → AllPush n count pushed out → AllSyncWith n [] count pushed None out
+AllPush-with n count pushed out h =
+    record {
+      some = h.some;
+      faultless = h.faultless;
+      syncs = h.syncs;
+      pops = h.pops;
+      counts = h.counts;
+      pushes = h.pushes;
+      tags = h.tags;
+    }
 
 -- A superstep of a described state, whose turns are described and push areas, ends by delivery, and the next state is described.
 pub goes_on_pushing : (turn : ViewParts → OutcomeParts) (input : Input) (s n : ℕ) (memory new : ℕ → List ℕ) (queue : ℕ → List Message) (table : List (List Area)) (tag count : ℕ) (pushed : ℕ → List Area) (out : ℕ → OutcomeParts)
@@ -125,23 +51,11 @@ pub goes_on_pushing : (turn : ViewParts → OutcomeParts) (input : Input) (s n :
     → AllPush n count pushed out → length table + count ≤ 256 → ((p : ℕ) → p < n → (out p).sends ≡ [])
     → ((d : ℕ) → d < n → next_memory (delivery_parts (each_below n out) d) ≡ new d)
     → GoesOn turn input s n new (table ++ slots_pushed n count pushed) tag out
-unfolding next_state
 goes_on_pushing turn input s n memory new queue table tag count pushed out is turns pushes few quiet memories =
-    let os = each_below n out in
-    let outcomes : outcomes_in turn input s ≡ os = outcomes-described turn input s n memory queue table tag out is turns in
-    let number : length os ≡ n = length-map-range_with_len out 0 n in
-    let next : next_state (described n memory queue table tag) os ≡ described n new no_queue (table ++ slots_pushed n count pushed) tag =
-    let mems : each_below (length os) (λ d. next_memory (delivery_parts os d)) ≡ each_below n new = ap (λ k. each_below k (λ d. next_memory (delivery_parts os d))) number ∙ range-agree (λ d. next_memory (delivery_parts os d)) new n 0 (λ d l m. memories d (omega arith)) in
-    let queues : each_below (length os) (λ d. next_queue (delivery_parts os d)) ≡ each_below n no_queue = ap (λ k. each_below k (λ d. next_queue (delivery_parts os d))) number ∙ range-agree (λ d. next_queue (delivery_parts os d)) no_queue n 0 (λ d l m. next_queue-none n d out quiet) in
-    let slots : next_table table (pops_of os) (pushes_of os) ≡ table ++ slots_pushed n count pushed = next_table-pushes n count table pushed out pushes in
-    let tags : next_tag_size tag os ≡ tag = tag-same n tag out pushes.some (pushes.tags 0 (omega (arith, pushes.some))) in
-    λ i. record { memories = mems i; queues = queues i; table = slots i; tag_size = tags i }
-    in
-    record {
-      end = (λ i. end_of s (is i).table (outcomes i)) ∙ end_of-pushes n s count table pushed out pushes few;
-      outcomes = outcomes;
-      state = state_at-next turn input s ∙ (λ i. next_state (is i) (outcomes i)) ∙ next;
-    }
+    let all : slots_left table [] ≡ table = slots_left-all table in
+    let same : length (slots_left table []) ≡ length table = ap (λ (xs : List (List Area)). length xs) all in
+    subst (λ slots. GoesOn turn input s n new (slots ++ slots_pushed n count pushed) tag out) all
+    (goes_on_with turn input s n memory new queue no_queue table tag [] count pushed None out is turns (AllPush-with n count pushed out pushes) (omega arith) (λ d l. next_queue-none n d out quiet) memories)
 
 -- slot k of these slots, and the area of a process in it
 abbrev pub slot_pushed : ℕ → (ℕ → List Area) → ℕ → List Area

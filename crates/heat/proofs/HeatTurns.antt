@@ -20,8 +20,10 @@ use Rattle.bsp_step.specs.Plan.{Plan, does, given_argument}
 use Rattle.bsp_step.specs.Turn.{closed}
 use Rattle.bsp_step.specs.ViewParts.{ViewParts}
 use Rattle.bsp_step.proofs.Performing.{perform_all-append}
-use Rattle.bsp_right.proofs.ActsPerformed.{length-stored, perform-charge, perform-push_reg, perform-put_at_start, perform_all-stores, stored_within, stores_made}
-use Rattle.bsp_right.proofs.AreasPushed.{area-pushed, slots_pushed}
+use Rattle.bsp_right.proofs.ActsAllowed.{perform-charge}
+use Rattle.bsp_right.proofs.ActsPerformed.{length-stored, perform-push_reg, perform-put_at_start, perform_all-stores, stored_within, stores_made}
+use Rattle.bsp_right.proofs.AreasPushed.{area-pushed}
+use Rattle.bsp_right.proofs.SuperstepEnds.{slots_pushed}
 use Rattle.bsp_right.proofs.DescribedStates.{no_queue, of_plan, quiet, view_described}
 use Rattle.bsp_right.proofs.OneWordPuts.{word_put}
 use Rattle.bsp_right.proofs.RowPuts.{puts_in_row, puts_up}

@@ -14,4 +14,4 @@ returns g c =
     let session = c.args.session.now in
     let read = c.history-history in
     carried (g.P.Computes.computes session.program) (run (turn_of (g.P.Program.acts session.program) (g.P.Program.ending session.program)))
-    c.input.result.now session.input read.result.now session.history c.input.ensures read.ensures.run read.ensures.history (c.law.ensures session.program)
+    c.input.result.now session.input read.result.now session.history c.input.ensures.input read.ensures.run read.ensures.history (c.law.ensures session.program)
