@@ -53,7 +53,9 @@ fn edited<P: Program + Drop, R: Threads + Sync>(
     for number in 0..BATCHES {
         let (update, undo) = session.apply_with_undo(rt, alloc, &batch(number), 1, &Open)?;
         drop(update);
-        undos.push(undo)?;
+        if undos.push(undo).is_err() {
+            return Err(EditError::OutOfMemory);
+        }
     }
     Ok(undos)
 }
@@ -103,7 +105,9 @@ fn refusal<R: Threads + Sync>(rt: &R, alloc: Global) -> Result<Option<EditError>
 fn what_is_refused_is_not_taken_back(rt: HostRuntime) {
     let place = 0;
     let fault = EditFault::BadLimit;
-    assert!(rt; refusal(&rt, rt.alloc()) == Ok(Some(EditError::Refused(EditRefusal { place, fault }))));
+    assert!(rt;
+        refusal(&rt, rt.alloc()) == Ok(Some(EditError::Refused(EditRefusal { place, fault })))
+    );
 }
 
 /// Whether both batches of the changed sums come down to the last edit of the word that they name.
