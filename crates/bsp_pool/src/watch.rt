@@ -5,7 +5,7 @@ use crate::work::Gate;
 use std::time::Instant;
 
 /// How many nanoseconds the calling thread works alone at least.
-const NANOS_ALONE: u128 = 20_000;
+const NANOS_ALONE: u128 = 5_000;
 
 /// How many nanoseconds of work are worth one worker. To start a thread takes 20,000 to 30,000.
 const NANOS_A_WORKER: u128 = 50_000;
