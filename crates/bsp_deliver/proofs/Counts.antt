@@ -14,7 +14,7 @@ use Rattle.bsp_deliver.specs.declared.cost.Sums.{Sums}
 use Rattle.bsp_deliver.specs.Requests.{each_below, outcome_of, requests_from, all_puts, all_gets, all_sends}
 use Rattle.bsp_deliver.specs.Condition.{sizes_of, AreRequestsInside, AreDeliverable}
 use Rattle.bsp_deliver.specs.Cost.{Transfer, put_transfer, get_transfer, send_transfer, transfers, count_sent, count_received}
-use Rattle.bsp_deliver.specs.Sums.{raised, counted, no_words, transfers_of, transfers_from, HasRoom, IsSmall}
+use Rattle.bsp_deliver.specs.Inside.Sums.{raised, counted, no_words, transfers_of, transfers_from, HasRoom, IsSmall}
 use Rattle.bsp_deliver.proofs.Senders.{at_item, length-sizes_of, map_twice}
 use Rattle.bsp_deliver.proofs.Writes.{each_below-same}
 

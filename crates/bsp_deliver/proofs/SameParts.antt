@@ -8,9 +8,9 @@ use Rattle.bsp_model.specs.declared.request.Send.{Send}
 use Rattle.bsp_step.specs.OutcomeParts.{OutcomeParts}
 use Rattle.bsp_deliver.specs.Requests.{all_puts, all_sends, no_outcome, outcome_of, words_read}
 use Rattle.bsp_deliver.specs.Delivery.{DeliveryParts, delivery_parts}
-use Rattle.bsp_deliver.specs.Comparison.{HasSameParcel, HasSameOwn, IsReadable}
+use Rattle.bsp_deliver.specs.Inside.Comparison.{HasSameParcel, HasSameOwn, IsReadable}
 use Rattle.bsp_deliver.specs.Condition.{AreDeliverable}
-use Rattle.bsp_deliver.specs.Marks.{AreMarkedUnless, AreToKnown}
+use Rattle.bsp_deliver.specs.Inside.Marks.{AreMarkedUnless, AreToKnown}
 use Rattle.bsp_deliver.proofs.Senders.{length-sizes_of, readable_gets}
 use Rattle.bsp_deliver.proofs.Comparing.{same_from_senders, senders_from_same, pairs_from, pairs_apart}
 use Rattle.bsp_deliver.proofs.Unmarked.{marked_twice}

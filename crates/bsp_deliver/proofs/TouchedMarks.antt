@@ -6,9 +6,9 @@ use Rattle.std.proofs.lemmas.List.FromFn.{fill_by_all}
 use Rattle.bsp_step.specs.OutcomeParts.{OutcomeParts}
 use Rattle.bsp_deliver.specs.Requests.{each_below}
 use Rattle.bsp_deliver.specs.Delivery.{delivery_parts}
-use Rattle.bsp_deliver.specs.SameDelivery.{same_delivery}
-use Rattle.bsp_deliver.specs.Touched.{depends_on_other}
-use Rattle.bsp_deliver.specs.Marks.{AreMarkedUnless}
+use Rattle.bsp_deliver.specs.Inside.SameDelivery.{same_delivery}
+use Rattle.bsp_deliver.specs.Inside.Touched.{depends_on_other}
+use Rattle.bsp_deliver.specs.Inside.Marks.{AreMarkedUnless}
 use Rattle.bsp_deliver.proofs.SameDelivery.{Decides-delivery}
 
 mark_decides : (os us : List OutcomeParts) (n : ℕ) (marks : List Bool) (d : ℕ) → AreMarkedUnless (λ d. delivery_parts os d ≡ delivery_parts us d) (replicate n false) marks → d < n

@@ -1,14 +1,7 @@
 pub mod Requests
 pub mod Delivery
 pub mod Inbox
-pub mod InboxInside
 pub mod Condition
 pub mod SyncFault
 pub mod Cost
-pub mod Sums
-pub mod Comparison
-pub mod SameDelivery
-pub mod Touched
-pub mod Marks
-pub mod Gathering
-pub mod Sorting
+pub mod Inside

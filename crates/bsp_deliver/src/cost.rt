@@ -17,7 +17,7 @@ pub(crate) struct Sums {
 }
 
 impl Sums {
-    ghost use Rattle.bsp_deliver.specs.Sums.{counted, no_words, transfers_of, transfers_from, HasRoom, IsSmall};
+    ghost use Rattle.bsp_deliver.specs.Inside.Sums.{counted, no_words, transfers_of, transfers_from, HasRoom, IsSmall};
 
     /// Counts words on their way. Those to oneself count nowhere.
     fn count(&mut self, source: u64, target: u64, count: u64)

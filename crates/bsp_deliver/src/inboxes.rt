@@ -17,7 +17,7 @@ impl Model for Inbox {
 
     ghost Value = { InboxParts };
 
-    ghost use Rattle.bsp_deliver.specs.InboxInside.{inbox_parts, FitsInQueue};
+    ghost use Rattle.bsp_deliver.specs.Inside.Inbox.{inbox_parts, FitsInQueue};
 
     ghost view = { inbox_parts };
 

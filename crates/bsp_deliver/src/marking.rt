@@ -1,8 +1,8 @@
 //! Marks of the processes to which a sender's requests have changed.
 
 ghost use Rattle.std.specs.Prelude.{◌≡◌, ℕ, ◌<◌, ◌≤◌, ◌==◌, filter, map, take, length, All};
-ghost use Rattle.bsp_deliver.specs.Comparison.{HasSameParcel};
-ghost use Rattle.bsp_deliver.specs.Marks.{AreMarkedUnless, AreToKnown};
+ghost use Rattle.bsp_deliver.specs.Inside.Comparison.{HasSameParcel};
+ghost use Rattle.bsp_deliver.specs.Inside.Marks.{AreMarkedUnless, AreToKnown};
 
 use crate::addressed::Addressed;
 use crate::same::are_same_to;

@@ -4,7 +4,7 @@ ghost use Rattle.std.specs.Prelude.{◌≡◌, ℕ, ◌+◌, ◌<◌, ◌≤◌,
 ghost use Rattle.bsp_deliver.specs.Requests.{each_below, words_read};
 ghost use Rattle.bsp_deliver.specs.Delivery.{delivery_parts};
 ghost use Rattle.bsp_deliver.specs.Condition.{AreDeliverable};
-ghost use Rattle.bsp_deliver.specs.Comparison.{HasSameParcel, IsReadable};
+ghost use Rattle.bsp_deliver.specs.Inside.Comparison.{HasSameParcel, IsReadable};
 
 use crate::addressed::Addressed;
 use bsp_model::limits::MOST_MEMORY_WORDS;

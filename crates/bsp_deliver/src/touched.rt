@@ -4,9 +4,9 @@ ghost use Rattle.std.specs.Prelude.{◌≡◌, ◌<◌, ◌≤◌, ◌+◌, ◌�
 ghost use Rattle.bsp_deliver.specs.Requests.{each_below, outcome_of, words_read};
 ghost use Rattle.bsp_deliver.specs.Delivery.{delivery_parts};
 ghost use Rattle.bsp_deliver.specs.Condition.{AreDeliverable};
-ghost use Rattle.bsp_deliver.specs.Comparison.{HasSameParcel, HasSameOwn, IsReadable};
-ghost use Rattle.bsp_deliver.specs.Marks.{AreMarkedUnless, AreToKnown};
-ghost use Rattle.bsp_deliver.specs.Touched.{former_or, outcomes_before, depends_on_other};
+ghost use Rattle.bsp_deliver.specs.Inside.Comparison.{HasSameParcel, HasSameOwn, IsReadable};
+ghost use Rattle.bsp_deliver.specs.Inside.Marks.{AreMarkedUnless, AreToKnown};
+ghost use Rattle.bsp_deliver.specs.Inside.Touched.{former_or, outcomes_before, depends_on_other};
 
 use crate::marking::mark_parcels;
 use crate::same::leave_same_words;

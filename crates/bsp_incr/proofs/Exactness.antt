@@ -15,12 +15,13 @@ use Rattle.bsp_run.specs.Condition.{no_view}
 use Rattle.bsp_run.proofs.Laws.{superstep_at-past_end}
 use Rattle.bsp_incr.specs.declared.reply.Place.{Place}
 use Rattle.bsp_incr.specs.declared.reply.Update.{Update}
-use Rattle.bsp_incr.specs.Reuse.{serves, needs_turn}
-use Rattle.bsp_incr.specs.Changes.{supersteps_before, delivered_before, differs, differ_in, differ_from, differ, is_touched, touched_in, touched_from, touched, IsUpdate}
+use Rattle.bsp_incr.specs.Inside.Reuse.{serves, needs_turn}
+use Rattle.bsp_incr.specs.Inside.Changes.{differs, differ_in, differ_from, differ, is_touched, touched_in, touched_from, touched, update_of}
 use Rattle.bsp_incr.proofs.Propagation.{Decides-untouched}
 use Rattle.bsp_incr.proofs.Serving.{Decides-serves}
-use Rattle.bsp_incr.specs.Exact.{view_there, IsServed, IsKept, AreInOrder, IsExact}
-use Rattle.bsp_incr.proofs.PlacesGathered.{gathered, in_gathered, of_gathered, gathered_in_order}
+use Rattle.bsp_incr.specs.Exact.{supersteps_before, delivered_before, view_there, IsServed, IsKept, comes_before, AreInOrder, IsExact}
+use Rattle.bsp_incr.proofs.Updating.{same_update}
+use Rattle.bsp_incr.proofs.PlacesGathered.{none_in_nil, in_cons, cons_here, cons_later, gathered, in_gathered, of_gathered, gathered_in_order}
 
 -- what the definitions of the update's lists gather
 
@@ -137,24 +138,75 @@ exactly count test ss places P g d q =
     let both = opposite t (P q) (d q) in
     (λ h. let x = (g q).0 h in (x.0, both.0 x.1), λ h. (g q).1 (h.0, both.1 h.1))
 
-pub update_is_exact : (looks : ViewParts → ℕ → Bool) (old : Option Run) (new : Run) (update : Update) → IsUpdate looks old new update → IsExact looks old new update
+pub update_is_exact : (looks : ViewParts → ℕ → Bool) (old : Option Run) (new : Run) (update : Update) → update ≡ update_of looks old new → IsExact looks old new update
 update_is_exact looks old new update h =
+    let executed_is : update.executed ≡ differ looks (supersteps_before old) (supersteps_of new) = ap (λ (u : Update). u.executed) h in
+    let redelivered_is : update.redelivered ≡ touched (delivered_before old) new.past = ap (λ (u : Update). u.redelivered) h in
     let olds = supersteps_before old in
     let news = supersteps_of new in
     let turns : Gathers turns_in (turn_test looks olds) news update.executed =
-    subst (Gathers turns_in (turn_test looks olds) news) (sym (h.executed ∙ differ_is looks olds news)) (gathers turns_in (turn_test looks olds) news (no_views news)) in
+    subst (Gathers turns_in (turn_test looks olds) news) (sym (executed_is ∙ differ_is looks olds news)) (gathers turns_in (turn_test looks olds) news (no_views news)) in
     let deliveries : Gathers deliveries_in (delivery_test (delivered_before old)) new.past update.redelivered =
-    subst (Gathers deliveries_in (delivery_test (delivered_before old)) new.past) (sym (h.redelivered ∙ touched_is (delivered_before old) new.past))
+    subst (Gathers deliveries_in (delivery_test (delivered_before old)) new.past) (sym (redelivered_is ∙ touched_is (delivered_before old) new.past))
     (gathers deliveries_in (delivery_test (delivered_before old)) new.past (no_outcomes new.past)) in
     let executed = exactly turns_in (turn_test looks olds) news update.executed (IsServed looks olds news) turns (turn_passes looks olds news) in
     let redelivered = exactly deliveries_in (delivery_test (delivered_before old)) new.past update.redelivered (IsKept (delivered_before old) new.past) deliveries (delivery_passes (delivered_before old) new.past) in
     record {
       executed = executed;
       redelivered = redelivered;
-      executed_in_order = subst AreInOrder (sym (h.executed ∙ differ_is looks olds news)) (gathered_in_order turns_in (turn_test looks olds) 0 news);
-      redelivered_in_order = subst AreInOrder (sym (h.redelivered ∙ touched_is (delivered_before old) new.past)) (gathered_in_order deliveries_in (delivery_test (delivered_before old)) 0 new.past);
+      executed_in_order = subst AreInOrder (sym (executed_is ∙ differ_is looks olds news)) (gathered_in_order turns_in (turn_test looks olds) 0 news);
+      redelivered_in_order = subst AreInOrder (sym (redelivered_is ∙ touched_is (delivered_before old) new.past)) (gathered_in_order deliveries_in (delivery_test (delivered_before old)) 0 new.past);
     }
 
 -- the same, of whatever update that is
-pub exact_of : {looks : ViewParts → ℕ → Bool} {old : Option Run} {new : Run} {update : Update} → IsUpdate looks old new update → IsExact looks old new update
+pub exact_of : {looks : ViewParts → ℕ → Bool} {old : Option Run} {new : Run} {update : Update} → update ≡ update_of looks old new → IsExact looks old new update
 exact_of {looks} {old} {new} {update} h = update_is_exact looks old new update h
+
+-- Two lists in order with the same places are equal.
+
+never_both : (p q : Place) → comes_before p q → comes_before q p → ⊥
+never_both p q h k =
+    elim h [
+      | inl a ↦ elim k [ inl b ↦ absurd (omega (arith, a, b)) | inr b ↦ absurd (omega (arith, a, b.0)) ]
+      | inr a ↦ elim k [ inl b ↦ absurd (omega (arith, a.0, b)) | inr b ↦ absurd (omega (arith, a.1, b.1)) ]
+    ]
+
+abbrev HaveSamePlaces : List Place → List Place → Type 0
+HaveSamePlaces xs ys = (q : Place) → Contains xs q ↔ Contains ys q
+
+first_is : (x : Place) (xs : List Place) (y : Place) (ys : List Place) → AreInOrder (x ∷ xs) → AreInOrder (y ∷ ys) → HaveSamePlaces (x ∷ xs) (y ∷ ys) → x ≡ y
+first_is x xs y ys h k same =
+    elim (in_cons y ys x ((same x).0 (cons_here x xs))) [
+      | inl e ↦ sym e
+      | inr there ↦ elim (in_cons x xs y ((same y).1 (cons_here y ys))) [ inl e ↦ e | inr here ↦ absurd (never_both y x (k.0 x there) (h.0 y here)) ]
+    ]
+
+rest_has : (x : Place) (xs : List Place) (y : Place) (ys : List Place) (q : Place) → AreInOrder (x ∷ xs) → x ≡ y → HaveSamePlaces (x ∷ xs) (y ∷ ys) → Contains xs q → Contains ys q
+rest_has x xs y ys q h e same here =
+    elim (in_cons y ys q ((same q).0 (cons_later x xs q here))) [
+      | inl f ↦ let before : comes_before x q = h.0 q here in absurd (never_both q q (subst (λ p. comes_before p q) (e ∙ f) before) (subst (λ p. comes_before p q) (e ∙ f) before))
+      | inr there ↦ there
+    ]
+
+other_way : (xs ys : List Place) → HaveSamePlaces xs ys → HaveSamePlaces ys xs
+other_way xs ys same = λ q. ((same q).1, (same q).0)
+
+pub same_places : (xs ys : List Place) → AreInOrder xs → AreInOrder ys → HaveSamePlaces xs ys → xs ≡ ys
+same_places [] [] h k same = refl
+same_places [] (y ∷ ys) h k same = absurd (none_in_nil y ((same y).1 (cons_here y ys)))
+same_places (x ∷ xs) [] h k same = absurd (none_in_nil x ((same x).0 (cons_here x xs)))
+same_places (x ∷ xs) (y ∷ ys) h k same =
+    let first : x ≡ y = first_is x xs y ys h k same in
+    let rest : xs ≡ ys =
+    same_places xs ys h.1 k.1 (λ q. (rest_has x xs y ys q h first same, rest_has y ys x xs q k (sym first) (other_way (x ∷ xs) (y ∷ ys) same))) in
+    λ i. first i ∷ rest i
+
+-- An exact update is the one that is computed.
+pub update_of_exact : (looks : ViewParts → ℕ → Bool) (old : Option Run) (new : Run) (update : Update) → IsExact looks old new update → update ≡ update_of looks old new
+update_of_exact looks old new update h =
+    let computed = update_is_exact looks old new (update_of looks old new) refl in
+    same_update update (update_of looks old new)
+    (same_places update.executed (update_of looks old new).executed h.executed_in_order computed.executed_in_order
+    (λ q. (λ c. (computed.executed q).1 ((h.executed q).0 c), λ c. (h.executed q).1 ((computed.executed q).0 c))))
+    (same_places update.redelivered (update_of looks old new).redelivered h.redelivered_in_order computed.redelivered_in_order
+    (λ q. (λ c. (computed.redelivered q).1 ((h.redelivered q).0 c), λ c. (h.redelivered q).1 ((computed.redelivered q).0 c))))

@@ -4,7 +4,6 @@ use Rattle.std.specs.Option.{ForSome}
 use Rattle.std.proofs.lemmas.List.{get_or_default, get_or-map}
 use Rattle.std.proofs.lemmas.List.FromFn.{get_or-map-range_with_len, length-map-range_with_len}
 use Rattle.bsp_model.specs.declared.input.Input.{Input}
-use Rattle.bsp_model.proofs.Inputs.{lawful_input}
 use Rattle.bsp_step.specs.ViewParts.{ViewParts}
 use Rattle.bsp_step.specs.OutcomeParts.{OutcomeParts}
 use Rattle.bsp_deliver.specs.Requests.{each_below}
@@ -13,11 +12,10 @@ use Rattle.bsp_run.specs.Run.{Run, start, open_views}
 use Rattle.bsp_run.specs.Condition.{no_view}
 use Rattle.bsp_run.specs.Law.{views_in}
 use Rattle.bsp_run.specs.Supersteps.{views_at}
-use Rattle.bsp_run.specs.Record.{IsRecord}
-use Rattle.bsp_run.proofs.Records.{open_views-in, IsRecord-start, IsRecord-run}
-use Rattle.bsp_incr.specs.Before.{AreFirstMarked, HasFirstViews, IsRunOf, IsRunBefore}
-use Rattle.bsp_incr.specs.Changes.{processes_where}
-use Rattle.bsp_incr.specs.Replaced.{replaced}
+use Rattle.bsp_run.proofs.Records.{state_at-first}
+use Rattle.bsp_incr.specs.Inside.Before.{AreFirstMarked, HasFirstViews, IsBefore, IsRecordBefore}
+use Rattle.bsp_incr.specs.Inside.Changes.{processes_where}
+use Rattle.bsp_incr.specs.Inside.Replaced.{replaced}
 use Rattle.bsp_incr.proofs.Patching.{patched, patched_is}
 
 -- what each process sees first
@@ -58,18 +56,14 @@ first_views_in_place r input marks views new marked v began h listed made =
       ap (replaced views marked) made ∙ ap (λ (ps : List ℕ). patched f views ps) places ∙ patched_is f test n views no_view long there ∙ sym (first_views input),
     )
 
-no_past : (input : Input) → length (start input).past ≡ 0
+started : (turn : ViewParts → OutcomeParts) (input : Input) → open_views (start input) ≡ views_in turn input 0
 unfolding start
-no_past input = refl
+started turn input = ap (views_of input.args 0) (sym (state_at-first turn input))
 
 -- The run before began with the first views of its input.
-pub first_views_before : (turn : ViewParts → OutcomeParts) (input : Input) (r : Run) → IsRunOf turn input r → HasFirstViews input r
+pub first_views_before : (turn : ViewParts → OutcomeParts) (input : Input) (r : Run) → IsRecordBefore turn input r → HasFirstViews input r
 first_views_before turn input r h =
-    let i = h.input_before in
-    let some = (lawful_input i h.lawful).some_superstep in
-    let made : IsRecord turn i r = subst (IsRecord turn i) (sym h.is) (IsRecord-run turn i some) in
-    let started = open_views-in turn i (start i) (IsRecord-start turn i some) ∙ ap (views_in turn i) (no_past i) in
-    record { input_before = i; views = made.views 0 (omega arith) ∙ sym started; count = h.count }
+    record { input_before = h.input_before; views = h.made.views 0 (omega arith) ∙ sym (started turn h.input_before); count = h.count }
 
-pub had_first_views : (turn : ViewParts → OutcomeParts) (input : Input) (old : Option Run) → IsRunBefore turn input old → ForSome old (HasFirstViews input)
-had_first_views turn input old h = λ r is. first_views_before turn input r (subst (IsRunBefore turn input) is h)
+pub had_first_views : (turn : ViewParts → OutcomeParts) (input : Input) (old : Option Run) → IsBefore turn input old → ForSome old (HasFirstViews input)
+had_first_views turn input old h = λ r is. first_views_before turn input r (subst (IsBefore turn input) is h)

@@ -7,7 +7,7 @@ use Rattle.std.proofs.lemmas.List.Kept.{AllPairs-filter}
 use Rattle.bsp_deliver.specs.Condition.{IsAscending}
 use Rattle.bsp_deliver.specs.Requests.{each_below}
 use Rattle.bsp_run.proofs.Lists.{map_same}
-use Rattle.bsp_incr.specs.Changes.{processes_where}
+use Rattle.bsp_incr.specs.Inside.Changes.{processes_where}
 
 -- one process more
 pub processes_more : (n : ℕ) (test : ℕ → Bool) → processes_where (n + 1) test ≡ processes_where n test ++ cond (test n) (n ∷ []) []

@@ -19,3 +19,5 @@ pub mod Exactness
 pub mod EditParts
 pub mod EditSequences
 pub mod TakingBack
+pub mod LawOfReuse
+pub mod Replying

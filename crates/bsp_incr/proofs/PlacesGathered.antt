@@ -7,24 +7,24 @@ use Rattle.std.proofs.lemmas.Bool.{cases_lt}
 use Rattle.bsp_run.specs.declared.superstep.Superstep.{Superstep}
 use Rattle.bsp_run.specs.Supersteps.{superstep_at}
 use Rattle.bsp_incr.specs.declared.reply.Place.{Place}
-use Rattle.bsp_incr.specs.Changes.{processes_where, places_of}
+use Rattle.bsp_incr.specs.Inside.Changes.{processes_where, places_of}
 use Rattle.bsp_incr.specs.Exact.{comes_before, AreInOrder}
 
 abbrev pub gathered : (Superstep → ℕ) → (ℕ → Superstep → ℕ → Bool) → ℕ → List Superstep → List Place
 gathered count test n [] = []
 gathered count test n (s ∷ later) = places_of n (processes_where (count s) (test n s)) ++ gathered count test (n + 1) later
 
-none_in_nil : {X : Type 0} (x : X) → Contains [] x → ⊥
+pub none_in_nil : {X : Type 0} (x : X) → Contains [] x → ⊥
 none_in_nil x (k, l, at) = omega arith
 
-in_cons : {X : Type 0} (x : X) (xs : List X) (y : X) → Contains (x ∷ xs) y → (x ≡ y) ⊎ Contains xs y
+pub in_cons : {X : Type 0} (x : X) (xs : List X) (y : X) → Contains (x ∷ xs) y → (x ≡ y) ⊎ Contains xs y
 in_cons x xs y (zero, l, at) = inl at
 in_cons x xs y (suc k, l, at) = inr (k, omega arith, at)
 
-cons_here : {X : Type 0} (x : X) (xs : List X) → Contains (x ∷ xs) x
+pub cons_here : {X : Type 0} (x : X) (xs : List X) → Contains (x ∷ xs) x
 cons_here x xs = (0, omega arith, refl)
 
-cons_later : {X : Type 0} (x : X) (xs : List X) (y : X) → Contains xs y → Contains (x ∷ xs) y
+pub cons_later : {X : Type 0} (x : X) (xs : List X) (y : X) → Contains xs y → Contains (x ∷ xs) y
 cons_later x xs y (k, l, at) = (suc k, omega arith, at)
 
 here_or_later : (a p : ℕ) → a ≤ p → (a ≡ p) ⊎ (a + 1 ≤ p)

@@ -14,9 +14,9 @@ use Rattle.bsp_run.specs.Law.{state_at, views_in, outcomes_in}
 use Rattle.bsp_run.specs.Condition.{no_view}
 use Rattle.bsp_run.proofs.Conditions.{view-views_of}
 use Rattle.bsp_run.proofs.Records.{state_at-next, state_at-first, count-state_at, count-views_in, count-outcomes_in}
-use Rattle.bsp_deliver.specs.SameDelivery.{same_delivery}
-use Rattle.bsp_incr.specs.Changes.{is_touched}
-use Rattle.bsp_incr.specs.Marks.{AreAlikeButForTable, HaveOneTable}
+use Rattle.bsp_deliver.specs.Inside.SameDelivery.{same_delivery}
+use Rattle.bsp_incr.specs.Inside.Changes.{is_touched}
+use Rattle.bsp_incr.specs.Inside.Marks.{AreAlikeButForTable, HaveOneTable}
 use Rattle.bsp_deliver.proofs.SameDelivery.{Decides-delivery}
 
 -- A delivery has to be made where the old run has none to the process, or one that depends on something else.

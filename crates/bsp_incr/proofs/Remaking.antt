@@ -15,16 +15,17 @@ use Rattle.bsp_run.specs.Run.{Run, start, open_views, after_turns, after_deliver
 use Rattle.bsp_run.specs.State.{State, next_state, view_of, views_of}
 use Rattle.bsp_run.specs.Supersteps.{supersteps_of}
 use Rattle.bsp_run.specs.Law.{state_at, views_in, outcomes_in}
-use Rattle.bsp_run.specs.Record.{IsRecord}
+use Rattle.bsp_run.specs.Inside.Record.{IsRecord}
 use Rattle.bsp_run.specs.Condition.{no_view, is_open, is_turned}
 use Rattle.bsp_run.proofs.Runs.{open_phase, turns_closed}
 use Rattle.bsp_run.proofs.Records.{superstep, state_at-next, past-delivered, open_views-in, count-views_in, count-outcomes_in, IsRecord-turned, IsRecord-goes_on, IsRecord-start, IsRecord-run}
 use Rattle.bsp_incr.specs.declared.reply.Update.{Update}
-use Rattle.bsp_incr.specs.Marks.{AreMarked, AreAlikeButForTable, ViewsDifferAtMost, OutcomesDifferAtMost}
-use Rattle.bsp_incr.specs.Changes.{differ, differ_in, touched, touched_in, is_touched, processes_where, supersteps_before, delivered_before}
-use Rattle.bsp_incr.specs.Next.{next_view}
-use Rattle.bsp_incr.specs.Before.{taken_before, delivered_outcomes, IsBefore, HasSameArgs, AreArgsMarked, AreAlikeAfter, AreFirstMarked, HasSameMemory, IsUnderWay, IsRunBefore}
-use Rattle.bsp_incr.proofs.Updating.{updated_turned, updated_delivered}
+use Rattle.bsp_incr.specs.Inside.Marks.{AreMarked, AreAlikeButForTable, ViewsDifferAtMost, OutcomesDifferAtMost}
+use Rattle.bsp_incr.specs.Inside.Changes.{differ, differ_in, touched, touched_in, is_touched, processes_where, update_of}
+use Rattle.bsp_incr.specs.Exact.{supersteps_before, delivered_before}
+use Rattle.bsp_incr.specs.Inside.Next.{next_view}
+use Rattle.bsp_incr.specs.Inside.Before.{taken_before, delivered_outcomes, IsBefore, HasSameArgs, AreArgsMarked, AreAlikeAfter, AreFirstMarked, HasSameMemory, IsUnderWay, IsRunBefore}
+use Rattle.bsp_incr.proofs.Updating.{same_update, updated_turned, updated_delivered}
 use Rattle.bsp_incr.proofs.Propagation.{propagated, view-in, first_alike, untouched_is}
 use Rattle.bsp_incr.proofs.RunBefore.{args_before, memory_before, taken-in, some_taken, nothing_taken, delivered-in, some_delivered, nothing_delivered, views_after-some}
 
@@ -196,15 +197,5 @@ under_way_start turn looks old input r marks u is some h m e d =
       before = h;
       made = made;
       marked = λ o. subst (λ n. AreMarked (taken_before old n) (open_views (start input)) marks) (sym (no_past input)) marked;
-      updated = record { executed = e ∙ sym (nothing_executed looks old input); redelivered = d ∙ sym (nothing_redelivered old input) };
-    }
-
--- the run before has its record
-pub before_is : (turn : ViewParts → OutcomeParts) (input : Input) (old : Option Run) → IsRunBefore turn input old → IsBefore turn input old
-before_is turn input None h = tt
-before_is turn input (Some k) h =
-    record {
-      input_before = h.input_before;
-      made = subst (IsRecord turn h.input_before) (sym h.is) (IsRecord-run turn h.input_before (lawful_input h.input_before h.lawful).some_superstep);
-      count = h.count;
+      updated = same_update u (update_of looks old (start input)) (e ∙ sym (nothing_executed looks old input)) (d ∙ sym (nothing_redelivered old input));
     }

@@ -2,7 +2,7 @@
 use Rattle.std.proofs.Common.{◌≡◌, List, [], ◌∷◌, ◌++◌, refl, ap}
 use Rattle.bsp_model.specs.declared.input.Input.{Input}
 use Rattle.bsp_incr.specs.declared.former.Former.{Former}
-use Rattle.bsp_incr.specs.Formers.{with_former, restored}
+use Rattle.bsp_incr.specs.Inside.Formers.{with_former, restored}
 
 -- what came last is put back first
 pub restored-last : (i : Input) (formers : List Former) (f : Former) → restored i (formers ++ f ∷ []) ≡ restored (with_former i f) formers

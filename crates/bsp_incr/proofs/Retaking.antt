@@ -9,12 +9,12 @@ use Rattle.bsp_step.specs.ViewParts.{ViewParts}
 use Rattle.bsp_step.specs.OutcomeParts.{OutcomeParts}
 use Rattle.bsp_deliver.specs.Requests.{no_outcome}
 use Rattle.bsp_run.specs.Condition.{no_view}
-use Rattle.bsp_run.specs.Shares.{turns_of}
+use Rattle.bsp_run.specs.Inside.Shares.{turns_of}
 use Rattle.bsp_run.proofs.Shares.{turns_of-all}
-use Rattle.bsp_incr.specs.Reuse.{needs_turn, serves}
-use Rattle.bsp_incr.specs.Changes.{differs, processes_where}
-use Rattle.bsp_incr.specs.Marks.{AreMarked, ViewsDifferAtMost, HaveOneTable}
-use Rattle.bsp_incr.specs.Replaced.{replaced}
+use Rattle.bsp_incr.specs.Inside.Reuse.{needs_turn, serves}
+use Rattle.bsp_incr.specs.Inside.Changes.{differs, processes_where}
+use Rattle.bsp_incr.specs.Inside.Marks.{AreMarked, ViewsDifferAtMost, HaveOneTable}
+use Rattle.bsp_incr.specs.Inside.Replaced.{replaced}
 use Rattle.bsp_incr.proofs.Gathering.{filter_from, filter_twice, all_where, processes_where-below}
 use Rattle.bsp_incr.proofs.Patching.{patched, patched_at, patched_is, put_or_there, length-replaced}
 use Rattle.bsp_incr.proofs.Serving.{serves-itself}

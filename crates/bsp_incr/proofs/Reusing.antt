@@ -12,7 +12,7 @@ use Rattle.bsp_step.specs.Act.{Act, store, charge, put, get, send, move_into, pu
 use Rattle.bsp_step.specs.Perform.{perform, performed, perform_all, refusal, done, first_fault, fault_unless, area_fault, target_area, request_fault}
 use Rattle.bsp_step.specs.Turn.{turn_of, closed}
 use Rattle.bsp_step.specs.Footprint.{IsFootprint, AreAlike, AreAlikeButForWords}
-use Rattle.bsp_incr.specs.Reuse.{made_again, reused}
+use Rattle.bsp_incr.specs.Reused.{made_again, reused}
 
 pub length-made_again : (m : List ℕ) (stores : List Store) → length (made_again m stores) ≡ length m
 length-made_again m [] = refl

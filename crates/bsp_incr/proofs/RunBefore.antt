@@ -5,21 +5,29 @@ use Rattle.std.proofs.lemmas.Bool.{cases_lt}
 use Rattle.std.proofs.lemmas.Bool.Decides.{nat_tests}
 use Rattle.std.proofs.lemmas.Grind.{common_steps}
 use Rattle.bsp_model.specs.declared.input.Input.{Input}
+use Rattle.bsp_model.specs.Input.{input_fault}
+use Rattle.bsp_model.proofs.Inputs.{lawful_input}
 use Rattle.bsp_step.specs.ViewParts.{ViewParts}
 use Rattle.bsp_step.specs.OutcomeParts.{OutcomeParts}
 use Rattle.bsp_run.specs.declared.superstep.Superstep.{Superstep}
 use Rattle.bsp_run.specs.Run.{Run, open_views}
 use Rattle.bsp_run.specs.Supersteps.{supersteps_of, superstep_at, views_at}
 use Rattle.bsp_run.specs.State.{view_of}
-use Rattle.bsp_run.specs.Law.{state_at, views_in, outcomes_in}
+use Rattle.bsp_run.specs.Law.{state_at, views_in, outcomes_in, IsBspRun}
 use Rattle.bsp_run.specs.Condition.{no_view}
-use Rattle.bsp_run.specs.Record.{IsRecord}
-use Rattle.bsp_run.proofs.Records.{views_at-past, open_views-in, count-views_in, count-outcomes_in}
+use Rattle.bsp_run.specs.Inside.Record.{IsRecord}
+use Rattle.bsp_run.proofs.Records.{views_at-past, open_views-in, count-views_in, count-outcomes_in, IsRecord-run}
+use Rattle.bsp_run.proofs.OneRun.{one_run}
 use Rattle.bsp_run.proofs.Laws.{superstep_at-past_end, taken_views, taken_outcomes}
-use Rattle.bsp_incr.specs.Marks.{HaveOneTable, AreDelivered}
-use Rattle.bsp_incr.specs.Changes.{supersteps_before}
-use Rattle.bsp_incr.specs.Before.{taken_before, outcomes_before, delivered_outcomes, views_after, IsBefore, IsRecordBefore, HasSameArgs, HasSameMemory}
+use Rattle.bsp_incr.specs.Inside.Marks.{HaveOneTable, AreDelivered}
+use Rattle.bsp_incr.specs.Exact.{supersteps_before}
+use Rattle.bsp_incr.specs.Inside.Before.{taken_before, outcomes_before, delivered_outcomes, views_after, IsBefore, IsRecordBefore, HasSameArgs, HasSameMemory}
 use Rattle.bsp_incr.proofs.Propagation.{one_table, view-in, first_memory, memory-in, queue-in}
+
+-- the run of a lawful input is its record
+pub record_of_law : (turn : ViewParts → OutcomeParts) (input : Input) (r : Run) → input_fault input ≡ None → IsBspRun turn input r → IsRecord turn input r
+record_of_law turn input r lawful law =
+    subst (IsRecord turn input) (sym ((one_run turn input r lawful).0 law)) (IsRecord-run turn input (lawful_input input lawful).some_superstep)
 
 -- what a process saw first
 first_view : (turn : ViewParts → OutcomeParts) (input : Input) (k : Run) (p : ℕ) (h : IsRecordBefore turn input k) → p < length input.mems → get_or (views_at k 0) p no_view ≡ view_of h.input_before.args 0 (state_at turn h.input_before 0) p

@@ -12,9 +12,9 @@ use Rattle.std.proofs.lemmas.Option.{slice_get-get_or}
 use Rattle.bsp_model.specs.Memory.{rest_of_page}
 use Rattle.bsp_step.specs.ViewParts.{ViewParts}
 use Rattle.bsp_step.specs.Footprint.{AreAlike, AreAlikeButForWords}
-use Rattle.bsp_deliver.specs.SameDelivery.{same_words}
-use Rattle.bsp_incr.specs.Comparing.{same_table, same_message}
-use Rattle.bsp_incr.specs.Reuse.{same_but_for_words, same_where_looked_at, serves}
+use Rattle.bsp_deliver.specs.Inside.SameDelivery.{same_words}
+use Rattle.bsp_incr.specs.Inside.Comparing.{same_table, same_message}
+use Rattle.bsp_incr.specs.Inside.Reuse.{same_but_for_words, same_where_looked_at, serves}
 use Rattle.bsp_deliver.proofs.SameDelivery.{Decides-words, Decides-pointwise}
 use Rattle.bsp_incr.proofs.Comparing.{Decides-table, Decides-message}
 

@@ -17,10 +17,10 @@ use Rattle.bsp_run.specs.State.{State, first_state, next_state, no_messages, vie
 use Rattle.bsp_run.specs.Ending.{end_of}
 use Rattle.bsp_run.specs.Run.{Run, open_views, after_turns, after_delivery, phase_after}
 use Rattle.bsp_run.specs.Law.{state_at, views_in, outcomes_in}
-use Rattle.bsp_run.specs.Record.{IsRecord}
+use Rattle.bsp_run.specs.Inside.Record.{IsRecord}
 use Rattle.bsp_run.specs.Condition.{no_view, is_open, is_turned, AreOutcomesOf}
 use Rattle.bsp_run.specs.Supersteps.{supersteps_of, last_superstep, superstep_at}
-use Rattle.bsp_run.specs.TakingOver.{CanTakeOver, outcomes_there}
+use Rattle.bsp_run.specs.Inside.TakingOver.{CanTakeOver, outcomes_there}
 use Rattle.bsp_run.proofs.Opens.{state_seen-views_of, state_seen}
 use Rattle.bsp_run.proofs.Turns.{AreOutcomesOf-turns}
 use Rattle.bsp_run.proofs.Runs.{open_phase}
@@ -28,9 +28,9 @@ use Rattle.bsp_run.proofs.Records.{superstep, views_at-past, state_at-next, coun
 use Rattle.bsp_run.proofs.Laws.{taken_outcomes}
 use Rattle.bsp_incr.specs.declared.reply.Place.{Place}
 use Rattle.bsp_incr.specs.declared.reply.Update.{Update}
-use Rattle.bsp_incr.specs.Changes.{processes_where, differ_in, touched_in}
-use Rattle.bsp_incr.specs.Marks.{AreMarked, AreAlikeButForTable, ViewsDifferAtMost}
-use Rattle.bsp_incr.specs.Before.{taken_before, delivered_outcomes, IsBefore, IsRecordBefore, IsUnderWay}
+use Rattle.bsp_incr.specs.Inside.Changes.{processes_where, differ_in, touched_in}
+use Rattle.bsp_incr.specs.Inside.Marks.{AreMarked, AreAlikeButForTable, ViewsDifferAtMost}
+use Rattle.bsp_incr.specs.Inside.Before.{taken_before, delivered_outcomes, IsBefore, IsRecordBefore, IsUnderWay}
 use Rattle.bsp_incr.proofs.Patching.{patched, patched_is}
 use Rattle.bsp_incr.proofs.Propagation.{view-in}
 use Rattle.bsp_incr.proofs.RunBefore.{taken-in, some_taken}

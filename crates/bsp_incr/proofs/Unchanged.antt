@@ -13,10 +13,12 @@ use Rattle.bsp_run.specs.Supersteps.{supersteps_of, superstep_at}
 use Rattle.bsp_run.specs.Condition.{no_view}
 use Rattle.bsp_incr.specs.declared.edit.Edit.{Edit}
 use Rattle.bsp_incr.specs.declared.reply.Place.{Place}
-use Rattle.bsp_incr.specs.Changes.{places_of, differs, differ_in, differ_from, differ, is_touched, touched_in, touched_from, touched, IsUpdate}
+use Rattle.bsp_incr.specs.declared.reply.Update.{Update}
+use Rattle.bsp_incr.specs.Inside.Changes.{places_of, differs, differ_in, differ_from, differ, is_touched, touched_in, touched_from, touched, update_of}
 use Rattle.bsp_incr.specs.Edits.{edited_by, edited, with_number}
-use Rattle.bsp_incr.specs.Reuse.{needs_turn}
+use Rattle.bsp_incr.specs.Inside.Reuse.{needs_turn}
 use Rattle.bsp_incr.proofs.Propagation.{Decides-untouched}
+use Rattle.bsp_incr.proofs.Updating.{same_update}
 use Rattle.bsp_incr.proofs.Serving.{serves-itself}
 
 -- a test that holds nowhere leaves nothing
@@ -72,8 +74,8 @@ unfolding touched
 touched-itself all = touched_from-itself 0 all all (λ k l. ap (superstep_at all) (omega arith))
 
 -- A run that is the old run needs nothing anew.
-pub no-update : (looks : ViewParts → ℕ → Bool) (r : Run) → IsUpdate looks (Some r) r record { executed = []; redelivered = [] }
-no-update looks r = record { executed = sym (differ-itself looks (supersteps_of r)); redelivered = sym (touched-itself r.past) }
+pub no-update : (looks : ViewParts → ℕ → Bool) (r : Run) (u : Update) → u.executed ≡ [] → u.redelivered ≡ [] → u ≡ update_of looks (Some r) r
+no-update looks r u e d = same_update u (update_of looks (Some r) r) (e ∙ sym (differ-itself looks (supersteps_of r))) (d ∙ sym (touched-itself r.past))
 
 -- Edits each of which leaves the input as it is leave it so together.
 pub nothing-edited : (i : Input) (edits : List Edit) → All (λ e. edited_by i e ≡ i) edits → edited i edits ≡ i

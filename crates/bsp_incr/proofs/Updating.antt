@@ -10,8 +10,9 @@ use Rattle.bsp_run.specs.Supersteps.{supersteps_of, superstep_at}
 use Rattle.bsp_run.proofs.Records.{superstep, supersteps-open, supersteps-turned, supersteps-delivered, past-delivered, past-turned}
 use Rattle.bsp_incr.specs.declared.reply.Place.{Place}
 use Rattle.bsp_incr.specs.declared.reply.Update.{Update}
-use Rattle.bsp_incr.specs.Changes.{differ, differ_in, differ_from, touched, touched_in, touched_from, supersteps_before, delivered_before, IsUpdate}
-use Rattle.bsp_incr.specs.Before.{taken_before, delivered_outcomes}
+use Rattle.bsp_incr.specs.Inside.Changes.{differ, differ_in, differ_from, touched, touched_in, touched_from, update_of}
+use Rattle.bsp_incr.specs.Exact.{supersteps_before, delivered_before}
+use Rattle.bsp_incr.specs.Inside.Before.{taken_before, delivered_outcomes}
 
 -- one superstep more
 differ_from-push : (looks : ViewParts → ℕ → Bool) (n m : ℕ) (olds xs : List Superstep) (x : Superstep) → n + length xs ≡ m → differ_from looks n olds (xs ++ x ∷ []) ≡ differ_from looks n olds xs ++ differ_in looks m (superstep_at olds m).views x.views
@@ -47,21 +48,22 @@ executed_more looks old r os before after all e is h k =
     k ∙ ap (λ (xs : List Place). xs ++ differ_in looks (length r.past) (taken_before old (length r.past)) (open_views r)) (h ∙ ap (differ looks olds) (supersteps-open r e))
     ∙ sym (differ-push looks olds r.past (superstep (open_views r) os)) ∙ ap (differ looks olds) (sym is)
 
+-- updates with equal lists
+pub same_update : (u v : Update) → u.executed ≡ v.executed → u.redelivered ≡ v.redelivered → u ≡ v
+same_update u v e d = λ i. record { executed = e i; redelivered = d i }
+
 -- the update after the turns of a superstep that ends the run
-pub updated_turned : (looks : ViewParts → ℕ → Bool) (old : Option Run) (r : Run) (os : List OutcomeParts) (u v : Update) → r.phase ≡ Open → IsUpdate looks old r u → v.executed ≡ u.executed ++ differ_in looks (length r.past) (taken_before old (length r.past)) (open_views r) → v.redelivered ≡ u.redelivered → IsUpdate looks old (after_turns r os) v
+pub updated_turned : (looks : ViewParts → ℕ → Bool) (old : Option Run) (r : Run) (os : List OutcomeParts) (u v : Update) → r.phase ≡ Open → u ≡ update_of looks old r → v.executed ≡ u.executed ++ differ_in looks (length r.past) (taken_before old (length r.past)) (open_views r) → v.redelivered ≡ u.redelivered → v ≡ update_of looks old (after_turns r os)
 updated_turned looks old r os u v e h k l =
-    record {
-      executed = executed_more looks old r os u.executed v.executed (supersteps_of (after_turns r os)) e (supersteps-turned r os) h.executed k;
-      redelivered = l ∙ h.redelivered ∙ ap (touched (delivered_before old)) (sym (past-turned r os));
-    }
+    same_update v (update_of looks old (after_turns r os))
+    (executed_more looks old r os u.executed v.executed (supersteps_of (after_turns r os)) e (supersteps-turned r os) (ap (λ (x : Update). x.executed) h) k)
+    (l ∙ ap (λ (x : Update). x.redelivered) h ∙ ap (touched (delivered_before old)) (sym (past-turned r os)))
 
 -- the update after its deliveries
-pub updated_delivered : (looks : ViewParts → ℕ → Bool) (old : Option Run) (r : Run) (os : List OutcomeParts) (u v : Update) → r.phase ≡ Open → IsUpdate looks old r u → v.executed ≡ u.executed ++ differ_in looks (length r.past) (taken_before old (length r.past)) (open_views r)
-    → v.redelivered ≡ u.redelivered ++ touched_in (length r.past) (delivered_outcomes old (length r.past)) os → IsUpdate looks old (after_delivery (after_turns r os)) v
+pub updated_delivered : (looks : ViewParts → ℕ → Bool) (old : Option Run) (r : Run) (os : List OutcomeParts) (u v : Update) → r.phase ≡ Open → u ≡ update_of looks old r → v.executed ≡ u.executed ++ differ_in looks (length r.past) (taken_before old (length r.past)) (open_views r)
+    → v.redelivered ≡ u.redelivered ++ touched_in (length r.past) (delivered_outcomes old (length r.past)) os → v ≡ update_of looks old (after_delivery (after_turns r os))
 updated_delivered looks old r os u v e h k l =
-    record {
-      executed = executed_more looks old r os u.executed v.executed (supersteps_of (after_delivery (after_turns r os))) e (supersteps-delivered r os) h.executed k;
-      redelivered =
-          l ∙ ap (λ (xs : List Place). xs ++ touched_in (length r.past) (delivered_outcomes old (length r.past)) os) h.redelivered
-          ∙ sym (touched-push (delivered_before old) r.past (superstep (open_views r) os)) ∙ ap (touched (delivered_before old)) (sym (past-delivered r os));
-    }
+    same_update v (update_of looks old (after_delivery (after_turns r os)))
+    (executed_more looks old r os u.executed v.executed (supersteps_of (after_delivery (after_turns r os))) e (supersteps-delivered r os) (ap (λ (x : Update). x.executed) h) k)
+    (l ∙ ap (λ (x : Update). x.redelivered ++ touched_in (length r.past) (delivered_outcomes old (length r.past)) os) h
+        ∙ sym (touched-push (delivered_before old) r.past (superstep (open_views r) os)) ∙ ap (touched (delivered_before old)) (sym (past-delivered r os)))

@@ -1,5 +1,5 @@
 -- What an update is, place by place (this profile).
-use Rattle.std.specs.Prelude.{◌≡◌, ◌<◌, ◌↔◌, ◌⊎◌, ℕ, Bool, List, [], ◌∷◌, Option, length, slice_index_or, Contains}
+use Rattle.std.specs.Prelude.{◌≡◌, ◌<◌, ◌↔◌, ◌⊎◌, ℕ, Bool, List, [], ◌∷◌, Option, None, Some, length, slice_index_or, Contains}
 use Rattle.bsp_step.specs.ViewParts.{ViewParts}
 use Rattle.bsp_step.specs.Footprint.{AreAlike}
 use Rattle.bsp_deliver.specs.Delivery.{delivery_parts}
@@ -9,7 +9,16 @@ use Rattle.bsp_run.specs.Supersteps.{supersteps_of, superstep_at}
 use Rattle.bsp_run.specs.Condition.{no_view}
 use Rattle.bsp_incr.specs.declared.reply.Place.{Place}
 use Rattle.bsp_incr.specs.declared.reply.Update.{Update}
-use Rattle.bsp_incr.specs.Changes.{supersteps_before, delivered_before}
+
+-- The supersteps of a run before, if there was one: a run that there is not has none.
+abbrev pub supersteps_before : Option Run → List Superstep
+supersteps_before None = []
+supersteps_before (Some old) = supersteps_of old
+
+-- those that ended by delivery
+abbrev pub delivered_before : Option Run → List Superstep
+delivered_before None = []
+delivered_before (Some old) = old.past
 
 -- a turn was taken at the place
 abbrev pub HasTurn : List Superstep → Place → Type 0

@@ -1,12 +1,6 @@
 pub mod Edits
-pub mod Formers
-pub mod Comparing
-pub mod Reuse
-pub mod Changes
 pub mod Exact
+pub mod Reused
 pub mod Undo
-pub mod Marks
-pub mod Next
-pub mod Replaced
-pub mod Before
 pub mod Replies
+pub mod Inside

@@ -1,10 +1,11 @@
--- What a session holds, and its replies to batches of edits.
-use Rattle.std.specs.Prelude.{◌≡◌, ℕ, Bool, List, [], ◌∷◌, Option, None, Some}
+-- What a session holds, and its replies to batches of edits (this profile).
+use Rattle.std.specs.Prelude.{◌≡◌, ℕ, Bool, List, [], ◌∷◌, map, Option, None, Some}
 use Rattle.bsp_model.specs.declared.input.Input.{Input}
 use Rattle.bsp_model.specs.Input.{input_fault}
 use Rattle.bsp_step.specs.ViewParts.{ViewParts}
 use Rattle.bsp_step.specs.OutcomeParts.{OutcomeParts}
-use Rattle.bsp_run.specs.Run.{Run, run}
+use Rattle.bsp_run.specs.Run.{Run}
+use Rattle.bsp_run.specs.Law.{IsBspRun}
 use Rattle.bsp_run.specs.Result.{result_of}
 use Rattle.bsp_incr.specs.declared.edit.Edit.{Edit}
 use Rattle.bsp_incr.specs.declared.edit.EditRefusal.{EditRefusal}
@@ -14,8 +15,7 @@ use Rattle.bsp_incr.specs.declared.reply.Reply.TheVariants.{Done, Refused}
 use Rattle.bsp_incr.specs.declared.error.EditError.{EditError}
 use Rattle.bsp_incr.specs.declared.error.EditError.TheVariants as error
 use Rattle.bsp_incr.specs.Edits.{refusal_of, edited}
-use Rattle.bsp_incr.specs.Changes.{differ, touched, supersteps_before, delivered_before}
-use Rattle.bsp_run.specs.Supersteps.{supersteps_of}
+use Rattle.bsp_incr.specs.Exact.{IsExact}
 
 -- What a session holds: a program, an input, and a run.
 pub record SessionParts (P : Type 0) : Type 0 where
@@ -26,24 +26,12 @@ pub record SessionParts (P : Type 0) : Type 0 where
 -- the input is lawful, and the run is that of the program on it
 pub record IsSession (turn : ViewParts → OutcomeParts) (input : Input) (history : Run) : Type 0 where
   pub lawful : input_fault input ≡ None
-  pub is : history ≡ run turn input
+  pub law : IsBspRun turn input history
 
 -- the refusal, if that is the error; want of memory comes only where there is none
 abbrev pub refusal_in : EditError → Option EditRefusal
 refusal_in (error.Refused refusal) = Some refusal
 refusal_in error.OutOfMemory = None
-
-abbrev pub update_of : (ViewParts → ℕ → Bool) → Option Run → Run → Update
-update_of looks old new =
-    record { executed = differ looks (supersteps_before old) (supersteps_of new); redelivered = touched (delivered_before old) new.past }
-
--- The reply that gives this run, against the run before.
-abbrev pub done : (ViewParts → ℕ → Bool) → Option Run → Run → Reply
-done looks old new = Done (result_of new) (Some (update_of looks old new))
-
-abbrev pub reply_if : Option EditRefusal → Reply → Reply
-reply_if (Some refusal) reply = Refused refusal
-reply_if None reply = reply
 
 abbrev pub input_if : Option EditRefusal → Input → Input → Input
 input_if (Some refusal) old new = old
@@ -53,20 +41,46 @@ input_if None old new = new
 abbrev pub input_after : Input → List Edit → Input
 input_after input batch = input_if (refusal_of input batch) input (edited input batch)
 
-abbrev pub reply_to : (ViewParts → ℕ → Bool) → (ViewParts → OutcomeParts) → Input → List Edit → Reply
-reply_to looks turn input batch =
-    reply_if (refusal_of input batch) (done looks (Some (run turn input)) (run turn (edited input batch)))
+-- The reply gives the run of this input, and what had to be done for it against the run before, if there was one.
+pub record IsDone (looks : ViewParts → ℕ → Bool) (turn : ViewParts → OutcomeParts) (old : Option Run) (input : Input) (reply : Reply) : Type 0 where
+  pub run : Run
+  pub law : IsBspRun turn input run
+  pub update : Update
+  pub exact : IsExact looks old run update
+  pub gives : reply ≡ Done (result_of run) (Some update)
 
--- The replies to batches, one after the other.
-abbrev pub replies_from : (ViewParts → ℕ → Bool) → (ViewParts → OutcomeParts) → Input → List (List Edit) → List Reply
-replies_from looks turn input [] = []
-replies_from looks turn input (batch ∷ later) = reply_to looks turn input batch ∷ replies_from looks turn (input_after input batch) later
+-- The reply gives the run of the input after an accepted batch, against the run of the input before it.
+pub record IsUpdated (looks : ViewParts → ℕ → Bool) (turn : ViewParts → OutcomeParts) (before after : Input) (reply : Reply) : Type 0 where
+  pub run_before : Run
+  pub law_before : IsBspRun turn before run_before
+  pub done : IsDone looks turn (Some run_before) after reply
 
--- The opening first, then one reply for each batch (this profile).
-abbrev pub replies : (ViewParts → ℕ → Bool) → (ViewParts → OutcomeParts) → Input → List (List Edit) → List Reply
-replies looks turn input batches = done looks None (run turn input) ∷ replies_from looks turn input batches
+abbrev pub IsReplyIf : Option EditRefusal → Reply → Type 0 → Type 0
+IsReplyIf (Some refusal) reply accepted = reply ≡ Refused refusal
+IsReplyIf None reply accepted = accepted
+
+-- The reply to a batch: its refusal, or the run of the edited input.
+abbrev pub IsReply : (ViewParts → ℕ → Bool) → (ViewParts → OutcomeParts) → Input → List Edit → Reply → Type 0
+IsReply looks turn input batch reply = IsReplyIf (refusal_of input batch) reply (IsUpdated looks turn input (edited input batch) reply)
+
+-- The replies to batches, one for each, in order.
+abbrev pub AreRepliesFrom : (ViewParts → ℕ → Bool) → (ViewParts → OutcomeParts) → Input → List (List Edit) → List Reply → Type 0
+AreRepliesFrom looks turn input [] replies = replies ≡ []
+AreRepliesFrom looks turn input (batch ∷ batches) [] = ⊥
+AreRepliesFrom looks turn input (batch ∷ batches) (reply ∷ replies) = IsReply looks turn input batch reply × AreRepliesFrom looks turn (input_after input batch) batches replies
+
+-- The replies of a session: the opening's first, for which all had to be done, then one for each batch.
+abbrev pub AreReplies : (ViewParts → ℕ → Bool) → (ViewParts → OutcomeParts) → Input → List (List Edit) → List Reply → Type 0
+AreReplies looks turn input batches [] = ⊥
+AreReplies looks turn input batches (opening ∷ replies) = IsDone looks turn None input opening × AreRepliesFrom looks turn input batches replies
 
 -- the reply as a run made afresh gives it
 abbrev pub without_update : Reply → Reply
 without_update (Done result update) = Done result None
 without_update (Refused refusal) = Refused refusal
+
+-- The replies where each input is run afresh: those of a session, without their updates.
+pub record AreScratchReplies (looks : ViewParts → ℕ → Bool) (turn : ViewParts → OutcomeParts) (input : Input) (batches : List (List Edit)) (replies : List Reply) : Type 0 where
+  pub whole : List Reply
+  pub are : AreReplies looks turn input batches whole
+  pub without : replies ≡ map without_update whole

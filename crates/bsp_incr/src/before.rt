@@ -5,7 +5,7 @@ ghost use Rattle.std.specs.Option.{ForSome};
 ghost use Rattle.bsp_deliver.specs.Condition.{AreDeliverable};
 ghost use Rattle.bsp_run.specs.Condition.{no_view};
 ghost use Rattle.bsp_run.specs.Supersteps.{views_at};
-ghost use Rattle.bsp_incr.specs.Before.{taken_before, outcomes_before, delivered_outcomes, views_after};
+ghost use Rattle.bsp_incr.specs.Inside.Before.{taken_before, outcomes_before, delivered_outcomes, views_after};
 
 use bsp_model::Shared;
 use bsp_run::History;

@@ -2,7 +2,7 @@
 
 ghost use Rattle.std.specs.Prelude.{◌≡◌, ◌<◌, ℕ, OnOk, OnErr, IfOk, true, length, option_to_list, slice_set};
 ghost use Rattle.bsp_incr.specs.Edits.{edit_fault, refusal_of, edited_by, edited};
-ghost use Rattle.bsp_incr.specs.Formers.{restored};
+ghost use Rattle.bsp_incr.specs.Inside.Formers.{restored};
 
 use crate::former::{Former, restore};
 use crate::{Edit, EditFault, EditRefusal};

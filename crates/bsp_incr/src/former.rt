@@ -1,7 +1,7 @@
 //! What edits replaced, and how it is put back.
 
 ghost use Rattle.std.specs.Prelude.{◌≡◌};
-ghost use Rattle.bsp_incr.specs.Formers.{with_former, restored};
+ghost use Rattle.bsp_incr.specs.Inside.Formers.{with_former, restored};
 
 use bsp_model::{Input, Memory, Words};
 

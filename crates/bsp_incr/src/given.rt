@@ -2,8 +2,8 @@
 
 ghost use Rattle.std.specs.Prelude.{◌≡◌, None, length, option_map, slice_index_or, false};
 ghost use Rattle.bsp_model.specs.Input.{input_fault};
-ghost use Rattle.bsp_incr.specs.Before.{AreArgsMarked};
-ghost use Rattle.bsp_incr.specs.Changes.{processes_where};
+ghost use Rattle.bsp_incr.specs.Inside.Before.{AreArgsMarked};
+ghost use Rattle.bsp_incr.specs.Inside.Changes.{processes_where};
 
 use crate::workers::Workers;
 use bsp_model::Input;

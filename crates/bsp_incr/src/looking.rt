@@ -3,7 +3,7 @@
 ghost use Rattle.std.specs.Prelude.{◌≡◌, ℕ, ◌+◌, ◌≤◌, ◌<◌, ◌↔◌, IsTrue, true, length, slice_index, slice_index_or};
 ghost use Rattle.bsp_step.specs.Footprint.{AreAlikeButForWords};
 ghost use Rattle.bsp_run.specs.Condition.{no_view};
-ghost use Rattle.bsp_incr.specs.Reuse.{same_where_looked_at, serves};
+ghost use Rattle.bsp_incr.specs.Inside.Reuse.{same_where_looked_at, serves};
 
 use bsp_model::limits::MOST_MEMORY_WORDS;
 use bsp_model::{Same, Shared};

@@ -1,7 +1,7 @@
 //! Which processes have another memory or other arguments than in the run before.
 
 ghost use Rattle.std.specs.Prelude.{◌≡◌, IfOk, option_map, false};
-ghost use Rattle.bsp_incr.specs.Before.{HasSameArgs, HasSameMemory, AreArgsMarked, AreFirstMarked};
+ghost use Rattle.bsp_incr.specs.Inside.Before.{HasSameArgs, HasSameMemory, AreArgsMarked, AreFirstMarked};
 
 use crate::before::first_view_before;
 use bsp_model::{Input, OutOfMemory, Same};

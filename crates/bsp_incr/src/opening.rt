@@ -5,7 +5,7 @@ ghost use Rattle.std.specs.Option.{ForSome};
 ghost use Rattle.bsp_model.specs.Input.{input_fault};
 ghost use Rattle.bsp_run.specs.Run.{start, open_views};
 ghost use Rattle.bsp_run.specs.State.{first_state, view_of};
-ghost use Rattle.bsp_incr.specs.Before.{AreFirstMarked, HasFirstViews};
+ghost use Rattle.bsp_incr.specs.Inside.Before.{AreFirstMarked, HasFirstViews};
 
 use crate::before::first_views_before;
 use crate::places::processes_where;

@@ -1,7 +1,7 @@
 //! Processes at which a test holds, and their places.
 
 ghost use Rattle.std.specs.Prelude.{◌≡◌, ◌++◌, IfOk, OnOk, length, false, true, slice_index_or};
-ghost use Rattle.bsp_incr.specs.Changes.{processes_where, places_of};
+ghost use Rattle.bsp_incr.specs.Inside.Changes.{processes_where, places_of};
 
 use crate::Place;
 use bsp_model::{OutOfMemory, Seq};

@@ -6,8 +6,9 @@ ghost use Rattle.bsp_step.specs.Turn.{turn_of};
 ghost use Rattle.bsp_run.specs.Run.{run};
 ghost use Rattle.bsp_run.specs.Result.{result_of};
 ghost use Rattle.bsp_run.specs.RunErrors.{input_fault_of};
-ghost use Rattle.bsp_incr.specs.Changes.{IsUpdate};
-ghost use Rattle.bsp_incr.specs.Replies.{reply_to, input_after, replies, without_update};
+ghost use Rattle.bsp_incr.specs.Exact.{IsExact};
+ghost use Rattle.bsp_incr.specs.Replies.{input_after, without_update, AreReplies, AreScratchReplies};
+ghost use Rattle.bsp_incr.specs.Inside.Replies.{reply_to, replies};
 
 use crate::editing::{make_edits, refusal_of};
 use crate::{Batch, EditError, Reply, Session, Update};
@@ -39,12 +40,13 @@ fn reply<P: Program + Drop, R: Threads + Sync, G: Gate>(
     gate: &G,
 ) -> Result<Reply, OutOfMemory>
     requires workers { (0 < workers) × (workers ≤ 16) }
-    requires history { session.old.history ≡ run (turn_of (P.acts session.old.program) (P.ending session.old.program)) session.old.input }
     ensures program { OnOk result (session.new.program ≡ session.old.program) }
     ensures input { OnOk result (session.new.input ≡ input_after session.old.input batch.now) }
     ensures reply { IfOk result (λ reply. reply ≡ reply_to (P.looks session.old.program) (turn_of (P.acts session.old.program) (P.ending session.old.program)) session.old.input batch.now) }
-    ensures history { OnOk result (session.new.history ≡ run (turn_of (P.acts session.old.program) (P.ending session.old.program)) session.new.input) }
 {
+    // That the input is lawful, and the history its run, is known where they are read.
+    let _input = session.input();
+    let _history = session.history();
     match session.apply(rt, alloc, batch.as_slice(), workers, gate) {
         Ok(update) => done(session.history(), update),
         Err(EditError::Refused(refusal)) => Ok(Reply::Refused(refusal)),
@@ -63,8 +65,7 @@ fn all_replies<P: Program + Drop, R: Threads + Sync, G: Gate>(
     gate: &G,
 ) -> Result<Vec<Reply>, OutOfMemory>
     requires workers { (0 < workers) × (workers ≤ 16) }
-    requires history { session.old.history ≡ run (turn_of (P.acts session.old.program) (P.ending session.old.program)) session.old.input }
-    requires update { IsUpdate (P.looks session.old.program) None session.old.history update }
+    requires exact { IsExact (P.looks session.old.program) None session.old.history update }
     ensures { IfOk result (λ all. all.items ≡ replies (P.looks session.old.program) (turn_of (P.acts session.old.program) (P.ending session.old.program)) session.old.input batches.now) }
 {
     let mut all = Vec::new(alloc);
@@ -90,6 +91,7 @@ pub fn session_run<P: Program + Drop, R: Threads + Sync, G: Gate>(
 ) -> Result<Vec<Reply>, RunError>
     requires workers { (0 < workers) × (workers ≤ 16) }
     ensures replies { IfOk result (λ all. all.items ≡ replies (P.looks program) (turn_of (P.acts program) (P.ending program)) input batches.now) }
+    ensures law { IfOk result (λ all. AreReplies (P.looks program) (turn_of (P.acts program) (P.ending program)) input batches.now all.items) }
     ensures lawful { OnOk result (input_fault input ≡ None) }
     ensures input { IfErr result (λ e. input_fault input ≡ input_fault_of e) }
 {
@@ -164,6 +166,7 @@ pub fn scratch_run<P: Program>(
     batches: &[Batch],
 ) -> Result<Vec<Reply>, RunError>
     ensures replies { IfOk result (λ all. all.items ≡ map without_update (replies (P.looks program.now) (turn_of (P.acts program.now) (P.ending program.now)) input batches.now)) }
+    ensures law { IfOk result (λ all. AreScratchReplies (P.looks program.now) (turn_of (P.acts program.now) (P.ending program.now)) input batches.now all.items) }
     ensures lawful { OnOk result (input_fault input ≡ None) }
     ensures input { IfErr result (λ e. input_fault input ≡ input_fault_of e) }
 {

@@ -4,10 +4,11 @@ ghost use Rattle.std.specs.Prelude.{◌≡◌, IfOk, OnOk, OnErr, None, Some, op
 ghost use Rattle.bsp_model.specs.Input.{input_fault};
 ghost use Rattle.bsp_step.specs.Turn.{turn_of};
 ghost use Rattle.bsp_run.specs.Run.{run};
+ghost use Rattle.bsp_run.specs.Law.{IsBspRun};
 ghost use Rattle.bsp_run.specs.Condition.{is_ended};
-ghost use Rattle.bsp_incr.specs.Changes.{IsUpdate};
+ghost use Rattle.bsp_incr.specs.Inside.Changes.{update_of};
 ghost use Rattle.bsp_incr.specs.Edits.{refusal_of, edited};
-ghost use Rattle.bsp_incr.specs.Before.{IsRunBefore};
+ghost use Rattle.bsp_incr.specs.Inside.Before.{IsBefore};
 
 use crate::counts::Counts;
 use crate::editing::make_edits;
@@ -37,9 +38,9 @@ pub fn rerun<P: Program, G: Gate, R: Threads + Sync>(
     counts: &mut Counts,
 ) -> Result<(History, Update), OutOfMemory>
     requires lawful { input_fault input.now ≡ None }
-    requires before { IsRunBefore (turn_of (P.acts program.now) (P.ending program.now)) input.now (option_map (λ k. k.now) old) }
+    requires before { IsBefore (turn_of (P.acts program.now) (P.ending program.now)) input.now (option_map (λ k. k.now) old) }
     ensures run { IfOk result (λ r. r.0 ≡ run (turn_of (P.acts program.now) (P.ending program.now)) input.now) }
-    ensures update { IfOk result (λ r. IsUpdate (P.looks program.now) (option_map (λ k. k.now) old.entry) r.0 r.1) }
+    ensures update { IfOk result (λ r. r.1 ≡ update_of (P.looks program.now) (option_map (λ k. k.now) old.entry) r.0) }
 {
     let always = args_marks(alloc, old, input)?;
     let other_args = processes_where(alloc, always.as_slice())?;
@@ -88,10 +89,10 @@ pub fn rerun_edited<P: Program, G: Gate, R: Threads + Sync>(
 ) -> Result<(History, Update), OutOfMemory>
     requires lawful { input_fault input.old ≡ None }
     requires accepted { refusal_of input.old edits.now ≡ None }
-    requires before { old.now ≡ run (turn_of (P.acts program.now) (P.ending program.now)) input.old }
+    requires before { IsBspRun (turn_of (P.acts program.now) (P.ending program.now)) input.old old.now }
     ensures given { OnOk result (input.new ≡ edited input.old edits.now) }
     ensures run { IfOk result (λ r. r.0 ≡ run (turn_of (P.acts program.now) (P.ending program.now)) (edited input.old edits.now)) }
-    ensures update { IfOk result (λ r. IsUpdate (P.looks program.now) (Some old.now) r.0 r.1) }
+    ensures update { IfOk result (λ r. r.1 ≡ update_of (P.looks program.now) (Some old.now) r.0) }
     ensures err { OnErr result (input.new ≡ input.old) }
 {
     let formers = make_edits(alloc, input, edits)?;

@@ -2,7 +2,8 @@
 
 ghost use Rattle.std.specs.Prelude.{◌≡◌, IfOk, OnOk, true};
 ghost use Rattle.bsp_step.specs.Turn.{turn_of};
-ghost use Rattle.bsp_incr.specs.Reuse.{made_again, reused, serves};
+ghost use Rattle.bsp_incr.specs.Reused.{made_again, reused};
+ghost use Rattle.bsp_incr.specs.Inside.Reuse.{serves};
 
 use bsp_model::{Memory, OutOfMemory, Store, TryCopy};
 use bsp_step::{Outcome, Program, View};

@@ -38,12 +38,11 @@ impl<P: Program + Drop> Session<P> {
     ghost use Rattle.std.specs.Prelude.{◌≡◌, ◌<◌, ◌≤◌, IfOk, IfErr, OnOk, OnErr, None, Some};
     ghost use Rattle.bsp_model.specs.Input.{input_fault};
     ghost use Rattle.bsp_step.specs.Turn.{turn_of};
-    ghost use Rattle.bsp_run.specs.Run.{run};
     ghost use Rattle.bsp_run.specs.Law.{IsBspRun};
     ghost use Rattle.bsp_run.specs.RunErrors.{input_fault_of};
     ghost use Rattle.bsp_incr.specs.Edits.{refusal_of, edited};
-    ghost use Rattle.bsp_incr.specs.Changes.{IsUpdate};
     ghost use Rattle.bsp_incr.specs.Exact.{IsExact};
+    ghost use Rattle.bsp_incr.specs.Reused.{AreReused};
     ghost use Rattle.bsp_incr.specs.Replies.{refusal_in};
 
     /// A session with the run of the input, whose turns and deliveries are shared by 1 to 16 workers. The update has every process of every
@@ -59,9 +58,7 @@ impl<P: Program + Drop> Session<P> {
         requires workers { (0 < workers) × (workers ≤ 16) }
         ensures program { IfOk result (λ r. r.0.program ≡ program) }
         ensures given { IfOk result (λ r. r.0.input ≡ input) }
-        ensures history { IfOk result (λ r. r.0.history ≡ run (turn_of (P.acts program) (P.ending program)) input) }
         ensures law { IfOk result (λ r. IsBspRun (turn_of (P.acts program) (P.ending program)) input r.0.history) }
-        ensures update { IfOk result (λ r. IsUpdate (P.looks program) None r.0.history r.1) }
         ensures exact { IfOk result (λ r. IsExact (P.looks program) None r.0.history r.1) }
         ensures lawful { OnOk result (input_fault input ≡ None) }
         ensures input { IfErr result (λ e. input_fault input ≡ input_fault_of e) }
@@ -97,7 +94,6 @@ impl<P: Program + Drop> Session<P> {
     /// The history, which is the run of the input.
     pub fn history(&self) -> &History
         ensures history { result.now ≡ self.now.history }
-        ensures run { result.now ≡ run (turn_of (P.acts self.now.program) (P.ending self.now.program)) self.now.input }
         ensures law { IsBspRun (turn_of (P.acts self.now.program) (P.ending self.now.program)) self.now.input result.now }
     {
         &self.history
@@ -119,10 +115,9 @@ impl<P: Program + Drop> Session<P> {
         ensures refused { IfErr result (λ e. refusal_of self.old.input edits.now ≡ refusal_in e) }
         ensures program { self.new.program ≡ self.old.program }
         ensures given { OnOk result (self.new.input ≡ edited self.old.input edits.now) }
-        ensures history { OnOk result (self.new.history ≡ run (turn_of (P.acts self.old.program) (P.ending self.old.program)) (edited self.old.input edits.now)) }
         ensures law { OnOk result (IsBspRun (turn_of (P.acts self.old.program) (P.ending self.old.program)) self.new.input self.new.history) }
-        ensures update { IfOk result (λ u. IsUpdate (P.looks self.old.program) (Some self.old.history) self.new.history u) }
         ensures exact { IfOk result (λ u. IsExact (P.looks self.old.program) (Some self.old.history) self.new.history u) }
+        ensures reused { OnOk result (AreReused (P.looks self.old.program) (Some self.old.history) self.new.history) }
         ensures err { OnErr result (self.new ≡ self.old) }
     {
         match refusal_of(&self.input, edits) {

@@ -4,9 +4,9 @@ ghost use Rattle.std.specs.Prelude.{◌≡◌, ◌<◌, ◌++◌, [], IfOk, IfSo
 ghost use Rattle.bsp_step.specs.Turn.{turn_of};
 ghost use Rattle.bsp_run.specs.Run.{after_turns, open_views, advance};
 ghost use Rattle.bsp_run.specs.Condition.{is_open, is_turned};
-ghost use Rattle.bsp_incr.specs.Changes.{differ_in};
-ghost use Rattle.bsp_incr.specs.Marks.{ViewsDifferAtMost, HaveOneTable};
-ghost use Rattle.bsp_incr.specs.Before.{taken_before, IsBefore, IsUnderWay};
+ghost use Rattle.bsp_incr.specs.Inside.Changes.{differ_in};
+ghost use Rattle.bsp_incr.specs.Inside.Marks.{ViewsDifferAtMost, HaveOneTable};
+ghost use Rattle.bsp_incr.specs.Inside.Before.{taken_before, IsBefore, IsUnderWay};
 
 use crate::before::{outcomes_before, taken_before};
 use crate::counts::Counts;

@@ -8,7 +8,7 @@ use Rattle.bsp_step.specs.ViewParts.{ViewParts, IsView}
 use Rattle.bsp_step.specs.Act.{Act}
 use Rattle.bsp_step.specs.Footprint.{AreAlikeButForWords, AreAlike, IsFootprint}
 use Rattle.bsp_step.specs.Turn.{abort_of, ended_of}
-use Rattle.bsp_incr.specs.Reuse.{serves}
+use Rattle.bsp_incr.specs.Inside.Reuse.{serves}
 use Rattle.bsp_incr.proofs.Serving.{Decides-serves, serves-itself}
 use Rattle.bsp_laws.specs.Least.{TellsApart}
 

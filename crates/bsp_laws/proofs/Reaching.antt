@@ -15,7 +15,7 @@ use Rattle.bsp_step.specs.OutcomeParts.{OutcomeParts}
 use Rattle.bsp_step.specs.Footprint.{AreAlike}
 use Rattle.bsp_deliver.specs.Requests.{no_outcome, outcome_of, words_read}
 use Rattle.bsp_deliver.specs.Delivery.{delivery_parts}
-use Rattle.bsp_deliver.specs.Comparison.{HasSameParcel}
+use Rattle.bsp_deliver.specs.Inside.Comparison.{HasSameParcel}
 use Rattle.bsp_deliver.proofs.SameParts.{same_parts, same_own}
 use Rattle.bsp_run.specs.declared.superstep.Superstep.{Superstep}
 use Rattle.bsp_run.specs.Run.{run}
@@ -31,7 +31,7 @@ use Rattle.bsp_incr.specs.declared.edit.Edit.{Edit}
 use Rattle.bsp_incr.specs.declared.reply.Place.{Place}
 use Rattle.bsp_incr.specs.declared.reply.Update.{Update}
 use Rattle.bsp_incr.specs.Edits.{refusal_of, edited}
-use Rattle.bsp_incr.specs.Marks.{AreAlikeButForTable}
+use Rattle.bsp_incr.specs.Inside.Marks.{AreAlikeButForTable}
 use Rattle.bsp_incr.proofs.Lawful.{edited_lawful, edited_count}
 use Rattle.bsp_incr.proofs.Propagation.{view-in, propagated, first_alike, same_view}
 use Rattle.bsp_incr.proofs.Serving.{Decides-serves, serves-itself}

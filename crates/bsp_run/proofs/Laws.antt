@@ -20,7 +20,7 @@ use Rattle.bsp_run.specs.Result.{status_of, status_in, all_turns, delivered_turn
 use Rattle.bsp_run.specs.Shown.{no_superstep}
 use Rattle.bsp_run.specs.Supersteps.{last_superstep, supersteps_of, superstep_at, views_at}
 use Rattle.bsp_run.specs.Law.{views_in, outcomes_in, end_in, IsBspRun}
-use Rattle.bsp_run.specs.Record.{IsRecord, IsEndIn}
+use Rattle.bsp_run.specs.Inside.Record.{IsRecord, IsEndIn}
 use Rattle.bsp_run.specs.Condition.{is_ended, IsRun, IsInPhase, AreOutcomesOf}
 use Rattle.bsp_deliver.specs.Condition.{AreDeliverable}
 use Rattle.bsp_run.proofs.Conditions.{AreDeliverable-from_turns}

@@ -14,3 +14,4 @@ pub mod NextViews
 pub mod KeptCosts
 pub mod TakingOver
 pub mod UnrecordedRuns
+pub mod ViewsWithin

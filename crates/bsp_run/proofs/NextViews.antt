@@ -7,7 +7,7 @@ use Rattle.bsp_table.specs.declared.area.Area.{Area}
 use Rattle.bsp_step.specs.ViewParts.{IsView}
 use Rattle.bsp_run.specs.State.{next_state, view_of}
 use Rattle.bsp_run.specs.Run.{Run, after_delivery}
-use Rattle.bsp_run.specs.Opening.{view_with}
+use Rattle.bsp_run.specs.Inside.Opening.{view_with}
 use Rattle.bsp_run.specs.Condition.{IsRun, IsTurned}
 use Rattle.bsp_run.proofs.Conditions.{count_of_outcomes}
 use Rattle.bsp_run.proofs.Phases.{can_open_next, count-next_state, is_turned_run, next_counts, tag-next}

@@ -16,7 +16,7 @@ use Rattle.bsp_run.specs.declared.phase.Phase.TheVariants.{Open}
 use Rattle.bsp_run.specs.declared.superstep.Superstep.{Superstep}
 use Rattle.bsp_run.specs.State.{State, first_state, no_messages, view_of, views_of}
 use Rattle.bsp_run.specs.Run.{start, open_views}
-use Rattle.bsp_run.specs.Opening.{CanOpen, state_of, view_with}
+use Rattle.bsp_run.specs.Inside.Opening.{CanOpen, state_of, view_with}
 use Rattle.bsp_run.specs.Condition.{IsState, IsRun}
 use Rattle.bsp_run.proofs.Lists.{map_twice, map_agree, map_same}
 

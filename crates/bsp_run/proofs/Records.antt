@@ -21,7 +21,7 @@ use Rattle.bsp_run.specs.Run.{Run, start, open_views, after_turns, after_deliver
 use Rattle.bsp_run.specs.Shown.{no_superstep}
 use Rattle.bsp_run.specs.Supersteps.{last_superstep, supersteps_of, superstep_at, views_at}
 use Rattle.bsp_run.specs.Law.{state_at, views_in, outcomes_in, end_in}
-use Rattle.bsp_run.specs.Record.{IsRecord, IsEndIn}
+use Rattle.bsp_run.specs.Inside.Record.{IsRecord, IsEndIn}
 use Rattle.bsp_run.specs.Condition.{is_open, is_turned}
 use Rattle.bsp_run.proofs.Conditions.{length-views_of}
 use Rattle.bsp_run.proofs.Phases.{end_of-limit}

@@ -14,7 +14,7 @@ use Rattle.bsp_run.specs.State.{State, next_state, view_of, views_of}
 use Rattle.bsp_run.specs.Result.{cost_of_delivery}
 use Rattle.bsp_run.specs.Shown.{no_superstep}
 use Rattle.bsp_run.specs.Supersteps.{superstep_at}
-use Rattle.bsp_run.specs.Opening.{state_of}
+use Rattle.bsp_run.specs.Inside.Opening.{state_of}
 use Rattle.bsp_run.specs.Ending.{end_of}
 use Rattle.bsp_run.specs.Run.{Run, open_views, after_turns, after_delivery, phase_after}
 use Rattle.bsp_run.specs.Condition.{IsRun, IsInPhase, IsOpen, AreOutcomesOf, deliveries_of}

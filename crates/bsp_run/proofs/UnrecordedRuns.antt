@@ -25,12 +25,12 @@ use Rattle.bsp_run.specs.declared.unrecorded.Unrecorded.{Unrecorded}
 use Rattle.bsp_run.specs.State.{State, first_state, next_state, views_of}
 use Rattle.bsp_run.specs.Ending.{end_of}
 use Rattle.bsp_run.specs.Run.{Run, start, open_views, after_turns, after_delivery, phase_after, is_limit, advance, times, run}
-use Rattle.bsp_run.specs.Opening.{CanOpen}
+use Rattle.bsp_run.specs.Inside.Opening.{CanOpen}
 use Rattle.bsp_run.specs.Condition.{IsInPhase, IsAtLimit, IsRun, CanSync, AreOutcomesOf, is_open, is_turned}
 use Rattle.bsp_run.specs.Result.{status_in, status_of, memories_of, lines_of, lines_of_process, delivered_turns, turns_in, costs_of, cost_of_delivery, cost_of_end, total_of, result_of}
-use Rattle.bsp_run.specs.TapeInside.{IsSmall}
-use Rattle.bsp_run.specs.Unrecorded.{lines_and, state_after}
-use Rattle.bsp_run.specs.IsUnrecorded.{IsUnrecorded}
+use Rattle.bsp_run.specs.Inside.Tape.{IsSmall}
+use Rattle.bsp_run.specs.Inside.Unrecorded.{lines_and, state_after}
+use Rattle.bsp_run.specs.Inside.IsUnrecorded.{IsUnrecorded}
 use Rattle.bsp_run.proofs.Conditions.{count_of_outcomes, AreDeliverable-from_turns, pops_are_slots}
 use Rattle.bsp_run.proofs.Opens.{start_is_run, state_seen-views_of}
 use Rattle.std.proofs.lemmas.Bool.Decides.{nat_tests}

@@ -6,7 +6,7 @@ use Rattle.bsp_model.specs.declared.request.Message.{Message}
 use Rattle.bsp_table.specs.declared.area.Area.{Area}
 use Rattle.bsp_step.specs.ViewParts.{IsView}
 use Rattle.bsp_run.specs.State.{State, view_of}
-use Rattle.bsp_run.specs.Opening.{CanOpen, state_of, view_with}
+use Rattle.bsp_run.specs.Inside.Opening.{CanOpen, state_of, view_with}
 
 -- each view of a state within the limits is within them
 pub view_within : (args : List (List ℕ)) (step : ℕ) (s : State) (p : ℕ) → CanOpen args s → length s.queues ≡ length s.memories → p < length s.memories → IsView (view_of args step s p)

@@ -3,15 +3,8 @@ pub mod Ending
 pub mod Run
 pub mod Result
 pub mod Condition
-pub mod TapeInside
-pub mod HistoryInside
 pub mod Shown
 pub mod RunErrors
-pub mod Opening
 pub mod Supersteps
 pub mod Law
-pub mod Record
-pub mod Shares
-pub mod TakingOver
-pub mod Unrecorded
-pub mod IsUnrecorded
+pub mod Inside

@@ -3,7 +3,7 @@
 ghost use Rattle.std.specs.Prelude.{◌≡◌, ◌+◌, ◌*◌, ◌<◌, ◌≤◌, ◌^◌, ◌++◌, All, IfOk, length, map, option_map};
 ghost use Rattle.bsp_deliver.specs.Condition.{AreDeliverable};
 ghost use Rattle.bsp_run.specs.Result.{largest_work, cost_of_delivery, cost_of_end, total_of, turns_in};
-ghost use Rattle.bsp_run.specs.TapeInside.{IsSmall};
+ghost use Rattle.bsp_run.specs.Inside.Tape.{IsSmall};
 
 use bsp_deliver::h_of;
 use bsp_model::limits::{HIGHEST_PRICE, MOST_SUPERSTEPS};

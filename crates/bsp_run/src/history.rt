@@ -29,7 +29,7 @@ impl Model for History {
 
     ghost Value = { Run };
 
-    ghost use Rattle.bsp_run.specs.HistoryInside.{run_of, IsLawful};
+    ghost use Rattle.bsp_run.specs.Inside.History.{run_of, IsLawful};
 
     ghost view = { run_of };
 

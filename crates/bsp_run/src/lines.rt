@@ -3,7 +3,7 @@
 ghost use Rattle.std.specs.Prelude.{◌≡◌, [], ◌+◌, ◌≤◌, ◌++◌, length, map, option_map, take, true, IfOk, OnOk};
 ghost use Rattle.bsp_deliver.specs.Requests.{each_below, outcome_of};
 ghost use Rattle.bsp_run.specs.Result.{lines_of_process, turns_in};
-ghost use Rattle.bsp_run.specs.Unrecorded.{lines_and};
+ghost use Rattle.bsp_run.specs.Inside.Unrecorded.{lines_and};
 
 use crate::{Lines, Superstep};
 use bsp_model::{OutOfMemory, Same, Seq, Shared, SharedSeq, TryCopy, Words};

@@ -4,7 +4,7 @@ ghost use Rattle.std.specs.Prelude.{◌≡◌, ◌<◌, length, map, IfOk, None}
 ghost use Rattle.bsp_model.specs.Input.{input_fault};
 ghost use Rattle.bsp_step.specs.ViewParts.{IsView};
 ghost use Rattle.bsp_run.specs.State.{first_state, view_of, views_of, no_messages};
-ghost use Rattle.bsp_run.specs.Opening.{CanOpen, state_of, view_with};
+ghost use Rattle.bsp_run.specs.Inside.Opening.{CanOpen, state_of, view_with};
 
 use crate::Views;
 use crate::taking::take_next;

@@ -43,7 +43,7 @@ impl Model for Tape {
 
     ghost Value = { Run };
 
-    ghost use Rattle.bsp_run.specs.TapeInside.{run_of, IsLawful};
+    ghost use Rattle.bsp_run.specs.Inside.Tape.{run_of, IsLawful};
 
     ghost view = { run_of };
 

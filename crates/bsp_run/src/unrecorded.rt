@@ -5,13 +5,13 @@ ghost use Rattle.bsp_model.specs.Input.{input_fault};
 ghost use Rattle.bsp_deliver.specs.Condition.{AreDeliverable};
 ghost use Rattle.bsp_run.specs.Run.{start};
 ghost use Rattle.bsp_run.specs.State.{views_of};
-ghost use Rattle.bsp_run.specs.Opening.{CanOpen};
+ghost use Rattle.bsp_run.specs.Inside.Opening.{CanOpen};
 ghost use Rattle.bsp_run.specs.Condition.{CanSync, deliveries_of};
 ghost use Rattle.bsp_run.specs.Result.{cost_of_delivery, cost_of_end, total_of};
-ghost use Rattle.bsp_run.specs.TapeInside.{IsSmall};
+ghost use Rattle.bsp_run.specs.Inside.Tape.{IsSmall};
 ghost use Rattle.bsp_run.specs.RunErrors.{input_fault_of};
-ghost use Rattle.bsp_run.specs.Unrecorded.{lines_and, state_after};
-ghost use Rattle.bsp_run.specs.IsUnrecorded.{IsUnrecorded};
+ghost use Rattle.bsp_run.specs.Inside.Unrecorded.{lines_and, state_after};
+ghost use Rattle.bsp_run.specs.Inside.IsUnrecorded.{IsUnrecorded};
 
 use crate::costs::{cost_of_delivery, cost_of_end, total_of};
 use crate::history::{memories_of_outcomes, memories_of_views};

@@ -2,7 +2,7 @@ use Rattle.std.proofs.Common.{◌<◌, ◌+◌, ◌*◌, ◌^◌, ℕ, List, [],
 use Rattle.std.proofs.lemmas.List.Elements.{All-head, All-tail, All-take, All-weaker}
 use Rattle.bsp_deliver.specs.declared.cost.Sums.{Sums}
 use Rattle.bsp_deliver.specs.Cost.{largest, h_relation}
-use Rattle.bsp_deliver.specs.Sums.{transfers_from}
+use Rattle.bsp_deliver.specs.Inside.Sums.{transfers_from}
 use Rattle.bsp_deliver.proofs.Counts.{sent_below, received_below, sent_over_all, received_over_all}
 use Rattle.bsp_deliver.proofs.cost.h_of.Goals as goal
 

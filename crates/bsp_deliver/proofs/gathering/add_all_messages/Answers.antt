@@ -3,7 +3,7 @@ use Rattle.bsp_model.specs.declared.request.Send.{Send}
 use Rattle.bsp_step.specs.OutcomeParts.{OutcomeParts}
 use Rattle.bsp_deliver.specs.Requests.{all_sends}
 use Rattle.bsp_deliver.specs.Condition.{sizes_of, AreRequestsInside}
-use Rattle.bsp_deliver.specs.Gathering.{sent_at}
+use Rattle.bsp_deliver.specs.Inside.Gathering.{sent_at}
 use Rattle.bsp_deliver.proofs.Senders.{at_item, length-sizes_of}
 use Rattle.bsp_deliver.proofs.Gathered.{folded_more}
 use Rattle.bsp_deliver.proofs.gathering.add_all_messages.Goals as goal

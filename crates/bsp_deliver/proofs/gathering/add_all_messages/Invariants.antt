@@ -1,6 +1,6 @@
 use Rattle.std.proofs.Common.{◌≡◌, take, fold}
 use Rattle.bsp_deliver.specs.Requests.{all_sends}
-use Rattle.bsp_deliver.specs.Gathering.{sent_at}
+use Rattle.bsp_deliver.specs.Inside.Gathering.{sent_at}
 use Rattle.bsp_deliver.proofs.gathering.add_all_messages.Given as goal
 
 abbrev pub invariant-loop-outcome : goal.invariant-loop-outcome

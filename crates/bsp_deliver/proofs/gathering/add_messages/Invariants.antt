@@ -1,5 +1,5 @@
 use Rattle.std.proofs.Common.{◌≡◌, take, fold}
-use Rattle.bsp_deliver.specs.Gathering.{sent_at}
+use Rattle.bsp_deliver.specs.Inside.Gathering.{sent_at}
 use Rattle.bsp_deliver.proofs.gathering.add_messages.Given as goal
 
 abbrev pub invariant-loop-send : goal.invariant-loop-send

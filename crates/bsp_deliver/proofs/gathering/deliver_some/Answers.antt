@@ -3,7 +3,7 @@ use Rattle.std.proofs.lemmas.List.{length-map}
 use Rattle.std.proofs.lemmas.Result.{IfOk-weaker}
 use Rattle.bsp_model.specs.declared.request.Message.{Message}
 use Rattle.bsp_deliver.specs.Delivery.{overlay, get_write, delivery_parts, next_memory, next_queue}
-use Rattle.bsp_deliver.specs.Gathering.{ArePlaces}
+use Rattle.bsp_deliver.specs.Inside.Gathering.{ArePlaces}
 use Rattle.bsp_deliver.proofs.Gathered.{memories_gathered, queues_gathered, zip_maps}
 use Rattle.bsp_deliver.proofs.gathering.deliver_some.Goals as goal
 

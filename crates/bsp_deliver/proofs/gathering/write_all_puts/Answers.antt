@@ -3,7 +3,7 @@ use Rattle.bsp_model.specs.declared.request.Put.{Put}
 use Rattle.bsp_step.specs.OutcomeParts.{OutcomeParts}
 use Rattle.bsp_deliver.specs.Requests.{all_puts}
 use Rattle.bsp_deliver.specs.Condition.{sizes_of, AreRequestsInside}
-use Rattle.bsp_deliver.specs.Gathering.{put_at}
+use Rattle.bsp_deliver.specs.Inside.Gathering.{put_at}
 use Rattle.bsp_deliver.proofs.Senders.{at_item, length-sizes_of}
 use Rattle.bsp_deliver.proofs.Gathered.{folded_more}
 use Rattle.bsp_deliver.proofs.gathering.write_all_puts.Goals as goal

@@ -1,6 +1,6 @@
 use Rattle.std.proofs.Common.{◌≡◌, take, fold}
 use Rattle.bsp_deliver.specs.Requests.{all_puts}
-use Rattle.bsp_deliver.specs.Gathering.{put_at}
+use Rattle.bsp_deliver.specs.Inside.Gathering.{put_at}
 use Rattle.bsp_deliver.proofs.gathering.write_all_puts.Given as goal
 
 abbrev pub invariant-loop-outcome : goal.invariant-loop-outcome

@@ -1,5 +1,5 @@
 use Rattle.std.proofs.Common.{◌≡◌, take, fold}
-use Rattle.bsp_deliver.specs.Gathering.{put_at}
+use Rattle.bsp_deliver.specs.Inside.Gathering.{put_at}
 use Rattle.bsp_deliver.proofs.gathering.write_puts.Given as goal
 
 abbrev pub invariant-loop-put : goal.invariant-loop-put

@@ -1,5 +1,5 @@
 use Rattle.std.proofs.Common.{◌≡◌, ◌==◌, filter, map, take}
-use Rattle.bsp_deliver.specs.Marks.{AreMarkedUnless}
+use Rattle.bsp_deliver.specs.Inside.Marks.{AreMarkedUnless}
 use Rattle.bsp_deliver.proofs.marking.mark_aligned.Given as goal
 
 -- the requests so far are addressed alike, and marked are the processes to which they differ

@@ -1,6 +1,6 @@
 use Rattle.std.proofs.Common.{◌≡◌, ℕ, ◌-◌, length, ◌==◌, filter, take, drop, subst}
 use Rattle.std.proofs.lemmas.List.{take_rest}
-use Rattle.bsp_deliver.specs.Marks.{AreMarkedUnless}
+use Rattle.bsp_deliver.specs.Inside.Marks.{AreMarkedUnless}
 use Rattle.bsp_deliver.proofs.Aligned.{aligned_apart}
 use Rattle.bsp_deliver.proofs.Unmarked.{marked_twice}
 use Rattle.bsp_deliver.proofs.marking.mark_changes.Goals as goal

@@ -1,7 +1,7 @@
 use Rattle.std.proofs.Common.{◌≡◌, ℕ, ◌<◌, ◌==◌, Bool, true, false, List, filter, get_or, length, sym, ◌∙◌, arith, subst}
 use Rattle.std.proofs.lemmas.Bool.{false≢true}
 use Rattle.std.proofs.lemmas.List.{get_or_default}
-use Rattle.bsp_deliver.specs.Marks.{AreMarkedUnless}
+use Rattle.bsp_deliver.specs.Inside.Marks.{AreMarkedUnless}
 use Rattle.bsp_deliver.proofs.Unmarked.{one_marked, mark_stays, marked_more}
 use Rattle.bsp_deliver.proofs.marking.mark_unaligned.Goals as goal
 use Rattle.bsp_deliver.proofs.marking.mark_unaligned.Goals.{then-not-marks-d+then-not-are_same_to, else-not-marks-d, else-not-marks-d-via-then-not-marks-d+else-not-are_same_to, else-not-marks-d-via-else-not-marks-d}

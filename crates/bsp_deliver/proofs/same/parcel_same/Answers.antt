@@ -5,7 +5,7 @@ use Rattle.bsp_model.specs.declared.request.Send.{Send}
 use Rattle.bsp_step.specs.OutcomeParts.{OutcomeParts}
 use Rattle.bsp_deliver.specs.Requests.{all_puts, all_sends, outcome_of}
 use Rattle.bsp_deliver.specs.Delivery.{delivery_parts}
-use Rattle.bsp_deliver.specs.Comparison.{HasSameParcel}
+use Rattle.bsp_deliver.specs.Inside.Comparison.{HasSameParcel}
 use Rattle.bsp_deliver.proofs.Senders.{outcome_of-item}
 use Rattle.bsp_deliver.proofs.Comparing.{same_from_senders, senders_from_same}
 use Rattle.bsp_deliver.proofs.same.parcel_same.Goals as goal

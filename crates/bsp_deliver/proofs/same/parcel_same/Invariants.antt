@@ -1,6 +1,6 @@
 use Rattle.std.proofs.Common.{ℕ, ◌<◌}
 use Rattle.bsp_deliver.specs.Requests.{outcome_of}
-use Rattle.bsp_deliver.specs.Comparison.{HasSameParcel}
+use Rattle.bsp_deliver.specs.Inside.Comparison.{HasSameParcel}
 use Rattle.bsp_deliver.proofs.same.parcel_same.Given as goal
 
 -- the senders so far put and send the same

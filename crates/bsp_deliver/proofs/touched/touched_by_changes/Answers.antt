@@ -1,8 +1,8 @@
 use Rattle.std.proofs.Common.{◌≡◌, List, Bool, false, length, replicate, ap, ◌∙◌, subst}
 use Rattle.std.proofs.lemmas.List.{with_items_is, length-replicate}
 use Rattle.bsp_deliver.specs.Delivery.{delivery_parts}
-use Rattle.bsp_deliver.specs.Marks.{AreMarkedUnless}
-use Rattle.bsp_deliver.specs.Touched.{outcomes_before}
+use Rattle.bsp_deliver.specs.Inside.Marks.{AreMarkedUnless}
+use Rattle.bsp_deliver.specs.Inside.Touched.{outcomes_before}
 use Rattle.bsp_deliver.proofs.TouchedMarks.{marks_decide}
 use Rattle.bsp_deliver.proofs.touched.touched_by_changes.Goals as goal
 

@@ -1,7 +1,7 @@
 use Rattle.std.proofs.Common.{◌∙◌, ◌++◌, ◌∷◌, [], ℕ, Bool, true, List, sym, ap}
 use Rattle.bsp_deliver.specs.Requests.{each_below}
 use Rattle.bsp_run.proofs.Lists.{each_below_more}
-use Rattle.bsp_incr.specs.Changes.{is_touched}
+use Rattle.bsp_incr.specs.Inside.Changes.{is_touched}
 use Rattle.bsp_incr.proofs.Propagation.{touched-none}
 use Rattle.bsp_incr.proofs.deliveries.all_touched.Goals as goal
 

@@ -1,6 +1,6 @@
 use Rattle.std.proofs.Common.{◌≡◌, ◌<◌, ◌∙◌, ℕ, Bool, true, All, sym, subst, length, arith}
 use Rattle.std.proofs.lemmas.Bool.{eqb-true}
-use Rattle.bsp_incr.specs.Changes.{is_touched}
+use Rattle.bsp_incr.specs.Inside.Changes.{is_touched}
 use Rattle.bsp_incr.proofs.Gathering.{not_empty, processes_where-below}
 use Rattle.bsp_incr.proofs.Carrying.{cells_of_none, cells_in_place}
 use Rattle.bsp_incr.proofs.deliveries.next_cells.Goals as goal

@@ -1,7 +1,7 @@
 use Rattle.std.proofs.Common.{◌≡◌, ◌<◌, ◌∙◌, List, false, All, ap, sym, subst, length, get_or, arith}
 use Rattle.bsp_step.specs.ViewParts.{ViewParts}
-use Rattle.bsp_incr.specs.Changes.{is_touched, processes_where}
-use Rattle.bsp_incr.specs.Replaced.{replaced}
+use Rattle.bsp_incr.specs.Inside.Changes.{is_touched, processes_where}
+use Rattle.bsp_incr.specs.Inside.Replaced.{replaced}
 use Rattle.bsp_incr.proofs.Gathering.{listed_below}
 use Rattle.bsp_incr.proofs.Patching.{length-replaced}
 use Rattle.bsp_incr.proofs.Carrying.{cells_seen, views_in_place}

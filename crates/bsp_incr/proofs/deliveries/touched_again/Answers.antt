@@ -2,10 +2,10 @@ use Rattle.std.proofs.Common.{◌≡◌, ◌∙◌, List, length, ap, arith}
 use Rattle.bsp_step.specs.OutcomeParts.{OutcomeParts}
 use Rattle.bsp_deliver.specs.Requests.{each_below}
 use Rattle.bsp_deliver.specs.Delivery.{delivery_parts}
-use Rattle.bsp_deliver.specs.SameDelivery.{same_delivery}
-use Rattle.bsp_deliver.specs.Touched.{outcomes_before, depends_on_other}
+use Rattle.bsp_deliver.specs.Inside.SameDelivery.{same_delivery}
+use Rattle.bsp_deliver.specs.Inside.Touched.{outcomes_before, depends_on_other}
 use Rattle.bsp_deliver.proofs.SameDelivery.{Decides-delivery}
-use Rattle.bsp_incr.specs.Changes.{is_touched}
+use Rattle.bsp_incr.specs.Inside.Changes.{is_touched}
 use Rattle.bsp_incr.proofs.Gathering.{map_from}
 use Rattle.bsp_incr.proofs.Propagation.{touched_from_decides}
 use Rattle.bsp_incr.proofs.deliveries.touched_again.Goals as goal

@@ -5,7 +5,7 @@ use Rattle.bsp_model.specs.declared.input.Input.{Input}
 use Rattle.bsp_incr.specs.declared.edit.Edit.{Edit}
 use Rattle.bsp_incr.specs.declared.former.Former.{Former}
 use Rattle.bsp_incr.specs.Edits.{edited}
-use Rattle.bsp_incr.specs.Formers.{restored}
+use Rattle.bsp_incr.specs.Inside.Formers.{restored}
 use Rattle.bsp_incr.proofs.Restoring.{restored-last}
 use Rattle.bsp_incr.proofs.editing.make_edits.Goals as goal
 use Rattle.bsp_incr.proofs.editing.make_edits.Goals.{in-Some, in_default}

@@ -1,7 +1,7 @@
 use Rattle.std.proofs.Common.{◌≡◌, ◌≤◌, drop, length, vec_len}
 use Rattle.std.specs.Prelude.{vec_capacity}
 use Rattle.bsp_incr.specs.Edits.{edited}
-use Rattle.bsp_incr.specs.Formers.{restored}
+use Rattle.bsp_incr.specs.Inside.Formers.{restored}
 use Rattle.bsp_incr.proofs.editing.make_edits.Given as goal
 
 -- the edits so far and those that are left, what was replaced so far, and the room for what will be

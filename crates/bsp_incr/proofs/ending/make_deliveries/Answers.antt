@@ -5,8 +5,8 @@ use Rattle.bsp_step.specs.OutcomeParts.{OutcomeParts}
 use Rattle.bsp_deliver.specs.Condition.{IsAscending}
 use Rattle.bsp_run.specs.Run.{Run}
 use Rattle.bsp_run.proofs.Runs.{outcomes_shown-turned}
-use Rattle.bsp_incr.specs.Changes.{is_touched, processes_where, places_of}
-use Rattle.bsp_incr.specs.Before.{delivered_outcomes}
+use Rattle.bsp_incr.specs.Inside.Changes.{is_touched, processes_where, places_of}
+use Rattle.bsp_incr.specs.Inside.Before.{delivered_outcomes}
 use Rattle.bsp_incr.proofs.Gathering.{processes_where-ascending, processes_where-each_below, listed_below, answers_with}
 use Rattle.bsp_incr.proofs.Carrying.{touched_of}
 use Rattle.bsp_incr.proofs.ending.make_deliveries.Goals as goal

@@ -1,7 +1,7 @@
 use Rattle.std.proofs.Common.{◌∙◌, List, ap, sym}
 use Rattle.bsp_model.specs.declared.input.Input.{Input}
 use Rattle.bsp_incr.specs.declared.former.Former.{Former}
-use Rattle.bsp_incr.specs.Formers.{restored}
+use Rattle.bsp_incr.specs.Inside.Formers.{restored}
 use Rattle.bsp_incr.proofs.Restoring.{restored-last}
 use Rattle.bsp_incr.proofs.former.restore.Goals as goal
 

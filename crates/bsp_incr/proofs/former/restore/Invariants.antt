@@ -1,5 +1,5 @@
 use Rattle.std.proofs.Common.{◌≡◌, vec_len}
-use Rattle.bsp_incr.specs.Formers.{restored}
+use Rattle.bsp_incr.specs.Inside.Formers.{restored}
 use Rattle.bsp_incr.proofs.former.restore.Given as goal
 
 -- what was put back so far, and what is left

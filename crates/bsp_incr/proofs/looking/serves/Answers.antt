@@ -1,6 +1,6 @@
 use Rattle.std.proofs.Common.{ap, sym, ◌∙◌, ◌&&◌}
 use Rattle.std.proofs.lemmas.Bool.Decides.{same_from_decides}
-use Rattle.bsp_incr.specs.Reuse.{same_but_for_words, same_where_looked_at}
+use Rattle.bsp_incr.specs.Inside.Reuse.{same_but_for_words, same_where_looked_at}
 use Rattle.bsp_incr.proofs.Serving.{Decides-but_for_words}
 use Rattle.bsp_incr.proofs.looking.serves.Goals as goal
 

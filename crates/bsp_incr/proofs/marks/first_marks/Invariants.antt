@@ -1,6 +1,6 @@
 use Rattle.std.proofs.Common.{◌≡◌, ◌<◌, ℕ, true, false, length, get_or}
 use Rattle.std.specs.Prelude.{option_map}
-use Rattle.bsp_incr.specs.Before.{HasSameArgs, HasSameMemory}
+use Rattle.bsp_incr.specs.Inside.Before.{HasSameArgs, HasSameMemory}
 use Rattle.bsp_incr.proofs.marks.first_marks.Given as goal
 
 abbrev pub invariant-loop-p : goal.invariant-loop-p

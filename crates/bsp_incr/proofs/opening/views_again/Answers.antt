@@ -1,6 +1,6 @@
 use Rattle.std.proofs.Common.{◌<◌, ◌∙◌, ℕ, Bool, All, ap, sym, subst, length, get_or, map, false}
 use Rattle.bsp_run.specs.State.{first_state, view_of}
-use Rattle.bsp_incr.specs.Changes.{processes_where}
+use Rattle.bsp_incr.specs.Inside.Changes.{processes_where}
 use Rattle.bsp_incr.proofs.Gathering.{listed_below}
 use Rattle.bsp_incr.proofs.FirstViews.{first_views_in_place}
 use Rattle.bsp_incr.proofs.opening.views_again.Goals as goal

@@ -1,5 +1,5 @@
 use Rattle.std.proofs.Common.{◌≡◌, ◌++◌, take}
-use Rattle.bsp_incr.specs.Changes.{places_of}
+use Rattle.bsp_incr.specs.Inside.Changes.{places_of}
 use Rattle.bsp_incr.proofs.places.add_places.Given as goal
 
 abbrev pub invariant-loop-process : goal.invariant-loop-process

@@ -1,6 +1,6 @@
 use Rattle.std.proofs.Common.{◌∙◌, ℕ, Bool, false, List, [], ◌∷◌, ◌++◌, ap, sym, get_or, cond}
 use Rattle.std.proofs.lemmas.List.{append-nil}
-use Rattle.bsp_incr.specs.Changes.{processes_where}
+use Rattle.bsp_incr.specs.Inside.Changes.{processes_where}
 use Rattle.bsp_incr.proofs.Gathering.{processes_more}
 use Rattle.bsp_incr.proofs.places.processes_where.Goals as goal
 use Rattle.bsp_incr.proofs.places.processes_where.Goals.{then-answers-p+in_ok-push, else-answers-p}

@@ -1,5 +1,5 @@
 use Rattle.std.proofs.Common.{◌≡◌, false, get_or}
-use Rattle.bsp_incr.specs.Changes.{processes_where}
+use Rattle.bsp_incr.specs.Inside.Changes.{processes_where}
 use Rattle.bsp_incr.proofs.places.processes_where.Given as goal
 
 abbrev pub invariant-loop-p : goal.invariant-loop-p

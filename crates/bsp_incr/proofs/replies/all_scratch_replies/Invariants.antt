@@ -1,7 +1,8 @@
 use Rattle.std.proofs.Common.{◌≡◌, ◌++◌, None, drop, map}
 use Rattle.bsp_model.specs.Input.{input_fault}
 use Rattle.bsp_step.specs.Turn.{turn_of}
-use Rattle.bsp_incr.specs.Replies.{replies, replies_from, without_update}
+use Rattle.bsp_incr.specs.Replies.{without_update}
+use Rattle.bsp_incr.specs.Inside.Replies.{replies, replies_from}
 use Rattle.bsp_incr.proofs.replies.all_scratch_replies.Given as goal
 
 -- the replies so far, and those to the batches that are left

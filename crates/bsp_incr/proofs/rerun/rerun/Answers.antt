@@ -5,10 +5,10 @@ use Rattle.bsp_model.proofs.Inputs.{lawful_input}
 use Rattle.bsp_step.specs.Turn.{turn_of}
 use Rattle.bsp_run.specs.Run.{Run, start, advance, times, run}
 use Rattle.bsp_run.proofs.Runs.{IsBetween, start-between, advance-between, ended-between, times_more}
-use Rattle.bsp_incr.specs.Before.{AreArgsMarked}
-use Rattle.bsp_incr.specs.Changes.{IsUpdate, processes_where}
+use Rattle.bsp_incr.specs.Inside.Before.{AreArgsMarked}
+use Rattle.bsp_incr.specs.Inside.Changes.{update_of, processes_where}
 use Rattle.bsp_incr.proofs.FirstViews.{had_first_views}
-use Rattle.bsp_incr.proofs.Remaking.{under_way_start, before_is}
+use Rattle.bsp_incr.proofs.Remaking.{under_way_start}
 use Rattle.bsp_incr.proofs.rerun.rerun.Goals as goal
 
 pub loop-step-init : goal.loop-step-init
@@ -23,7 +23,7 @@ loop-step-init g c =
     record {
       rest = ap (λ n. times n f c.in_ok-tape.tape) all ∙ ap (times input.limit f) opened;
       between = subst (IsBetween (input.limit - 0)) (sym opened) (subst (λ n. IsBetween n (start input)) (sym all) (start-between input (lawful_input input c.requires.lawful).some_superstep));
-      under_way = under_way_start turn (g.P.Program.looks c.args.program.now) old input c.in_ok-tape.tape c.in_ok-marks.marks.items record { executed = c.new.result; redelivered = c.new-2.result } opened (lawful_input input c.requires.lawful).some_superstep (before_is turn input old c.requires.before) c.in_ok-marks.ensures c.new.ensures c.new-2.ensures;
+      under_way = under_way_start turn (g.P.Program.looks c.args.program.now) old input c.in_ok-tape.tape c.in_ok-marks.marks.items record { executed = c.new.result; redelivered = c.new-2.result } opened (lawful_input input c.requires.lawful).some_superstep c.requires.before c.in_ok-marks.ensures c.new.ensures c.new-2.ensures;
     }
 
 pub loop-step-preserved : goal.loop-step-preserved
@@ -51,7 +51,7 @@ returns-clause-run g c =
 
 pub returns-clause-update : goal.returns-clause-update
 returns-clause-update g c =
-    subst (λ (r : Run). IsUpdate (g.P.Program.looks c.args.program.now) (option_map (λ k. k.now) c.args.old) r c.loop-step.update) (sym c.in_ok-history.ensures) c.loop-step.invariant.under_way.updated
+    subst (λ (r : Run). c.loop-step.update ≡ update_of (g.P.Program.looks c.args.program.now) (option_map (λ k. k.now) c.args.old) r) (sym c.in_ok-history.ensures) c.loop-step.invariant.under_way.updated
 
 pub opened-requires-clause-first : goal.opened-requires-clause-first
 opened-requires-clause-first g c =

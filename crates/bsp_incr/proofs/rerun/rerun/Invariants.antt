@@ -3,7 +3,7 @@ use Rattle.std.specs.Prelude.{option_map}
 use Rattle.bsp_step.specs.Turn.{turn_of}
 use Rattle.bsp_run.specs.Run.{advance, times, run}
 use Rattle.bsp_run.proofs.Runs.{IsBetween}
-use Rattle.bsp_incr.specs.Before.{IsUnderWay}
+use Rattle.bsp_incr.specs.Inside.Before.{IsUnderWay}
 use Rattle.bsp_incr.proofs.rerun.rerun.Given as goal
 
 -- the supersteps so far and those that are left are those of the run

@@ -1,6 +1,8 @@
 use Rattle.std.proofs.Common.{◌≡◌, ◌∙◌, ap, sym, subst, length, None}
 use Rattle.bsp_model.specs.declared.input.Input.{Input}
 use Rattle.bsp_model.specs.Input.{input_fault}
+use Rattle.bsp_step.specs.Turn.{turn_of}
+use Rattle.bsp_incr.proofs.RunBefore.{record_of_law}
 use Rattle.bsp_incr.proofs.Lawful.{edited_lawful, edited_count}
 use Rattle.bsp_incr.proofs.rerun.rerun_edited.Goals as goal
 
@@ -10,9 +12,10 @@ rerun-requires-clause-lawful g c κs within =
 
 pub rerun-requires-clause-before : goal.rerun-requires-clause-before
 rerun-requires-clause-before g c κs within =
+    let turn = turn_of (g.P.Program.acts c.args.program.now) (g.P.Program.ending c.args.program.now) in
+    let input : Input = c.args.input.now in
     record {
-      input_before = c.args.input.now;
-      lawful = c.requires.lawful;
-      is = c.requires.before;
+      input_before = input;
+      made = record_of_law turn input c.args.old.now c.requires.lawful c.requires.before;
       count = sym (edited_count c.args.input.now c.args.edits.now) ∙ ap (λ (i : Input). length i.mems) (sym c.in_ok-formers.ensures.made);
     }

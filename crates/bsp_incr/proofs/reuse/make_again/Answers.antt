@@ -2,7 +2,7 @@ use Rattle.std.proofs.Common.{◌∙◌, List, ap, sym, take, get_or}
 use Rattle.std.specs.Prelude.{slice_set}
 use Rattle.std.proofs.lemmas.List.{take_more}
 use Rattle.bsp_model.specs.declared.request.Store.{Store}
-use Rattle.bsp_incr.specs.Reuse.{made_again}
+use Rattle.bsp_incr.specs.Reused.{made_again}
 use Rattle.bsp_incr.proofs.Reusing.{made_again-push}
 use Rattle.bsp_incr.proofs.reuse.make_again.Goals as goal
 

@@ -1,5 +1,5 @@
 use Rattle.std.proofs.Common.{◌≡◌, take}
-use Rattle.bsp_incr.specs.Reuse.{made_again}
+use Rattle.bsp_incr.specs.Reused.{made_again}
 use Rattle.bsp_incr.proofs.reuse.make_again.Given as goal
 
 abbrev pub invariant-loop-store : goal.invariant-loop-store

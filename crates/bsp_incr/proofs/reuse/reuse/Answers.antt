@@ -3,7 +3,7 @@ use Rattle.bsp_step.specs.ViewParts.{ViewParts, IsView}
 use Rattle.bsp_step.specs.OutcomeParts.{OutcomeParts, IsOutcome}
 use Rattle.bsp_step.specs.Turn.{turn_of}
 use Rattle.bsp_step.proofs.Limits.{turn_of-limits}
-use Rattle.bsp_incr.specs.Reuse.{made_again}
+use Rattle.bsp_incr.specs.Reused.{made_again}
 use Rattle.bsp_incr.proofs.Reusing.{turn_of-alike}
 use Rattle.bsp_incr.proofs.Serving.{Decides-serves}
 use Rattle.bsp_incr.proofs.reuse.reuse.Goals as goal

@@ -6,11 +6,11 @@ use Rattle.bsp_step.specs.Turn.{turn_of}
 use Rattle.bsp_run.specs.Run.{Run, after_turns, after_delivery, open_views}
 use Rattle.bsp_run.proofs.Runs.{open_phase, advance-closed, advance-delivers, views_shown-open}
 use Rattle.bsp_run.proofs.Records.{open_views-in}
-use Rattle.bsp_incr.specs.Marks.{AreMarked, HaveOneTable}
-use Rattle.bsp_incr.specs.Before.{taken_before}
+use Rattle.bsp_incr.specs.Inside.Marks.{AreMarked, HaveOneTable}
+use Rattle.bsp_incr.specs.Inside.Before.{taken_before}
 use Rattle.bsp_incr.proofs.RunBefore.{table_before, open_table}
 use Rattle.bsp_incr.proofs.Remaking.{count_taken}
-use Rattle.bsp_incr.specs.Before.{IsUnderWay}
+use Rattle.bsp_incr.specs.Inside.Before.{IsUnderWay}
 use Rattle.bsp_incr.proofs.Staying.{staying_whole, left, goes_on, can_take_over, under_way_taken}
 use Rattle.bsp_model.proofs.Inputs.{lawful_input}
 use Rattle.bsp_incr.proofs.superstep.advance.Goals as goal

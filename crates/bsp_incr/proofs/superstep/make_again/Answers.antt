@@ -7,13 +7,13 @@ use Rattle.bsp_run.specs.declared.superstep.Superstep.{Superstep}
 use Rattle.bsp_run.specs.Run.{Run, after_delivery, open_views}
 use Rattle.bsp_run.specs.Condition.{is_turned}
 use Rattle.bsp_run.specs.Law.{outcomes_in}
-use Rattle.bsp_run.specs.Record.{IsRecord}
+use Rattle.bsp_run.specs.Inside.Record.{IsRecord}
 use Rattle.bsp_run.proofs.Runs.{open_phase, advance-delivers, advance-ends}
 use Rattle.bsp_run.proofs.Records.{past-turned, open_views-in, count-outcomes_in, IsRecord-turned}
 use Rattle.bsp_incr.specs.declared.reply.Place.{Place}
-use Rattle.bsp_incr.specs.Changes.{touched_in, is_touched}
-use Rattle.bsp_incr.specs.Marks.{OutcomesDifferAtMost}
-use Rattle.bsp_incr.specs.Before.{delivered_outcomes}
+use Rattle.bsp_incr.specs.Inside.Changes.{touched_in, is_touched}
+use Rattle.bsp_incr.specs.Inside.Marks.{OutcomesDifferAtMost}
+use Rattle.bsp_incr.specs.Inside.Before.{delivered_outcomes}
 use Rattle.bsp_incr.proofs.RunBefore.{count_before, delivered_before_is, table_after, table_before, open_table}
 use Rattle.bsp_incr.proofs.Remaking.{turns-in, count_taken, unchanged_among, alike_after, outcomes-turned, under_way_turned, under_way_delivered}
 use Rattle.bsp_incr.proofs.superstep.make_again.Goals as goal

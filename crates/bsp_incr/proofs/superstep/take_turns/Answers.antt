@@ -5,8 +5,8 @@ use Rattle.bsp_run.specs.Run.{Run}
 use Rattle.bsp_run.specs.Condition.{AreOutcomesOf}
 use Rattle.bsp_run.proofs.Runs.{views_shown-open, open_phase}
 use Rattle.bsp_run.proofs.Turns.{AreOutcomesOf-turns}
-use Rattle.bsp_incr.specs.Before.{taken_before}
-use Rattle.bsp_incr.specs.Marks.{ViewsDifferAtMost, HaveOneTable}
+use Rattle.bsp_incr.specs.Inside.Before.{taken_before}
+use Rattle.bsp_incr.specs.Inside.Marks.{ViewsDifferAtMost, HaveOneTable}
 use Rattle.bsp_incr.proofs.superstep.take_turns.Goals as goal
 
 pub turns_again-requires-clause-count : goal.turns_again-requires-clause-count

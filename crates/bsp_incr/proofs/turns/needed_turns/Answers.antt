@@ -1,7 +1,7 @@
 use Rattle.std.proofs.Common.{◌≡◌, ◌∙◌, ℕ, List, not, take, length, arith, ap}
 use Rattle.std.specs.Prelude.{filter}
 use Rattle.std.proofs.Math.Seq.{take-length}
-use Rattle.bsp_incr.specs.Changes.{differs}
+use Rattle.bsp_incr.specs.Inside.Changes.{differs}
 use Rattle.bsp_incr.proofs.turns.needed_turns.Goals as goal
 
 pub returns-clause-served : goal.returns-clause-served

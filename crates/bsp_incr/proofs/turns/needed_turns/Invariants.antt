@@ -1,6 +1,6 @@
 use Rattle.std.proofs.Common.{◌≡◌, take, not}
 use Rattle.std.specs.Prelude.{filter}
-use Rattle.bsp_incr.specs.Changes.{differs}
+use Rattle.bsp_incr.specs.Inside.Changes.{differs}
 use Rattle.bsp_incr.proofs.turns.needed_turns.Given as goal
 
 abbrev pub invariant-loop-process : goal.invariant-loop-process

@@ -1,7 +1,7 @@
 use Rattle.std.proofs.Common.{◌<◌, ◌∙◌, ap, sym, not, length, get_or, arith}
 use Rattle.bsp_step.specs.ViewParts.{ViewParts}
 use Rattle.bsp_run.specs.Condition.{no_view}
-use Rattle.bsp_incr.specs.Reuse.{serves}
+use Rattle.bsp_incr.specs.Inside.Reuse.{serves}
 use Rattle.bsp_incr.proofs.Retaking.{differs-some, differs-none}
 use Rattle.bsp_incr.proofs.turns.needs_turn.Goals as goal
 

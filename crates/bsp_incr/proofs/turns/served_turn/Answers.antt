@@ -5,7 +5,7 @@ use Rattle.bsp_step.specs.OutcomeParts.{OutcomeParts}
 use Rattle.bsp_step.specs.Turn.{turn_of}
 use Rattle.bsp_deliver.specs.Requests.{no_outcome}
 use Rattle.bsp_run.specs.Condition.{no_view}
-use Rattle.bsp_incr.specs.Reuse.{serves}
+use Rattle.bsp_incr.specs.Inside.Reuse.{serves}
 use Rattle.bsp_incr.proofs.Retaking.{unneeded}
 use Rattle.bsp_incr.proofs.turns.served_turn.Goals as goal
 

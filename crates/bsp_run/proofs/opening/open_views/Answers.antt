@@ -7,7 +7,7 @@ use Rattle.bsp_step.specs.ViewParts.{ViewParts, IsView}
 use Rattle.bsp_deliver.specs.Requests.{each_below}
 use Rattle.bsp_run.proofs.Lists.{each_below_more}
 use Rattle.bsp_run.specs.State.{view_of, views_of}
-use Rattle.bsp_run.specs.Opening.{state_of}
+use Rattle.bsp_run.specs.Inside.Opening.{state_of}
 use Rattle.bsp_run.proofs.Views.{view_within, first_left, view_with-at}
 use Rattle.bsp_run.proofs.opening.open_views.Goals as goal
 

@@ -3,7 +3,7 @@ use Rattle.std.proofs.lemmas.List.{length-map}
 use Rattle.bsp_model.proofs.Inputs.{lawful_input}
 use Rattle.bsp_deliver.specs.Requests.{each_below}
 use Rattle.bsp_run.specs.State.{no_messages, views_of}
-use Rattle.bsp_run.specs.Opening.{state_of}
+use Rattle.bsp_run.specs.Inside.Opening.{state_of}
 use Rattle.bsp_run.specs.Result.{lines_of_process}
 use Rattle.bsp_run.proofs.Opens.{can_open_first, first_is, started}
 use Rattle.bsp_run.proofs.UnrecordedRuns.{unrecorded_start}

@@ -1,6 +1,6 @@
 use Rattle.std.proofs.Common.{◌≡◌, map, take, fold}
 use Rattle.bsp_deliver.specs.Cost.{get_transfer}
-use Rattle.bsp_deliver.specs.Sums.{counted}
+use Rattle.bsp_deliver.specs.Inside.Sums.{counted}
 use Rattle.bsp_deliver.proofs.cost.Sums.count_gets.Given as goal
 
 -- the gets so far are counted

@@ -1,6 +1,6 @@
 use Rattle.std.proofs.Common.{◌≡◌, map, take, fold}
 use Rattle.bsp_deliver.specs.Cost.{put_transfer}
-use Rattle.bsp_deliver.specs.Sums.{counted}
+use Rattle.bsp_deliver.specs.Inside.Sums.{counted}
 use Rattle.bsp_deliver.proofs.cost.Sums.count_puts.Given as goal
 
 -- the puts so far are counted

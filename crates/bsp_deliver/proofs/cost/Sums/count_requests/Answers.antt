@@ -1,7 +1,7 @@
 use Rattle.std.proofs.Common.{◌+◌, length, ap, ◌∙◌, arith, subst, All, fold, map}
 use Rattle.bsp_step.specs.OutcomeParts.{OutcomeParts, IsShortSend}
 use Rattle.bsp_deliver.specs.Cost.{put_transfer, get_transfer, send_transfer}
-use Rattle.bsp_deliver.specs.Sums.{counted}
+use Rattle.bsp_deliver.specs.Inside.Sums.{counted}
 use Rattle.bsp_deliver.proofs.Counts.{room_at, small_puts, small_gets, small_sends}
 use Rattle.bsp_deliver.proofs.cost.Sums.count_requests.Goals as goal
 

@@ -3,7 +3,7 @@ use Rattle.std.proofs.lemmas.List.{length-take-le}
 use Rattle.std.proofs.lemmas.List.Elements.{All-take}
 use Rattle.bsp_deliver.specs.declared.cost.Sums.{Sums}
 use Rattle.bsp_deliver.specs.Cost.{send_transfer}
-use Rattle.bsp_deliver.specs.Sums.{HasRoom, IsSmall}
+use Rattle.bsp_deliver.specs.Inside.Sums.{HasRoom, IsSmall}
 use Rattle.bsp_deliver.proofs.Counts.{room_next}
 use Rattle.bsp_deliver.proofs.cost.Sums.count_sends.Goals as goal
 

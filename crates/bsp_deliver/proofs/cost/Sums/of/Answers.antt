@@ -1,7 +1,7 @@
 use Rattle.std.proofs.Common.{◌+◌, ◌*◌, ◌-◌, ap, ◌∙◌, arith, fold}
 use Rattle.bsp_deliver.specs.declared.cost.Sums.{Sums}
 use Rattle.bsp_deliver.specs.Requests.{outcome_of}
-use Rattle.bsp_deliver.specs.Sums.{counted, no_words, transfers_of}
+use Rattle.bsp_deliver.specs.Inside.Sums.{counted, no_words, transfers_of}
 use Rattle.bsp_deliver.proofs.Counts.{transfers_more, less_room}
 use Rattle.bsp_deliver.proofs.cost.Sums.of.Goals as goal
 

@@ -1,5 +1,5 @@
 use Rattle.std.proofs.Common.{◌≡◌, ◌*◌, ◌-◌, take, fold}
-use Rattle.bsp_deliver.specs.Sums.{counted, no_words, transfers_from, HasRoom}
+use Rattle.bsp_deliver.specs.Inside.Sums.{counted, no_words, transfers_from, HasRoom}
 use Rattle.bsp_deliver.proofs.cost.Sums.of.Given as goal
 
 -- the requests of the processes so far are counted, and there is room for those of the others

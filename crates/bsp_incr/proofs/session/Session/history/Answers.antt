@@ -1,12 +1,10 @@
 use Rattle.std.proofs.Common.{subst}
 use Rattle.bsp_step.specs.Turn.{turn_of}
 use Rattle.bsp_run.specs.Law.{IsBspRun}
-use Rattle.bsp_run.proofs.OneRun.{one_run}
 use Rattle.bsp_incr.specs.Replies.{SessionParts}
 use Rattle.bsp_incr.proofs.session.Session.history.Goals as goal
 
 pub returns-clause-law : goal.returns-clause-law
 returns-clause-law g c =
-    let turn = turn_of (g.P.Program.acts c.self.inside.program) (g.P.Program.ending c.self.inside.program) in
     subst (λ (s : SessionParts _). IsBspRun (turn_of (g.P.Program.acts s.program) (g.P.Program.ending s.program)) s.input c.self.inside.history) c.self.view_is
-    ((one_run turn c.self.inside.input c.self.inside.history c.self.invariant.lawful).1 c.self.invariant.is)
+    c.self.invariant.law

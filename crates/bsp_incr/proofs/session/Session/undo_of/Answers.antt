@@ -1,7 +1,7 @@
 use Rattle.std.proofs.Common.{◌≡◌, ◌∙◌, List, None, ap, sym, subst}
 use Rattle.bsp_model.specs.declared.input.Input.{Input}
 use Rattle.bsp_step.specs.Turn.{turn_of}
-use Rattle.bsp_run.specs.Run.{run}
+use Rattle.bsp_run.specs.Law.{IsBspRun}
 use Rattle.bsp_incr.specs.declared.edit.Edit.{Edit}
 use Rattle.bsp_incr.specs.Edits.{refusal_of}
 use Rattle.bsp_incr.specs.Undo.{undo_of, TakesBack}
@@ -19,4 +19,5 @@ pub returns-clause-history : goal.returns-clause-history
 returns-clause-history g c =
     let turn = turn_of (g.P.Program.acts c.args.self.now.program) (g.P.Program.ending c.args.self.now.program) in
     let back = returns-clause-back g c in
-    ap (run turn) back.input ∙ sym c.history-history.ensures.run ∙ c.history-history.ensures.history
+    subst (λ (i : Input). IsBspRun turn i c.args.self.now.history) (sym back.input)
+    (subst (IsBspRun turn c.args.self.now.input) c.history-history.ensures.history c.history-history.ensures.law)

@@ -3,7 +3,7 @@ use Rattle.bsp_step.specs.OutcomeParts.{OutcomeParts}
 use Rattle.bsp_deliver.specs.Condition.{AreDeliverable}
 use Rattle.bsp_run.specs.Run.{Run, is_limit}
 use Rattle.bsp_run.specs.Condition.{is_ended}
-use Rattle.bsp_run.specs.TapeInside.{run_of}
+use Rattle.bsp_run.specs.Inside.Tape.{run_of}
 use Rattle.bsp_run.proofs.Laws.{last_deliverable, IfSome-map, no_turns}
 use Rattle.bsp_run.proofs.history.History.outcomes.Goals as goal
 

@@ -2,9 +2,9 @@ use Rattle.std.proofs.Common.{◌≡◌, ◌+◌, ◌∙◌, List, ℕ, ap, sym,
 use Rattle.bsp_model.specs.declared.request.Message.{Message}
 use Rattle.bsp_table.specs.declared.area.Area.{Area}
 use Rattle.bsp_run.specs.State.{State, next_state, views_of}
-use Rattle.bsp_run.specs.Opening.{CanOpen, state_of}
+use Rattle.bsp_run.specs.Inside.Opening.{CanOpen, state_of}
 use Rattle.bsp_run.specs.Run.{Run}
-use Rattle.bsp_run.specs.TapeInside.{run_of}
+use Rattle.bsp_run.specs.Inside.Tape.{run_of}
 use Rattle.bsp_run.specs.Condition.{deliveries_of}
 use Rattle.bsp_run.proofs.Phases.{cells_are, next_is_run, next_table-is, next_tag-is, can_open_next}
 use Rattle.bsp_run.proofs.tape.Tape.delivered.Goals as goal

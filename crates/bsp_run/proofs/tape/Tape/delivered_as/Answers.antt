@@ -2,9 +2,9 @@ use Rattle.std.proofs.Common.{◌≡◌, ◌+◌, ◌∙◌, All, refl, ap, sym,
 use Rattle.std.proofs.lemmas.List.Elements.{All-push}
 use Rattle.bsp_deliver.specs.SyncFault.{next_tag_size}
 use Rattle.bsp_run.specs.State.{State, views_of, next_state}
-use Rattle.bsp_run.specs.Opening.{state_of}
+use Rattle.bsp_run.specs.Inside.Opening.{state_of}
 use Rattle.bsp_run.specs.Run.{Run, after_delivery}
-use Rattle.bsp_run.specs.TapeInside.{run_of, IsSmall}
+use Rattle.bsp_run.specs.Inside.Tape.{run_of, IsSmall}
 use Rattle.bsp_run.specs.Result.{cost_of_delivery}
 use Rattle.bsp_run.proofs.KeptCosts.{costs_kept}
 use Rattle.bsp_run.specs.Condition.{IsRun, deliveries_of}

@@ -7,7 +7,7 @@ use Rattle.bsp_step.specs.OutcomeParts.{OutcomeParts}
 use Rattle.bsp_deliver.specs.Requests.{each_below}
 use Rattle.bsp_run.specs.declared.superstep.Superstep.{Superstep}
 use Rattle.bsp_run.specs.Run.{Run, is_limit}
-use Rattle.bsp_run.specs.TapeInside.{run_of}
+use Rattle.bsp_run.specs.Inside.Tape.{run_of}
 use Rattle.bsp_run.specs.Result.{lines_of, lines_of_process, delivered_turns, costs_of, cost_of_delivery, cost_of_end, total_of, turns_in, last_turn}
 use Rattle.bsp_run.proofs.tape.Tape.finish_sharing.Goals as goal
 

@@ -2,7 +2,7 @@ use Rattle.std.proofs.Common.{◌∙◌, ap}
 use Rattle.bsp_deliver.specs.SyncFault.{next_tag_size}
 use Rattle.bsp_run.specs.State.{next_state}
 use Rattle.bsp_run.specs.Run.{Run}
-use Rattle.bsp_run.specs.TapeInside.{run_of}
+use Rattle.bsp_run.specs.Inside.Tape.{run_of}
 use Rattle.bsp_run.proofs.tape.Tape.next_tag_size.Goals as goal
 
 pub returns : goal.returns

@@ -3,7 +3,7 @@ use Rattle.std.proofs.lemmas.List.{length-map}
 use Rattle.bsp_step.specs.ViewParts.{ViewParts}
 use Rattle.bsp_run.specs.State.{next_state, view_of}
 use Rattle.bsp_run.specs.Run.{Run}
-use Rattle.bsp_run.specs.TapeInside.{run_of}
+use Rattle.bsp_run.specs.Inside.Tape.{run_of}
 use Rattle.bsp_deliver.specs.SyncFault.{next_tag_size}
 use Rattle.bsp_run.proofs.Phases.{next_is_run}
 use Rattle.bsp_run.proofs.NextViews.{parts_of, next_view-is, next_view-within}

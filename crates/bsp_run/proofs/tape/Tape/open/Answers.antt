@@ -1,7 +1,7 @@
 use Rattle.std.proofs.Common.{◌∙◌, ap, sym, map}
 use Rattle.bsp_model.proofs.Inputs.{lawful_input}
 use Rattle.bsp_run.specs.State.{no_messages, views_of}
-use Rattle.bsp_run.specs.Opening.{state_of}
+use Rattle.bsp_run.specs.Inside.Opening.{state_of}
 use Rattle.bsp_run.proofs.Opens.{can_open_first, first_is, started}
 use Rattle.bsp_run.proofs.tape.Tape.open.Goals as goal
 

@@ -1,7 +1,7 @@
 use Rattle.std.proofs.Common.{◌∙◌, ap, sym, subst, length}
 use Rattle.bsp_deliver.specs.Condition.{AreDeliverable}
 use Rattle.bsp_run.specs.Run.{Run}
-use Rattle.bsp_run.specs.TapeInside.{run_of}
+use Rattle.bsp_run.specs.Inside.Tape.{run_of}
 use Rattle.bsp_run.specs.Condition.{IsInPhase, IsTurned}
 use Rattle.bsp_run.proofs.Conditions.{AreDeliverable-from_turns}
 use Rattle.bsp_run.proofs.tape.Tape.outcomes.Goals as goal

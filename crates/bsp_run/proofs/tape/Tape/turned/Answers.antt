@@ -3,7 +3,7 @@ use Rattle.bsp_table.specs.NextTable.{AreSlots}
 use Rattle.bsp_step.specs.OutcomeParts.{OutcomeParts}
 use Rattle.bsp_run.specs.Ending.{end_of}
 use Rattle.bsp_run.specs.Run.{Run, open_views, after_turns, phase_after}
-use Rattle.bsp_run.specs.TapeInside.{run_of}
+use Rattle.bsp_run.specs.Inside.Tape.{run_of}
 use Rattle.bsp_run.specs.Condition.{AreOutcomesOf, IsRun}
 use Rattle.bsp_run.proofs.Conditions.{pops_are_slots}
 use Rattle.bsp_run.proofs.Phases.{turned_is_run}

@@ -1,7 +1,7 @@
 use Rattle.std.proofs.Common.{◌∙◌, sym, subst, All}
 use Rattle.bsp_step.specs.ViewParts.{IsView}
 use Rattle.bsp_run.specs.Run.{Run}
-use Rattle.bsp_run.specs.TapeInside.{run_of}
+use Rattle.bsp_run.specs.Inside.Tape.{run_of}
 use Rattle.bsp_run.proofs.Turns.{views_within}
 use Rattle.bsp_run.proofs.tape.Tape.views.Goals as goal
 

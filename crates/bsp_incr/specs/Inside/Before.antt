@@ -2,17 +2,17 @@
 use Rattle.std.specs.Prelude.{◌≡◌, ◌<◌, ℕ, ◌+◌, Bool, true, false, List, [], Option, None, Some, length, nat_lt, if◌then◌else◌, slice_index_or}
 use Rattle.std.specs.Option.{ForSome}
 use Rattle.bsp_model.specs.declared.input.Input.{Input}
-use Rattle.bsp_model.specs.Input.{input_fault}
 use Rattle.bsp_step.specs.ViewParts.{ViewParts}
 use Rattle.bsp_step.specs.OutcomeParts.{OutcomeParts}
-use Rattle.bsp_run.specs.Run.{Run, start, open_views, run}
+use Rattle.bsp_run.specs.Run.{Run, start, open_views}
 use Rattle.bsp_run.specs.Supersteps.{superstep_at, views_at}
 use Rattle.bsp_run.specs.Condition.{is_open, no_view}
 use Rattle.bsp_incr.specs.declared.reply.Update.{Update}
-use Rattle.bsp_run.specs.Record.{IsRecord}
-use Rattle.bsp_incr.specs.Marks.{AreMarked, AreAlikeButForTable}
-use Rattle.bsp_incr.specs.Next.{next_view}
-use Rattle.bsp_incr.specs.Changes.{supersteps_before, delivered_before, is_touched, IsUpdate}
+use Rattle.bsp_run.specs.Inside.Record.{IsRecord}
+use Rattle.bsp_incr.specs.Inside.Marks.{AreMarked, AreAlikeButForTable}
+use Rattle.bsp_incr.specs.Inside.Next.{next_view}
+use Rattle.bsp_incr.specs.Exact.{supersteps_before, delivered_before}
+use Rattle.bsp_incr.specs.Inside.Changes.{is_touched, update_of}
 
 -- the superstep that the run before took under this number, and the outcomes of the one that it delivered
 abbrev pub taken_before : Option Run → ℕ → List ViewParts
@@ -58,7 +58,7 @@ pub record IsUnderWay (turn : ViewParts → OutcomeParts) (looks : ViewParts →
   pub before : IsBefore turn input old
   pub made : IsRecord turn input r
   pub marked : is_open r.phase ≡ true → AreMarked (taken_before old (length r.past)) (open_views r) marks
-  pub updated : IsUpdate looks old r update
+  pub updated : update ≡ update_of looks old r
 
 abbrev pub HasSameMemory : Option Run → Input → ℕ → Type 0
 HasSameMemory old input p = ForSome old (λ r. (slice_index_or (views_at r 0) p no_view).memory ≡ slice_index_or input.mems p [])
@@ -74,14 +74,3 @@ pub record HasFirstViews (input : Input) (r : Run) : Type 0 where
   pub input_before : Input
   pub views : views_at r 0 ≡ open_views (start input_before)
   pub count : length input_before.mems ≡ length input.mems
-
--- the run before is that of the program on a lawful input which has as many processes as the new one
-pub record IsRunOf (turn : ViewParts → OutcomeParts) (input : Input) (r : Run) : Type 0 where
-  pub input_before : Input
-  pub lawful : input_fault input_before ≡ None
-  pub is : r ≡ run turn input_before
-  pub count : length input_before.mems ≡ length input.mems
-
-abbrev pub IsRunBefore : (ViewParts → OutcomeParts) → Input → Option Run → Type 0
-IsRunBefore turn input None = Unit {0}
-IsRunBefore turn input (Some r) = IsRunOf turn input r

@@ -6,7 +6,7 @@ use Rattle.bsp_run.specs.declared.unrecorded.Unrecorded.{Unrecorded}
 use Rattle.bsp_run.specs.Run.{Run, open_views}
 use Rattle.bsp_run.specs.Condition.{IsRun}
 use Rattle.bsp_run.specs.Result.{lines_of_process, delivered_turns, cost_of_delivery}
-use Rattle.bsp_run.specs.TapeInside.{IsSmall}
+use Rattle.bsp_run.specs.Inside.Tape.{IsSmall}
 
 -- What is kept is what the run sees now, and what its result would add up of the supersteps that ended by delivery.
 pub record IsUnrecorded (input : Input) (r : Run) (kept : Unrecorded) : Type 0 where

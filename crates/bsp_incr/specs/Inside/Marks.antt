@@ -6,7 +6,7 @@ use Rattle.bsp_deliver.specs.Requests.{outcome_of}
 use Rattle.bsp_deliver.specs.Delivery.{delivery_parts, next_memory, next_queue}
 use Rattle.bsp_deliver.specs.Condition.{AreDeliverable}
 use Rattle.bsp_run.specs.Condition.{no_view}
-use Rattle.bsp_incr.specs.Changes.{processes_where}
+use Rattle.bsp_incr.specs.Inside.Changes.{processes_where}
 
 -- views that are equal but for the table and the tag size
 pub record AreAlikeButForTable (v w : ViewParts) : Type 0 where

@@ -3,7 +3,7 @@ use Rattle.std.specs.Prelude.{Bool, List, ◌==◌, ◌&&◌}
 use Rattle.std.specs.Cmp.Lexicographic.{pointwise}
 use Rattle.bsp_model.specs.declared.request.Message.{Message}
 use Rattle.bsp_table.specs.declared.area.Area.{Area}
-use Rattle.bsp_deliver.specs.SameDelivery.{same_words}
+use Rattle.bsp_deliver.specs.Inside.SameDelivery.{same_words}
 
 abbrev pub same_area : Area → Area → Bool
 same_area a b = (a.start == b.start) && (a.len == b.len)

@@ -1,21 +1,10 @@
--- When the recorded turn of another run serves, and what it leaves then.
-use Rattle.std.specs.Prelude.{ℕ, Bool, true, List, [], ◌∷◌, Option, None, Some, ◌==◌, ◌&&◌, ◌||◌, not, length, slice_set, slice_index}
+-- When the recorded turn of another run serves, as a test.
+use Rattle.std.specs.Prelude.{ℕ, Bool, true, List, Option, None, Some, ◌==◌, ◌&&◌, ◌||◌, not, length, slice_index}
 use Rattle.std.specs.List.{list_all, range_with_len}
 use Rattle.std.specs.Cmp.Lexicographic.{pointwise}
-use Rattle.bsp_model.specs.declared.request.Store.{Store}
 use Rattle.bsp_step.specs.ViewParts.{ViewParts}
-use Rattle.bsp_step.specs.OutcomeParts.{OutcomeParts}
-use Rattle.bsp_deliver.specs.SameDelivery.{same_words}
-use Rattle.bsp_incr.specs.Comparing.{same_table, same_message}
-
--- The memory on which these stores are made again, in order (this profile).
-abbrev pub made_again : List ℕ → List Store → List ℕ
-made_again memory [] = memory
-made_again memory (s ∷ later) = made_again (slice_set memory s.addr s.value) later
-
--- A recorded outcome over a new memory: all of it stays but the memory, on which its stores are made again.
-abbrev pub reused : OutcomeParts → List ℕ → OutcomeParts
-reused o memory = record o { memory = made_again memory o.stores }
+use Rattle.bsp_deliver.specs.Inside.SameDelivery.{same_words}
+use Rattle.bsp_incr.specs.Inside.Comparing.{same_table, same_message}
 
 -- views that are the same but for the words of their memories
 abbrev pub same_but_for_words : ViewParts → ViewParts → Bool

@@ -1,5 +1,5 @@
--- What a run needs anew, against the record of another run. A run that there is not has no superstep.
-use Rattle.std.specs.Prelude.{◌≡◌, ℕ, ◌+◌, Bool, List, [], ◌∷◌, ◌++◌, Option, None, Some, ◌&&◌, not, nat_lt, filter, map, length, slice_get, slice_index_or}
+-- What a run needs anew, against the record of another run, as lists that are computed.
+use Rattle.std.specs.Prelude.{ℕ, ◌+◌, Bool, List, [], ◌∷◌, ◌++◌, Option, ◌&&◌, not, nat_lt, filter, map, length, slice_get, slice_index_or}
 use Rattle.std.specs.List.{range_with_len}
 use Rattle.bsp_step.specs.ViewParts.{ViewParts}
 use Rattle.bsp_step.specs.OutcomeParts.{OutcomeParts}
@@ -10,18 +10,9 @@ use Rattle.bsp_run.specs.Supersteps.{supersteps_of, superstep_at}
 use Rattle.bsp_run.specs.Condition.{no_view}
 use Rattle.bsp_incr.specs.declared.reply.Place.{Place}
 use Rattle.bsp_incr.specs.declared.reply.Update.{Update}
-use Rattle.bsp_deliver.specs.SameDelivery.{same_delivery}
-use Rattle.bsp_incr.specs.Reuse.{needs_turn}
-
--- the supersteps of a run whose turns were taken
-abbrev pub supersteps_before : Option Run → List Superstep
-supersteps_before None = []
-supersteps_before (Some old) = supersteps_of old
-
--- those that ended by delivery
-abbrev pub delivered_before : Option Run → List Superstep
-delivered_before None = []
-delivered_before (Some old) = old.past
+use Rattle.bsp_deliver.specs.Inside.SameDelivery.{same_delivery}
+use Rattle.bsp_incr.specs.Exact.{supersteps_before, delivered_before}
+use Rattle.bsp_incr.specs.Inside.Reuse.{needs_turn}
 
 -- the processes at which the test holds, of so many
 abbrev pub processes_where : ℕ → (ℕ → Bool) → List ℕ
@@ -61,7 +52,7 @@ touched_from step olds (s ∷ later) = touched_in step (superstep_at olds step).
 unfoldable pub touched : List Superstep → List Superstep → List Place
 touched olds news = touched_from 0 olds news
 
--- What was done for a new run, against an old one: no more and no less than has to be.
-pub record IsUpdate (looks : ViewParts → ℕ → Bool) (old : Option Run) (new : Run) (update : Update) : Type 0 where
-  pub executed : update.executed ≡ differ looks (supersteps_before old) (supersteps_of new)
-  pub redelivered : update.redelivered ≡ touched (delivered_before old) new.past
+-- What has to be done for a new run, against the run before.
+abbrev pub update_of : (ViewParts → ℕ → Bool) → Option Run → Run → Update
+update_of looks old new =
+    record { executed = differ looks (supersteps_before old) (supersteps_of new); redelivered = touched (delivered_before old) new.past }

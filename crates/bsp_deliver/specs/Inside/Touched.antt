@@ -4,7 +4,7 @@ use Rattle.std.specs.Borrow.{Bor}
 use Rattle.bsp_step.specs.OutcomeParts.{OutcomeParts}
 use Rattle.bsp_deliver.specs.Requests.{each_below, outcome_of}
 use Rattle.bsp_deliver.specs.Delivery.{delivery_parts}
-use Rattle.bsp_deliver.specs.SameDelivery.{same_delivery}
+use Rattle.bsp_deliver.specs.Inside.SameDelivery.{same_delivery}
 
 abbrev pub former_or : OutcomeParts → Option (Bor OutcomeParts) → OutcomeParts
 former_or now None = now

@@ -1,0 +1,9 @@
+pub mod Formers
+pub mod Comparing
+pub mod Reuse
+pub mod Changes
+pub mod Marks
+pub mod Next
+pub mod Replaced
+pub mod Before
+pub mod Replies
