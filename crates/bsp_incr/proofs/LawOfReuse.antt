@@ -1,7 +1,7 @@
 -- What is left where no turn is taken again.
-use Rattle.std.proofs.Common.{◌≡◌, ◌<◌, ◌≤◌, ℕ, Bool, List, Some, None, map, length, get_or, arith, refl, sym, ap, ◌∙◌, subst, inl, inr}
+use Rattle.std.proofs.Common.{◌≡◌, ◌<◌, ℕ, Bool, List, Some, None, length, get_or, arith, sym, ap, ◌∙◌, subst, inl, inr}
 use Rattle.std.proofs.lemmas.Bool.{cases_lt}
-use Rattle.std.proofs.lemmas.List.{get_or-map, length-map}
+use Rattle.std.proofs.lemmas.List.{get_or-map}
 use Rattle.bsp_model.specs.declared.input.Input.{Input}
 use Rattle.bsp_model.specs.Input.{input_fault}
 use Rattle.bsp_model.specs.declared.fault.End.{End}
@@ -14,7 +14,7 @@ use Rattle.bsp_deliver.specs.Requests.{outcome_of, no_outcome}
 use Rattle.bsp_run.specs.declared.superstep.Superstep.{Superstep}
 use Rattle.bsp_run.specs.Run.{Run}
 use Rattle.bsp_run.specs.Law.{IsBspRun, views_in}
-use Rattle.bsp_run.specs.Supersteps.{supersteps_of, superstep_at}
+use Rattle.bsp_run.specs.Supersteps.{supersteps_of}
 use Rattle.bsp_run.specs.Condition.{no_view}
 use Rattle.bsp_run.proofs.Laws.{superstep_at-past_end}
 use Rattle.bsp_run.proofs.ViewsWithin.{views_of_run}

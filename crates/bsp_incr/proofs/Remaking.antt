@@ -5,7 +5,6 @@ use Rattle.std.proofs.lemmas.Bool.{false≢true}
 use Rattle.std.proofs.lemmas.List.{length-map, get_or-map}
 use Rattle.std.proofs.lemmas.List.FromFn.{get_or-map-range_with_len, length-map-range_with_len}
 use Rattle.bsp_model.specs.declared.input.Input.{Input}
-use Rattle.bsp_model.proofs.Inputs.{lawful_input}
 use Rattle.bsp_step.specs.ViewParts.{ViewParts}
 use Rattle.bsp_step.specs.OutcomeParts.{OutcomeParts}
 use Rattle.bsp_deliver.specs.Requests.{each_below, outcome_of, no_outcome}
@@ -18,13 +17,13 @@ use Rattle.bsp_run.specs.Law.{state_at, views_in, outcomes_in}
 use Rattle.bsp_run.specs.Inside.Record.{IsRecord}
 use Rattle.bsp_run.specs.Condition.{no_view, is_open, is_turned}
 use Rattle.bsp_run.proofs.Runs.{open_phase, turns_closed}
-use Rattle.bsp_run.proofs.Records.{superstep, state_at-next, past-delivered, open_views-in, count-views_in, count-outcomes_in, IsRecord-turned, IsRecord-goes_on, IsRecord-start, IsRecord-run}
+use Rattle.bsp_run.proofs.Records.{superstep, state_at-next, past-delivered, open_views-in, count-views_in, count-outcomes_in, IsRecord-turned, IsRecord-goes_on, IsRecord-start}
 use Rattle.bsp_incr.specs.declared.reply.Update.{Update}
 use Rattle.bsp_incr.specs.Inside.Marks.{AreMarked, AreAlikeButForTable, ViewsDifferAtMost, OutcomesDifferAtMost}
 use Rattle.bsp_incr.specs.Inside.Changes.{differ, differ_in, touched, touched_in, is_touched, processes_where, update_of}
 use Rattle.bsp_incr.specs.Exact.{supersteps_before, delivered_before}
 use Rattle.bsp_incr.specs.Inside.Next.{next_view}
-use Rattle.bsp_incr.specs.Inside.Before.{taken_before, delivered_outcomes, IsBefore, HasSameArgs, AreArgsMarked, AreAlikeAfter, AreFirstMarked, HasSameMemory, IsUnderWay, IsRunBefore}
+use Rattle.bsp_incr.specs.Inside.Before.{taken_before, delivered_outcomes, IsBefore, HasSameArgs, AreArgsMarked, AreAlikeAfter, AreFirstMarked, HasSameMemory, IsUnderWay}
 use Rattle.bsp_incr.proofs.Updating.{same_update, updated_turned, updated_delivered}
 use Rattle.bsp_incr.proofs.Propagation.{propagated, view-in, first_alike, untouched_is}
 use Rattle.bsp_incr.proofs.RunBefore.{args_before, memory_before, taken-in, some_taken, nothing_taken, delivered-in, some_delivered, nothing_delivered, views_after-some}

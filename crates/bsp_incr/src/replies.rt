@@ -69,6 +69,8 @@ fn all_replies<P: Program + Drop, R: Threads + Sync, G: Gate>(
     ensures { IfOk result (λ all. all.items ≡ replies (P.looks session.old.program) (turn_of (P.acts session.old.program) (P.ending session.old.program)) session.old.input batches.now) }
 {
     let mut all = Vec::new(alloc);
+    // That the input is lawful is known where it is read.
+    let _input = session.input();
     let opening = done(session.history(), update)?;
     all.push(opening)?;
     for batch in batches {

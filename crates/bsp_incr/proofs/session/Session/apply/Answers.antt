@@ -8,7 +8,7 @@ use Rattle.bsp_run.proofs.OneRun.{one_run}
 use Rattle.bsp_incr.specs.Edits.{refusal_of}
 use Rattle.bsp_incr.specs.Exact.{IsExact}
 use Rattle.bsp_incr.specs.Reused.{AreReused}
-use Rattle.bsp_incr.specs.Replies.{SessionParts, IsSession}
+use Rattle.bsp_incr.specs.Replies.{SessionParts}
 use Rattle.bsp_incr.proofs.Exactness.{exact_of}
 use Rattle.bsp_incr.proofs.Lawful.{edited_lawful}
 use Rattle.bsp_incr.proofs.LawOfReuse.{law_reused}

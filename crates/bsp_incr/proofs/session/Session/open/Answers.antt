@@ -10,3 +10,8 @@ returns-clause-law g c =
 
 pub returns-clause-exact : goal.returns-clause-exact
 returns-clause-exact g c = exact_of c.in_ok-history.ensures.update
+
+pub invariant_of-session : goal.invariant_of-session
+invariant_of-session g c =
+    let turn = turn_of (g.P.Program.acts c.args.program) (g.P.Program.ending c.args.program) in
+    record { lawful = c.in-Ok.ensures.ok; law = (one_run turn c.args.input c.in_ok-history.history c.in-Ok.ensures.ok).1 c.in_ok-history.ensures.run }

@@ -1,0 +1,17 @@
+use Rattle.std.proofs.Common.{◌≡◌, ◌∙◌, sym, subst}
+use Rattle.bsp_step.specs.Turn.{turn_of}
+use Rattle.bsp_incr.specs.Replies.{AreReplies}
+use Rattle.bsp_incr.specs.Inside.Replies.{replies}
+use Rattle.bsp_incr.proofs.Replying.{law_of_replies}
+use Rattle.bsp_incr.proofs.replies.session_run.Goals as goal
+
+pub returns-clause-law : goal.returns-clause-law
+returns-clause-law g c =
+    let turn = turn_of (g.P.Program.acts c.args.program) (g.P.Program.ending c.args.program) in
+    let looks = g.P.Program.looks c.args.program in
+    let program = c.in_ok-session.ensures.program in
+    let input = c.in_ok-session.ensures.given in
+    let all : c.in_ok-all_replies.field-0.items ≡ replies looks turn c.args.input c.args.batches.now =
+    c.in_ok-all_replies.ensures ∙ (λ i. replies (g.P.Program.looks (program i)) (turn_of (g.P.Program.acts (program i)) (g.P.Program.ending (program i))) (input i) c.args.batches.now) in
+    subst (AreReplies looks turn c.args.input c.args.batches.now) (sym all)
+    (law_of_replies looks turn c.args.input c.args.batches.now c.in_ok-session.ensures.lawful)
