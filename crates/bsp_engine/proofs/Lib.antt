@@ -5,3 +5,4 @@ pub mod Numbering
 pub mod Optional
 pub mod TooLong
 pub mod Trees
+pub mod LawOfReports

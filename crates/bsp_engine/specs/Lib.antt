@@ -11,10 +11,10 @@ pub mod Naming
 pub mod Options
 pub mod Places
 pub mod Refusal
-pub mod Replies
-pub mod Report
+pub mod Reported
 pub mod Signs
 pub mod Sizes
 pub mod Text
 pub mod Tree
 pub mod Values
+pub mod Inside

@@ -2,11 +2,11 @@
 
 ghost use Rattle.std.specs.Prelude.{◌≡◌, ◌≢◌, ◌<◌, ◌≤◌, ◌+◌, ◌-◌, ◌^◌, length, IfOk, OnOk, IfErr, IfSome, Ok, Err};
 ghost use Rattle.std.specs.Io.KnownBytes.{IsAtEnd};
-ghost use Rattle.bsp_engine.specs.Answer.{Answers};
 ghost use Rattle.bsp_engine.specs.Flow.{TakesAtMost};
 ghost use Rattle.bsp_engine.specs.Limits.{most_document_bytes};
 ghost use Rattle.bsp_engine.specs.Refusal.{IfFault};
-ghost use Rattle.bsp_engine.specs.Report.{report_of};
+ghost use Rattle.bsp_engine.specs.Reported.{IsAnswered};
+ghost use Rattle.bsp_engine.specs.Inside.Report.{report_of};
 
 use crate::catalogue::Catalogue;
 use crate::errors::{EngineError, JobError, JobFault};
@@ -60,7 +60,7 @@ pub fn engine<C: Catalogue, R: Threads + Sync, S: Source, K: Sink, G: Gate>(
 
     // The document's report went out, or it has none for the reason that is answered, unless the machine failed; and nothing else went out.
     ensures answer { IfSome (S.remaining reader.old) (λ bytes.
-        Answers (report_of C.meaning C.Program.acts C.Program.ending C.Program.looks options.scratch options.places bytes) (K.contents writer.old) (K.contents writer.new) result) }
+        IsAnswered C.meaning C.Program.acts C.Program.ending C.Program.looks options.scratch options.places bytes (K.contents writer.old) (K.contents writer.new) result) }
     ensures nothing { IfErr result (λ e. e ≢ EngineError.Write → writer.new ≡ writer.old) }
 
     // All was read, and never more than one byte past the limit.

@@ -2,7 +2,7 @@
 
 ghost use Rattle.std.specs.Prelude.{◌≡◌, ◌<◌, ◌≤◌, IfOk, None};
 ghost use Rattle.bsp_model.specs.Input.{input_fault};
-ghost use Rattle.bsp_engine.specs.Replies.{replies_of};
+ghost use Rattle.bsp_engine.specs.Inside.Replies.{replies_of};
 
 use crate::jobs::Job;
 use bsp_incr::{Reply, scratch_run, session_run};
@@ -15,7 +15,7 @@ use std::thread::Threads;
 
 /// The replies to a job: to its input, and then one to each batch. 1 to 16 workers share the work; from scratch the calling thread makes
 /// each run alone, and the replies have no updates.
-#[tactic(auto, unfolding(crate::specs::Replies::replies_of))]
+#[tactic(auto, unfolding(crate::specs::Inside::Replies::replies_of))]
 pub fn replies_to<P: Program + Drop, R: Threads + Sync, G: Gate>(
     rt: &R,
     alloc: Global,

@@ -1,10 +1,11 @@
--- What a tool answers to a job (this profile).
+-- The replies to a job, as a function of it.
 use Rattle.std.specs.Prelude.{ℕ, Bool, List, map, if◌then◌else◌}
 use Rattle.bsp_model.specs.declared.fault.End.{End}
 use Rattle.bsp_step.specs.ViewParts.{ViewParts}
 use Rattle.bsp_step.specs.Act.{Act}
 use Rattle.bsp_step.specs.Turn.{turn_of}
-use Rattle.bsp_incr.specs.Replies.{replies, without_update}
+use Rattle.bsp_incr.specs.Replies.{without_update}
+use Rattle.bsp_incr.specs.Inside.Replies.{replies}
 use Rattle.bsp_incr.specs.declared.reply.Reply.{Reply}
 use Rattle.bsp_engine.specs.declared.jobs.Job.{Job}
 

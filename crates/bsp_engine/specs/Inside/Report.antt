@@ -1,5 +1,5 @@
--- What the engine writes for the bytes that it reads (this profile).
-use Rattle.std.specs.Prelude.{ℕ, Bool, List, length, Result, Ok, Err, nat_lt, if◌then◌else◌}
+-- What the engine writes for the bytes that it reads, as a function of them.
+use Rattle.std.specs.Prelude.{ℕ, Bool, List, Result, Ok, Err, if◌then◌else◌}
 use Rattle.bsp_model.specs.declared.fault.End.{End}
 use Rattle.bsp_step.specs.ViewParts.{ViewParts}
 use Rattle.bsp_step.specs.Act.{Act}
@@ -9,8 +9,8 @@ use Rattle.bsp_engine.specs.declared.errors.EngineError.TheVariants.{TooLong, Jo
 use Rattle.bsp_engine.specs.declared.jobs.Job.{Job}
 use Rattle.bsp_engine.specs.Catalogue.{Meaning}
 use Rattle.bsp_engine.specs.JobOf.{job_of}
-use Rattle.bsp_engine.specs.Limits.{most_document_bytes}
-use Rattle.bsp_engine.specs.Replies.{replies_of}
+use Rattle.bsp_engine.specs.Reported.{is_too_long}
+use Rattle.bsp_engine.specs.Inside.Replies.{replies_of}
 use Rattle.bsp_engine.specs.Text.{text_of}
 
 -- the text of the replies to a job
@@ -22,4 +22,4 @@ job_report acts ending looks scratch places (Err fault) = Err (Refused fault)
 -- which program it names, and the acts, the endings and the footprints of programs what that does.
 abbrev pub report_of : {P : Type 0} → Meaning P → (P → ViewParts → List Act) → (P → ViewParts → End) → (P → ViewParts → ℕ → Bool) → Bool → Bool → List ℕ → Result (List ℕ) EngineError
 report_of meaning acts ending looks scratch places bytes =
-    if nat_lt most_document_bytes (length bytes) then Err TooLong else job_report acts ending looks scratch places (job_of meaning bytes)
+    if is_too_long bytes then Err TooLong else job_report acts ending looks scratch places (job_of meaning bytes)
