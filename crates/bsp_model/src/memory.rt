@@ -1,6 +1,7 @@
 //! The memory of a process.
 
-ghost use Rattle.std.specs.Prelude.{◌≡◌, ◌+◌, length, IfOk, nat_lt, nat_le, slice_set, slice_get, OnErr};
+ghost use Rattle.std.specs.Prelude.{◌≡◌, ◌+◌, length, IfOk, nat_lt, nat_le, slice_set, slice_get, take, drop, OnErr};
+ghost use Rattle.std.specs.Bool.{OnTrue, OnFalse};
 ghost use Rattle.bsp_model.specs.Memory.{memory_written, rest_of_page};
 
 #[cfg(test)]
@@ -91,6 +92,26 @@ impl Memory {
             return &[];
         }
         &self.last[place..]
+    }
+
+    /// Copies the words from `start` on to `words`. False, and nothing is copied, where they pass the end.
+    pub fn read(&self, start: u64, words: &mut [u64]) -> bool
+        ensures within { result ≡ nat_le (start + length words.old) (length self.now) }
+        ensures read { OnTrue result (words.new ≡ take (length words.old) (drop start self.now)) }
+        ensures past { OnFalse result (words.new ≡ words.old) }
+    {
+        let len = self.len() as u64;
+        if start > len || words.len() as u64 > len - start {
+            return false;
+        }
+        let mut copied = 0;
+        while copied < words.len() {
+            let page = self.words_from(start + copied as u64);
+            let count = page.len().min(words.len() - copied);
+            replace_words(words, copied, &page[..count]);
+            copied += count;
+        }
+        true
     }
 
     /// Makes `value` the word at `address`. False, and nothing changes, where there is no such word; after `OutOfMemory` nothing has changed.

@@ -113,6 +113,13 @@ impl<T: Drop> Seq<T> {
     {
         self.items.pop()
     }
+
+    /// Keeps the first `len` items alone, or all where there are no more.
+    pub fn truncate(&mut self, len: usize)
+        ensures { self.new ≡ take len self.old }
+    {
+        self.items.truncate(len);
+    }
 }
 
 impl<T: TryCopy> TryCopy for Seq<T> {

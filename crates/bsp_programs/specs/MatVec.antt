@@ -1,10 +1,11 @@
 -- A matrix by a vector: each process has b rows of the matrix and b words of the vector, and ends with b words of the product (this profile).
-use Rattle.std.specs.Prelude.{ℕ, Bool, false, List, [], ◌∷◌, ◌++◌, Option, None, Some, ◌+◌, ◌-◌, ◌*◌, ◌%◌, ◌^◌, ◌==◌, ◌&&◌, ◌||◌, if◌then◌else◌, nat_lt, nat_le, slice_get, slice_set, length, map, take, drop, sum_by, option_map, option_and_then}
+use Rattle.std.specs.Prelude.{ℕ, Bool, false, List, [], ◌∷◌, ◌++◌, Option, None, Some, ◌+◌, ◌-◌, ◌*◌, ◌%◌, ◌^◌, ◌==◌, ◌&&◌, ◌||◌, if◌then◌else◌, nat_lt, nat_le, slice_get, length, map, take, drop, sum_by}
 use Rattle.std.specs.List.{range_with_len, zip}
 use Rattle.bsp_model.specs.declared.request.Message.{Message}
 use Rattle.bsp_model.specs.declared.fault.End.TheVariants.{Sync, Halt, Abort}
 use Rattle.bsp_step.specs.ViewParts.{ViewParts}
-use Rattle.bsp_step.specs.Act.{Act, set_tagsize, send, move_into, store, charge, print}
+use Rattle.bsp_step.specs.Act.{Act, set_tagsize, send, move_into, charge, print}
+use Rattle.bsp_step.specs.Blocks.{words_at, stores, stored}
 use Rattle.bsp_step.specs.Plan.{Plan, does, after, given_argument, given_word}
 
 -- how many columns the matrix has: b for each process
@@ -23,26 +24,10 @@ vector_start nprocs b = block_start nprocs b + b
 abbrev pub product_start : ℕ → ℕ → ℕ
 product_start nprocs b = vector_start nprocs b + columns nprocs b
 
--- the words at these addresses, if there is one at each of them
-abbrev pub words_at : List ℕ → List ℕ → Option (List ℕ)
-words_at memory [] = Some []
-words_at memory (address ∷ addresses) =
-    option_and_then (λ word. option_map (λ words. word ∷ words) (words_at memory addresses)) (slice_get memory address)
-
 -- Loads of which one finds no word end the turn by Abort(1).
 abbrev pub given_words : Option (List ℕ) → (List ℕ → Plan) → Plan
 given_words None plan = does [] (Abort 1)
 given_words (Some words) plan = plan words
-
--- stores of the words from an address on
-abbrev pub stores : ℕ → List ℕ → List Act
-stores start [] = []
-stores start (word ∷ words) = store start word ∷ stores (start + 1) words
-
--- the memory after these stores
-abbrev pub stored : List ℕ → ℕ → List ℕ → List ℕ
-stored memory start [] = memory
-stored memory start (word ∷ words) = stored (slice_set memory start word) (start + 1) words
 
 -- Superstep 0 finds out whether the last word that is needed is there, and chooses tags of one word.
 abbrev pub matvec_checking : ℕ → ℕ → List ℕ → Plan
@@ -57,7 +42,7 @@ sends_to_all own words pids = map (λ pid. send pid (own ∷ []) words) pids
 -- Superstep 1 sends the own block to every process, the own one too.
 abbrev pub matvec_sending : ℕ → ℕ → ℕ → List ℕ → Plan
 matvec_sending nprocs pid b memory =
-    given_words (words_at memory (range_with_len (block_start nprocs b) b)) (λ block. does (sends_to_all pid block (range_with_len 0 nprocs)) Sync)
+    given_words (words_at memory (block_start nprocs b) b) (λ block. does (sends_to_all pid block (range_with_len 0 nprocs)) Sync)
 
 -- the sum of the products of the words side by side, modulo 2^64
 abbrev pub inner_product : List ℕ → List ℕ → ℕ
@@ -75,8 +60,8 @@ matvec_answering nprocs b product =
 -- the rows and the whole vector are loaded and multiplied
 abbrev pub matvec_multiplying : ℕ → ℕ → List ℕ → Plan
 matvec_multiplying nprocs b memory =
-    given_words (words_at memory (range_with_len 0 (block_start nprocs b))) (λ matrix.
-    given_words (words_at memory (range_with_len (vector_start nprocs b) (columns nprocs b))) (λ vector.
+    given_words (words_at memory 0 (block_start nprocs b)) (λ matrix.
+    given_words (words_at memory (vector_start nprocs b) (columns nprocs b)) (λ vector.
     matvec_answering nprocs b (product_of b (columns nprocs b) matrix vector)))
 
 -- the number that a tag begins with, if it is that of a process

@@ -1,5 +1,5 @@
 -- Prefix sums depend on the words at which they look, and on no others.
-use Rattle.std.proofs.Common.{◌≡◌, ℕ, ◌+◌, ◌%◌, ◌^◌, true, false, List, [], ◌∷◌, refl, ap, ◌∙◌, ◌==◌, nat_lt, arith}
+use Rattle.std.proofs.Common.{◌≡◌, ℕ, ◌+◌, ◌%◌, ◌^◌, true, false, List, [], ◌∷◌, refl, ap, ◌==◌, nat_lt, arith}
 use Rattle.std.proofs.lemmas.Bool.Decides.{nat_tests}
 use Rattle.std.specs.List.{slice_get, slice_set}
 use Rattle.bsp_step.specs.ViewParts.{ViewParts}
@@ -8,7 +8,8 @@ use Rattle.bsp_step.specs.Footprint.{IsFootprint}
 use Rattle.bsp_step.specs.Plan.{after}
 use Rattle.bsp_programs.specs.Doubling.{distance}
 use Rattle.bsp_programs.specs.Prefix.{prefix_plan, prefix_sending, prefix_looks, has_received}
-use Rattle.bsp_step.specs.Footprints.{if-alike, given_word-alike, AreAlike-words, IsFootprint-of_plan, slice_get-set_alike}
+use Rattle.bsp_step.specs.Footprints.{if-alike, given_word-alike, slice_get-set_alike}
+use Rattle.bsp_step.specs.Reads.{IsFootprint-of_reads}
 
 prefix_sending-alike : (v : ViewParts) (m n : List ℕ) → (nat_lt (v.pid + distance v.step) v.nprocs ≡ true → slice_get m 0 ≡ slice_get n 0) → (nat_lt (distance v.step) v.nprocs ≡ false → slice_get m 0 ≡ slice_get n 0) → prefix_sending v m ≡ prefix_sending v n
 prefix_sending-alike v m n puts prints =
@@ -35,8 +36,4 @@ prefix_plan-alike v m n same =
     (λ far. same 0 (rw (later, nothing) (grind (arith, nat_tests))))))
 
 pub prefix_footprint : IsFootprint (λ v. (prefix_plan v v.memory).acts) (λ v. (prefix_plan v v.memory).ending) prefix_looks
-prefix_footprint =
-    IsFootprint-of_plan (λ v. prefix_plan v v.memory) prefix_looks
-    (λ v w alike. prefix_plan-alike v v.memory w.memory (AreAlike-words (prefix_looks v) v w alike)
-    ∙ rw (alike.parts.nprocs, alike.parts.pid, alike.parts.step) refl)
-    (λ v w parts a. rw (parts.nprocs, parts.pid, parts.step) refl)
+prefix_footprint = IsFootprint-of_reads (λ v. prefix_plan v v.memory) prefix_looks (λ v n long same. prefix_plan-alike v v.memory n same) (λ v n long a. refl)

@@ -8,7 +8,8 @@ use Rattle.bsp_step.specs.Footprint.{IsFootprint}
 use Rattle.bsp_step.specs.Plan.{after}
 use Rattle.bsp_programs.specs.Doubling.{distance}
 use Rattle.bsp_programs.specs.Rank.{rank_plan, rank_asking, rank_looks}
-use Rattle.bsp_step.specs.Footprints.{if-alike, given_word-alike, AreAlike-words, IsFootprint-of_plan, slice_get-set_alike}
+use Rattle.bsp_step.specs.Footprints.{if-alike, given_word-alike, slice_get-set_alike}
+use Rattle.bsp_step.specs.Reads.{IsFootprint-of_reads}
 
 rank_asking-alike : (v : ViewParts) (m n : List ℕ) → (nat_lt (distance v.step) v.nprocs ≡ true → slice_get m 0 ≡ slice_get n 0) → (nat_lt (distance v.step) v.nprocs ≡ false → slice_get m 1 ≡ slice_get n 1) → rank_asking v m ≡ rank_asking v n
 rank_asking-alike v m n asks prints =
@@ -43,8 +44,4 @@ rank_plan-alike v m n same =
     (λ _. slice_get-set_alike (slice_set m 0 x) (slice_set n 0 x) 1 sum 1 (slice_get-set_alike m n 0 x 1 own))))))))
 
 pub rank_footprint : IsFootprint (λ v. (rank_plan v v.memory).acts) (λ v. (rank_plan v v.memory).ending) rank_looks
-rank_footprint =
-    IsFootprint-of_plan (λ v. rank_plan v v.memory) rank_looks
-    (λ v w alike. rank_plan-alike v v.memory w.memory (AreAlike-words (rank_looks v) v w alike)
-    ∙ rw (alike.parts.nprocs, alike.parts.step) refl)
-    (λ v w parts a. rw (parts.nprocs, parts.step) refl)
+rank_footprint = IsFootprint-of_reads (λ v. rank_plan v v.memory) rank_looks (λ v n long same. rank_plan-alike v v.memory n same) (λ v n long a. refl)

@@ -1,5 +1,5 @@
 //! The bundled programs, each with its acts, its ending and its footprint.
-#![tactic(auto)]
+#![tactic(auto, using(bsp_step::proofs::Laws::running))]
 
 mod broadcast;
 mod bundled;

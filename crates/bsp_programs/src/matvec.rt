@@ -8,7 +8,6 @@ mod layout;
 mod multiplying;
 mod receiving;
 mod sending;
-mod words;
 
 use bsp_model::{End, OutOfMemory};
 use bsp_step::{Ctx, Program, Stop, View, settle};
@@ -68,7 +67,7 @@ fn run(alloc: Global, ctx: &mut Ctx<'_>) -> Result<End, Stop>
     let layout = Layout::new(ctx.nprocs(), block);
     match ctx.step() {
         0 => sending::check_memory(ctx, layout),
-        1 => sending::send_block(alloc, ctx, layout),
+        1 => sending::send_block(ctx, layout),
         _ => receiving::receive_and_multiply(alloc, ctx, layout),
     }
 }

@@ -14,7 +14,8 @@ use Rattle.bsp_step.specs.OutcomeParts.{OutcomeParts}
 use Rattle.bsp_step.specs.Perform.{perform}
 use Rattle.bsp_step.specs.Plan.{Plan, does}
 use Rattle.bsp_step.specs.Turn.{closed}
-use Rattle.bsp_programs.specs.MatVec.{block_start, columns, given_words, matvec_answering, matvec_multiplying, product_of, product_start, stored, stores, vector_start, words_at}
+use Rattle.bsp_programs.specs.MatVec.{block_start, columns, given_words, matvec_answering, matvec_multiplying, product_of, product_start, vector_start}
+use Rattle.bsp_step.specs.Blocks.{stored, stores, words_at}
 use Rattle.bsp_right.specs.Multiplied.{matvec_turn, memory_multiplied, own_product, product_word}
 use Rattle.bsp_right.proofs.ActsAllowed.{leaves, leaves-after, perform-charge, perform-print}
 use Rattle.bsp_right.proofs.DescribedStates.{quiet, view_described}
@@ -64,7 +65,7 @@ multiplied_by input b p c faultless idle silent is few short h =
     let own = own_product input b p in
     let count : length own ≡ b = length-map-range_with_len (product_word input b) (p * b) b in
     let long : length c.memory ≡ length m = ap (λ (ws : List ℕ). length ws) is in
-    ap (λ o. leaves c (given_words o (λ matrix. given_words (words_at m (range_with_len (vector_start n b) (columns n b))) (λ vector. matvec_answering n b (product_of b (columns n b) matrix vector))))) (words_at-all m (block_start n b) 0 (omega arith))
+    ap (λ o. leaves c (given_words o (λ matrix. given_words (words_at m (vector_start n b) (columns n b)) (λ vector. matvec_answering n b (product_of b (columns n b) matrix vector))))) (words_at-all m (block_start n b) 0 (omega arith))
     ∙ ap (λ o. leaves c (given_words o (λ vector. matvec_answering n b (product_of b (columns n b) (matrix_in input b p) vector)))) (words_at-all m (columns n b) (vector_start n b) (omega arith))
     ∙ ap (λ words. leaves c (matvec_answering n b words)) (product_is input b p (omega arith))
     ∙ answering n b own c faultless idle silent (omega arith) (omega arith) (omega arith)

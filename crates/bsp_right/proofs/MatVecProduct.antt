@@ -10,7 +10,8 @@ use Rattle.std.proofs.lemmas.List.Sums.{sum_by_more}
 use Rattle.std.proofs.lemmas.Nat.{div-add-mod', div-mul-add, div_below, mod-mul-add, mod_below, mul-add-lt, row_fits}
 use Rattle.std.proofs.lemmas.Slice.Zip.{get_or-zip, length-zip}
 use Rattle.bsp_model.specs.declared.input.Input.{Input}
-use Rattle.bsp_programs.specs.MatVec.{block_start, columns, inner_product, is_within, product_of, product_start, stored, vector_start}
+use Rattle.bsp_programs.specs.MatVec.{block_start, columns, inner_product, is_within, product_of, product_start, vector_start}
+use Rattle.bsp_step.specs.Blocks.{stored}
 use Rattle.bsp_right.specs.Multiplied.{entry, memory_multiplied, own_product, product_word, vector_word, word_multiplied}
 use Rattle.bsp_right.specs.Sums.{sum_before}
 use Rattle.bsp_right.proofs.MatVecReceiving.{length-received, received, received-inside, received-outside}

@@ -9,7 +9,8 @@ use Rattle.bsp_step.specs.Act.{move_into}
 use Rattle.bsp_step.specs.Context.{Context}
 use Rattle.bsp_step.specs.Perform.{perform, perform_all}
 use Rattle.bsp_step.specs.Plan.{Plan, after}
-use Rattle.bsp_programs.specs.MatVec.{given_sender, matvec_multiplying, matvec_receiving, stored, stores, vector_start}
+use Rattle.bsp_programs.specs.MatVec.{given_sender, matvec_multiplying, matvec_receiving, vector_start}
+use Rattle.bsp_step.specs.Blocks.{stored, stores}
 use Rattle.bsp_right.proofs.ActsAllowed.{leaves, leaves-after, perform-move}
 use Rattle.bsp_right.proofs.MatVecStores.{length-stored, logged, perform_all-stores, stored-inside, stored-outside}
 

@@ -4,7 +4,7 @@ use Rattle.std.proofs.lemmas.List.{append-nil, get_or-set_other, get_or-set_same
 use Rattle.bsp_model.specs.declared.request.Store.{Store}
 use Rattle.bsp_step.specs.Context.{Context}
 use Rattle.bsp_step.specs.Perform.{perform_all}
-use Rattle.bsp_programs.specs.MatVec.{stored, stores}
+use Rattle.bsp_step.specs.Blocks.{stored, stores}
 use Rattle.bsp_right.proofs.ActsAllowed.{perform-store}
 
 -- the record of these stores

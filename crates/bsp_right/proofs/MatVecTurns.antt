@@ -1,20 +1,23 @@
 -- The turns of a product before it is computed.
-use Rattle.std.proofs.Common.{◌*◌, ◌+◌, ◌-◌, ◌==◌, Bool, List, Some, [], ap, arith, cond, false, get_or, inl, inr, length, map, refl, suc, true, zero, ℕ, ◌∙◌, ◌∷◌, ◌≡◌, ◌≢◌, ◌≤◌}
+use Rattle.std.proofs.Common.{◌*◌, ◌+◌, ◌-◌, ◌==◌, Bool, List, Some, [], ap, arith, cond, drop, false, get_or, inl, inr, length, map, refl, suc, sym, take, true, zero, ℕ, ◌∙◌, ◌∷◌, ◌≡◌, ◌≢◌, ◌≤◌}
 use Rattle.std.proofs.lemmas.Bool.{cases_lt, eqb-false, le-ltb}
 use Rattle.std.proofs.lemmas.Nat.{mul-le}
 use Rattle.std.proofs.lemmas.Option.{slice_get-get_or}
-use Rattle.std.proofs.lemmas.List.FromFn.{length-map-range_with_len}
+use Rattle.std.proofs.lemmas.List.FromFn.{length-map-range_with_len, get_or-map-range_with_len}
+use Rattle.std.proofs.lemmas.Bool.Decides.{nat_tests}
+use Rattle.std.proofs.lemmas.Grind.{common_steps, same_number_lists}
 use Rattle.std.specs.List.{range_with_len}
 use Rattle.std.specs.Option.{option_map, option_and_then}
-use Rattle.std.specs.Prelude.{nat_lt, slice_get}
+use Rattle.std.specs.Prelude.{nat_le, nat_lt, slice_get}
 use Rattle.bsp_model.specs.declared.fault.End.TheVariants.{Abort, Sync}
 use Rattle.bsp_step.specs.Act.{set_tagsize}
+use Rattle.bsp_step.specs.Blocks.{words_at}
 use Rattle.bsp_step.specs.Context.{Context, fresh}
 use Rattle.bsp_step.specs.OutcomeParts.{OutcomeParts}
 use Rattle.bsp_step.specs.Plan.{does, given_argument, given_word}
 use Rattle.bsp_step.specs.Turn.{closed}
 use Rattle.bsp_step.specs.ViewParts.{ViewParts}
-use Rattle.bsp_programs.specs.MatVec.{block_start, given_words, matvec_checking, matvec_working, product_start, sends_to_all, words_at}
+use Rattle.bsp_programs.specs.MatVec.{block_start, given_words, matvec_checking, matvec_working, product_start, sends_to_all}
 use Rattle.bsp_right.specs.Multiplied.{matvec_turn}
 use Rattle.bsp_right.proofs.ActsAllowed.{message_to, perform_all-sends}
 use Rattle.bsp_right.proofs.DescribedStates.{no_queue, of_plan, quiet, view_described}
@@ -34,11 +37,14 @@ few_rows n b len some fits short =
 abbrev pub words_from : List ℕ → ℕ → ℕ → List ℕ
 words_from memory start len = map (λ a. get_or memory a 0) (range_with_len start len)
 
-pub words_at-all : (memory : List ℕ) (len start : ℕ) → start + len ≤ length memory → words_at memory (range_with_len start len) ≡ Some (words_from memory start len)
-words_at-all memory zero start h = refl
-words_at-all memory (suc len) start h =
-    ap (λ o. option_and_then (λ word. option_map (λ words. word ∷ words) (words_at memory (range_with_len (start + 1) len))) o) (slice_get-get_or memory start 0 (omega arith))
-    ∙ ap (λ o. option_map (λ words. get_or memory start 0 ∷ words) o) (words_at-all memory len (start + 1) (omega arith))
+pub words_at-all : (memory : List ℕ) (len start : ℕ) → start + len ≤ length memory → words_at memory start len ≡ Some (words_from memory start len)
+words_at-all memory len start h =
+    let test : nat_le (start + len) (length memory) ≡ true = grind (arith, nat_tests) in
+    let long : length (take len (drop start memory)) ≡ len = grind (arith, common_steps) in
+    rw test
+    (ap Some (same_number_lists (take len (drop start memory)) (words_from memory start len) (long ∙ sym (length-map-range_with_len (λ a. get_or memory a 0) start len)) (λ k within.
+    let here : get_or (take len (drop start memory)) k 0 ≡ get_or memory (start + k) 0 = grind (arith, common_steps) in
+    here ∙ sym (get_or-map-range_with_len (λ a. get_or memory a 0) start len k (start + k) 0 (omega arith) refl))))
 
 -- the own block of the vector
 abbrev pub block_of : ℕ → ℕ → List ℕ → List ℕ

@@ -1,13 +1,14 @@
 -- What it means that a slot is found.
-use Rattle.std.proofs.Common.{◌≡◌, ◌<◌, ℕ, List, [], ◌∷◌, ◌++◌, Some, length, arith, zero, suc, ◌==◌, ◌&&◌, not, slice_get, false, true, Bool, ◌≢◌, refl, cond, All, get_or}
+use Rattle.std.proofs.Common.{◌≡◌, ◌<◌, ◌≤◌, ◌+◌, ℕ, List, [], ◌∷◌, ◌++◌, Option, None, Some, length, arith, zero, suc, ◌==◌, ◌&&◌, not, slice_get, false, true, Bool, ◌≢◌, refl, cond, All, get_or}
 use Rattle.std.specs.Prelude.{IsSome}
 use Rattle.std.specs.List.{list_any, AllPairs}
 use Rattle.std.proofs.lemmas.Grind.{common_steps}
-use Rattle.std.proofs.lemmas.Option.{slice_get-get_or}
+use Rattle.std.proofs.lemmas.Option.{slice_get-get_or, slice_get_within, get_or_from_slice_get}
 use Rattle.std.proofs.lemmas.List.Elements.{All-push}
 use Rattle.std.proofs.lemmas.List.Folds.{list_any_at}
+use Rattle.bsp_model.specs.Limits.{most_memory_words}
 use Rattle.bsp_table.specs.declared.area.Area.{Area}
-use Rattle.bsp_table.specs.Table.{newest, newest_under, newest_below, is_slot_named, has_start, area_at}
+use Rattle.bsp_table.specs.Table.{newest, newest_under, newest_below, is_slot_named, has_start, area_at, area_in}
 use Rattle.bsp_table.specs.NextTable.{AreSlots, no_area}
 
 and_not_true : (a b : Bool) → (a && not b) ≡ true → b ≡ false
@@ -51,3 +52,16 @@ pub AreSlots-push : (slots : List (List Area)) (pid : ℕ) (pops : List ℕ) (st
 AreSlots-push slots pid pops start k old e =
     let f = found_below slots pid start pops (length slots) k e in
     record { each = All-push (λ j. j < length slots) pops k old.each f.0; distinct = apart pops k old.distinct f.1 }
+
+inside_slot : (o : Option (List Area)) (slots : List (List Area)) (slot pid : ℕ) (a : Area) → slice_get slots slot ≡ o → All (λ areas. All (λ a. a.start + a.len ≤ most_memory_words) areas) slots → area_in o pid ≡ Some a → a.start + a.len ≤ most_memory_words
+inside_slot None slots slot pid a at inside e = cc
+inside_slot (Some areas) slots slot pid a at inside e =
+    let here = inside slot areas (slice_get_within slots slot areas at) in
+    let same : get_or slots slot areas ≡ areas = get_or_from_slice_get slots slot areas areas at in
+    let there : get_or areas pid a ≡ a = get_or_from_slice_get areas pid a a e in
+    rw there at ((rw same at here) pid a (slice_get_within areas pid a e))
+
+-- each area of a table ends within the largest memory
+pub area_inside : (slots : List (List Area)) (k : Option ℕ) (pid : ℕ) (a : Area) → All (λ areas. All (λ a. a.start + a.len ≤ most_memory_words) areas) slots → area_at slots k pid ≡ Some a → a.start + a.len ≤ most_memory_words
+area_inside slots None pid a inside e = cc
+area_inside slots (Some slot) pid a inside e = inside_slot (slice_get slots slot) slots slot pid a refl inside e

@@ -1,5 +1,5 @@
 -- Whatever the acts, a turn of a view within the limits leaves an outcome within them.
-use Rattle.std.proofs.Common.{◌≡◌, ◌≤◌, ◌<◌, ◌+◌, ◌==◌, ℕ, List, [], ◌∷◌, ◌++◌, Option, None, Some, Bool, true, false, length, drop, arith, refl, ◌∙◌, subst, length-append}
+use Rattle.std.proofs.Common.{◌≡◌, ◌≤◌, ◌<◌, ◌+◌, ◌==◌, ℕ, List, [], ◌∷◌, ◌++◌, Option, None, Some, Bool, true, false, length, drop, arith, refl, sym, ap, ◌∙◌, subst, length-append}
 use Rattle.std.specs.Prelude.{nat_lt, nat_le, slice_set}
 use Rattle.std.proofs.lemmas.Bool.Decides.{nat_tests}
 use Rattle.std.proofs.lemmas.Grind.{common_steps}
@@ -16,7 +16,7 @@ use Rattle.bsp_step.specs.ViewParts.{ViewParts, IsView, IsShortMessage}
 use Rattle.bsp_step.specs.Context.{Context, fresh}
 use Rattle.bsp_step.specs.CtxInside.{IsContext}
 use Rattle.bsp_step.specs.Act.{Act, store, charge, put, get, send, move_into, push_reg, pop_reg, set_tagsize, print}
-use Rattle.bsp_step.specs.Perform.{perform, performed, perform_all, refusal, done, first_fault, fault_unless, area_fault, slot_fault, target_area, count_of_requests}
+use Rattle.bsp_step.specs.Perform.{perform, performed, perform_all, refusal, done, first_fault, fault_unless, area_fault, place_fault, slot_fault, start_of, target_area, count_of_requests}
 use Rattle.bsp_step.specs.Requests.{IsAddressed, IsPlaced, IsAsked}
 use Rattle.bsp_step.specs.OutcomeParts.{IsOutcome, IsOutcomeOf, IsHaltOnFault, IsShortSend}
 use Rattle.bsp_step.specs.Turn.{closed, ended_of, abort_of, turn_of}
@@ -138,6 +138,23 @@ done-within c (set_tagsize size) h e = chosen c size h (le_passes _ _ _ e)
 done-within c (print words) h e =
     let one = both_pass _ _ e in
     printed c words h (lt_passes _ _ _ one.0) (le_passes _ _ _ one.1)
+
+-- A put that was resolved keeps them.
+pub put-within : (c d : Context) (pid len area offset start : ℕ) (words : List ℕ) (puts : List Put) → IsContext c → c ≡ d → place_fault d pid area (offset + len) ≡ None → start ≡ start_of (target_area d.view pid area) + offset → length words ≡ len → puts ≡ c.puts ++ record { target = pid; start = start; words = words } ∷ [] → IsContext (record c { puts = puts })
+put-within c d pid len area offset start words puts h same passes at long e =
+    let passed : refusal c (put pid words area offset) ≡ None = ap (λ (x : Context). place_fault x pid area (offset + length words)) same ∙ ap (λ n. place_fault d pid area (offset + n)) long ∙ passes in
+    let begins : start ≡ start_of (target_area c.view pid area) + offset = at ∙ ap (λ (x : Context). start_of (target_area x.view pid area) + offset) (sym same) in
+    rw (e, begins) (done-within c (put pid words area offset) h passed)
+
+-- So does a get.
+pub get-within : (c d : Context) (pid area offset into len start : ℕ) (gets : List Get) → IsContext c → c ≡ d → place_fault d pid area (offset + len) ≡ None → into + len ≤ length c.memory → start ≡ start_of (target_area d.view pid area) + offset → gets ≡ c.gets ++ record { owner = pid; start = start; len = len; into = into } ∷ [] → IsContext (record c { gets = gets })
+get-within c d pid area offset into len start gets h same passes own at e =
+    let passed : place_fault c pid area (offset + len) ≡ None = ap (λ (x : Context). place_fault x pid area (offset + len)) same ∙ passes in
+    let begins : start ≡ start_of (target_area c.view pid area) + offset = at ∙ ap (λ (x : Context). start_of (target_area x.view pid area) + offset) (sym same) in
+    let one = both_pass _ _ passed in
+    let two = both_pass _ _ one.1 in
+    let found = area_passes _ _ _ two.1 in
+    rw (e, begins) (get_done c pid area offset into len found.0 h (lt_passes _ _ _ one.0) (lt_passes _ _ _ two.0) found.1 found.2 own)
 
 performed-within : (f r : Option Fault) (c d : Context) → IsContext c → (r ≡ None → IsContext d) → IsContext (performed f r c d)
 performed-within (Some f) r c d h k = h

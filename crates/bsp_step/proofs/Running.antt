@@ -1,13 +1,12 @@
 -- Laws of acts in order, for loops and sequences of calls that keep what is left to do.
-use Rattle.std.proofs.Common.{◌≡◌, List, ◌∷◌, ◌++◌, length, Result, Ok, Err, ap, sym, refl, ◌∙◌, subst}
-use Rattle.std.specs.Result.{IsErrAnd}
+use Rattle.std.proofs.Common.{◌≡◌, List, ◌∷◌, ◌++◌, length, ap, sym, refl, ◌∙◌}
 use Rattle.bsp_step.specs.declared.stop.Stop.{Stop}
 use Rattle.bsp_step.specs.Context.{Context}
 use Rattle.bsp_step.specs.Act.{Act}
-use Rattle.bsp_step.specs.Perform.{perform, perform_all}
+use Rattle.bsp_step.specs.Perform.{perform_all}
 use Rattle.bsp_step.specs.declared.stop.Stop.TheVariants.{Fault, OutOfMemory}
-use Rattle.bsp_step.specs.Calls.{Stops, StopsByFault, Runs, RunStops}
-use Rattle.bsp_step.proofs.Performing.{RunStops-at_act, RunStops-at_part, perform_all-append, perform-view, perform-length, perform_all-view, perform_all-length}
+use Rattle.bsp_step.specs.Calls.{Stops, StopsByFault, RunStops}
+use Rattle.bsp_step.proofs.Performing.{RunStops-at_act, RunStops-at_part, perform_all-append, perform_all-view, perform_all-length}
 
 -- Of the acts that the context start performs, the context now has only the rest left to do. Its view and the length of its memory are those of the start.
 pub record HasLeft (start : Context) (acts : List Act) (now : Context) (rest : List Act) : Type 0 where
@@ -17,14 +16,6 @@ pub record HasLeft (start : Context) (acts : List Act) (now : Context) (rest : L
 
 pub HasLeft-all : (start : Context) (acts : List Act) → HasLeft start acts start acts
 HasLeft-all start acts = record { left = refl; view = refl; same_length = refl }
-
-pub HasLeft-at_act : {start now new : Context} {acts rest : List Act} {a : Act} → HasLeft start acts now (a ∷ rest) → new ≡ perform now a → HasLeft start acts new rest
-HasLeft-at_act {now = now} {rest = rest} {a = a} h acted =
-    record {
-      left = h.left ∙ ap (λ (d : Context). perform_all d rest) (sym acted);
-      view = ap (λ (d : Context). d.view) acted ∙ perform-view now a ∙ h.view;
-      same_length = ap (λ (d : Context). length d.memory) acted ∙ perform-length now a ∙ h.same_length;
-    }
 
 pub HasLeft-at_part : {start now new : Context} {acts rest : List Act} → (part : List Act) → HasLeft start acts now (part ++ rest) → new ≡ perform_all now part → HasLeft start acts new rest
 HasLeft-at_part {now = now} {rest = rest} part h acted =
@@ -49,13 +40,3 @@ RunStops-left_part {start} {now} {acts} new part rest e h stopped = RunStops-at_
 pub Stops-by_fault : (now : Context) (a : Act) (new : Context) (e : Stop) → StopsByFault now a new e → Stops now a new e
 Stops-by_fault now a new (Fault f) stopped = stopped
 Stops-by_fault now a new OutOfMemory stopped = absurd stopped
-
--- so does the stop of a part that does all that is left
-pub RunStops-last : (start now : Context) (acts rest : List Act) (new : Context) (e : Stop) → HasLeft start acts now rest → RunStops now rest new e → RunStops start acts new e
-RunStops-last start now acts rest new (Fault f) h stopped = (stopped.0 ∙ sym h.left, stopped.1)
-RunStops-last start now acts rest new OutOfMemory h stopped = tt
-
--- what the exit of a `?` returns: the stop of the call
-pub Runs-stopped : {T : Type 0} (answer : T) (start : Context) (acts : List Act) (new : Context) (e : Stop) (result : Result T Stop) → IsErrAnd result (λ d. d ≡ e) → RunStops start acts new e → Runs start acts answer new result
-Runs-stopped answer start acts new e (Ok given) exit stopped = absurd exit
-Runs-stopped answer start acts new e (Err d) exit stopped = subst (RunStops start acts new) (sym exit) stopped

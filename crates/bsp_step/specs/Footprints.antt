@@ -1,12 +1,8 @@
 -- Laws of footprints.
-use Rattle.std.proofs.Common.{◌≡◌, ℕ, Bool, true, false, cond, List, Option, None, Some, length, refl, sym, ap, ◌∙◌, arith, inl, inr, [], ◌∷◌, zero, suc, eqb, set}
+use Rattle.std.proofs.Common.{◌≡◌, ℕ, Bool, true, false, cond, List, Option, None, Some, refl, sym, ap, ◌∙◌, [], ◌∷◌, zero, suc, eqb, set}
 use Rattle.std.proofs.Math.Dec.{eqb-suc-zero, eqb-zero-suc, eqb-suc-suc}
 use Rattle.std.specs.Option.{option_map}
 use Rattle.std.specs.List.{slice_get}
-use Rattle.std.proofs.lemmas.Bool.{cases_lt}
-use Rattle.std.proofs.lemmas.Option.{slice_get_past}
-use Rattle.bsp_step.specs.ViewParts.{ViewParts}
-use Rattle.bsp_step.specs.Footprint.{IsFootprint, AreAlike, AreAlikeButForWords}
 use Rattle.bsp_step.specs.Plan.{Plan, given_word, given_argument}
 
 -- two choices by one test
@@ -23,23 +19,6 @@ given_word-alike (Some x) (Some y) f g e same = let h : x ≡ y = cc in same x r
 pub given_argument-alike : (o : Option ℕ) (f g : ℕ → Plan) → ((x : ℕ) → o ≡ Some x → f x ≡ g x) → given_argument o f ≡ given_argument o g
 given_argument-alike None f g same = refl
 given_argument-alike (Some x) f g same = same x refl
-
--- past the end of the memories there are no words, so there they agree
-pub AreAlike-words : (looks : ℕ → Bool) (v w : ViewParts) → AreAlike looks v w → (a : ℕ) → looks a ≡ true → slice_get v.memory a ≡ slice_get w.memory a
-AreAlike-words looks v w alike a looked =
-    elim (cases_lt a (length v.memory)) [
-      | inl within ↦ alike.words a within looked
-      | inr past ↦ slice_get_past v.memory a past ∙ sym (slice_get_past w.memory a (omega (arith, alike.parts.same_length)))
-    ]
-
--- the footprint of a program whose acts and ending are those of a plan
-pub IsFootprint-of_plan : (plan : ViewParts → Plan) (looks : ViewParts → ℕ → Bool) → ((v w : ViewParts) → AreAlike (looks v) v w → plan v ≡ plan w) → ((v w : ViewParts) → AreAlikeButForWords v w → (a : ℕ) → looks v a ≡ looks w a) → IsFootprint (λ v. (plan v).acts) (λ v. (plan v).ending) looks
-IsFootprint-of_plan plan looks same_plan same_looks =
-    record {
-      acts_alike = λ v w _ _ alike. ap (λ (p : Plan). p.acts) (same_plan v w alike);
-      ending_alike = λ v w _ _ alike. ap (λ (p : Plan). p.ending) (same_plan v w alike);
-      looks_alike = λ v w _ _ alike. same_looks v w alike;
-    }
 
 choice-same : (b : Bool) (o : Option ℕ) → o ≡ cond b o o
 choice-same true o = refl

@@ -8,10 +8,12 @@ pub mod Requests
 pub mod OutcomeParts
 pub mod OutcomeInside
 pub mod Turn
+pub mod Blocks
 pub mod Calls
 pub mod Footprint
 pub mod Plan
 pub mod Footprints
 pub mod LooksEverywhere
+pub mod Reads
 pub mod SameOutcome
 pub mod Queue

@@ -21,7 +21,7 @@ abbrev view_of : ℕ → ℕ → ℕ → List ℕ → List ℕ → List (List Ar
 view_of nprocs pid step args memory table tag_size queue =
     record { nprocs = nprocs; pid = pid; step = step; args = args; memory = memory; table = table; tag_size = tag_size; queue = queue }
 
-same_views : (v w : ViewParts) → AreAlikeButForWords v w → v.memory ≡ w.memory → v ≡ w
+pub same_views : (v w : ViewParts) → AreAlikeButForWords v w → v.memory ≡ w.memory → v ≡ w
 same_views v w alike memory =
     ap (λ x. view_of x v.pid v.step v.args v.memory v.table v.tag_size v.queue) alike.nprocs
     ∙ ap (λ x. view_of w.nprocs x v.step v.args v.memory v.table v.tag_size v.queue) alike.pid

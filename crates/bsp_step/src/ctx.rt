@@ -2,10 +2,12 @@
 
 ghost use Rattle.std.specs.Prelude.{◌≡◌, IfOk, Err, Some};
 ghost use Rattle.bsp_step.specs.Context.{fresh};
-ghost use Rattle.bsp_step.specs.Perform.{count_of_requests};
+ghost use Rattle.bsp_step.specs.Perform.{count_of_requests, request_fault};
+ghost use Rattle.bsp_step.specs.Calls.{Passes};
 ghost use Rattle.bsp_step.specs.OutcomeParts.{IsOutcome, IsOutcomeOf};
 ghost use Rattle.bsp_step.specs.Turn.{closed};
 
+mod blocks;
 mod local;
 mod messages;
 mod reading;
@@ -13,6 +15,7 @@ mod registration;
 mod remote;
 
 use crate::{Ended, Outcome, Stop, View};
+use bsp_model::limits::MOST_REQUESTS;
 use bsp_model::{
     End, Fault, Get, Memory, Message, OutOfMemory, Put, Send, Seq, Store, TryCopy, Words,
 };
@@ -89,6 +92,19 @@ impl<'v> Ctx<'v> {
         ensures { result ≡ count_of_requests self.now }
     {
         self.puts.len() + self.gets.len() + self.sends.len() + self.pops.len() + self.pushes.len()
+    }
+
+    /// The checks with which each request begins: no fault is kept, and fewer than `MOST_REQUESTS` stand.
+    fn begin_request(&mut self) -> Result<(), Stop>
+        ensures { Passes self.old (request_fault self.old) self.new result }
+    {
+        if let Some(fault) = self.fault {
+            return Err(Stop::Fault(fault));
+        }
+        if self.count_of_requests() >= MOST_REQUESTS {
+            return self.refuse(Fault::TooManyRequests);
+        }
+        Ok(())
     }
 
     /// What the turn leaves, where its step answered `how`. It takes no memory.

@@ -3,10 +3,11 @@ use Rattle.std.proofs.Common.{◌≡◌, ◌≤◌, ◌<◌, ◌+◌, ◌-◌, �
 use Rattle.std.specs.List.{flat_map, range_with_len}
 use Rattle.std.proofs.lemmas.Bool.{cases_lt}
 use Rattle.std.proofs.lemmas.List.{drop-drop, drop-take, ext_get_or, get_or_append_left, get_or_at, take-append-drop, take-take, take_all, take_more}
+use Rattle.std.proofs.lemmas.Grind.{same_number_lists}
 use Rattle.std.proofs.lemmas.List.FromFn.{get_or-map-range_with_len, length-map-range_with_len}
 use Rattle.bsp_deliver.specs.Requests.{each_below}
 use Rattle.heat.specs.Heat.{own_cells}
-use Rattle.heat.specs.Cells.{length_of_own_cells, own_cell, own_cells-alike}
+use Rattle.heat.specs.Cells.{length_of_own_cells, own_cell}
 use Rattle.heat.specs.Rod.{cells_below, cells_between, last_word, piece_of, rod_of}
 use Rattle.heat.proofs.Pieces.{AreDealt, Hold, cells_below-le, cells_below-more, length-piece_of, word-piece_of}
 
@@ -14,8 +15,12 @@ use Rattle.heat.proofs.Pieces.{AreDealt, Hold, cells_below-le, cells_below-more,
 pub own_cells-held : (mems : List (List ℕ)) (rod : List ℕ) (memory : ℕ → List ℕ) (p : ℕ) → AreDealt mems → Hold mems rod memory → p < length mems → own_cells (memory p) ≡ own_cells (piece_of mems rod p)
 own_cells-held mems rod memory p dealt h l =
     let size : length (memory p) ≡ length (get_or mems p []) = h.lengths p l in
-    own_cells-alike (memory p) (piece_of mems rod p) (size ∙ sym (length-piece_of mems rod p dealt h.long l)) (λ k within.
-    h.cells p (k + 1) l (omega arith) (omega arith) ∙ sym (word-piece_of mems rod p (k + 1) (omega arith)))
+    let held = memory p in
+    let piece = piece_of mems rod p in
+    let long : length held ≡ length piece = size ∙ sym (length-piece_of mems rod p dealt h.long l) in
+    same_number_lists (own_cells held) (own_cells piece) (length_of_own_cells held ∙ ap (λ len. len - 2) long ∙ sym (length_of_own_cells piece)) (λ k within.
+    let here : k < length held - 2 = omega (arith, length_of_own_cells held) in
+    own_cell held k here ∙ h.cells p (k + 1) l (omega arith) (omega arith) ∙ sym (word-piece_of mems rod p (k + 1) (omega arith)) ∙ sym (own_cell piece k (omega (arith, long))))
 
 take_parts : (i j : ℕ) (xs : List ℕ) → take (i + j) xs ≡ take i xs ++ take j (drop i xs)
 take_parts i j xs =

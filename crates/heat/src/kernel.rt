@@ -1,6 +1,7 @@
 //! Heat in a rod.
+#![tactic(auto, using(bsp_step::proofs::Laws::running))]
 
-ghost use Rattle.std.specs.Prelude.{◌≡◌, ◌≤◌, ◌<◌, ◌-◌, ◌%◌, ◌^◌, length, sum, slice_index, OnOk};
+ghost use Rattle.std.specs.Prelude.{◌≡◌, ◌≤◌, ◌<◌, ◌-◌, ◌%◌, ◌^◌, length, sum, slice_index, IfOk, OnOk};
 ghost use Rattle.std.specs.List.{range_with_len};
 ghost use Rattle.bsp_model.specs.declared.fault.End.TheVariants.{Sync};
 ghost use Rattle.bsp_step.specs.Calls.{Runs};
@@ -50,13 +51,13 @@ impl Program for Heat {
         }
     }
 
-    fn step(&self, _alloc: Global, ctx: &mut Ctx<'_>) -> Result<End, OutOfMemory> {
-        settle(run(ctx))
+    fn step(&self, alloc: Global, ctx: &mut Ctx<'_>) -> Result<End, OutOfMemory> {
+        settle(run(alloc, ctx))
     }
 }
 
 /// The turn of a process.
-fn run(ctx: &mut Ctx<'_>) -> Result<End, Stop>
+fn run(alloc: Global, ctx: &mut Ctx<'_>) -> Result<End, Stop>
     ensures { let plan = heat_plan ctx.old.view ctx.old.memory in Runs ctx.old plan.acts plan.ending ctx.new result }
 {
     let Some(time_steps) = ctx.arg(0) else {
@@ -73,16 +74,16 @@ fn run(ctx: &mut Ctx<'_>) -> Result<End, Stop>
             Ok(End::Sync)
         }
         1 => tell(ctx, time_steps),
-        _ => advance(ctx, time_steps),
+        _ => advance(alloc, ctx, time_steps),
     }
 }
 
 /// Makes a time step, and goes on.
-fn advance(ctx: &mut Ctx<'_>, time_steps: u64) -> Result<End, Stop>
+fn advance(alloc: Global, ctx: &mut Ctx<'_>, time_steps: u64) -> Result<End, Stop>
     requires { 3 ≤ length ctx.old.memory }
     ensures { let plan = heat_advancing ctx.old.view time_steps ctx.old.memory in Runs ctx.old plan.acts plan.ending ctx.new result }
 {
-    store_next_cells(ctx)?;
+    store_next_cells(alloc, ctx)?;
     charge_and_tell(ctx, time_steps)
 }
 
@@ -97,20 +98,39 @@ fn charge_and_tell(ctx: &mut Ctx<'_>, time_steps: u64) -> Result<End, Stop>
 }
 
 /// Makes each own cell what it becomes in a time step, all from the words as they were before.
-fn store_next_cells(ctx: &mut Ctx<'_>) -> Result<(), Stop>
+fn store_next_cells(alloc: Global, ctx: &mut Ctx<'_>) -> Result<(), Stop>
     requires { 3 ≤ length ctx.old.memory }
     ensures ran { Runs ctx.old (cell_stores ctx.old.memory (range_with_len 1 (length ctx.old.memory - 2))) tt ctx.new result }
     ensures cells { OnOk result (own_cells ctx.new.memory ≡ next_cells ctx.old.memory) }
+    ensures view { OnOk result (ctx.new.view ≡ ctx.old.view) }
 {
-    let last = ctx.memory_len() - 1;
-    let mut before = word_at(ctx, 0);
-    for address in 1..last {
-        let own = word_at(ctx, address);
-        let after = word_at(ctx, address + 1);
-        ctx.store(address, next_cell(before, own, after))?;
-        before = own;
+    let words = ctx.words_at(0, ctx.memory_len())?.unwrap();
+    let cells = next_cells(alloc, words.as_slice())?;
+    store_cells(ctx, cells.as_slice())
+}
+
+/// Makes these the own cells.
+fn store_cells(ctx: &mut Ctx<'_>, cells: &[u64]) -> Result<(), Stop>
+    requires some { 3 ≤ length ctx.old.memory }
+    requires next { cells.now ≡ next_cells ctx.old.memory }
+    ensures ran { Runs ctx.old (cell_stores ctx.old.memory (range_with_len 1 (length ctx.old.memory - 2))) tt ctx.new result }
+    ensures cells { OnOk result (own_cells ctx.new.memory ≡ next_cells ctx.old.memory) }
+    ensures view { OnOk result (ctx.new.view ≡ ctx.old.view) }
+{
+    ctx.store_words(1, cells)
+}
+
+/// What the own cells of a memory become in a time step.
+fn next_cells(alloc: Global, memory: &[u64]) -> Result<Vec<u64>, OutOfMemory>
+    requires { 3 ≤ length memory.now }
+    ensures { IfOk result (λ cells. cells.items ≡ next_cells memory.now) }
+{
+    let count = memory.len() - 2;
+    let mut cells = vec![in alloc; 0; count]?;
+    for i in 0..count {
+        cells[i] = next_cell(memory[i], memory[i + 1], memory[i + 2]);
     }
-    Ok(())
+    Ok(cells)
 }
 
 /// What a cell becomes in a time step.

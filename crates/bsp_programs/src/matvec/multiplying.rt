@@ -5,7 +5,6 @@ ghost use Rattle.bsp_step.specs.Calls.{Runs};
 ghost use Rattle.bsp_programs.specs.MatVec.{matvec_multiplying, matvec_answering, product_of, inner_product};
 
 use super::layout::Layout;
-use super::words::{load_words, store_words};
 use bsp_model::{End, OutOfMemory, Words};
 use bsp_step::{Ctx, Stop};
 use std::alloc::Global;
@@ -14,10 +13,10 @@ use std::alloc::Global;
 pub(super) fn multiply(alloc: Global, ctx: &mut Ctx<'_>, layout: Layout) -> Result<End, Stop>
     ensures { let plan = matvec_multiplying layout.nprocs layout.block ctx.old.memory in Runs ctx.old plan.acts plan.ending ctx.new result }
 {
-    let Some(matrix) = load_words(alloc, ctx, 0, layout.block_start())? else {
+    let Some(matrix) = ctx.words_at(0, layout.block_start())? else {
         return Ok(End::Abort(1));
     };
-    let Some(vector) = load_words(alloc, ctx, layout.vector_start(), layout.columns())? else {
+    let Some(vector) = ctx.words_at(layout.vector_start(), layout.columns())? else {
         return Ok(End::Abort(1));
     };
     let product = product_of(alloc, layout, matrix.as_slice(), vector.as_slice())?;
@@ -29,7 +28,7 @@ fn answer(ctx: &mut Ctx<'_>, layout: Layout, product: &[u64]) -> Result<End, Sto
     requires { length product.now ≤ 64 }
     ensures { let plan = matvec_answering layout.nprocs layout.block product.now in Runs ctx.old plan.acts plan.ending ctx.new result }
 {
-    store_words(ctx, layout.product_start(), product)?;
+    ctx.store_words(layout.product_start(), product)?;
     ctx.charge(layout.block_start())?;
     ctx.print(product)?;
     Ok(End::Halt)

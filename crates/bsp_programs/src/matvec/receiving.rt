@@ -4,11 +4,11 @@ ghost use Rattle.std.specs.Prelude.{◌≡◌, ◌<◌, ◌+◌, ◌∷◌, ◌^
 ghost use Rattle.bsp_step.specs.Act as act;
 ghost use Rattle.bsp_step.specs.Calls.{Runs};
 ghost use Rattle.bsp_step.specs.Queue.{first_message, first_words};
-ghost use Rattle.bsp_programs.specs.MatVec.{matvec_receiving, sender_of, stores, stored};
+ghost use Rattle.bsp_programs.specs.MatVec.{matvec_receiving, sender_of};
+ghost use Rattle.bsp_step.specs.Blocks.{stores, stored};
 
 use super::layout::Layout;
 use super::multiplying::multiply;
-use super::words::store_words;
 use bsp_model::End;
 use bsp_step::{Ctx, Stop};
 use std::alloc::Global;
@@ -67,13 +67,12 @@ fn sender_of_first(ctx: &Ctx<'_>, layout: Layout) -> Option<u64>
 
 /// Takes the first message, which is as long as the buffer, and stores its words from `start` on.
 fn take_block(ctx: &mut Ctx<'_>, start: u64, buffer: &mut [u64]) -> Result<(), Stop>
-    requires whole { length (first_words ctx.old.left) ≡ length buffer.old }
-    requires fits { start + length buffer.old < 2 ^ 64 }
+    requires { length (first_words ctx.old.left) ≡ length buffer.old }
     ensures ran { Runs ctx.old (act.move_into (length buffer.old) ∷ stores start (first_words ctx.old.left)) tt ctx.new result }
     ensures memory { OnOk result (ctx.new.memory ≡ stored ctx.old.memory start (first_words ctx.old.left)) }
     ensures left { OnOk result (ctx.new.left ≡ drop 1 ctx.old.left) }
     ensures view { OnOk result (ctx.new.view ≡ ctx.old.view) }
 {
     ctx.move_into(buffer)?;
-    store_words(ctx, start, buffer)
+    ctx.store_words(start, buffer)
 }

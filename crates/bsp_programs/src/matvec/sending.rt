@@ -6,10 +6,8 @@ ghost use Rattle.bsp_step.specs.Calls.{Runs};
 ghost use Rattle.bsp_programs.specs.MatVec.{matvec_checking, matvec_sending, sends_to_all};
 
 use super::layout::Layout;
-use super::words::load_words;
 use bsp_model::End;
 use bsp_step::{Ctx, Stop};
-use std::alloc::Global;
 
 /// Finds out whether the memory has all words that are needed, and chooses tags of one word.
 pub(super) fn check_memory(ctx: &mut Ctx<'_>, layout: Layout) -> Result<End, Stop>
@@ -24,11 +22,11 @@ pub(super) fn check_memory(ctx: &mut Ctx<'_>, layout: Layout) -> Result<End, Sto
 }
 
 /// Sends the own block of the vector to every process.
-pub(super) fn send_block(alloc: Global, ctx: &mut Ctx<'_>, layout: Layout) -> Result<End, Stop>
+pub(super) fn send_block(ctx: &mut Ctx<'_>, layout: Layout) -> Result<End, Stop>
     requires { layout.nprocs ≡ ctx.old.view.nprocs }
     ensures { let plan = matvec_sending layout.nprocs ctx.old.view.pid layout.block ctx.old.memory in Runs ctx.old plan.acts plan.ending ctx.new result }
 {
-    let Some(block) = load_words(alloc, ctx, layout.block_start(), layout.block)? else {
+    let Some(block) = ctx.words_at(layout.block_start(), layout.block)? else {
         return Ok(End::Abort(1));
     };
     send_to_all(ctx, block.as_slice())?;

@@ -7,7 +7,7 @@ ghost use Rattle.bsp_step.specs.Queue.{first_words, first_message, heading};
 ghost use Rattle.bsp_step.specs.Calls.{Performs, PerformsAlways};
 
 use crate::{Ctx, Stop};
-use bsp_model::limits::{MOST_MESSAGES, MOST_PAYLOAD_WORDS, MOST_REQUESTS, MOST_TAG_WORDS};
+use bsp_model::limits::{MOST_MESSAGES, MOST_PAYLOAD_WORDS, MOST_TAG_WORDS};
 use bsp_model::{Fault, Message, Send, Words};
 
 /// The words of all payloads together.
@@ -51,12 +51,7 @@ impl<'v> Ctx<'v> {
     pub fn send(&mut self, pid: u64, tag: &[u64], words: &[u64]) -> Result<(), Stop>
         ensures { Performs self.old (act.send pid tag.now words.now) self.new result }
     {
-        if let Some(fault) = self.fault {
-            return Err(Stop::Fault(fault));
-        }
-        if self.count_of_requests() >= MOST_REQUESTS {
-            return self.refuse(Fault::TooManyRequests);
-        }
+        self.begin_request()?;
         if pid >= self.nprocs() {
             return self.refuse(Fault::BadPid(pid));
         }

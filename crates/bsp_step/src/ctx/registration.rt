@@ -6,7 +6,6 @@ ghost use Rattle.bsp_step.specs.Calls.{Performs};
 
 use crate::{Ctx, Stop};
 use bsp_model::Fault;
-use bsp_model::limits::MOST_REQUESTS;
 use bsp_table::Area;
 
 impl<'v> Ctx<'v> {
@@ -16,12 +15,7 @@ impl<'v> Ctx<'v> {
     pub fn push_reg(&mut self, start: u64, len: u64) -> Result<(), Stop>
         ensures { Performs self.old (act.push_reg start len) self.new result }
     {
-        if let Some(fault) = self.fault {
-            return Err(Stop::Fault(fault));
-        }
-        if self.count_of_requests() >= MOST_REQUESTS {
-            return self.refuse(Fault::TooManyRequests);
-        }
+        self.begin_request()?;
         let words = self.memory.len() as u64;
         if start > words || len > words - start {
             return self.refuse(Fault::BadLocal);
@@ -37,12 +31,7 @@ impl<'v> Ctx<'v> {
     pub fn pop_reg(&mut self, start: u64) -> Result<(), Stop>
         ensures { Performs self.old (act.pop_reg start) self.new result }
     {
-        if let Some(fault) = self.fault {
-            return Err(Stop::Fault(fault));
-        }
-        if self.count_of_requests() >= MOST_REQUESTS {
-            return self.refuse(Fault::TooManyRequests);
-        }
+        self.begin_request()?;
         let view = self.view;
         let Some(slot) = view.table.find_under(view.pid, start, self.pops.as_slice()) else {
             return self.refuse(Fault::NotRegistered(start));

@@ -1,12 +1,12 @@
 //! The acts on other processes' memories: puts and gets.
 
-ghost use Rattle.std.specs.Prelude.{◌≡◌, ◌<◌};
+ghost use Rattle.std.specs.Prelude.{◌≡◌, ◌<◌, ◌≤◌, ◌+◌, IfOk, IfSome};
 ghost use Rattle.bsp_step.specs.Act as act;
-ghost use Rattle.bsp_step.specs.Perform.{target_area};
-ghost use Rattle.bsp_step.specs.Calls.{Performs};
+ghost use Rattle.bsp_step.specs.Perform.{place_fault, start_of, target_area};
+ghost use Rattle.bsp_step.specs.Calls.{Passes, Performs};
 
 use crate::{Ctx, Stop};
-use bsp_model::limits::MOST_REQUESTS;
+use bsp_model::limits::MOST_MEMORY_WORDS;
 use bsp_model::{Fault, Get, Put, Words};
 use bsp_table::Area;
 
@@ -14,11 +14,36 @@ impl<'v> Ctx<'v> {
     /// The area of `pid` in the newest slot whose own area starts at `area`.
     fn target_area(&self, pid: u64, area: u64) -> Option<Area>
         requires { pid < self.now.view.nprocs }
-        ensures { result ≡ target_area self.now.view pid area }
+        ensures found { result ≡ target_area self.now.view pid area }
+        ensures inside { IfSome result (λ found. found.start + found.len ≤ MOST_MEMORY_WORDS) }
     {
         let view = self.view;
         let slot = view.table.find(view.pid, area)?;
         Some(view.table.area(slot, pid))
+    }
+
+    /// Where a request to `len` words of process `pid` starts, from `offset` of that area on: the checks of a put, and of a get but its last.
+    pub(super) fn resolve(
+        &mut self,
+        pid: u64,
+        area: u64,
+        offset: u64,
+        len: u64,
+    ) -> Result<u64, Stop>
+        ensures passes { Passes self.old (place_fault self.old pid area (offset + len)) self.new result }
+        ensures start { IfOk result (λ start. start ≡ start_of (target_area self.old.view pid area) + offset) }
+    {
+        self.begin_request()?;
+        if pid >= self.nprocs() {
+            return self.refuse(Fault::BadPid(pid));
+        }
+        let Some(found) = self.target_area(pid, area) else {
+            return self.refuse(Fault::NotRegistered(area));
+        };
+        if offset > found.len || len > found.len - offset {
+            return self.refuse(Fault::OutOfArea);
+        }
+        Ok(found.start + offset)
     }
 
     /// Asks that the words be written to process `pid`, at `offset` of its area in the newest slot whose own area starts at `area` (`bsp_put`).
@@ -29,25 +54,11 @@ impl<'v> Ctx<'v> {
     pub fn put(&mut self, pid: u64, words: &[u64], area: u64, offset: u64) -> Result<(), Stop>
         ensures { Performs self.old (act.put pid words.now area offset) self.new result }
     {
-        if let Some(fault) = self.fault {
-            return Err(Stop::Fault(fault));
-        }
-        if self.count_of_requests() >= MOST_REQUESTS {
-            return self.refuse(Fault::TooManyRequests);
-        }
-        if pid >= self.nprocs() {
-            return self.refuse(Fault::BadPid(pid));
-        }
-        let Some(found) = self.target_area(pid, area) else {
-            return self.refuse(Fault::NotRegistered(area));
-        };
-        if offset > found.len || words.len() as u64 > found.len - offset {
-            return self.refuse(Fault::OutOfArea);
-        }
+        let start = self.resolve(pid, area, offset, words.len() as u64)?;
         let words = Words::from_slice(self.alloc, words)?;
         self.puts.push(Put {
             target: pid,
-            start: found.start + offset,
+            start,
             words,
         })?;
         Ok(())
@@ -61,28 +72,14 @@ impl<'v> Ctx<'v> {
     pub fn get(&mut self, pid: u64, area: u64, offset: u64, into: u64, len: u64) -> Result<(), Stop>
         ensures { Performs self.old (act.get pid area offset into len) self.new result }
     {
-        if let Some(fault) = self.fault {
-            return Err(Stop::Fault(fault));
-        }
-        if self.count_of_requests() >= MOST_REQUESTS {
-            return self.refuse(Fault::TooManyRequests);
-        }
-        if pid >= self.nprocs() {
-            return self.refuse(Fault::BadPid(pid));
-        }
-        let Some(found) = self.target_area(pid, area) else {
-            return self.refuse(Fault::NotRegistered(area));
-        };
-        if offset > found.len || len > found.len - offset {
-            return self.refuse(Fault::OutOfArea);
-        }
+        let start = self.resolve(pid, area, offset, len)?;
         let own = self.memory.len() as u64;
         if into > own || len > own - into {
             return self.refuse(Fault::BadLocal);
         }
         self.gets.push(Get {
             owner: pid,
-            start: found.start + offset,
+            start,
             len,
             into,
         })?;

@@ -1,10 +1,10 @@
-use Rattle.std.proofs.Common.{◌-◌}
+use Rattle.std.proofs.Common.{◌≡◌, ◌-◌}
 use Rattle.std.specs.List.{range_with_len}
+use Rattle.bsp_step.specs.Perform.{perform_all}
 use Rattle.bsp_programs.specs.MatVec.{sends_to_all}
-use Rattle.bsp_step.proofs.Running.{HasLeft}
 use Rattle.bsp_programs.proofs.matvec.sending.send_to_all.Given as goal
 
 abbrev pub invariant-loop-pid : goal.invariant-loop-pid
 invariant-loop-pid l =
-    HasLeft l.initial.ctx (sends_to_all l.initial.ctx.view.pid l.words (range_with_len 0 l.initial.ctx.view.nprocs))
-    l.ctx (sends_to_all l.own l.words (range_with_len l.pid (l.pid-end - l.pid)))
+    let sends = sends_to_all l.initial.ctx.view.pid l.words in
+    perform_all l.initial.ctx (sends (range_with_len 0 l.initial.ctx.view.nprocs)) ≡ perform_all l.ctx (sends (range_with_len l.pid (l.pid-end - l.pid)))

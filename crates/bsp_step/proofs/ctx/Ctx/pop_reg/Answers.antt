@@ -8,7 +8,7 @@ pub invariant_of-self-2 : goal.invariant_of-self-2
 invariant_of-self-2 c =
     let old = c.self.invariant in
     let v = c.self.inside.view.now in
-    let found : newest_under v.table v.pid c.args.start c.self.inside.pops ≡ Some c.in-Some-find_under.slot = grind arith in
+    let found : newest_under v.table v.pid c.args.start c.self.inside.pops ≡ Some c.in-Some.slot = grind arith in
     record {
       view = old.view;
       memory = old.memory;
@@ -17,7 +17,7 @@ invariant_of-self-2 c =
       placed = old.placed;
       asked = old.asked;
       addressed = old.addressed;
-      popped = rw c.in_ok-push.ensures.ok (AreSlots-push v.table v.pid c.self.inside.pops c.args.start c.in-Some-find_under.slot old.popped found);
+      popped = rw c.in_ok-push.ensures.ok (AreSlots-push v.table v.pid c.self.inside.pops c.args.start c.in-Some.slot old.popped found);
       pushed = old.pushed;
       tag = old.tag;
       lines = old.lines;

@@ -1,0 +1,119 @@
+//! Calls for blocks of words, each the acts that it stands for.
+
+ghost use Rattle.std.specs.Prelude.{◌≡◌, ◌≤◌, ◌<◌, ◌+◌, ◌-◌, ◌^◌, ◌++◌, ◌↔◌, length, IsSome, IfNone, IfOk, IfSome, OnOk, OnErr, option_map};
+ghost use Rattle.bsp_step.specs.Act as act;
+ghost use Rattle.bsp_step.specs.Blocks.{words_at, stores, records, with_stored};
+ghost use Rattle.bsp_step.specs.Calls.{PerformsAll, PutsWords};
+
+use crate::{Ctx, Stop};
+use bsp_model::limits::MOST_MEMORY_WORDS;
+use bsp_model::{Fault, OutOfMemory, Put, Seq, Store, Words};
+
+/// Keeps stores of the words from `start` on. After `OutOfMemory` the list is as it was.
+fn keep_stores(kept: &mut Seq<Store>, start: u64, words: &[u64]) -> Result<(), OutOfMemory>
+    requires { start + length words.now < 2 ^ 64 }
+    ensures ok { OnOk result (kept.new ≡ kept.old ++ records start words.now) }
+    ensures err { OnErr result (kept.new ≡ kept.old) }
+{
+    let before = kept.len();
+    let mut addr = start;
+    for word in words {
+        let store = Store { addr, value: *word };
+        if let Err(error) = kept.push(store) {
+            kept.truncate(before);
+            return Err(error);
+        }
+        addr += 1;
+    }
+    Ok(())
+}
+
+impl<'v> Ctx<'v> {
+    /// Stores words that lie inside the own memory, or no words. After `OutOfMemory` nothing has changed.
+    fn store_inside(&mut self, address: u64, words: &[u64]) -> Result<(), OutOfMemory>
+        requires { length words.now ≤ length self.old.memory - address }
+        ensures ok { OnOk result (self.new ≡ with_stored self.old address words.now) }
+        ensures err { OnErr result (self.new ≡ self.old) }
+    {
+        let before = self.stores.len();
+        keep_stores(&mut self.stores, address, words)?;
+        if let Err(error) = self.memory.write(address, words) {
+            self.stores.truncate(before);
+            return Err(error);
+        }
+        Ok(())
+    }
+
+    /// Copies the words of the own memory from `address` on to `words`, as they are now. `None`, and nothing is copied, where they pass the end of
+    /// the memory. It takes no memory.
+    pub fn load_words(&self, address: u64, words: &mut [u64]) -> Option<()>
+        ensures found { option_map (λ _. words.new) result ≡ words_at self.now.memory address (length words.old) }
+        ensures none { IfNone result (words.new ≡ words.old) }
+        ensures within { IsSome result ↔ (address + length words.old ≤ length self.now.memory) }
+        ensures short { length self.now.memory ≤ MOST_MEMORY_WORDS }
+    {
+        self.memory.read(address, words).then_some(())
+    }
+
+    /// The `len` words of the own memory from `address` on, as they are now, or `None` where they pass its end: `load_words` into a new list.
+    pub fn words_at(&self, address: u64, len: u64) -> Result<Option<Words>, OutOfMemory>
+        ensures found { IfOk result (λ found. found ≡ words_at self.now.memory address len) }
+        ensures len { IfOk result (λ found. IfSome found (λ words. length words ≡ len)) }
+    {
+        let own = self.memory_len();
+        if address > own || len > own - address {
+            return Ok(None);
+        }
+        let mut words = vec![in self.alloc; 0; len as usize]?;
+        self.memory.read(address, words.as_mut_slice());
+        Ok(Some(Words::from_vec(words)))
+    }
+
+    /// Makes `words` the words of the own memory from `address` on: one `store` after the other, in ascending order. After `OutOfMemory` none of them is made.
+    ///
+    /// Faults: F5 `BadLocal` at the first that passes the end of the memory; those before it stand.
+    pub fn store_words(&mut self, address: u64, words: &[u64]) -> Result<(), Stop>
+        ensures acted { PerformsAll self.old (stores address words.now) self.new result }
+        ensures stored { OnOk result (self.new ≡ with_stored self.old address words.now) }
+    {
+        if let Some(fault) = self.fault {
+            return Err(Stop::Fault(fault));
+        }
+        let room = (self.memory.len() as u64).saturating_sub(address);
+        let (inside, past) = words.split_at(words.len().min(room as usize));
+        self.store_inside(address, inside)?;
+        if !past.is_empty() {
+            return self.refuse(Fault::BadLocal);
+        }
+        Ok(())
+    }
+
+    /// Puts `len` words of the own memory from `from` on, as they are now, to process `pid` (`put`). `Ok(None)`, and nothing is done, where they pass
+    /// the end of the own memory.
+    ///
+    /// Faults: those of `put`.
+    pub fn put_words(
+        &mut self,
+        pid: u64,
+        from: u64,
+        len: u64,
+        area: u64,
+        offset: u64,
+    ) -> Result<Option<()>, Stop>
+        ensures { PutsWords self.old (words_at self.old.memory from len) (λ words. act.put pid words area offset) self.new result }
+    {
+        let own = self.memory.len() as u64;
+        if from > own || len > own - from {
+            return Ok(None);
+        }
+        let start = self.resolve(pid, area, offset, len)?;
+        let mut words = vec![in self.alloc; 0; len as usize]?;
+        self.memory.read(from, words.as_mut_slice());
+        self.puts.push(Put {
+            target: pid,
+            start,
+            words: Words::from_vec(words),
+        })?;
+        Ok(Some(()))
+    }
+}
