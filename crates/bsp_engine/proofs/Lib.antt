@@ -1,6 +1,10 @@
 pub mod Answering
+pub mod Beginning
+pub mod Conversations
 pub mod Described
 pub mod Flowing
+pub mod LiveLaws
+pub mod Logs
 pub mod Numbering
 pub mod Optional
 pub mod TooLong

@@ -1,12 +1,16 @@
 pub mod Answer
+pub mod Asked
 pub mod Catalogue
 pub mod Counting
+pub mod DueAt
 pub mod Faults
 pub mod Flow
 pub mod JobOf
 pub mod Keys
 pub mod Limits
 pub mod Lines
+pub mod Live
+pub mod LiveOf
 pub mod Naming
 pub mod Options
 pub mod Places
@@ -14,6 +18,7 @@ pub mod Refusal
 pub mod Reported
 pub mod Signs
 pub mod Sizes
+pub mod Talk
 pub mod Text
 pub mod Tree
 pub mod Values

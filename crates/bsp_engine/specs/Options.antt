@@ -20,13 +20,17 @@ scratch_rule = record (new_rule (codes "scratch")) { long = Some (codes "scratch
 abbrev pub places_rule : Rule
 places_rule = record (new_rule (codes "places")) { long = Some (codes "places"); action = Some SetTrue }
 
+-- `--follow FILE`
+abbrev pub follow_rule : Rule
+follow_rule = record (new_rule (codes "follow")) { long = Some (codes "follow"); value_names = 1 }
+
 -- a command that has a version, which `--version` tells
 abbrev pub with_version : App → App
 with_version a = record a { top = record a.top { has_version = true } }
 
--- the command of a tool with this name: its version, and these three options
+-- the command of a tool with this name: its version, and these four options
 abbrev pub tool_app : List ℕ → App
-tool_app name = with_rule (with_rule (with_rule (with_version (new_app name)) workers_rule) scratch_rule) places_rule
+tool_app name = with_rule (with_rule (with_rule (with_rule (with_version (new_app name)) workers_rule) scratch_rule) places_rule) follow_rule
 
 -- the number that a text writes
 abbrev pub number_of : Text → ℕ

@@ -1,8 +1,8 @@
 //! The words of the command line.
 
-ghost use Rattle.std.specs.Prelude.{◌≡◌, ◌≢◌, ◌≤◌, IfOk, IfErr, codes, true, false, map};
-ghost use Rattle.clap.specs.Words.{FailsBy, app_of, fault_of, found_of, kind_of, matches_of, one_text, rows_of, rule_of, takes};
-ghost use Rattle.bsp_engine.specs.Options.{is_given, number_or_1, options_of, places_rule, scratch_rule, tool_app, workers_of, workers_rule};
+ghost use Rattle.std.specs.Prelude.{◌≡◌, ◌≢◌, ◌≤◌, IfOk, IfErr, codes, true, false, map, option_map};
+ghost use Rattle.clap.specs.Words.{FailsBy, app_of, fault_of, first_of, found_of, kind_of, matches_of, new_app, one_text, rows_of, rule_of, takes, with_rule};
+ghost use Rattle.bsp_engine.specs.Options.{follow_rule, is_given, number_or_1, options_of, places_rule, scratch_rule, tool_app, with_version, workers_of, workers_rule};
 
 use clap::error::ErrorKind;
 use clap::{Arg, ArgAction, ArgMatches, Command, Error, value_parser};
@@ -41,7 +41,9 @@ macro_rules! after_help {
         concat!(
             "\
 It reads a TOML document from standard input, and writes a report to standard output: for the input, and
-for each batch, the memories at the end, the printed lines and the costs.
+for each batch, the memories at the end, the printed lines and the costs. With --follow the document is
+read from a file, and its report ends with a line `ready`. Then each line of standard input is a batch, or
+`undo`, which takes the last batch back, and is answered by a block of its own before more is read.
 
 Keys of the document:
 ",
@@ -99,16 +101,36 @@ fn places_arg<'a>(alloc: Global) -> Arg<'a>
         .action(ArgAction::SetTrue)
 }
 
-fn command<'a>(alloc: Global, tool: &Tool) -> Result<Command<'a>, AllocError>
-    ensures { IfOk result (λ c. app_of c ≡ tool_app tool.now.name.now) }
+fn follow_arg<'a>(alloc: Global) -> Arg<'a>
+    ensures own { result.global ≡ false }
+    ensures rule { rule_of result ≡ follow_rule }
+{
+    Arg::new(alloc, "follow")
+        .long("follow")
+        .value_name("FILE")
+        .help(
+            "Reads the document from FILE, and then answers each line of standard input as it comes",
+        )
+}
+
+/// The command with the options that say how a job is run.
+fn running_command<'a>(alloc: Global, tool: &Tool) -> Result<Command<'a>, AllocError>
+    ensures { IfOk result (λ c. app_of c ≡ with_rule (with_rule (with_version (new_app tool.now.name.now)) workers_rule) scratch_rule) }
 {
     Command::new(alloc, tool.name)
         .version(VERSION)
         .about(tool.about)
         .after_help(tool.after_help)
         .arg(workers_arg(alloc))?
-        .arg(scratch_arg(alloc))?
-        .arg(places_arg(alloc))
+        .arg(scratch_arg(alloc))
+}
+
+fn command<'a>(alloc: Global, tool: &Tool) -> Result<Command<'a>, AllocError>
+    ensures { IfOk result (λ c. app_of c ≡ tool_app tool.now.name.now) }
+{
+    running_command(alloc, tool)?
+        .arg(places_arg(alloc))?
+        .arg(follow_arg(alloc))
 }
 
 /// The number, if it is from 1 to 16, else 1.
@@ -132,6 +154,13 @@ fn is_given(matches: &ArgMatches<'_>, flag: &str) -> bool
     ensures { result ≡ is_given (one_text (found_of matches.now) flag.now) }
 {
     matches.get_one::<bool>(flag).unwrap_or(false)
+}
+
+/// The file that is to be followed.
+fn follow_in<'a>(matches: &ArgMatches<'a>) -> Option<&'a str>
+    ensures { option_map (λ s. s.now) result ≡ first_of (codes "follow") (rows_of (found_of matches.now)) }
+{
+    matches.get_str("follow")
 }
 
 fn options_in(matches: &ArgMatches<'_>) -> Options
@@ -158,17 +187,23 @@ fn read_matches<'a>(
     command(alloc, tool)?.try_get_matches_from(words)
 }
 
-/// What the words ask for; the first word is the program's name. Words that the tool's options take are refused for want of memory alone. Others
-/// are refused by an error of the kind that `clap`'s definition gives them; `--help` and `--version` are such refusals.
-pub fn read_options<'a>(alloc: Global, tool: &Tool, words: &'a [&'a str]) -> Result<Options, Error>
-    ensures options { IfOk result (λ o. o ≡ options_of (matches_of (tool_app tool.now.name.now) (map (λ w. w.now) words.entry.now))) }
-    ensures least { IfOk result (λ o. 1 ≤ o.workers) }
-    ensures most { IfOk result (λ o. o.workers ≤ 16) }
+/// What the words ask for, and the file that is to be followed, if there is one; the first word is the program's name. Words that the tool's
+/// options take are refused for want of memory alone. Others are refused by an error of the kind that `clap`'s definition gives them; `--help` and
+/// `--version` are such refusals.
+pub fn read_options<'a>(
+    alloc: Global,
+    tool: &Tool,
+    words: &'a [&'a str],
+) -> Result<(Options, Option<&'a str>), Error>
+    ensures options { IfOk result (λ r. r.0 ≡ options_of (matches_of (tool_app tool.now.name.now) (map (λ w. w.now) words.entry.now))) }
+    ensures follow { IfOk result (λ r. option_map (λ s. s.now) r.1 ≡ first_of (codes "follow") (matches_of (tool_app tool.now.name.now) (map (λ w. w.now) words.entry.now))) }
+    ensures least { IfOk result (λ r. 1 ≤ r.0.workers) }
+    ensures most { IfOk result (λ r. r.0.workers ≤ 16) }
     ensures refused { IfErr result (λ e. takes (tool_app tool.now.name.now) (map (λ w. w.now) words.entry.now) ≡ true → kind_of e ≡ ErrorKind.OutOfMemory) }
     ensures kinds { FailsBy (fault_of (tool_app tool.now.name.now) (map (λ w. w.now) words.entry.now)) result }
 {
     let matches = read_matches(alloc, tool, words)?;
-    Ok(options_in(&matches))
+    Ok((options_in(&matches), follow_in(&matches)))
 }
 
 /// The exit status where the words were refused: 0 where that is the help or the version, 1 where memory was refused, else 2. It takes no memory.

@@ -213,7 +213,8 @@ fn push_refusal(text: &mut Vec<u8>, refusal: EditRefusal) -> Result<(), OutOfMem
     push_line(text, "at", &[refusal.place as u64])
 }
 
-fn push_reply(text: &mut Vec<u8>, places: bool, reply: &Reply) -> Result<(), OutOfMemory>
+/// Appends what follows the line `run K` of a reply.
+pub fn push_reply(text: &mut Vec<u8>, places: bool, reply: &Reply) -> Result<(), OutOfMemory>
     ensures { OnOk result (text.new.items ≡ text.old.items ++ reply_lines places reply.now) }
 {
     match reply {
@@ -231,7 +232,8 @@ fn push_reply(text: &mut Vec<u8>, places: bool, reply: &Reply) -> Result<(), Out
     }
 }
 
-fn push_block(
+/// Appends the block of a reply.
+pub fn push_block(
     text: &mut Vec<u8>,
     places: bool,
     number: u64,

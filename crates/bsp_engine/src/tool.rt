@@ -3,37 +3,38 @@
 //! Where there is no report, a fault line goes to standard error, and the exit status is 1 (the machine failed), 2 (the command line is refused)
 //! or 3 (the document is refused). Where the document has a fault, a second line says where, unless memory for it is refused.
 
-ghost use Rattle.std.specs.Prelude.{◌≤◌, IfOk};
+ghost use Rattle.std.specs.Prelude.{◌<◌, ◌≤◌};
 
 use crate::catalogue::Catalogue;
 use crate::counting::Counted;
 use crate::documents::engine;
 use crate::errors::EngineError;
 use crate::explaining::explanation;
+use crate::following::follow;
 use crate::options::{Options, Tool, read_options, words_status};
+use crate::terminal::Console;
+use bsp_model::OutOfMemory;
 use bsp_pool::Timed;
 use std::alloc::Global;
 use std::env::Env;
 use std::process::ExitCode;
+use std::rt::Files;
 use std::thread::Threads;
 use std::time::Clock;
-use std::{env, io};
+use std::{env, fs, io};
 
 /// The words of the command line, the program's name first.
 fn given_words<R: Env + Alloc<A = Global>>(rt: &R) -> io::Result<Vec<String>> {
     Ok(env::args(rt)?.collect(rt.alloc())?)
 }
 
-/// What they ask for.
-fn wanted_options(alloc: Global, tool: &Tool, words: &[String]) -> Result<Options, clap::Error>
-    ensures least { IfOk result (λ o. 1 ≤ o.workers) }
-    ensures most { IfOk result (λ o. o.workers ≤ 16) }
-{
+/// The words as texts.
+fn texts_of(alloc: Global, words: &[String]) -> Result<Vec<&str>, OutOfMemory> {
     let mut texts = Vec::with_capacity(alloc, words.len())?;
     for word in words {
         texts.push(word.as_str())?;
     }
-    read_options(alloc, tool, texts.as_slice())
+    Ok(texts)
 }
 
 /// Says on standard error why there is no report, or not all of it.
@@ -71,24 +72,33 @@ fn refused<R: Print + Eprint>(rt: &R, error: clap::Error) -> ExitCode {
     ExitCode::from(status)
 }
 
-/// All that a tool does: it reads the words of its command line, and then runs the job of the document on standard input, of which the report
-/// goes to standard output. The `main` of a tool hands on its runtime, and what this answers.
-pub fn run_tool<
-    C: Catalogue,
-    R: Env + Alloc<A = Global> + Input + Print + Eprint + Threads + Clock + Sync,
->(rt: &R, tool: &Tool) -> ExitCode {
-    let words = match given_words(rt) {
-        Ok(words) => words,
-        Err(error) => return unread(rt, error),
+/// The exit status of a job that was run, or that failed. Of a document with a fault standard error says more.
+fn ended<C: Catalogue, R: Alloc<A = Global> + Eprint>(
+    rt: &R,
+    outcome: Result<(), EngineError>,
+    document: &[u8],
+) -> ExitCode {
+    let Err(error) = outcome else {
+        return ExitCode::SUCCESS;
     };
-    let options = match wanted_options(rt.alloc(), tool, words.as_slice()) {
-        Ok(options) => options,
-        Err(error) => return refused(rt, error),
-    };
+    let status = failed(rt, error);
+    if matches!(error, EngineError::Job(_)) {
+        explain::<C, R>(rt, document);
+    }
+    status
+}
+
+/// Runs the job of the document on standard input.
+fn run_input<C: Catalogue, R: Alloc<A = Global> + Input + Print + Eprint + Threads + Clock + Sync>(
+    rt: &R,
+    options: Options,
+) -> ExitCode
+    requires workers { (0 < options.workers) × (options.workers ≤ 16) }
+{
     let mut reader = Counted::new(rt.reader());
     let mut writer = Counted::new(io::writer(rt));
     let mut document = Vec::new(rt.alloc());
-    match engine::<C, R, _, _, _>(
+    let outcome = engine::<C, R, _, _, _>(
         rt,
         rt.alloc(),
         options,
@@ -96,14 +106,61 @@ pub fn run_tool<
         &mut writer,
         &mut document,
         &Timed::new(rt),
-    ) {
-        Ok(()) => ExitCode::SUCCESS,
-        Err(error) => {
-            let status = failed(rt, error);
-            if matches!(error, EngineError::Job(_)) {
-                explain::<C, R>(rt, document.as_slice());
-            }
-            status
+    );
+    ended::<C, R>(rt, outcome, document.as_slice())
+}
+
+/// Runs the job of the document in a file, and then answers each line of standard input.
+fn follow_file<
+    C: Catalogue,
+    R: Alloc<A = Global> + Files + Input + Print + Eprint + Threads + Clock + Sync,
+>(rt: &R, options: Options, path: &str) -> ExitCode
+    requires workers { (0 < options.workers) × (options.workers ≤ 16) }
+{
+    let Ok(file) = fs::open(rt, path) else {
+        return failed(rt, EngineError::Read);
+    };
+    let mut source = Counted::new(file);
+    let mut terminal = Console::new(rt.reader(), io::writer(rt));
+    let mut document = Vec::new(rt.alloc());
+    let outcome = follow::<C, R, _, _, _>(
+        rt,
+        rt.alloc(),
+        options,
+        &mut source,
+        &mut terminal,
+        &mut document,
+        &Timed::new(rt),
+    );
+    ended::<C, R>(rt, outcome, document.as_slice())
+}
+
+/// All that a tool does: it reads the words of its command line, and then runs the job of the document on standard input, of which the report
+/// goes to standard output; or that of a file, and then answers each line of standard input. The `main` of a tool hands on its runtime, and what
+/// this answers.
+pub fn run_tool<
+    C: Catalogue,
+    R: Env + Alloc<A = Global> + Files + Input + Print + Eprint + Threads + Clock + Sync,
+>(rt: &R, tool: &Tool) -> ExitCode {
+    let words = match given_words(rt) {
+        Ok(words) => words,
+        Err(error) => return unread(rt, error),
+    };
+    let Ok(texts) = texts_of(rt.alloc(), words.as_slice()) else {
+        return failed(rt, EngineError::OutOfMemory);
+    };
+    let (options, followed) = match read_options(rt.alloc(), tool, texts.as_slice()) {
+        Ok(wanted) => wanted,
+        Err(error) => return refused(rt, error),
+    };
+    match followed {
+        Some(_) if options.scratch => {
+            let _ = eprintln!(rt;
+                "error: the argument '--follow <FILE>' cannot be used with '--scratch'"
+            );
+            ExitCode::from(2)
         }
+        Some(path) => follow_file::<C, R>(rt, options, path),
+        None => run_input::<C, R>(rt, options),
     }
 }

@@ -15,7 +15,7 @@ use Rattle.bsp_incr.specs.declared.reply.Reply.{Reply}
 use Rattle.bsp_incr.specs.declared.reply.Reply.TheVariants.{Done}
 use Rattle.bsp_incr.specs.Edits.{refusal_of, edited}
 use Rattle.bsp_incr.specs.Exact.{IsExact}
-use Rattle.bsp_incr.specs.Replies.{input_if, input_after, IsDone, IsUpdated, IsReplyIf, AreRepliesFrom, AreReplies}
+use Rattle.bsp_incr.specs.Replies.{input_if, input_after, IsDone, IsUpdated, IsReplyIf, IsReply, AreRepliesFrom, AreReplies}
 use Rattle.bsp_incr.specs.Inside.Changes.{update_of}
 use Rattle.bsp_incr.specs.Inside.Replies.{done, reply_if, reply_to, replies_from, replies}
 use Rattle.bsp_incr.proofs.Exactness.{update_is_exact, update_of_exact}
@@ -70,10 +70,15 @@ lawful_if (Some refusal) old new h k = h
 pub lawful_after : (input : Input) (batch : List Edit) → input_fault input ≡ None → input_fault (input_after input batch) ≡ None
 lawful_after input batch lawful = lawful_if (refusal_of input batch) input (edited input batch) lawful (λ none. edited_lawful input batch none lawful)
 
+-- the reply to a batch
+pub law_of_reply : (looks : ViewParts → ℕ → Bool) (turn : ViewParts → OutcomeParts) (input : Input) (batch : List Edit) → input_fault input ≡ None → IsReply looks turn input batch (reply_to looks turn input batch)
+law_of_reply looks turn input batch lawful =
+    law_if (refusal_of input batch) (done looks (Some (run turn input)) (run turn (edited input batch))) (IsUpdated looks turn input (edited input batch)) (law_of_update looks turn input batch lawful)
+
 law_from : (looks : ViewParts → ℕ → Bool) (turn : ViewParts → OutcomeParts) (input : Input) (batches : List (List Edit)) → input_fault input ≡ None → AreRepliesFrom looks turn input batches (replies_from looks turn input batches)
 law_from looks turn input [] lawful = refl
 law_from looks turn input (batch ∷ later) lawful = (
-  law_if (refusal_of input batch) (done looks (Some (run turn input)) (run turn (edited input batch))) (IsUpdated looks turn input (edited input batch)) (law_of_update looks turn input batch lawful),
+  law_of_reply looks turn input batch lawful,
   law_from looks turn (input_after input batch) later (lawful_after input batch lawful),
 )
 

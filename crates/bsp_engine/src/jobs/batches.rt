@@ -36,7 +36,8 @@ fn edit_in(values: &[Value]) -> Edit
     }
 }
 
-fn batch_in(alloc: Global, value: &Value) -> Result<Batch, OutOfMemory>
+/// The batch that a value of the right shape is.
+pub fn batch_in(alloc: Global, value: &Value) -> Result<Batch, OutOfMemory>
     ensures { IfOk result (λ b. b ≡ batch_of (view value.now)) }
 {
     let mut edits = Vec::new(alloc);

@@ -17,7 +17,7 @@ pub fn has_negative(value: &Value) -> bool
 }
 
 /// Whether an element of an edit of the batch is negative.
-fn has_negative_edit(value: &Value) -> bool
+pub fn has_negative_edit(value: &Value) -> bool
     ensures { result ≡ has_negative_edit (view value.now) }
 {
     elements(value).iter().any(|element| has_negative(element))

@@ -10,28 +10,41 @@ const TOOL: Tool = Tool {
     after_help: "It reads a document.",
 };
 
-/// What comes of words: how many workers they ask for, whether from scratch, and whether places are told; of those that are refused the exit status.
-type Meaning = Result<(usize, bool, bool), u8>;
+/// What comes of words: how many workers they ask for, whether from scratch, whether places are told, and whether a file is followed; of those
+/// that are refused the exit status.
+type Meaning = Result<(usize, bool, bool, bool), u8>;
 
 /// Words, the name of the program first, and what comes of them.
-const LINES: [(&[&str], Meaning); 19] = [
-    (&["bsp_tool"], Ok((1, false, false))),
-    (&["bsp_tool", "--workers", "1"], Ok((1, false, false))),
-    (&["bsp_tool", "--workers=16"], Ok((16, false, false))),
-    (&["bsp_tool", "--scratch"], Ok((1, true, false))),
+const LINES: [(&[&str], Meaning); 22] = [
+    (&["bsp_tool"], Ok((1, false, false, false))),
+    (
+        &["bsp_tool", "--workers", "1"],
+        Ok((1, false, false, false)),
+    ),
+    (&["bsp_tool", "--workers=16"], Ok((16, false, false, false))),
+    (&["bsp_tool", "--scratch"], Ok((1, true, false, false))),
     (
         &["bsp_tool", "--workers", "3", "--scratch"],
-        Ok((3, true, false)),
+        Ok((3, true, false, false)),
     ),
     (
         &["bsp_tool", "--scratch", "--workers", "+7"],
-        Ok((7, true, false)),
+        Ok((7, true, false, false)),
     ),
-    (&["bsp_tool", "--places"], Ok((1, false, true))),
+    (&["bsp_tool", "--places"], Ok((1, false, true, false))),
     (
         &["bsp_tool", "--scratch", "--places", "--workers", "2"],
-        Ok((2, true, true)),
+        Ok((2, true, true, false)),
     ),
+    (
+        &["bsp_tool", "--follow", "job.toml"],
+        Ok((1, false, false, true)),
+    ),
+    (
+        &["bsp_tool", "--places", "--follow=job.toml", "--workers=3"],
+        Ok((3, false, true, true)),
+    ),
+    (&["bsp_tool", "--follow"], Err(2)),
     (&["bsp_tool", "--help"], Err(0)),
     (&["bsp_tool", "--version"], Err(0)),
     (&["bsp_tool", "-V"], Err(0)),
@@ -48,12 +61,15 @@ const LINES: [(&[&str], Meaning); 19] = [
 fn meaning_of(alloc: Global, words: &'static [&'static str]) -> Meaning {
     match read_options(alloc, &TOOL, words) {
         Ok(
-            Options {
-                workers,
-                scratch,
-                places,
-            },
-        ) => Ok((workers, scratch, places)),
+            (
+                Options {
+                    workers,
+                    scratch,
+                    places,
+                },
+                followed,
+            ),
+        ) => Ok((workers, scratch, places, followed.is_some())),
         Err(error) => Err(words_status(&error)),
     }
 }

@@ -1,0 +1,108 @@
+-- A live session from its job on.
+use Rattle.std.proofs.Common.{◌≡◌, ℕ, ◌+◌, Bool, false, List, [], ◌∷◌, ◌++◌, length, Option, None, Some, Result, Ok, Err, refl, sym, ap, subst, ◌∙◌, inl, codes}
+use Rattle.std.specs.Prelude.{IfSome, IfOk, IfErr, IsOkAnd, IsErrAnd}
+use Rattle.bsp_model.specs.declared.fault.End.{End}
+use Rattle.bsp_step.specs.ViewParts.{ViewParts}
+use Rattle.bsp_step.specs.Act.{Act}
+use Rattle.bsp_step.specs.Turn.{turn_of}
+use Rattle.bsp_run.specs.Run.{run}
+use Rattle.bsp_incr.specs.declared.edit.Edit.{Edit}
+use Rattle.bsp_incr.specs.declared.reply.Reply.{Reply}
+use Rattle.bsp_incr.specs.Inside.Replies.{done, replies_from}
+use Rattle.bsp_engine.specs.declared.errors.EngineError.{EngineError}
+use Rattle.bsp_engine.specs.declared.errors.JobFault.{JobFault}
+use Rattle.bsp_engine.specs.declared.jobs.Job.{Job}
+use Rattle.bsp_engine.specs.Asked.{asked_of}
+use Rattle.bsp_engine.specs.declared.attending.Attendant.{Attendant}
+use Rattle.bsp_engine.specs.DueAt.{due_at}
+use Rattle.bsp_engine.specs.Lines.{numbered}
+use Rattle.bsp_engine.specs.LiveOf.{parts_of}
+use Rattle.bsp_engine.specs.Live.{LiveParts, after, after_batch, after_batches, opened, live_reply, live_replies, answer_to, answer_block, blocks, blocks-none, first_text, due_of}
+use Rattle.bsp_engine.specs.Inside.Replies.{replies_of}
+use Rattle.bsp_engine.specs.Talk.{Event, Due, Breaks}
+use Rattle.bsp_engine.specs.Text.{reply_block}
+use Rattle.bsp_engine.proofs.Conversations.{breaks_before}
+
+module _ {P : Type 0} (acts : P → ViewParts → List Act) (ending : P → ViewParts → End) (looks : P → ViewParts → ℕ → Bool) where
+  -- the replies of an open session are those of the job's
+  live_replies-from : (live : LiveParts P) (batches : List (List Edit)) → live_replies acts ending looks live batches ≡ replies_from (looks live.program) (turn_of (acts live.program) (ending live.program)) live.input batches
+  unfolding live_reply
+  live_replies-from live [] = refl
+  live_replies-from live (batch ∷ later) = ap (λ l. live_reply acts ending looks live batch ∷ l) (live_replies-from (after_batch live batch) later)
+
+  pub first_is : (places : Bool) (job : Job P) (live : LiveParts P) → live ≡ opened job.program job.input
+      → (reply_block places 0 (done (looks job.program) None (run (turn_of (acts job.program) (ending job.program)) job.input)) ++ numbered (reply_block places) 1 (live_replies acts ending looks live job.batches)) ++ codes "ready\n" ≡ first_text acts ending looks places job
+  unfolding first_text replies_of
+  first_is places job live is =
+      ap (λ rs. (reply_block places 0 (done (looks job.program) None (run (turn_of (acts job.program) (ending job.program)) job.input)) ++ numbered (reply_block places) 1 rs) ++ codes "ready\n")
+      (ap (λ (v : LiveParts P). live_replies acts ending looks v job.batches) is ∙ live_replies-from (opened job.program job.input) job.batches)
+
+  pub first_text_is : (places : Bool) (job : Job P) (live : LiveParts P) (opening : Reply) (batches : List (List Edit)) (none one two three : List ℕ) → none ≡ [] → one ≡ none ++ reply_block places 0 opening
+      → two ≡ one ++ numbered (reply_block places) 1 (live_replies acts ending looks live batches) → three ≡ two ++ codes "ready\n"
+      → opening ≡ done (looks job.program) None (run (turn_of (acts job.program) (ending job.program)) job.input) → batches ≡ job.batches → live ≡ opened job.program job.input → three ≡ first_text acts ending looks places job
+  first_text_is places job live opening batches none one two three n h i j o b l =
+      let reply = done (looks job.program) None (run (turn_of (acts job.program) (ending job.program)) job.input) in
+      let first : one ≡ reply_block places 0 reply = h ∙ (ap (λ t. t ++ reply_block places 0 opening) n ∙ ap (reply_block places 0) o) in
+      let others : two ≡ reply_block places 0 reply ++ numbered (reply_block places) 1 (live_replies acts ending looks live job.batches) =
+      i ∙ (ap (λ t. t ++ numbered (reply_block places) 1 (live_replies acts ending looks live batches)) first
+      ∙ ap (λ bs. reply_block places 0 reply ++ numbered (reply_block places) 1 (live_replies acts ending looks live bs)) b) in
+      j ∙ (ap (λ t. t ++ codes "ready\n") others ∙ first_is places job live l)
+
+  -- one line more
+  pub blocks_next : (places : Bool) (last number : ℕ) (live next : LiveParts P) (l text : List ℕ) → number ≡ last + 1 → text ≡ answer_block places number (answer_to acts ending looks live (asked_of l)) → next ≡ after live (asked_of l)
+      → (later : List (List ℕ)) → blocks acts ending looks places (last + 1) live (l ∷ later) ≡ text ++ blocks acts ending looks places (number + 1) next later
+  unfolding blocks
+  blocks_next places last number live next l text n t x later =
+      ap (λ (k : ℕ). answer_block places k (answer_to acts ending looks live (asked_of l)) ++ blocks acts ending looks places (k + 1) (after live (asked_of l)) later) (sym n)
+      ∙ (ap (λ b. b ++ blocks acts ending looks places (number + 1) (after live (asked_of l)) later) (sym t)
+      ∙ ap (λ (v : LiveParts P). text ++ blocks acts ending looks places (number + 1) v later) (sym x))
+
+  -- the same of whoever answers
+  pub attendant_next : (a b : Attendant P) (l text : List ℕ) (number : ℕ) → number ≡ a.last + 1 → b.last ≡ number → b.places ≡ a.places → text ≡ answer_block a.places number (answer_to acts ending looks (parts_of a.live) (asked_of l)) → parts_of b.live ≡ after (parts_of a.live) (asked_of l)
+      → (later : List (List ℕ)) → due_at acts ending looks a (l ∷ later) ≡ text ++ due_at acts ending looks b later
+  unfolding due_at
+  attendant_next a b l text number n m p t x later =
+      blocks_next a.places a.last number (parts_of a.live) (parts_of b.live) l text n t x later
+      ∙ (ap (λ (k : ℕ). text ++ blocks acts ending looks a.places (k + 1) (parts_of b.live) later) (sym m)
+      ∙ ap (λ (q : Bool). text ++ blocks acts ending looks q (b.last + 1) (parts_of b.live) later) (sym p))
+
+  pub due_at-none : (a : Attendant P) → due_at acts ending looks a [] ≡ []
+  unfolding due_at
+  due_at-none a = blocks-none acts ending looks a.places (a.last + 1) (parts_of a.live)
+
+  -- what is known of the session that was begun is known of the job's
+  pub job_due : (X : Due → Type 0) (places : Bool) (job : Job P) (first : List ℕ) (a : Attendant P) → a.places ≡ places → first ≡ first_text acts ending looks places job → a.last ≡ length job.batches → parts_of a.live ≡ after_batches (opened job.program job.input) job.batches
+      → X (λ lines. first ++ due_at acts ending looks a lines) → X (due_of acts ending looks places job)
+  unfolding due_of due_at
+  job_due X places job first a q f n v x =
+      let last = a.last in
+      let live = parts_of a.live in
+      let end = after_batches (opened job.program job.input) job.batches in
+      subst (λ (t : List ℕ). X (λ lines. t ++ blocks acts ending looks places (length job.batches + 1) end lines)) f
+      (subst (λ (k : ℕ). X (λ lines. first ++ blocks acts ending looks places (k + 1) end lines)) n
+      (subst (λ (w : LiveParts P). X (λ lines. first ++ blocks acts ending looks places (last + 1) w lines)) v
+      (subst (λ (b : Bool). X (λ lines. first ++ blocks acts ending looks b (last + 1) live lines)) q x)))
+
+-- what is known of the bytes that were read is known of all that the source had
+pub when_read : (source : Option (List ℕ)) (slice bytes : List ℕ) (F : List ℕ → Type 0) → slice ≡ bytes → IfSome source (λ all. bytes ≡ all) → F slice → IfSome source F
+when_read None slice bytes F same read fact = tt
+when_read (Some all) slice bytes F same read fact = subst F (same ∙ read) fact
+
+pub for_job : {P : Type 0} (r : Result (Job P) JobFault) (job : Job P) (X : Job P → Type 0) → r ≡ Ok job → X job → IsOkAnd r X
+for_job r job X is fact = subst (λ (s : Result (Job _) JobFault). IsOkAnd s X) (sym is) fact
+
+pub if_job : {P : Type 0} (r : Result (Job P) JobFault) (job : Job P) (X : Job P → Type 0) → r ≡ Ok job → X job → IfOk r X
+if_job r job X is fact = subst (λ (s : Result (Job _) JobFault). IfOk s X) (sym is) fact
+
+before_job : {P : Type 0} (r : Result (Job P) JobFault) (due : Job P → Due) (log : Option (List Event)) (e : EngineError) → IfOk r (λ job. Breaks (due job) log log e)
+before_job (Ok job) due log e = breaks_before (due job) log e
+before_job (Err fault) due log e = tt
+
+before_source : {P : Type 0} (source : Option (List ℕ)) (read : List ℕ → Result (Job P) JobFault) (due : Job P → Due) (log : Option (List Event)) (e : EngineError) → IfSome source (λ bytes. IfOk (read bytes) (λ job. Breaks (due job) log log e))
+before_source None read due log e = tt
+before_source (Some bytes) read due log e = before_job (read bytes) due log e
+
+-- it ended before anything was said
+pub nothing_said : {P : Type 0} (r : Result (Unit {0}) EngineError) (source : Option (List ℕ)) (read : List ℕ → Result (Job P) JobFault) (due : Job P → Due) (log : Option (List Event)) → IfErr r (λ e. IfSome source (λ bytes. IfOk (read bytes) (λ job. Breaks (due job) log log e)))
+nothing_said (Ok u) source read due log = tt
+nothing_said (Err e) source read due log = before_source source read due log e

@@ -1,0 +1,290 @@
+-- Conversations that go on: what was heard and said, piece by piece.
+use Rattle.std.proofs.Common.{◌≡◌, ℕ, ◌+◌, ◌<◌, length, get_or, add-one, drop-cons, arith, true, false, cond, List, [], ◌∷◌, ◌++◌, drop, Option, Result, Ok, Err, refl, sym, ap, subst, ◌∙◌, inl, inr, append_assoc}
+use Rattle.std.proofs.lemmas.Bool.Decides.{nat_tests}
+use Rattle.std.specs.Prelude.{◌==◌, IfErr, IsErrAnd}
+use Rattle.std.proofs.lemmas.List.{append-nil}
+use Rattle.bsp_engine.specs.declared.errors.EngineError.{EngineError}
+use Rattle.bsp_engine.specs.declared.errors.EngineError.TheVariants.{Write}
+use Rattle.bsp_engine.specs.Talk.{Event, heard, said, Goes, heard_in, said_in, kept, lines_from, rest_from, whole_lines, unless_empty, all_lines, Says, SaysPart, Due, Answered, Stopped, AttendedIf, Attended, UnattendedIf, Unattended, IsPrompt, Talks, Breaks}
+use Rattle.bsp_engine.proofs.Logs.{goes_more, goes_none, said_append, heard_only, heard_none, prompt_only, prompt_first, ended_only}
+
+-- the answer to a line broke off in its text
+pub stopped_write : (due now : Due) (line : List ℕ) (old new : Option (List Event)) (text : List ℕ) → ((later : List (List ℕ)) → due (line ∷ later) ≡ text ++ now later) → SaysPart old new text → Stopped due line old new Write
+stopped_write due now line old new text next p = record {
+  text = p.text;
+  says = p.says;
+  begins = λ later. (p.begins.0 ++ now later, next later ∙ (ap (λ l. l ++ now later) p.begins.1 ∙ append_assoc p.text p.begins.0 (now later)));
+  whole = λ other. absurd (other refl);
+}
+
+-- lines of a text that comes in two pieces
+lines_append : (begun xs ys : List ℕ) → lines_from begun (xs ++ ys) ≡ lines_from begun xs ++ lines_from (rest_from begun xs) ys
+lines_append begun [] ys = refl
+lines_append begun (x ∷ xs) ys =
+    elim (x == 10) as (λ t. cond t (begun ∷ lines_from [] (xs ++ ys)) (lines_from (kept begun x) (xs ++ ys))
+    ≡ cond t (begun ∷ lines_from [] xs) (lines_from (kept begun x) xs) ++ lines_from (cond t (rest_from [] xs) (rest_from (kept begun x) xs)) ys) [
+      | true ↦ ap (λ l. begun ∷ l) (lines_append [] xs ys)
+      | false ↦ lines_append (kept begun x) xs ys
+    ]
+
+rest_append : (begun xs ys : List ℕ) → rest_from begun (xs ++ ys) ≡ rest_from (rest_from begun xs) ys
+rest_append begun [] ys = refl
+rest_append begun (x ∷ xs) ys =
+    elim (x == 10) as (λ t. cond t (rest_from [] (xs ++ ys)) (rest_from (kept begun x) (xs ++ ys))
+    ≡ rest_from (cond t (rest_from [] xs) (rest_from (kept begun x) xs)) ys) [
+      | true ↦ rest_append [] xs ys
+      | false ↦ rest_append (kept begun x) xs ys
+    ]
+
+-- what lines are still due, once whole lines of these bytes were answered
+others_of : List ℕ → List ℕ → List (List ℕ)
+others_of begun left = lines_from begun left ++ unless_empty (rest_from begun left)
+
+all_split : (done left : List ℕ) → all_lines (done ++ left) ≡ whole_lines done ++ others_of (rest_from [] done) left
+unfolding others_of
+all_split done left =
+    ap (λ l. l ++ unless_empty (rest_from [] (done ++ left))) (lines_append [] done left)
+    ∙ (ap (λ r. (whole_lines done ++ lines_from (rest_from [] done) left) ++ unless_empty r) (rest_append [] done left)
+    ∙ append_assoc (whole_lines done) (lines_from (rest_from [] done) left) (unless_empty (rest_from (rest_from [] done) left)))
+
+-- A conversation that goes on. Of what was heard the lines up to some place were answered, this is kept of the line that was begun there, and these
+-- bytes are left; `now` is due for the lines to come.
+pub record IsGoing (due now : Due) (old new : Option (List Event)) (begun left : List ℕ) : Type 0 where
+  pub events : List Event
+  pub goes : Goes old new events
+  pub prompt : IsPrompt due events
+  pub done : List ℕ
+  pub heard_all : heard_in events ≡ done ++ left
+  pub next : (later : List (List ℕ)) → due (whole_lines done ++ later) ≡ said_in events ++ now later
+  pub rest : begun ≡ rest_from [] done
+
+-- the same in other words
+pub goes_as : (due now : Due) (old new : Option (List Event)) (begun left begun' left' : List ℕ) → IsGoing due now old new begun left → begun ≡ begun' → left ≡ left' → IsGoing due now old new begun' left'
+goes_as due now old new begun left begun' left' h e f = record {
+  events = h.events;
+  goes = h.goes;
+  prompt = h.prompt;
+  done = h.done;
+  heard_all = h.heard_all ∙ ap (λ l. h.done ++ l) f;
+  next = h.next;
+  rest = sym e ∙ h.rest;
+}
+
+-- the first text went out
+pub goes_first : (now : Due) (old new : Option (List Event)) (first : List ℕ) → Says old new first → IsGoing (λ lines. first ++ now lines) now old new [] []
+goes_first now old new first s = record {
+  events = s.events;
+  goes = s.goes;
+  prompt = prompt_first (λ lines. first ++ now lines) s.events s.only;
+  done = [];
+  heard_all = heard_none s.events s.only;
+  next = λ later. ap (λ l. l ++ now later) (sym s.is);
+  rest = refl;
+}
+
+-- what was said is what is due for the lines that were answered
+said_due : (due now : Due) (old new : Option (List Event)) (begun left : List ℕ) (h : IsGoing due now old new begun left) → now [] ≡ [] → said_in h.events ≡ due (whole_lines h.done)
+said_due due now old new begun left h none =
+    sym (ap due (sym (append-nil (whole_lines h.done))) ∙ (h.next [] ∙ (ap (λ l. said_in h.events ++ l) none ∙ append-nil (said_in h.events))))
+
+-- a read gave a piece
+pub goes_heard : (due now : Due) (old mid new : Option (List Event)) (begun piece : List ℕ) → IsGoing due now old mid begun [] → now [] ≡ [] → Goes mid new (heard piece ∷ []) → IsGoing due now old new begun piece
+goes_heard due now old mid new begun piece h none g =
+    let all : heard_in h.events ≡ h.done = h.heard_all ∙ append-nil h.done in
+    record {
+      events = heard piece ∷ h.events;
+      goes = goes_more old mid new h.events (heard piece ∷ []) h.goes g;
+      prompt = (said_due due now old mid begun [] h none ∙ ap (λ l. due (whole_lines l)) (sym all), h.prompt);
+      done = h.done;
+      heard_all = ap (λ l. l ++ piece) all;
+      next = h.next;
+      rest = h.rest;
+    }
+
+-- a byte of a line
+pub goes_byte : (due now : Due) (old new : Option (List Event)) (begun : List ℕ) (b : ℕ) (left : List ℕ) → IsGoing due now old new begun (b ∷ left) → (b == 10) ≡ false → IsGoing due now old new (kept begun b) left
+goes_byte due now old new begun b left h is =
+    let same : whole_lines (h.done ++ b ∷ []) ≡ whole_lines h.done =
+    lines_append [] h.done (b ∷ []) ∙ (ap (λ t. whole_lines h.done ++ cond t (rest_from [] h.done ∷ []) []) is ∙ append-nil (whole_lines h.done)) in
+    record {
+      events = h.events;
+      goes = h.goes;
+      prompt = h.prompt;
+      done = h.done ++ b ∷ [];
+      heard_all = h.heard_all ∙ sym (append_assoc h.done (b ∷ []) left);
+      next = λ later. ap (λ l. due (l ++ later)) same ∙ h.next later;
+      rest = ap (λ l. kept l b) h.rest ∙ sym (rest_append [] h.done (b ∷ []) ∙ ap (λ t. cond t [] (kept (rest_from [] h.done) b)) is);
+    }
+
+-- the end of a line, which is answered
+pub goes_line : (due now after : Due) (old mid new : Option (List Event)) (begun : List ℕ) (b : ℕ) (left : List ℕ) → IsGoing due now old mid begun (b ∷ left) → (b == 10) ≡ true → Answered now after begun mid new → IsGoing due after old new [] left
+goes_line due now after old mid new begun b left h is a =
+    let s = a.says in
+    let more : whole_lines (h.done ++ b ∷ []) ≡ whole_lines h.done ++ begun ∷ [] =
+    lines_append [] h.done (b ∷ []) ∙ (ap (λ t. whole_lines h.done ++ cond t (rest_from [] h.done ∷ []) []) is ∙ ap (λ l. whole_lines h.done ++ l ∷ []) (sym h.rest)) in
+    record {
+      events = s.events ++ h.events;
+      goes = goes_more old mid new h.events s.events h.goes s.goes;
+      prompt = prompt_only due s.events h.events s.only h.prompt;
+      done = h.done ++ b ∷ [];
+      heard_all = heard_only s.events h.events s.only ∙ (h.heard_all ∙ sym (append_assoc h.done (b ∷ []) left));
+      next = λ later. ap (λ l. due (l ++ later)) more ∙ (ap due (append_assoc (whole_lines h.done) (begun ∷ []) later)
+          ∙ (h.next (begun ∷ later) ∙ (ap (λ l. said_in h.events ++ l) (a.next later)
+          ∙ (sym (append_assoc (said_in h.events) a.text (after later))
+          ∙ ap (λ l. l ++ after later) (ap (λ l. said_in h.events ++ l) (sym s.is) ∙ sym (said_append s.events h.events))))));
+      rest = sym (rest_append [] h.done (b ∷ []) ∙ ap (λ t. cond t [] (kept (rest_from [] h.done) b)) is);
+    }
+
+-- it breaks off where nothing goes out any more
+pub breaks_here : (due now : Due) (old mid new : Option (List Event)) (begun left : List ℕ) (error : EngineError) → IsGoing due now old mid begun left → now [] ≡ [] → Goes mid new [] → Breaks due old new error
+breaks_here due now old mid new begun left error h none g =
+    let lines : all_lines (heard_in h.events) ≡ whole_lines h.done ++ others_of (rest_from [] h.done) left = ap all_lines h.heard_all ∙ all_split h.done left in
+    record {
+      events = h.events;
+      goes = goes_more old mid new h.events [] h.goes g;
+      prompt = h.prompt;
+      said = (now (others_of (rest_from [] h.done) left), ap due lines ∙ h.next (others_of (rest_from [] h.done) left));
+      whole = λ _. inr (record {
+        answered = whole_lines h.done;
+        others = others_of (rest_from [] h.done) left;
+        all = lines;
+        is = said_due due now old mid begun left h none;
+      });
+    }
+
+-- the same, with no event since
+pub breaks_now : (due now : Due) (old new : Option (List Event)) (begun left : List ℕ) (error : EngineError) → IsGoing due now old new begun left → now [] ≡ [] → Breaks due old new error
+breaks_now due now old new begun left error h none = breaks_here due now old new new begun left error h none (goes_none new)
+
+-- it breaks off in the first text
+pub breaks_first : (now : Due) (old new : Option (List Event)) (first : List ℕ) → SaysPart old new first → Breaks (λ lines. first ++ now lines) old new Write
+breaks_first now old new first p =
+    let s = p.says in
+    record {
+      events = s.events;
+      goes = s.goes;
+      prompt = prompt_first (λ lines. first ++ now lines) s.events s.only;
+      said = (
+        p.begins.0 ++ now (all_lines (heard_in s.events)),
+        ap (λ l. l ++ now (all_lines (heard_in s.events))) (p.begins.1 ∙ ap (λ l. l ++ p.begins.0) (sym s.is))
+            ∙ append_assoc (said_in s.events) p.begins.0 (now (all_lines (heard_in s.events))),
+      );
+      whole = λ other. absurd (other refl);
+    }
+
+-- it breaks off in the answer to a line, the first of those that are still due
+stops_in : (due now : Due) (old mid new : Option (List Event)) (begun left : List ℕ) (others : List (List ℕ)) (error : EngineError) (h : IsGoing due now old mid begun left) → now [] ≡ [] → others_of (rest_from [] h.done) left ≡ begun ∷ others → Stopped now begun mid new error → Breaks due old new error
+stops_in due now old mid new begun left others error h none due_still t =
+    let s = t.says in
+    let events = s.events ++ h.events in
+    let lines : all_lines (heard_in events) ≡ whole_lines h.done ++ begun ∷ others =
+    ap all_lines (heard_only s.events h.events s.only ∙ h.heard_all) ∙ (all_split h.done left ∙ ap (λ l. whole_lines h.done ++ l) due_still) in
+    let so_far : said_in events ≡ said_in h.events ++ t.text = said_append s.events h.events ∙ ap (λ l. said_in h.events ++ l) s.is in
+    let part = t.begins others in
+    record {
+      events = events;
+      goes = goes_more old mid new h.events s.events h.goes s.goes;
+      prompt = prompt_only due s.events h.events s.only h.prompt;
+      said = (
+        part.0,
+        ap due lines ∙ (h.next (begun ∷ others) ∙ (ap (λ l. said_in h.events ++ l) part.1
+            ∙ (sym (append_assoc (said_in h.events) t.text part.0) ∙ ap (λ l. l ++ part.0) (sym so_far)))),
+      );
+      whole = λ other. inr (record {
+        answered = whole_lines h.done;
+        others = begun ∷ others;
+        all = lines;
+        is = so_far ∙ (ap (λ l. said_in h.events ++ l) (t.whole other) ∙ (append-nil (said_in h.events) ∙ said_due due now old mid begun left h none));
+      });
+    }
+
+pub breaks_in_line : (due now : Due) (old mid new : Option (List Event)) (begun : List ℕ) (b : ℕ) (left : List ℕ) (error : EngineError) → IsGoing due now old mid begun (b ∷ left) → now [] ≡ [] → (b == 10) ≡ true → Stopped now begun mid new error → Breaks due old new error
+unfolding others_of
+breaks_in_line due now old mid new begun b left error h none is t =
+    stops_in due now old mid new begun (b ∷ left) (others_of [] left) error h none
+    (ap (λ t. cond t (rest_from [] h.done ∷ lines_from [] left) (lines_from (kept (rest_from [] h.done) b) left) ++ unless_empty (cond t (rest_from [] left) (rest_from (kept (rest_from [] h.done) b) left))) is
+    ∙ ap (λ l. l ∷ others_of [] left) (sym h.rest)) t
+
+last_line : (begun : List ℕ) → (begun ≡ [] → ⊥) → unless_empty begun ≡ begun ∷ []
+last_line [] some = absurd (some refl)
+last_line (b ∷ bs) some = refl
+
+pub breaks_in_last : (due now : Due) (old mid new : Option (List Event)) (begun : List ℕ) (error : EngineError) → IsGoing due now old mid begun [] → now [] ≡ [] → (begun ≡ [] → ⊥) → Stopped now begun mid new error → Breaks due old new error
+unfolding others_of
+breaks_in_last due now old mid new begun error h none some t =
+    stops_in due now old mid new begun [] [] error h none (ap unless_empty (sym h.rest) ∙ last_line begun some) t
+
+-- the end is found, and no line was begun
+pub talks_end : (due now : Due) (old mid new : Option (List Event)) (begun piece : List ℕ) → IsGoing due now old mid begun [] → now [] ≡ [] → Goes mid new (heard piece ∷ []) → piece ≡ [] → begun ≡ [] → Talks due old new
+unfolding goes_heard
+talks_end due now old mid new begun piece h none g ended empty =
+    let k = goes_heard due now old mid new begun piece h none g in
+    let lines : all_lines (heard_in k.events) ≡ whole_lines k.done =
+    ap all_lines (k.heard_all ∙ ap (λ l. k.done ++ l) ended ∙ append-nil k.done) ∙ (ap (λ l. whole_lines k.done ++ unless_empty l) (sym k.rest ∙ empty) ∙ append-nil (whole_lines k.done)) in
+    record {
+      events = k.events;
+      goes = k.goes;
+      prompt = k.prompt;
+      said = said_due due now old new begun piece k none ∙ ap due (sym lines);
+      ended = ended;
+    }
+
+-- the end is found, and the line that was begun is answered
+pub talks_last : (due now after : Due) (old mid late new : Option (List Event)) (begun piece : List ℕ) → IsGoing due now old mid begun [] → now [] ≡ [] → after [] ≡ [] → Goes mid late (heard piece ∷ []) → piece ≡ [] → (begun ≡ [] → ⊥) → Answered now after begun late new → Talks due old new
+unfolding goes_heard
+talks_last due now after old mid late new begun piece h none none_after g ended some a =
+    let k = goes_heard due now old mid late begun piece h none g in
+    let s = a.says in
+    let events = s.events ++ k.events in
+    let lines : all_lines (heard_in events) ≡ whole_lines k.done ++ begun ∷ [] =
+    ap all_lines (heard_only s.events k.events s.only ∙ (k.heard_all ∙ ap (λ l. k.done ++ l) ended ∙ append-nil k.done))
+    ∙ ap (λ l. whole_lines k.done ++ l) (ap unless_empty (sym k.rest) ∙ last_line begun some) in
+    record {
+      events = events;
+      goes = goes_more old late new k.events s.events k.goes s.goes;
+      prompt = prompt_only due s.events k.events s.only k.prompt;
+      said = sym (ap due lines ∙ (k.next (begun ∷ []) ∙ (ap (λ l. said_in k.events ++ l) (a.next [] ∙ (ap (λ l. a.text ++ l) none_after ∙ append-nil a.text))
+          ∙ (ap (λ l. said_in k.events ++ l) (sym s.is) ∙ sym (said_append s.events k.events)))));
+      ended = ended_only s.events k.events s.only ended;
+    }
+
+-- the answer to one byte, at an LF and at another
+pub going_byte : (due now after : Due) (old mid new : Option (List Event)) (begun left : List ℕ) (b : ℕ) (next later : List ℕ) → IsGoing due now old mid begun left → left ≡ b ∷ later → Attended now after begun b next mid new → IsGoing due after old new next later
+going_byte due now after old mid new begun left b next later h is a =
+    elim (b == 10) as (λ t. (b == 10) ≡ t → AttendedIf t now after begun b next mid new → IsGoing due after old new next later) [
+      | true ↦ λ e a. goes_as due after old new [] later next later (goes_line due now after old mid new begun b later (goes_as due now old mid begun left begun (b ∷ later) h refl is) e a.1) (sym a.0) refl
+      | false ↦ λ e a. subst (λ (d : Due). IsGoing due d old new next later) (sym a.1) (subst (λ (l : Option (List Event)). IsGoing due now old l next later) (sym a.2)
+          (goes_as due now old mid (kept begun b) later next later (goes_byte due now old mid begun b later (goes_as due now old mid begun left begun (b ∷ later) h refl is) e) (sym a.0) refl))
+    ] refl a
+
+pub breaks_in_byte : (due now : Due) (old mid new : Option (List Event)) (begun left : List ℕ) (b : ℕ) (later : List ℕ) (error : EngineError) → IsGoing due now old mid begun left → now [] ≡ [] → left ≡ b ∷ later → Unattended now begun b mid new error → Breaks due old new error
+breaks_in_byte due now old mid new begun left b later error h none is a =
+    elim (b == 10) as (λ t. (b == 10) ≡ t → UnattendedIf t now begun mid new error → Breaks due old new error) [
+      | true ↦ λ e a. breaks_in_line due now old mid new begun b later error (goes_as due now old mid begun left begun (b ∷ later) h refl is) none e a
+      | false ↦ λ e a. subst (λ (l : Option (List Event)). Breaks due old l error) (sym a) (breaks_now due now old mid begun left error h none)
+    ] refl a
+
+-- an error that was handed on
+pub handed_on : (r : Result (Unit {0}) EngineError) (e : EngineError) (P : EngineError → Type 0) → IsErrAnd r (λ y. y ≡ e) → P e → IfErr r P
+handed_on (Ok u) e P h p = tt
+handed_on (Err y) e P h p = subst P (sym h) p
+
+-- the next byte of a piece
+pub drop_next : (xs : List ℕ) (i : ℕ) → i < length xs → drop i xs ≡ get_or xs i 0 ∷ drop (i + 1) xs
+drop_next xs i h = rw add-one (drop-cons xs i 0 h)
+
+-- whether a line was begun
+pub none_begun : (items : List ℕ) (n : ℕ) → n ≡ length items → (n == 0) ≡ true → items ≡ []
+none_begun [] n same test = refl
+none_begun (x ∷ xs) n same test = let zero : n ≡ 0 = grind (arith, nat_tests) in absurd (omega arith)
+
+pub some_begun : (items : List ℕ) (n : ℕ) → n ≡ length items → (n == 0) ≡ false → items ≡ [] → ⊥
+some_begun items n same test none =
+    let zero : n ≡ 0 = same ∙ ap length none in
+    let no : true ≡ false = sym (ap (λ (k : ℕ). k == 0) zero) ∙ test in
+    cc
+
+-- it breaks off before it has begun
+pub breaks_before : (due : Due) (log : Option (List Event)) (error : EngineError) → Breaks due log log error
+breaks_before due log error =
+    record { events = []; goes = goes_none log; prompt = tt; said = (due (all_lines []), refl); whole = λ _. inl refl }

@@ -1,0 +1,76 @@
+-- Logs: what was heard and said, stretch by stretch.
+use Rattle.std.proofs.Common.{◌≡◌, ℕ, List, [], ◌∷◌, ◌++◌, take, drop, Option, Some, None, refl, sym, ap, ◌∙◌, append_assoc}
+use Rattle.std.proofs.lemmas.List.{append-nil, take-append-drop}
+use Rattle.bsp_engine.specs.Talk.{Event, heard, said, Goes, heard_in, said_in, OnlySaid, HasEnded, Says, SaysPart, Due, IsPrompt}
+
+pub goes_more : (a b c : Option (List Event)) (es fs : List Event) → Goes a b es → Goes b c fs → Goes a c (fs ++ es)
+goes_more None b c es fs h i = tt
+goes_more (Some x) None c es fs h i = absurd h
+goes_more (Some x) (Some y) None es fs h i = absurd i
+goes_more (Some x) (Some y) (Some z) es fs h i = i ∙ (ap (λ l. fs ++ l) h ∙ sym (append_assoc fs es x))
+
+pub goes_none : (a : Option (List Event)) → Goes a a []
+goes_none None = tt
+goes_none (Some x) = refl
+
+-- two stretches of a log
+pub said_append : (fs es : List Event) → said_in (fs ++ es) ≡ said_in es ++ said_in fs
+said_append [] es = sym (append-nil (said_in es))
+said_append (heard b ∷ fs) es = said_append fs es
+said_append (said b ∷ fs) es = ap (λ l. l ++ b) (said_append fs es) ∙ append_assoc (said_in es) (said_in fs) b
+
+pub heard_only : (fs es : List Event) → OnlySaid fs → heard_in (fs ++ es) ≡ heard_in es
+heard_only [] es h = refl
+heard_only (heard b ∷ fs) es h = absurd h
+heard_only (said b ∷ fs) es h = heard_only fs es h
+
+pub heard_none : (fs : List Event) → OnlySaid fs → heard_in fs ≡ []
+heard_none [] h = refl
+heard_none (heard b ∷ fs) h = absurd h
+heard_none (said b ∷ fs) h = heard_none fs h
+
+pub prompt_only : (due : Due) (fs es : List Event) → OnlySaid fs → IsPrompt due es → IsPrompt due (fs ++ es)
+prompt_only due [] es h p = p
+prompt_only due (heard b ∷ fs) es h p = absurd h
+prompt_only due (said b ∷ fs) es h p = prompt_only due fs es h p
+
+pub prompt_first : (due : Due) (fs : List Event) → OnlySaid fs → IsPrompt due fs
+prompt_first due [] h = tt
+prompt_first due (heard b ∷ fs) h = absurd h
+prompt_first due (said b ∷ fs) h = prompt_first due fs h
+
+pub ended_only : (fs es : List Event) → OnlySaid fs → HasEnded es → HasEnded (fs ++ es)
+ended_only [] es h p = p
+ended_only (heard b ∷ fs) es h p = absurd h
+ended_only (said b ∷ fs) es h p = ended_only fs es h p
+
+pub only_append : (fs es : List Event) → OnlySaid fs → OnlySaid es → OnlySaid (fs ++ es)
+only_append [] es h p = p
+only_append (heard b ∷ fs) es h p = absurd h
+only_append (said b ∷ fs) es h p = only_append fs es h p
+
+-- texts that go out one after the other
+pub says_nothing : (a : Option (List Event)) → Says a a []
+says_nothing a = record { events = []; goes = goes_none a; only = tt; is = refl }
+
+pub says_kept : (a b : Option (List Event)) → Goes a b [] → Says a b []
+says_kept a b g = record { events = []; goes = g; only = tt; is = refl }
+
+pub says_one : (a b : Option (List Event)) (text : List ℕ) → Goes a b (said text ∷ []) → Says a b text
+says_one a b text g = record { events = said text ∷ []; goes = g; only = tt; is = refl }
+
+pub says_more : (a b c : Option (List Event)) (xs ys : List ℕ) → Says a b xs → Says b c ys → Says a c (xs ++ ys)
+says_more a b c xs ys h i = record {
+  events = i.events ++ h.events;
+  goes = goes_more a b c h.events i.events h.goes i.goes;
+  only = only_append i.events h.events i.only h.only;
+  is = said_append i.events h.events ∙ (ap (λ l. l ++ said_in i.events) h.is ∙ ap (λ l. xs ++ l) i.is);
+}
+
+-- a beginning of a text
+pub part_of : (a b : Option (List Event)) (n : ℕ) (xs : List ℕ) → Says a b (take n xs) → SaysPart a b xs
+part_of a b n xs s = record { text = take n xs; begins = (drop n xs, sym (take-append-drop n xs)); says = s }
+
+pub part_kept : (a b c : Option (List Event)) (n : ℕ) (xs : List ℕ) → Says a b (take n xs) → Goes b c [] → SaysPart a c xs
+part_kept a b c n xs s g =
+    part_of a c n xs (rw (← append-nil (take n xs)) (says_more a b c (take n xs) [] s (says_kept b c g)))

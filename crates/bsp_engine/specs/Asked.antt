@@ -1,0 +1,53 @@
+-- What a line asks of a live session (this profile).
+use Rattle.std.specs.Prelude.{ℕ, Bool, true, ◌==◌, ◌||◌, not, List, [], ◌∷◌, ◌++◌, length, codes, Option, None, Some, nat_lt, if◌then◌else◌}
+use Rattle.std.specs.Str.{bytes_eq}
+use Rattle.toml.specs.Data.{Data, Members, get_member}
+use Rattle.bsp_engine.specs.declared.asking.Asked.{Asked}
+use Rattle.bsp_engine.specs.declared.asking.Asked.TheVariants.{Batch, Undo, Nothing}
+use Rattle.bsp_engine.specs.declared.asking.Unread.TheVariants.{NotToml, WrongType, BadWord, TooLong}
+use Rattle.bsp_engine.specs.Limits.{most_document_bytes}
+use Rattle.bsp_engine.specs.Tree.{tree_of}
+use Rattle.bsp_engine.specs.Keys.{is_batch}
+use Rattle.bsp_engine.specs.Signs.{has_negative_edit}
+use Rattle.bsp_engine.specs.Values.{batch_of}
+
+-- SP, TAB or CR
+abbrev pub is_space : ℕ → Bool
+is_space byte = byte == 32 || byte == 9 || byte == 13
+
+-- nothing but spaces stands on the line, or a comment alone
+abbrev pub is_blank : List ℕ → Bool
+is_blank [] = true
+is_blank (byte ∷ later) = if is_space byte then is_blank later else byte == 35
+
+-- the batch of no edit, where no other is written
+abbrev pub no_edits : Bool → List ℕ
+no_edits blank = if blank then codes "[]" else []
+
+-- The document that has what stands on the line as its key `batch`. A blank line stands for the batch of no edit.
+unfoldable pub document_of : List ℕ → List ℕ
+document_of line = codes "batch = " ++ no_edits (is_blank line) ++ line ++ 10 ∷ []
+
+-- the batch that a value is, as one of `batches` in a document; else J3 or J7
+abbrev pub asked_in : Option Data → Asked
+asked_in None = Nothing WrongType
+asked_in (Some d) =
+    if not (is_batch d) then Nothing WrongType
+    else (if has_negative_edit d then Nothing BadWord
+    else Batch (batch_of d))
+
+-- J1 before them
+abbrev pub asked_at : Option Members → Asked
+asked_at None = Nothing NotToml
+asked_at (Some t) = asked_in (get_member (codes "batch") t)
+
+-- the word alone; CR before LF counts for nothing
+abbrev pub is_word : List ℕ → List ℕ → Bool
+is_word word line = bytes_eq line word || bytes_eq line (word ++ 13 ∷ [])
+
+-- What a line asks, of which no more is kept than a document may have and one byte.
+unfoldable pub asked_of : List ℕ → Asked
+asked_of line =
+    if nat_lt most_document_bytes (length line) then Nothing TooLong
+    else (if is_word (codes "undo") line then Undo
+    else asked_at (tree_of (document_of line)))

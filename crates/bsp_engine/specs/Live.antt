@@ -1,0 +1,131 @@
+-- What an open session answers to lines (this profile).
+use Rattle.std.specs.Prelude.{◌≡◌, ℕ, ◌+◌, Bool, false, List, [], ◌∷◌, ◌++◌, length, codes, Option, None, Some, refl}
+use Rattle.bsp_model.specs.declared.input.Input.{Input}
+use Rattle.bsp_model.specs.Input.{input_fault}
+use Rattle.bsp_model.specs.declared.fault.End.{End}
+use Rattle.bsp_step.specs.ViewParts.{ViewParts}
+use Rattle.bsp_step.specs.Act.{Act}
+use Rattle.bsp_step.specs.Turn.{turn_of}
+use Rattle.bsp_incr.specs.declared.edit.Edit.{Edit}
+use Rattle.bsp_incr.specs.declared.edit.EditRefusal.{EditRefusal}
+use Rattle.bsp_incr.specs.declared.reply.Reply.{Reply}
+use Rattle.bsp_incr.specs.Edits.{refusal_of}
+use Rattle.bsp_incr.specs.Undo.{undo_of}
+use Rattle.bsp_incr.specs.Replies.{input_after, IsReply}
+use Rattle.bsp_incr.specs.Inside.Replies.{reply_to}
+use Rattle.bsp_engine.specs.declared.asking.Asked.{Asked}
+use Rattle.bsp_engine.specs.declared.asking.Asked.TheVariants.{Batch, Undo, Nothing}
+use Rattle.bsp_engine.specs.declared.asking.Unread.{Unread}
+use Rattle.bsp_engine.specs.declared.asking.Unread.TheVariants.{NotToml, WrongType, BadWord, TooLong, NothingToUndo}
+use Rattle.bsp_engine.specs.declared.answers.Answer.{Answer}
+use Rattle.bsp_engine.specs.declared.answers.Answer.TheVariants.{Replied, Unanswered}
+use Rattle.bsp_engine.specs.declared.jobs.Job.{Job}
+use Rattle.bsp_engine.specs.Asked.{asked_of}
+use Rattle.bsp_engine.specs.Lines.{line}
+use Rattle.bsp_engine.specs.Reported.{AreRepliesTo}
+use Rattle.bsp_engine.specs.Inside.Replies.{replies_of}
+use Rattle.bsp_engine.specs.Text.{reply_lines, text_of}
+
+-- What lasts of an open session: its program, its input, and the batches that take the accepted ones back that still stand, the newest first.
+pub record LiveParts (P : Type 0) : Type 0 where
+  pub program : P
+  pub input : Input
+  pub undos : List (List Edit)
+
+-- a batch that is refused leaves nothing to take back
+abbrev pub undos_after : {P : Type 0} → Option EditRefusal → LiveParts P → List Edit → List (List Edit)
+undos_after (Some refusal) live batch = live.undos
+undos_after None live batch = undo_of live.input batch ∷ live.undos
+
+abbrev pub after_batch : {P : Type 0} → LiveParts P → List Edit → LiveParts P
+after_batch live batch =
+    record {
+      program = live.program;
+      input = input_after live.input batch;
+      undos = undos_after (refusal_of live.input batch) live batch;
+    }
+
+-- the newest batch is taken back; taking it back is no batch itself
+abbrev pub after_undo : {P : Type 0} → LiveParts P → List (List Edit) → LiveParts P
+after_undo live [] = live
+after_undo live (undo ∷ former) = record { program = live.program; input = input_after live.input undo; undos = former }
+
+abbrev pub after : {P : Type 0} → LiveParts P → Asked → LiveParts P
+after live (Batch batch) = after_batch live batch
+after live Undo = after_undo live live.undos
+after live (Nothing unread) = live
+
+-- after batches, one after the other
+abbrev pub after_batches : {P : Type 0} → LiveParts P → List (List Edit) → LiveParts P
+after_batches live [] = live
+after_batches live (batch ∷ later) = after_batches (after_batch live batch) later
+
+-- the session of a job, before its batches
+abbrev pub opened : {P : Type 0} → P → Input → LiveParts P
+opened program input = record { program = program; input = input; undos = [] }
+
+-- the reply to a batch
+unfoldable pub live_reply : {P : Type 0} → (P → ViewParts → List Act) → (P → ViewParts → End) → (P → ViewParts → ℕ → Bool) → LiveParts P → List Edit → Reply
+live_reply acts ending looks live batch = reply_to (looks live.program) (turn_of (acts live.program) (ending live.program)) live.input batch
+
+-- the replies to batches, one after the other
+abbrev pub live_replies : {P : Type 0} → (P → ViewParts → List Act) → (P → ViewParts → End) → (P → ViewParts → ℕ → Bool) → LiveParts P → List (List Edit) → List Reply
+live_replies acts ending looks live [] = []
+live_replies acts ending looks live (batch ∷ later) = live_reply acts ending looks live batch ∷ live_replies acts ending looks (after_batch live batch) later
+
+abbrev pub answer_to_undo : {P : Type 0} → (P → ViewParts → List Act) → (P → ViewParts → End) → (P → ViewParts → ℕ → Bool) → LiveParts P → List (List Edit) → Answer
+answer_to_undo acts ending looks live [] = Unanswered NothingToUndo
+answer_to_undo acts ending looks live (undo ∷ former) = Replied (live_reply acts ending looks live undo)
+
+abbrev pub answer_to : {P : Type 0} → (P → ViewParts → List Act) → (P → ViewParts → End) → (P → ViewParts → ℕ → Bool) → LiveParts P → Asked → Answer
+answer_to acts ending looks live (Batch batch) = Replied (live_reply acts ending looks live batch)
+answer_to acts ending looks live Undo = answer_to_undo acts ending looks live live.undos
+answer_to acts ending looks live (Nothing unread) = Unanswered unread
+
+-- why a line was not read
+abbrev pub unread_word : Unread → List ℕ
+unread_word NotToml = codes "J1"
+unread_word WrongType = codes "J3"
+unread_word BadWord = codes "J7"
+unread_word TooLong = codes "long"
+unread_word NothingToUndo = codes "undo"
+
+-- `unread WHY`
+abbrev pub unread_line : Unread → List ℕ
+unread_line unread = codes "unread " ++ line (unread_word unread) []
+
+-- what follows the line `run K`
+abbrev pub answer_lines : Bool → Answer → List ℕ
+answer_lines places (Replied reply) = reply_lines places reply
+answer_lines places (Unanswered unread) = unread_line unread
+
+-- the block of answer K
+abbrev pub answer_block : Bool → ℕ → Answer → List ℕ
+answer_block places k answer = line (codes "run") (k ∷ []) ++ answer_lines places answer
+
+-- The text due for lines: a block for each, of which the first has this number.
+unfoldable pub blocks : {P : Type 0} → (P → ViewParts → List Act) → (P → ViewParts → End) → (P → ViewParts → ℕ → Bool) → Bool → ℕ → LiveParts P → List (List ℕ) → List ℕ
+blocks acts ending looks places k live [] = []
+blocks acts ending looks places k live (l ∷ later) =
+    answer_block places k (answer_to acts ending looks live (asked_of l)) ++ blocks acts ending looks places (k + 1) (after live (asked_of l)) later
+
+-- nothing is due for no lines
+pub blocks-none : {P : Type 0} (acts : P → ViewParts → List Act) (ending : P → ViewParts → End) (looks : P → ViewParts → ℕ → Bool) (places : Bool) (k : ℕ) (live : LiveParts P) → blocks acts ending looks places k live [] ≡ []
+unfolding blocks
+blocks-none acts ending looks places k live = refl
+
+-- The text with which a live session of a job begins: the report of the job, and a line `ready`.
+unfoldable pub first_text : {P : Type 0} → (P → ViewParts → List Act) → (P → ViewParts → End) → (P → ViewParts → ℕ → Bool) → Bool → Job P → List ℕ
+first_text acts ending looks places job = text_of places (replies_of acts ending looks false job) ++ codes "ready\n"
+
+-- What is due once these lines were heard: the first text, and then a block for each line. The job's input and its batches come first.
+unfoldable pub due_of : {P : Type 0} → (P → ViewParts → List Act) → (P → ViewParts → End) → (P → ViewParts → ℕ → Bool) → Bool → Job P → List (List ℕ) → List ℕ
+due_of acts ending looks places job lines =
+    first_text acts ending looks places job
+    ++ blocks acts ending looks places (length job.batches + 1) (after_batches (opened job.program job.input) job.batches) lines
+
+-- What these replies are, in the words of a session: the replies to a job and its batches, and the reply to each batch after them.
+pub record AreLiveReplies {P : Type 0} (acts : P → ViewParts → List Act) (ending : P → ViewParts → End) (looks : P → ViewParts → ℕ → Bool) : Type 0 where
+  pub job : (job : Job P) → input_fault job.input ≡ None → AreRepliesTo acts ending looks false job (replies_of acts ending looks false job)
+  pub batch : (live : LiveParts P) (batch : List Edit) → input_fault live.input ≡ None
+      → IsReply (looks live.program) (turn_of (acts live.program) (ending live.program)) live.input batch (live_reply acts ending looks live batch)

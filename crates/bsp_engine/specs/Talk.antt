@@ -1,0 +1,148 @@
+-- What happens at a terminal, the lines that are heard there, and whole conversations (this profile).
+use Rattle.std.specs.Prelude.{◌≡◌, ◌≢◌, ◌⊎◌, ℕ, Bool, true, false, ◌==◌, List, [], ◌∷◌, ◌++◌, length, Option, None, Some, ⊤, nat_lt, if◌then◌else◌}
+use Rattle.bsp_engine.specs.Limits.{most_document_bytes}
+use Rattle.bsp_engine.specs.declared.errors.EngineError.{EngineError}
+use Rattle.bsp_engine.specs.declared.errors.EngineError.TheVariants.{Write}
+
+-- an event at a terminal
+pub data Event : Type 0 where
+  -- a read gave these bytes; none at the end
+  heard : List ℕ → Event
+  -- these bytes went out
+  said : List ℕ → Event
+
+-- a log, where it is known, goes on with these events, the newest first
+abbrev pub Goes : Option (List Event) → Option (List Event) → List Event → Type 0
+Goes None new es = ⊤
+Goes (Some log) None es = ⊥
+Goes (Some log) (Some grown) es = grown ≡ es ++ log
+
+-- all that was heard
+abbrev pub heard_in : List Event → List ℕ
+heard_in [] = []
+heard_in (heard bytes ∷ before) = heard_in before ++ bytes
+heard_in (said bytes ∷ before) = heard_in before
+
+-- all that went out
+abbrev pub said_in : List Event → List ℕ
+said_in [] = []
+said_in (heard bytes ∷ before) = said_in before
+said_in (said bytes ∷ before) = said_in before ++ bytes
+
+-- What is kept of a line of which one more byte was heard. Of a line that is longer than a document may be, so many bytes and one more are kept.
+unfoldable pub kept : List ℕ → ℕ → List ℕ
+kept begun byte = if nat_lt most_document_bytes (length begun) then begun else begun ++ byte ∷ []
+
+-- the lines that end in these bytes, each without its LF, where this is kept of the first
+abbrev pub lines_from : List ℕ → List ℕ → List (List ℕ)
+lines_from begun [] = []
+lines_from begun (b ∷ bs) = if b == 10 then begun ∷ lines_from [] bs else lines_from (kept begun b) bs
+
+-- what is kept of the line that comes after the last LF
+abbrev pub rest_from : List ℕ → List ℕ → List ℕ
+rest_from begun [] = begun
+rest_from begun (b ∷ bs) = if b == 10 then rest_from [] bs else rest_from (kept begun b) bs
+
+-- the lines of a text that have an end
+abbrev pub whole_lines : List ℕ → List (List ℕ)
+whole_lines bytes = lines_from [] bytes
+
+abbrev pub unless_empty : List ℕ → List (List ℕ)
+unless_empty [] = []
+unless_empty (b ∷ bs) = (b ∷ bs) ∷ []
+
+-- all lines of a text that has come to its end: the last one may lack its LF
+abbrev pub all_lines : List ℕ → List (List ℕ)
+all_lines bytes = lines_from [] bytes ++ unless_empty (rest_from [] bytes)
+
+-- nothing was heard
+abbrev pub OnlySaid : List Event → Type 0
+OnlySaid [] = ⊤
+OnlySaid (heard bytes ∷ before) = ⊥
+OnlySaid (said bytes ∷ before) = OnlySaid before
+
+-- the newest read found the end
+abbrev pub HasEnded : List Event → Type 0
+HasEnded [] = ⊥
+HasEnded (heard bytes ∷ before) = bytes ≡ []
+HasEnded (said bytes ∷ before) = HasEnded before
+
+-- the text is a beginning of this one
+abbrev pub IsBeginning : List ℕ → List ℕ → Type 0
+IsBeginning text whole = (later : List ℕ) × (whole ≡ text ++ later)
+
+-- this text went out, and nothing was heard
+pub record Says (old new : Option (List Event)) (text : List ℕ) : Type 0 where
+  pub events : List Event
+  pub goes : Goes old new events
+  pub only : OnlySaid events
+  pub is : said_in events ≡ text
+
+-- a beginning of this text went out, and nothing was heard
+pub record SaysPart (old new : Option (List Event)) (whole : List ℕ) : Type 0 where
+  pub text : List ℕ
+  pub begins : IsBeginning text whole
+  pub says : Says old new text
+
+-- what is due for lines, given which lines there are
+abbrev pub Due : Type 0
+Due = List (List ℕ) → List ℕ
+
+-- the line was answered; `due` is what was due before it, `now` what is due after it
+pub record Answered (due now : Due) (line : List ℕ) (old new : Option (List Event)) : Type 0 where
+  pub text : List ℕ
+  pub says : Says old new text
+  pub next : (later : List (List ℕ)) → due (line ∷ later) ≡ text ++ now later
+
+-- the answer to the line broke off for this reason: a beginning of it went out after a failed write, else nothing
+pub record Stopped (due : Due) (line : List ℕ) (old new : Option (List Event)) (error : EngineError) : Type 0 where
+  pub text : List ℕ
+  pub says : Says old new text
+  pub begins : (later : List (List ℕ)) → IsBeginning text (due (line ∷ later))
+  pub whole : error ≢ Write → text ≡ []
+
+-- One more byte was taken: at an LF the line that was begun was answered, else it is kept and nothing happened.
+abbrev pub AttendedIf : Bool → Due → Due → List ℕ → ℕ → List ℕ → Option (List Event) → Option (List Event) → Type 0
+AttendedIf true due now begun byte next old new = (next ≡ []) × Answered due now begun old new
+AttendedIf false due now begun byte next old new = (next ≡ kept begun byte) × (now ≡ due) × (new ≡ old)
+
+abbrev pub Attended : Due → Due → List ℕ → ℕ → List ℕ → Option (List Event) → Option (List Event) → Type 0
+Attended due now begun byte next old new = AttendedIf (byte == 10) due now begun byte next old new
+
+-- The byte was not taken: the answer to the line broke off, or nothing happened.
+abbrev pub UnattendedIf : Bool → Due → List ℕ → Option (List Event) → Option (List Event) → EngineError → Type 0
+UnattendedIf true due begun old new error = Stopped due begun old new error
+UnattendedIf false due begun old new error = new ≡ old
+
+abbrev pub Unattended : Due → List ℕ → ℕ → Option (List Event) → Option (List Event) → EngineError → Type 0
+Unattended due begun byte old new error = UnattendedIf (byte == 10) due begun old new error
+
+-- What was said is what is due for the lines that were heard, whenever more is waited for. The newest event comes first.
+abbrev pub IsPrompt : Due → List Event → Type 0
+IsPrompt due [] = ⊤
+IsPrompt due (heard bytes ∷ before) = (said_in before ≡ due (whole_lines (heard_in before))) × IsPrompt due before
+IsPrompt due (said bytes ∷ before) = IsPrompt due before
+
+-- a whole conversation: all was heard and answered, each line before more was waited for
+pub record Talks (due : Due) (old new : Option (List Event)) : Type 0 where
+  pub events : List Event
+  pub goes : Goes old new events
+  pub prompt : IsPrompt due events
+  pub said : said_in events ≡ due (all_lines (heard_in events))
+  pub ended : HasEnded events
+
+-- the text is what is due for the first of these lines
+pub record IsDueForSome (due : Due) (lines : List (List ℕ)) (text : List ℕ) : Type 0 where
+  pub answered : List (List ℕ)
+  pub others : List (List ℕ)
+  pub all : lines ≡ answered ++ others
+  pub is : text ≡ due answered
+
+-- A conversation that broke off for this reason: each line that was heard before was answered, and a beginning of what is due went out. Unless a write
+-- failed, that is nothing, or what is due for the first of the lines: whole blocks.
+pub record Breaks (due : Due) (old new : Option (List Event)) (error : EngineError) : Type 0 where
+  pub events : List Event
+  pub goes : Goes old new events
+  pub prompt : IsPrompt due events
+  pub said : IsBeginning (said_in events) (due (all_lines (heard_in events)))
+  pub whole : error ≢ Write → (said_in events ≡ []) ⊎ IsDueForSome due (all_lines (heard_in events)) (said_in events)

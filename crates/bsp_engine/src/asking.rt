@@ -1,0 +1,128 @@
+//! What a line asks of a live session.
+
+ghost use Rattle.std.specs.Prelude.{◌≡◌, IfOk, Some, codes};
+ghost use Rattle.toml.specs.View.{table_view};
+ghost use Rattle.bsp_engine.specs.Asked.{asked_at, asked_of, document_of, is_blank, is_space, is_word, no_edits};
+ghost use Rattle.bsp_engine.specs.Tree.{tree_of};
+
+use crate::errors::JobError;
+use crate::jobs::{batch_in, has_negative_edit, is_batch};
+use crate::limits::MOST_DOCUMENT_BYTES;
+use crate::tree::{read_tree, value_at};
+use bsp_incr::Batch;
+use bsp_model::OutOfMemory;
+use std::alloc::{AllocError, Global};
+use toml::Table;
+
+/// What a line asks.
+#[derive(Drop)]
+pub enum Asked {
+    /// To apply a batch of edits.
+    Batch(Batch),
+    /// To take back the last accepted batch that still stands.
+    Undo,
+    /// Nothing that can be read.
+    Nothing(Unread),
+}
+
+/// Why a line is answered by nothing but this, and nothing has changed.
+#[derive(Clone, Copy, Debug, PartialEq, Eq)]
+pub enum Unread {
+    /// J1: it is no TOML value.
+    NotToml,
+    /// J3: the value is no batch.
+    WrongType,
+    /// J7: a number of an edit is negative.
+    BadWord,
+    /// It has more bytes than a document may have.
+    TooLong,
+    /// There is no batch to take back.
+    NothingToUndo,
+}
+
+fn is_space(byte: u8) -> bool
+    ensures { result ≡ is_space byte }
+{
+    byte == b' ' || byte == b'\t' || byte == b'\r'
+}
+
+/// Whether nothing but spaces stands on the line, or a comment alone.
+fn is_blank(line: &[u8]) -> bool
+    ensures { result ≡ is_blank line.now }
+{
+    for byte in line {
+        if !is_space(*byte) {
+            return *byte == b'#';
+        }
+    }
+    true
+}
+
+/// Whether the word `undo` stands on the line alone.
+fn is_undo(line: &[u8]) -> bool
+    ensures { result ≡ is_word (codes "undo") line.now }
+{
+    line == b"undo".as_slice() || line == b"undo\r".as_slice()
+}
+
+/// The batch of no edit, where no other is written.
+fn no_edits(blank: bool) -> &'static [u8]
+    ensures { result.now ≡ no_edits blank }
+{
+    if blank { b"[]" } else { b"" }
+}
+
+/// The document that has what stands on the line as its key `batch`.
+#[tactic(auto, unfolding(crate::specs::Asked::document_of))]
+fn document_of(alloc: Global, line: &[u8]) -> Result<Vec<u8>, OutOfMemory>
+    ensures { IfOk result (λ document. document.items ≡ document_of line.now) }
+{
+    let mut document = Vec::new(alloc);
+    document.extend_from_slice(b"batch = ")?;
+    document.extend_from_slice(no_edits(is_blank(line)))?;
+    document.extend_from_slice(line)?;
+    document.push(b'\n')?;
+    Ok(document)
+}
+
+/// The batch at the key `batch`, or J3 or J7.
+fn asked_at(alloc: Global, table: &Table) -> Result<Asked, OutOfMemory>
+    ensures { IfOk result (λ asked. asked ≡ asked_at (Some (table_view table.now))) }
+{
+    let Some(value) = value_at(table, "batch") else {
+        return Ok(Asked::Nothing(Unread::WrongType));
+    };
+    if !is_batch(value) {
+        return Ok(Asked::Nothing(Unread::WrongType));
+    }
+    if has_negative_edit(value) {
+        return Ok(Asked::Nothing(Unread::BadWord));
+    }
+    Ok(Asked::Batch(batch_in(alloc, value)?))
+}
+
+/// What the bytes of such a document ask.
+fn asked_by(alloc: Global, document: &[u8]) -> Result<Asked, OutOfMemory>
+    ensures { IfOk result (λ asked. asked ≡ asked_at (tree_of document.now)) }
+{
+    match read_tree(alloc, document) {
+        Ok(table) => Ok(asked_at(alloc, &table)?),
+        Err(JobError::Fault(_)) => Ok(Asked::Nothing(Unread::NotToml)),
+        Err(JobError::OutOfMemory) => Err(AllocError),
+    }
+}
+
+/// What a line without its LF asks.
+#[tactic(auto, unfolding(crate::specs::Asked::asked_of))]
+pub fn asked_of(alloc: Global, line: &[u8]) -> Result<Asked, OutOfMemory>
+    ensures { IfOk result (λ asked. asked ≡ asked_of line.now) }
+{
+    if line.len() > MOST_DOCUMENT_BYTES {
+        return Ok(Asked::Nothing(Unread::TooLong));
+    }
+    if is_undo(line) {
+        return Ok(Asked::Undo);
+    }
+    let document = document_of(alloc, line)?;
+    Ok(asked_by(alloc, document.as_slice())?)
+}

@@ -1,0 +1,65 @@
+//! Who answers the lines of a live session, one after the other.
+
+ghost use Rattle.std.specs.Prelude.{◌≡◌, ◌≢◌, ◌∷◌, ◌++◌, List, ℕ, IfOk, OnOk, Err};
+ghost use Rattle.bsp_engine.specs.Asked.{asked_of};
+ghost use Rattle.bsp_engine.specs.DueAt.{due_at};
+ghost use Rattle.bsp_engine.specs.Live.{after, answer_block, answer_to};
+ghost use Rattle.bsp_engine.specs.LiveOf.{parts_of};
+
+use crate::answers::push_answer_block;
+use crate::asking::asked_of;
+use crate::errors::EngineError;
+use crate::live::{Crew, Live, answer_to};
+use bsp_model::OutOfMemory;
+use bsp_pool::Gate;
+use bsp_step::Program;
+use std::thread::Threads;
+
+/// Who answers the lines of a live session.
+#[derive(Drop)]
+pub struct Attendant<P: Program> {
+    pub places: bool,
+    pub live: Live<P>,
+    /// The number of the last block.
+    pub last: u64,
+}
+
+/// The block of a line, after what the line asks was done.
+fn block_for<P: Program + Drop, R: Threads + Sync, G: Gate>(
+    crew: &Crew<'_, R, G>,
+    live: &mut Live<P>,
+    places: bool,
+    number: u64,
+    line: &[u8],
+) -> Result<Vec<u8>, OutOfMemory>
+    ensures after { OnOk result (parts_of live.new ≡ after (parts_of live.old) (asked_of line.now)) }
+    ensures text { IfOk result (λ text. text.items ≡ answer_block places number (answer_to P.acts P.ending P.looks (parts_of live.old) (asked_of line.now))) }
+{
+    let asked = asked_of(crew.alloc, line)?;
+    let answer = answer_to(crew, live, asked)?;
+    let mut text = Vec::new(crew.alloc);
+    push_answer_block(&mut text, places, number, &answer)?;
+    Ok(text)
+}
+
+/// The answer to a line, which has no LF, or why there is none.
+pub fn respond<P: Program + Drop, R: Threads + Sync, G: Gate>(
+    crew: &Crew<'_, R, G>,
+    attendant: &mut Attendant<P>,
+    line: &[u8],
+) -> Result<Vec<u8>, EngineError>
+    ensures answer { IfOk result (λ text. (later : List (List ℕ)) →
+        due_at P.acts P.ending P.looks attendant.old (line.now ∷ later) ≡ text.items ++ due_at P.acts P.ending P.looks attendant.new later) }
+    ensures failed { result ≢ Err EngineError.Write }
+{
+    let Some(number) = attendant.last.checked_add(1) else {
+        return Err(EngineError::TooLong);
+    };
+    match block_for(crew, &mut attendant.live, attendant.places, number, line) {
+        Ok(text) => {
+            attendant.last = number;
+            Ok(text)
+        }
+        Err(_) => Err(EngineError::OutOfMemory),
+    }
+}

@@ -1,0 +1,93 @@
+//! Live sessions: the report of a document, and then a block for each line that is heard.
+
+ghost use Rattle.std.specs.Prelude.{◌≡◌, ◌<◌, ◌≤◌, ◌-◌, ◌^◌, IfOk, OnOk, IfErr, IfSome, IsOkAnd, Err, None};
+ghost use Rattle.bsp_model.specs.Input.{input_fault};
+ghost use Rattle.bsp_engine.specs.JobOf.{job_of};
+ghost use Rattle.bsp_engine.specs.Live.{due_of, AreLiveReplies};
+ghost use Rattle.bsp_engine.specs.Talk.{Breaks, Talks};
+
+use crate::attending::Attendant;
+use crate::catalogue::Catalogue;
+use crate::errors::{EngineError, JobFault};
+use crate::flow::Source;
+use crate::jobs::{Job, read_job};
+use crate::live::{Crew, begin};
+use crate::options::Options;
+use crate::reading::read_all;
+use crate::talking::talk;
+use crate::terminal::Terminal;
+use bsp_pool::Gate;
+use bsp_step::Program;
+use std::alloc::Global;
+use std::thread::Threads;
+
+/// Opens the session of a job, says its report, and then answers each line.
+fn follow_job<P: Program + Drop, R: Threads + Sync, T: Terminal, G: Gate>(
+    crew: &Crew<'_, R, G>,
+    places: bool,
+    terminal: &mut T,
+    job: Job<P>,
+) -> Result<(), EngineError>
+    requires lawful { input_fault job.input ≡ None }
+    ensures ok { OnOk result (Talks (due_of P.acts P.ending P.looks places job) (T.log terminal.old) (T.log terminal.new)) }
+    ensures err { IfErr result (λ e. Breaks (due_of P.acts P.ending P.looks places job) (T.log terminal.old) (T.log terminal.new) e) }
+{
+    let (live, last, text) = match begin(crew, places, job) {
+        Ok(begun) => begun,
+        Err(_) => return Err(EngineError::OutOfMemory),
+    };
+    let mut attendant = Attendant { places, live, last };
+    match talk(crew, &mut attendant, terminal, text.as_slice()) {
+        Ok(()) => Ok(()),
+        Err(error) => Err(error),
+    }
+}
+
+/// Reads a document to its end, says its report and a line `ready`, and then answers each line that is heard with a block, until there are no more.
+/// From 1 to 16 workers share the work.
+///
+/// The document is left in `document`. `Job` is answered where its bytes are no job, `TooLong` where they are more than 16,777,216, `Read` where a
+/// read failed, `Write` where a write failed or took no byte; then a beginning of what is due was said. After every other error whole blocks were.
+pub fn follow<C: Catalogue, R: Threads + Sync, S: Source, T: Terminal, G: Gate>(
+    rt: &R,
+    alloc: Global,
+    options: Options,
+    source: &mut S,
+    terminal: &mut T,
+    document: &mut Vec<u8>,
+    gate: &G,
+) -> Result<(), EngineError>
+    requires workers { (0 < options.workers) × (options.workers ≤ 16) }
+    requires source { S.failures source.old < 2 ^ 64 - 1 }
+
+    // The job's report was said, and then a block for each line, before more was waited for.
+    ensures ok { OnOk result (IfSome (S.remaining source.old) (λ bytes.
+        IsOkAnd (job_of C.meaning bytes) (λ job. Talks (due_of C.Program.acts C.Program.ending C.Program.looks options.places job) (T.log terminal.old) (T.log terminal.new)))) }
+
+    // Where it broke off, a beginning of that was; before, each line that was whole was answered before more was waited for.
+    ensures err { IfErr result (λ e. IfSome (S.remaining source.old) (λ bytes.
+        IfOk (job_of C.meaning bytes) (λ job. Breaks (due_of C.Program.acts C.Program.ending C.Program.looks options.places job) (T.log terminal.old) (T.log terminal.new) e))) }
+
+    // The replies of which that text tells are those of a session.
+    ensures replies { AreLiveReplies C.Program.acts C.Program.ending C.Program.looks }
+
+    // Of a document that is no job nothing is said.
+    ensures fault { IfSome (S.remaining source.old) (λ bytes. IfErr (job_of C.meaning bytes) (λ _. terminal.new ≡ terminal.old)) }
+
+    // The document is there for whoever tells more of its fault.
+    ensures document { (fault : JobFault) → result ≡ Err (EngineError.Job fault) → IfSome (S.remaining source.old) (λ bytes. document.new.items ≡ bytes) }
+{
+    let bytes = read_all(alloc, source)?;
+    *document = bytes;
+    let job = read_job::<C>(alloc, document.as_slice())?;
+    let crew = Crew {
+        rt,
+        alloc,
+        workers: options.workers,
+        gate,
+    };
+    match follow_job(&crew, options.places, terminal, job) {
+        Ok(()) => Ok(()),
+        Err(error) => Err(error),
+    }
+}
