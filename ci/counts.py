@@ -1,4 +1,6 @@
 """What passed and what failed of a part of the gate."""
+import sys
+import unittest
 
 
 class Counts:
@@ -23,3 +25,19 @@ class Counts:
             self.record(["nothing was tried"])
         print(f"{self.passed} passed, {self.failed} failed")
         return 1 if self.failed else 0
+
+
+class CountedTests(unittest.TextTestResult):
+    """Tells how many tests passed and how many failed."""
+
+    def counts(self):
+        wrong = {test.id() for test, _ in [*self.failures, *self.errors]} | {test.id() for test in self.unexpectedSuccesses}
+        counts = Counts()
+        counts.add(max(self.testsRun - len(wrong) - len(self.skipped), 0), len(wrong))
+        return counts
+
+
+def run_tests(suite):
+    """Runs tests, prints the last line, and answers the exit status."""
+    runner = unittest.TextTestRunner(stream=sys.stdout, resultclass=CountedTests, verbosity=0)
+    return runner.run(suite).counts().end()

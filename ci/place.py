@@ -55,6 +55,7 @@ class Place:
     def __init__(self):
         self.root = tempfile.mkdtemp(prefix="gate-")
         shutil.copytree(f"{ROOT}/ci", f"{self.root}/ci", ignore=shutil.ignore_patterns("__pycache__"))
+        shutil.copytree(f"{ROOT}/python", f"{self.root}/python", ignore=shutil.ignore_patterns("__pycache__"))
         shutil.copytree(f"{ROOT}/bench", f"{self.root}/bench")
         shutil.copy(f"{ROOT}/check", self.root)
         self.write("crates.txt", b"")

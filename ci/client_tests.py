@@ -1,0 +1,73 @@
+"""Shows that the parts of the gate fail where they have to that have to do with clients: tests of ci/test_gate."""
+import os
+import shutil
+
+from place import InAPlace
+
+
+class Python(InAPlace):
+    TEST = (
+        "import unittest\n\n\nclass Some(unittest.TestCase):\n    def test_it(self):\n        self.assertEqual(1, {})\n"
+    )
+
+    def setUp(self):
+        super().setUp()
+        shutil.rmtree(f"{self.place.root}/python/tests")
+        os.mkdir(f"{self.place.root}/python/tests")
+
+    def test_tests_pass_and_fail(self):
+        self.place.write("python/tests/test_one.py", self.TEST.format(1).encode())
+        self.passes("1 passed, 0 failed", "ci/python")
+        self.place.write("python/tests/test_two.py", self.TEST.format(2).encode())
+        self.fails("1 passed, 1 failed", "1 != 2", "ci/python")
+
+    def test_tests_that_can_not_be_read(self):
+        self.place.write("python/tests/test_one.py", b"import nowhere\n")
+        self.fails("0 passed, 1 failed", "No module named 'nowhere'", "ci/python")
+
+    def test_no_tests(self):
+        self.fails("0 passed, 1 failed", "nothing was tried", "ci/python")
+
+
+class Live(InAPlace):
+    """Each flaw with talks of which one shows it."""
+
+    FLAWS = {
+        "late": (0, "line 0"),
+        "unread_edits": (9, "in place of"),
+        "undoes_refused": (12, "b'undo'"),
+        "numbers": (10, "b'run "),
+        "forgets": (2, "limit is another"),
+        "stays": (0, "no end after"),
+    }
+
+    def talker(self, *words):
+        self.place.program(
+            "heat", f'exec python3 -B "$(dirname "$0")/../../../python/tests/fake_tool.py" heat {" ".join(words)} "$@"'
+        )
+
+    def test_a_right_session_passes(self):
+        self.talker()
+        # Two talks, one with long lines, and the starts that fail.
+        self.passes("4 passed, 0 failed", "ci/live", "2", "0", "heat")
+
+    def test_flaws_are_seen(self):
+        for flaw, (seed, said) in self.FLAWS.items():
+            with self.subTest(flaw=flaw):
+                self.talker("--flaw", flaw)
+                status, lines = self.place.run("ci/live", "1", str(seed), "heat", LIVE_SECONDS="3")
+                self.assertEqual(status, 1, lines)
+                self.assertTrue(any(said in line for line in lines), lines)
+
+    def test_a_program_that_knows_no_session(self):
+        self.place.program("heat", "exit 2")
+        self.fails("0 passed, 3 failed", "the first blocks", "ci/live", "1", "0", "heat")
+
+    def test_no_talk(self):
+        self.talker()
+        self.fails("0 passed, 1 failed", "nothing was tried", "ci/live", "0", "0", "heat")
+
+    def test_a_program_that_is_not_modelled_or_not_built(self):
+        self.fails("0 passed, 1 failed", "no modelled program", "ci/live", "1", "0", "other")
+        self.place.script("bin/rt", "exit 1")
+        self.fails("0 passed, 1 failed", "was not built", "ci/live", "1", "0", "heat")

@@ -1,0 +1,127 @@
+"""What a live session has to answer to lines, by the plain model of ci/model.py."""
+from itertools import groupby
+
+from model import TOOLS, line, report_of
+from modelled.documents import Job, Refused, job_of, tree_of
+from modelled.runs import Input
+from modelled.sessions import Edit
+
+UPDATE = ("turns", "deliveries", "executed")  # the lines of an update
+
+
+def blocks_of(report):
+    """The lines of each block, but for the line `run K`."""
+    blocks = []
+    for each in report.splitlines():
+        if each.startswith("run "):
+            blocks.append([])
+        else:
+            blocks[-1].append(each)
+    return blocks
+
+
+def undoing(given, edits):
+    """The edits after which an input is as it was before these edits."""
+    former = {
+        "word": lambda pid, at, _: [pid, at, given.memories[pid][at]],
+        "arg": lambda pid, at, _: [pid, at, given.args[pid][at]],
+        "limit": lambda _: [given.limit],
+        "prices": lambda *_: [given.g, given.l],
+    }
+    return [Edit(edit.part, former[edit.part](*edit.numbers)) for edit in edits]
+
+
+def first_words(each):
+    """What a line is about: a process's memory or lines, a cost row, or the word with which it begins."""
+    word, _, rest = each.partition(" ")
+    return (word, int(rest.split(" ")[0])) if word in ("memory", "print", "cost") else (word, None)
+
+
+def grouped(block):
+    return {about: list(lines) for about, lines in groupby(block, first_words)}
+
+
+def changes_of(before, block):
+    """Of a whole block what stands in it with --changes, where this whole block came before."""
+    old, new = grouped(before), grouped(block)
+    counts = [sum(word == "cost" for word, _ in each) for each in (old, new)]
+    processes = [number for word, number in new if word == "memory"]
+    told = [each for about in new if about[0] in ("status", "fault") for each in new[about]]
+    told += [each for pid in processes if new["memory", pid] != old["memory", pid] for each in new["memory", pid]]
+    for pid in processes:
+        if new.get(("print", pid)) != old.get(("print", pid)):
+            told += new.get(("print", pid), [line("silent", pid)])
+    told += [each for about in new if about[0] == "cost" and new[about] != old.get(about) for each in new[about]]
+    told += [line("costs", counts[1])] if counts[0] != counts[1] else []
+    return told + [each for about in new if about[0] in ("total", *UPDATE) for each in new[about]]
+
+
+class Judge:
+    """The session of a document after some lines: its input, and for each accepted batch that stands the edits that
+    take it back."""
+
+    def __init__(self, tool, document, places, changes):
+        self.catalogue = TOOLS[tool]
+        job = job_of(self.catalogue, document)
+        self.program, self.input, self.batches = job.program, job.input, job.batches
+        self.at_key = tree_of(document)[self.catalogue.key]
+        self.places, self.changes = places, changes
+        self.number = 0
+        self.undos = []
+        self.last = []  # the last block with a status, whole
+
+    def text(self, lines):
+        self.number += 1
+        return "".join(f"{each}\n" for each in [line("run", self.number - 1), *lines])
+
+    def replied(self, edits):
+        """The block of the model for edits of the input as it is, and whether they were accepted."""
+        job = Job(self.program, self.input, [edits])
+        block = blocks_of(report_of(job, False, self.places))[1]
+        is_accepted = block[0].startswith("status ")
+        before = self.last
+        if is_accepted:
+            self.last = block
+            for edit in edits:
+                self.input = edit.make(self.input)
+        return self.text(changes_of(before, block) if is_accepted and self.changes else block), is_accepted
+
+    def batch(self, edits):
+        given = self.input
+        text, is_accepted = self.replied(edits)
+        if is_accepted:
+            self.undos.append(undoing(given, edits))
+        return text
+
+    def opening(self):
+        """What is written before a line is read."""
+        self.last = blocks_of(report_of(Job(self.program, self.input, []), False, self.places))[0]
+        first = self.text(self.last)
+        return first + "".join(self.batch(edits) for edits in self.batches) + "ready\n"
+
+    def answer(self, ask):
+        """The block of a line, which does not ask for the document."""
+        if ask.unread:
+            return self.text([line("unread", ask.unread)])
+        if ask.is_undo:
+            return self.replied(self.undos.pop())[0] if self.undos else self.text(["unread undo"])
+        return self.batch([Edit(part, numbers) for part, *numbers in ask.batch])
+
+    def of_scratch(self):
+        """The report of the input as it is, with --scratch."""
+        lines = ["run 0", *(each for each in self.last if not each.startswith(UPDATE))]
+        return "".join(f"{each}\n" for each in lines)
+
+    def document_differences(self, document):
+        """What is wrong with the text that says what the input is."""
+        try:
+            tree, job = tree_of(document), job_of(self.catalogue, document)
+        except Refused as fault:
+            return [f"it is no job: {fault}"]
+        wrong = ["it has the key batches"] if "batches" in tree else []
+        wrong += [f"{self.catalogue.key} is another"] if tree[self.catalogue.key] != self.at_key else []
+        return wrong + [
+            f"{name} is another"
+            for name in Input.__annotations__
+            if getattr(job.input, name) != getattr(self.input, name)
+        ]

@@ -1,0 +1,298 @@
+"""A client of live sessions, and the talks that it has with them."""
+import contextlib
+import os
+import select
+import subprocess
+import time
+
+from cases import difference
+from drawn import Draw, drawn_document
+from judge import Judge
+from model import answer
+from modelled.documents import TOOLS, job_of
+from talks import Ask, draw_ask, long_lines
+
+SECONDS = float(os.environ.get("LIVE_SECONDS") or 60)  # that an answer may take
+LINES = 14  # of a talk
+WORKERS = (1, 3, 16)
+
+
+class Wrong(Exception):
+    """What differs from what had to come."""
+
+
+FAILURES = (Wrong, OSError, subprocess.TimeoutExpired)
+
+
+class Client:
+    """The two ends of a session's pipes. Its standard error goes to a file."""
+
+    def __init__(self, command, path, *words):
+        self.errors = open(f"{path}.errors", "w+b")
+        pipes = {"stdin": subprocess.PIPE, "stdout": subprocess.PIPE, "stderr": self.errors, "bufsize": 0}
+        # A write to a pipe that nobody reads fails then, and ends no process.
+        self.process = subprocess.Popen([*command, "--follow", path, *words], restore_signals=False, **pipes)
+        self.heard = b""
+
+    def say(self, text):
+        """Writes, and reads what comes meanwhile: neither side waits for the other for ever."""
+        given, taken, end = self.process.stdin.fileno(), self.process.stdout.fileno(), time.monotonic() + SECONDS
+        os.set_blocking(given, False)
+        while text:
+            ready, writable, _ = select.select([taken], [given], [], max(end - time.monotonic(), 0))
+            if not ready and not writable:
+                raise Wrong(f"no more is read after {SECONDS} seconds")
+            if ready and not self.hear():
+                raise Wrong("it has ended before all was said")
+            if writable:
+                text = text[os.write(given, text) :]
+
+    def hear(self):
+        """Reads what is there, or waits for it. Answers false at the end."""
+        more = os.read(self.process.stdout.fileno(), 1 << 16)
+        self.heard += more
+        return bool(more)
+
+    def wait_for(self, is_there):
+        """Reads on until what was heard is enough."""
+        end = time.monotonic() + SECONDS
+        while not is_there(self.heard):
+            ready, _, _ = select.select([self.process.stdout], [], [], max(end - time.monotonic(), 0))
+            if not ready or not self.hear():
+                raise Wrong(
+                    f"{'the end' if ready else f'nothing more after {SECONDS} seconds'}, behind {self.heard[-80:]!r}"
+                )
+
+    def take(self, count):
+        taken, self.heard = self.heard[:count], self.heard[count:]
+        return taken
+
+    def expect(self, what, text):
+        """Reads a text, which has to be this."""
+        wanted = text.encode()
+        with contextlib.suppress(Wrong):
+            self.wait_for(lambda heard: len(heard) >= len(wanted) or not wanted.startswith(heard))
+        found = difference(what, self.heard[: len(wanted)], wanted)
+        if found:
+            raise Wrong(found[0])
+        self.take(len(wanted))
+
+    def expect_nothing(self, what):
+        """Sees that nothing has come. What comes later is seen where the next text is expected."""
+        if self.heard or select.select([self.process.stdout], [], [], 0.002)[0]:
+            raise Wrong(f"{what}: an answer before the line was whole, or one too many")
+
+    def document(self):
+        self.wait_for(lambda heard: heard.endswith(b"\nend\n"))
+        return self.take(len(self.heard)).removeprefix(b"document\n").removesuffix(b"end\n")
+
+    def end(self):
+        """Ends the input. Nothing more may come, and nothing on standard error."""
+        self.process.stdin.close()
+        with contextlib.suppress(Wrong):
+            self.wait_for(lambda heard: False)
+        self.ended_with(0, b"", self.heard)
+
+    def ended_with(self, status, error, rest=b""):
+        """Sees how the session has ended: its status, and what went to standard error."""
+        try:
+            found = self.process.wait(SECONDS)
+        except subprocess.TimeoutExpired:
+            raise Wrong(f"no end after {SECONDS} seconds") from None
+        self.errors.seek(0)
+        said = self.errors.read()
+        if (found, said[: len(error)], rest) != (status, error, b"") or (not error and said):
+            what = f"status {found}, {said[:80]!r} on standard error and {rest[:80]!r} more"
+            raise Wrong(f"{what}, in place of {status} and {error!r}")
+
+    def close(self):
+        """Leaves nothing behind."""
+        if self.process.poll() is None:
+            self.process.kill()
+        self.process.wait()
+        for file in (self.process.stdin, self.process.stdout, self.errors):
+            file.close()
+        os.remove(self.errors.name)
+
+
+@contextlib.contextmanager
+def opened(command, path, document, *words):
+    with open(path, "wb") as file:
+        file.write(document)
+    client = Client(command, path, *words)
+    try:
+        yield client
+    finally:
+        client.close()
+        os.remove(path)
+
+
+def drawn_job(crate, draw):
+    """A document of a job, of those that are drawn."""
+    while True:
+        document = drawn_document(crate, draw.randrange(1 << 40))
+        if answer(crate, document, scratch=True).status == 0:
+            return document
+
+
+def drawn_asks(draw, crate, document, rates):
+    given = job_of(TOOLS[crate], document).input
+    lists = [[list(words) for words in each] for each in (given.memories, given.args)]
+    asks = [draw_ask(draw, *lists, rates) for _ in range(LINES)]
+    return [*asks[:-1], Ask(b"document"), asks[-1]] if rates["document"] else asks
+
+
+class Talk:
+    """A client, the judge of what it hears, and what comes by chance."""
+
+    def __init__(self, draw, client, judge, command, path):
+        self.draw, self.client, self.judge, self.command, self.path = draw, client, judge, command, path
+
+    def text(self, ask):
+        return ask.line + self.draw.choice((b"\n", b"\n", b"\r\n"))
+
+    def hear(self, ask, what):
+        """Waits for the answer to a line, and judges it."""
+        if ask.is_document:
+            return self.judge_document(self.client.document(), what)
+        return self.client.expect(f"{what}, {ask.line[:60]!r}", self.judge.answer(ask))
+
+    def judge_document(self, document, what):
+        found = self.judge.document_differences(document)
+        with open(f"{self.path}.again", "w+b") as file:
+            file.write(document)
+            file.seek(0)
+            ended = subprocess.run([*self.command, "--scratch"], stdin=file, capture_output=True, timeout=SECONDS)
+        os.remove(file.name)
+        found += difference("its report from scratch", ended.stdout, self.judge.of_scratch().encode())
+        if found:
+            raise Wrong(f"{what}, document: {found[0]}")
+
+    def in_pieces(self, ask, what):
+        """A line in several writes: nothing is answered before it is whole."""
+        text = self.text(ask)
+        cuts = sorted(self.draw.randrange(len(text)) for _ in range(self.draw.randint(1, 3)))
+        for start, end in zip([0, *cuts], [*cuts, len(text) - 1]):
+            self.client.say(text[start:end])
+            self.client.expect_nothing(what)
+        self.client.say(text[-1:])
+        self.hear(ask, what)
+
+    def at_once(self, asks, what):
+        self.client.say(b"".join(map(self.text, asks)))
+        for ask in asks:
+            self.hear(ask, what)
+
+    def last(self, ask):
+        """The last line has no end, and is answered at the end of the input."""
+        if not ask.line or ask.is_document:
+            return
+        self.client.say(ask.line)
+        self.client.expect_nothing("the last line")
+        self.client.process.stdin.close()
+        self.client.expect("the last line", self.judge.answer(ask))
+
+    def go(self, asks):
+        self.client.expect("the first blocks", self.judge.opening())
+        *asks, last = asks
+        while asks:
+            what = f"line {LINES - len(asks)}"
+            if self.draw.happens(0.2):
+                # Only the last of them may ask for the document, whose length is not known.
+                count = next((at + 1 for at, ask in enumerate(asks[:4]) if ask.is_document), len(asks[:4]))
+                self.at_once(asks[:count], what)
+                asks = asks[count:]
+            else:
+                how = self.in_pieces if self.draw.happens(0.3) else lambda ask, what: self.at_once([ask], what)
+                how(asks.pop(0), what)
+        self.last(last) if self.draw.happens(0.5) else self.at_once([last], "the last line")
+        self.client.end()
+
+
+def words_of(seed, changes):
+    """The options of a seed."""
+    places = ["--places"] if seed // 3 % 2 else []
+    return ["--workers", str(WORKERS[seed % 3]), *places, *(["--changes"] if changes and seed // 6 % 2 else [])]
+
+
+def random_talk(crate, command, room, options, seed):
+    """What differs in the talk of a seed."""
+    draw = Draw(f"live {crate} {seed}")
+    document = drawn_job(crate, draw)
+    rates = {"undo": draw.choice((0.1, 0.3)), "document": 0 if "--no-document" in options else 0.08}
+    words, path = words_of(seed, "--changes" in options), f"{room}/{crate} {seed}.toml"
+    judge = Judge(crate, document, "--places" in words, "--changes" in words)
+    try:
+        with opened(command, path, document, *words) as client:
+            Talk(draw, client, judge, command, path).go(drawn_asks(draw, crate, document, rates))
+    except FAILURES as wrong:
+        return [f"{crate} seed {seed}, {' '.join(words)}: {wrong}"]
+    return []
+
+
+def dying_talk(crate, command, room, seed):
+    """A client that dies where it waits for nothing, or in the middle: then there is nobody who reads the next
+    block."""
+    draw = Draw(f"dying {crate} {seed}")
+    document = drawn_job(crate, draw)
+    judge = Judge(crate, document, False, False)
+    try:
+        with opened(command, f"{room}/{crate} {seed} dying.toml", document, *words_of(seed, False)[:2]) as client:
+            client.expect("the first blocks", judge.opening())
+            client.process.stdout.close()
+            is_idle = draw.happens(0.3)
+            with contextlib.suppress(BrokenPipeError):
+                client.process.stdin.write(b"" if is_idle else draw.choice((b"[]", b"[]\n", b"foo\n", b"[]\n" * 50)))
+            client.process.stdin.close()
+            client.ended_with(*((0, b"") if is_idle else (1, b"fault write\n")))
+    except FAILURES as wrong:
+        return [f"{crate} seed {seed}, a client that dies: {wrong}"]
+    return []
+
+
+def long_talk(crate, command, room):
+    """What differs where lines are as long as they may be, and longer."""
+    document = drawn_job(crate, Draw(f"long {crate}"))
+    judge = Judge(crate, document, False, False)
+    try:
+        with opened(command, f"{room}/{crate} long.toml", document) as client:
+            client.expect("the first blocks", judge.opening())
+            for ask in [*long_lines(), Ask(b"[]", [])]:
+                client.say(ask.line + b"\n")
+                client.expect(f"a line of {len(ask.line)} bytes", judge.answer(ask))
+            client.end()
+    except FAILURES as wrong:
+        return [f"{crate}: {wrong}"]
+    return []
+
+
+def start_differences(command, words, status, error):
+    """What differs where a session can't be opened: nothing is written then, and nothing of standard input is read."""
+    try:
+        ended = subprocess.run([*command, *words], input=b"[]\n", capture_output=True, timeout=SECONDS)
+    except FAILURES as wrong:
+        return [str(wrong)]
+    if (ended.returncode, ended.stdout) == (status, b"") and ended.stderr.startswith(error or b"error"):
+        return []
+    return [f"status {ended.returncode}, {ended.stderr[:80]!r} on standard error, {ended.stdout[:80]!r}"]
+
+
+def faulty_starts(crate, command, room):
+    """What differs with files that are not there, or are no document, and with options that do not go together."""
+    path = f"{room}/{crate} start.toml"
+    document = drawn_job(crate, Draw(f"start {crate}"))
+    starts = {
+        "no file": (document, ["--follow", f"{room}/nowhere"], 1, b"fault read\n"),
+        "a folder": (document, ["--follow", room], 1, b"fault read\n"),
+        "no document": (b"limit = 1\n", ["--follow", path], 3, b"fault J2\n"),
+        "no TOML": (b"]", ["--follow", path], 3, b"fault J1\n"),
+        "from scratch": (document, ["--follow", path, "--scratch"], 2, b""),
+        "no name": (document, ["--follow"], 2, b""),
+    }
+    found = []
+    for name, (text, *start) in starts.items():
+        with open(path, "wb") as file:
+            file.write(text)
+        found += [f"{crate}, {name}: {it}" for it in start_differences(command, *start)]
+    os.remove(path)
+    return found

@@ -1,0 +1,98 @@
+"""Random lines for a live session, each with what it asks, as it is known from how the line was made."""
+import json
+from dataclasses import dataclass
+
+from drawn import draw_batch
+
+MOST_BYTES = 16_777_216  # of a line, without its end
+
+# Lines that are no batch, and why.
+UNREAD = (
+    (b"foo", "J1"),
+    (b"Undo", "J1"),
+    (b"undo 2", "J1"),
+    (b"documents", "J1"),
+    (b"\xff", "J1"),
+    (b"\x00", "J1"),
+    (b'"""', "J1"),
+    (b"[] x", "J1"),
+    (b"= []", "J1"),
+    (b"[[", "J1"),
+    (b'[["limit", 3]] = 4', "J1"),
+    (b'[["limit", 3]], [["limit", 4]]', "J1"),
+    (b'[["limit", 9223372036854775808]]', "J1"),
+    (b'[["limit", 03]]', "J1"),
+    (b"7", "J3"),
+    (b"{}", "J3"),
+    (b'"undo"', "J3"),
+    (b"[1]", "J3"),
+    (b"[[]]", "J3"),
+    (b'["limit", 5]', "J3"),
+    (b'[["limit", 5.0]]', "J3"),
+    (b'[["limit"]]', "J3"),
+    (b'[["limit", 5, 6]]', "J3"),
+    (b'[["colour", 1]]', "J3"),
+    (b'[["word", 0, 0]]', "J3"),
+    (b'[["limit", 1], ["prices", 1, true]]', "J3"),
+    (b'[["prices", -1, 1], ["limit"]]', "J3"),
+    (b'[["word", 0, 0, -1]]', "J7"),
+    (b'[["limit", -5]]', "J7"),
+    (b'[["limit", 1], ["prices", 1, -1]]', "J7"),
+)
+BLANK = (b"", b" ", b" \t ", b"# why", b'  # [["limit", 1]]', b"#undo")
+
+
+@dataclass(frozen=True)
+class Ask:
+    """A line without its end, and what it asks: a batch of edits, that the last one be taken back, that the input be
+    written, or nothing that is read."""
+
+    line: bytes
+    batch: list | None = None
+    unread: str = ""
+
+    @property
+    def is_undo(self):
+        return self.line == b"undo"
+
+    @property
+    def is_document(self):
+        return self.line == b"document"
+
+
+def number_text(draw, number):
+    """A number in one of the forms of TOML."""
+    return draw.choice((str, str, str, hex, lambda n: f"+{n}", lambda n: f"{n:_}"))(number)
+
+
+def batch_text(draw, batch):
+    """A batch in one of the forms in which a line can have it."""
+    if draw.happens(0.5):
+        return json.dumps(batch)
+    gap, last, quote = draw.choice(("", " ", "\t")), draw.choice(("", ",", " , ")), draw.choice("\"'")
+    rows = [[f"{quote}{name}{quote}", *(number_text(draw, number) for number in numbers)] for name, *numbers in batch]
+    texts = [f"[{gap}{f',{gap}'.join(row)}{last}]" for row in rows]
+    inner = f",{gap}".join(texts)
+    return f"{gap}[{inner}{last if texts else ''}]{gap}{draw.choice(('', '# why', '#'))}"
+
+
+def draw_ask(draw, memories, args, rates):
+    """A line: mostly a batch. `rates` gives how often it is an `undo` and a `document`."""
+    kind = draw.random()
+    if kind < rates["undo"]:
+        return Ask(b"undo")
+    if kind < rates["undo"] + rates["document"]:
+        return Ask(b"document")
+    if kind > 0.9:
+        line, why = draw.choice(UNREAD)
+        return Ask(line, unread=why)
+    if kind > 0.85:
+        return Ask(draw.choice(BLANK), [])
+    batch = draw_batch(draw, memories, args)
+    return Ask(batch_text(draw, batch).encode(), batch)
+
+
+def long_lines():
+    """A line that is as long as a line may be, and one that is longer."""
+    longest = b"[] #".ljust(MOST_BYTES, b"x")
+    return [Ask(longest, []), Ask(longest + b"x", unread="long")]

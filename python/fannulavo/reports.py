@@ -1,0 +1,115 @@
+"""What a report says, block by block."""
+
+from __future__ import annotations
+
+from collections.abc import Mapping
+from dataclasses import dataclass, replace
+from typing import NamedTuple
+
+
+class Place(NamedTuple):
+    """A process in a superstep, both from 0."""
+
+    superstep: int
+    process: int
+
+
+class Cost(NamedTuple):
+    """A superstep's cost: the largest work of a process, the h-relation in words, and w + h*g + l, or w alone where
+    no delivery ends it."""
+
+    work: int
+    h: int
+    cost: int
+
+
+@dataclass(frozen=True)
+class Status:
+    """How a run ended: `kind` is "halted", "limit", "faulted" or "syncfault".
+
+    The latter two have the superstep in which it was, and "syncfault" the fault of its end, S1 to S5.
+    """
+
+    kind: str
+    superstep: int | None = None
+    fault: str | None = None
+
+    def __str__(self) -> str:
+        told = (self.kind, self.superstep, self.fault)
+        return " ".join(str(part) for part in told if part is not None)
+
+
+@dataclass(frozen=True)
+class Report:
+    """What a run gave, and what of it was made anew against the run before.
+
+    Of a tool with `--changes` it is not whole: `memories`, `lines` and `costs` have only what changed, and `after`
+    completes it.
+    """
+
+    run: int
+    """The number of the block, from 0."""
+    status: Status
+    faults: Mapping[int, str]
+    """The processes with a fault, F1 to F12; of F1, F2 and F3 with its number, as "F2 9"."""
+    memories: Mapping[int, tuple[int, ...]]
+    """The words of each process at the end."""
+    lines: Mapping[int, tuple[tuple[int, ...], ...]]
+    """The lines that each process printed, of words."""
+    costs: Mapping[int, Cost]
+    """The cost of each superstep."""
+    total: int
+    executed_count: int | None = None
+    """How many turns were taken; None with `--scratch`."""
+    redelivered_count: int | None = None
+    """How many deliveries were made; None with `--scratch`."""
+    executed: tuple[Place, ...] | None = None
+    """Which turns were taken, ascending; None where that is not told."""
+    redelivered: tuple[Place, ...] | None = None
+    """Which deliveries were made, ascending; None where that is not told."""
+    is_whole: bool = True
+    supersteps: int | None = None
+    """Of a report that is not whole: the number of supersteps where that changed."""
+
+    @property
+    def is_delivered_last(self) -> bool:
+        """Whether the last superstep ended by delivery, as all others do."""
+        return self.status.kind == "limit"
+
+    def after(self, before: Report) -> Report:
+        """The whole report, where this one has what changed against `before`, which is whole."""
+        if self.is_whole:
+            return self
+        if not before.is_whole:
+            raise ValueError("what the changes are against is not whole")
+        count = len(before.costs) if self.supersteps is None else self.supersteps
+        costs = {**before.costs, **self.costs}
+        return replace(
+            self,
+            memories={**before.memories, **self.memories},
+            lines={**before.lines, **self.lines},
+            costs={superstep: costs[superstep] for superstep in range(count)},
+            is_whole=True,
+            supersteps=None,
+        )
+
+
+@dataclass(frozen=True)
+class Refusal:
+    """The batch of this block was refused: its first refused edit has this place, from 0, and this fault, E1 to E5."""
+
+    run: int
+    place: int
+    fault: str
+
+
+@dataclass(frozen=True)
+class Unread:
+    """The line of this block was no batch: J1, J3, J7 or "long"; or it was an `undo` and there was nothing to undo:
+    "undo"."""
+
+    run: int
+    reason: str
+
+
+Block = Report | Refusal | Unread

@@ -1,0 +1,131 @@
+"""A tool that runs as a process of its own, between two pipes."""
+
+from __future__ import annotations
+
+import subprocess
+import tempfile
+from collections.abc import Callable, Sequence
+
+from fannulavo.errors import Interrupted, ToolEnded
+
+_GRACE = 2.0  # seconds that a tool has to end itself when it is told to
+_LAST = 10.0  # seconds that it has to end after the end of its input
+
+
+def _text(said: bytes) -> str:
+    return said.decode("utf-8", "replace")
+
+
+def stop(process: subprocess.Popen[bytes]) -> None:
+    """Ends a process, if it has not ended. After this it is gone."""
+    try:
+        if process.poll() is None:
+            process.terminate()
+            process.wait(_GRACE)
+    except subprocess.TimeoutExpired:
+        pass
+    finally:
+        if process.poll() is None:
+            process.kill()
+        process.wait()
+        for pipe in (process.stdin, process.stdout):
+            _close(pipe)
+
+
+def _close(pipe: object) -> None:
+    try:
+        pipe.close()  # type: ignore[attr-defined]
+    except OSError:
+        pass  # what was not yet written can't be
+
+
+class Tool:
+    """A tool that was started. Whatever goes wrong in an exchange with it ends it."""
+
+    def __init__(self, words: Sequence[str]):
+        self._errors = tempfile.TemporaryFile()
+        self._said: list[bytes] = []  # of the exchange that goes on, or of the last
+        # In a process group of its own an interrupt from a terminal does not reach it.
+        # Its input is not buffered: else closing it could wait for a tool that takes nothing.
+        try:
+            self.process: subprocess.Popen[bytes] = subprocess.Popen(
+                words,
+                bufsize=0,
+                process_group=0,
+                stdin=subprocess.PIPE,
+                stdout=subprocess.PIPE,
+                stderr=self._errors,
+            )
+        except BaseException:
+            self._errors.close()
+            raise
+        assert self.process.stdin and self.process.stdout
+        self._in = self.process.stdin
+        self._out = open(self.process.stdout.fileno(), "rb", closefd=False)
+
+    @property
+    def has_ended(self) -> bool:
+        return self._errors.closed
+
+    def exchange(self, line: str, is_all: Callable[[list[str]], bool]) -> list[str]:
+        """Writes a line, or none where it is empty, and waits for the lines of the answer, until that is all."""
+        self._said = []
+        try:
+            self._write(line)
+            return self._read(is_all)
+        except KeyboardInterrupt:
+            raise Interrupted(*self._end()) from None
+        except BaseException:
+            if not self.has_ended:
+                self._end()
+            raise
+
+    def _write(self, line: str) -> None:
+        left = memoryview(line.encode())
+        try:
+            while left:
+                left = left[self._in.write(left) :]
+        except OSError as error:
+            raise self.ended("the tool takes nothing more") from error
+
+    def _read(self, is_all: Callable[[list[str]], bool]) -> list[str]:
+        lines: list[str] = []
+        while not lines or not is_all(lines):
+            said = self._out.readline()
+            self._said.append(said)
+            if not said.endswith(b"\n"):
+                raise self.ended("the tool has ended")
+            lines.append(_text(said).removesuffix("\n"))
+        return lines
+
+    def ended(self, what: str) -> ToolEnded:
+        """Ends the tool, and tells what it said."""
+        return ToolEnded(what, *self._end(wait=_GRACE))
+
+    def _end(self, wait: float = 0.0) -> tuple[str, str, int | None]:
+        """Ends the input of the tool, and then the tool, which has so many seconds to end itself. What it said of
+        the last exchange, what on standard error, and its exit status."""
+        _close(self._in)
+        try:
+            if wait:
+                self.process.wait(wait)
+        except subprocess.TimeoutExpired:
+            pass
+        finally:
+            stop(self.process)
+        self._errors.seek(0)
+        errors = _text(self._errors.read())
+        self._errors.close()
+        return _text(b"".join(self._said)), errors, self.process.returncode
+
+    def close(self) -> None:
+        """Ends the input of the tool, and waits until it has ended. `ToolEnded` where that was not with status 0."""
+        if self.has_ended:
+            return
+        self._said = []
+        try:
+            said, errors, status = self._end(wait=_LAST)
+        except KeyboardInterrupt:
+            raise Interrupted(*self._end()) from None
+        if status:
+            raise ToolEnded("the tool ended wrongly", said, errors, status)

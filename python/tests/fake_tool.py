@@ -1,0 +1,226 @@
+#!/usr/bin/env python3
+"""A tool that answers by the plain model of ci/, with which clients are tested where no built tool is at hand.
+
+usage: fake_tool.py TOOL [--workers N] [--scratch] [--places] [--changes] [--follow FILE] [--flaw NAME]
+
+TOOL is bsp_tool, heat or bsp_script. All is as with the program of that name, but that it is slow, that no line says
+where a document's fault is, and that the words are not checked. With a flaw it is wrong in one way (FLAWS), so that
+it can be shown that its client notices.
+"""
+from __future__ import annotations
+
+import json
+import os
+import signal
+import sys
+import time
+
+ROOT = os.path.dirname(os.path.dirname(os.path.dirname(os.path.realpath(__file__))))
+sys.path.insert(0, f"{ROOT}/ci")
+sys.dont_write_bytecode = True
+
+from model import MOST_BYTES, answer, cost_row, line, result_lines, update_lines  # noqa: E402
+from modelled.documents import SHAPES, TOOLS, Refused, has_negative, job_of, tree_of  # noqa: E402
+from modelled.runs import Input, Run, run  # noqa: E402
+from modelled.sessions import Edit  # noqa: E402
+
+FLAWS = {
+    "dies": "it is killed in the middle of block 2",
+    "exits": "it ends with a fault in the middle of block 2",
+    "hangs": "it takes a line and does not answer it",
+    "deaf": "it hangs, and does not end when it is told to",
+    "garbles": "block 2 has a line that none may have",
+    "late": "a block is written when the next line has come",
+    "numbers": "`document` counts as a block",
+    "undoes_refused": "`undo` takes back nothing where the last batch was refused",
+    "undoes_once": "a second `undo` takes the first back",
+    "unread_edits": "a line with a negative number sets the limit to 1",
+    "forgets": "`document` has the first limit",
+    "ends_badly": "at the end of input the status is 1",
+    "stays": "it does not end at the end of its input",
+}
+
+
+def printed(made: Run, pid: int) -> list[str]:
+    return [line("print", pid, *words) for s in made.supersteps for words in s.outcomes[pid].lines]
+
+
+def changed_lines(old: Run, new: Run) -> list[str]:
+    """What a run gives, where it differs from that of the run before."""
+    lines = [*new.status]
+    lines += [line("memory", pid, *words) for pid, words in enumerate(new.memories) if words != old.memories[pid]]
+    for pid in range(len(new.memories)):
+        if printed(old, pid) != printed(new, pid):
+            lines += printed(new, pid) or [line("silent", pid)]
+    before, rows = ([cost_row(s, made.input) for s in made.supersteps] for made in (old, new))
+    lines += [line("cost", step, *row) for step, row in enumerate(rows) if step >= len(before) or before[step] != row]
+    lines += [line("costs", len(rows))] if len(before) != len(rows) else []
+    return [*lines, line("total", sum(cost for _, _, cost in rows))]
+
+
+class Live:
+    """A session that is kept as the inputs that were left by the batches that stand."""
+
+    def __init__(self, tool: str, document: bytes, words: list[str]):
+        self.tool, self.tree = tool, tree_of(document)
+        job = job_of(TOOLS[tool], document)
+        self.program, self.batches = job.program, job.batches
+        self.inputs: list[Input] = [job.input]
+        self.made: Run | None = None
+        self.number = 0
+        self.places, self.changes = "--places" in words, "--changes" in words
+        self.flaw = words[words.index("--flaw") + 1] if "--flaw" in words else ""
+        self.was_refused = False
+
+    def block(self, lines: list[str]) -> list[str]:
+        self.number += 1
+        return [line("run", self.number - 1), *lines]
+
+    def run_again(self) -> list[str]:
+        """The block of the input as it is now."""
+        old, self.made = self.made, run(self.program, self.inputs[-1])
+        told = changed_lines(old, self.made) if self.changes and old else result_lines(self.made)
+        return self.block(told + update_lines(self.program, old, self.made, self.places))
+
+    def batch(self, batch: list[Edit]) -> list[str]:
+        given = self.inputs[-1]
+        refusals = [(edit.fault(given), place) for place, edit in enumerate(batch) if edit.fault(given)]
+        self.was_refused = bool(refusals)
+        if refusals:
+            return self.block([line("refused", refusals[0][0], "at", refusals[0][1])])
+        for edit in batch:
+            given = edit.make(given)
+        self.inputs.append(given)
+        return self.run_again()
+
+    def undo(self) -> list[str]:
+        if self.flaw == "undoes_refused" and self.was_refused:
+            self.was_refused = False
+            return self.run_again()
+        if len(self.inputs) == 1:
+            return self.block(["unread undo"])
+        taken = self.inputs.pop()
+        if self.flaw == "undoes_once":
+            self.inputs[:] = [taken, self.inputs[-1]]
+        return self.run_again()
+
+    def document(self) -> list[str]:
+        given = self.inputs[-1]
+        key = TOOLS[self.tool].key
+        limit = self.inputs[0].limit if self.flaw == "forgets" else given.limit
+        values = {
+            key: self.tree[key],
+            "limit": limit,
+            "g": given.g,
+            "l": given.l,
+            "memory": given.memories,
+            "args": given.args,
+        }
+        self.number += self.flaw == "numbers"
+        return ["document", *(f"{name} = {json.dumps(value)}" for name, value in values.items()), "end"]
+
+    def answer(self, text: bytes) -> list[str]:
+        """The answer to a line."""
+        text = text.removesuffix(b"\n")
+        word = text.removesuffix(b"\r")
+        if word in (b"undo", b"document"):
+            return self.undo() if word == b"undo" else self.document()
+        if len(text) > MOST_BYTES:
+            return self.block(["unread long"])
+        try:
+            return self.batch(batch_of(b"[] " + text if begins_nothing(word) else text))
+        except Refused as fault:
+            if self.flaw == "unread_edits" and str(fault) == "J7":
+                self.batch([Edit("limit", [1])])
+                self.number -= 1
+            return self.block([line("unread", fault)])
+
+
+def begins_nothing(text: bytes) -> bool:
+    return text.strip(b" \t")[:1] in (b"", b"#")
+
+
+def batch_of(text: bytes) -> list[Edit]:
+    """The batch that a line is, or the fault of a line that is none."""
+    tree = tree_of(b"batch = " + text + b"\n")
+    batch = tree["batch"]
+    if tree.keys() != {"batch"} or not SHAPES["batches"]([batch]):
+        raise Refused("J3")
+    if has_negative(batch):
+        raise Refused("J7")
+    return [Edit(part, numbers) for part, *numbers in batch]
+
+
+def say(lines: list[str]) -> None:
+    sys.stdout.write("".join(f"{each}\n" for each in lines))
+    sys.stdout.flush()
+
+
+def misbehave(flaw: str, number: int, lines: list[str]) -> list[str]:
+    """What is said in the place of a block. With some flaws this does not end."""
+    if flaw in ("hangs", "deaf"):
+        signal.signal(signal.SIGTERM, signal.SIG_IGN if flaw == "deaf" else signal.SIG_DFL)
+        say(lines[:1])
+        time.sleep(60)
+    if number != 2:
+        return lines
+    if flaw == "dies":
+        say(lines[: len(lines) // 2])
+        os.kill(os.getpid(), signal.SIGKILL)
+    if flaw == "exits":
+        say(lines[: len(lines) // 2])
+        sys.stderr.write("fault memory\n")
+        sys.stderr.flush()
+        os._exit(1)
+    return [lines[0], "status unheard", *lines[2:]] if flaw == "garbles" else lines
+
+
+def follow(tool: str, path: str, words: list[str]) -> int:
+    try:
+        with open(path, "rb") as file:
+            live = Live(tool, file.read(), words)
+    except OSError:
+        return ended("fault read", 1)
+    except Refused as fault:
+        return ended(f"fault {fault}", 3)
+    say(live.run_again())
+    for batch in live.batches:
+        say(live.batch(batch))
+    say(["ready"])
+    late: list[str] = []
+    for text in sys.stdin.buffer:
+        lines = misbehave(live.flaw, live.number, live.answer(text))
+        if live.flaw == "late":
+            late, lines = lines, late
+        say(lines)
+    say(late)
+    if live.flaw == "stays":
+        time.sleep(60)
+    return int(live.flaw == "ends_badly")
+
+
+def ended(error: str, status: int) -> int:
+    sys.stderr.write(f"{error}\n")
+    return status
+
+
+def main(words: list[str]) -> int:
+    tool, *words = words
+    if "--follow" in words:
+        _, *path = words[words.index("--follow") :]
+        if not path or "--scratch" in words:
+            return ended("error: the option --follow wants FILE, and no --scratch beside it", 2)
+        return follow(tool, path[0], words)
+    given = answer(tool, sys.stdin.buffer.read(), "--scratch" in words, "--places" in words)
+    sys.stdout.write(given.report)
+    sys.stderr.write(given.error)
+    return given.status
+
+
+if __name__ == "__main__":
+    signal.signal(signal.SIGINT, signal.SIG_IGN)
+    try:
+        sys.exit(main(sys.argv[1:]))
+    except BrokenPipeError:
+        os.dup2(os.open(os.devnull, os.O_WRONLY), 1)
+        sys.exit(ended("fault write", 1))

@@ -1,0 +1,320 @@
+"""Sessions with a tool that answers by the plain model, and with tools that fail."""
+
+from __future__ import annotations
+
+import contextlib
+import gc
+import json
+import os
+import signal
+import sys
+import tempfile
+import threading
+import time
+import tomllib
+import unittest
+from collections.abc import Iterator
+from unittest.mock import patch
+
+from stored import FAKE, HEAT, fake
+
+from drawn import Draw, draw_batch, draw_heat
+from fannulavo import (
+    Argument,
+    Block,
+    Edit,
+    Interrupted,
+    Limit,
+    MalformedReport,
+    NothingToUndo,
+    NotRead,
+    Prices,
+    Refusal,
+    Refused,
+    Report,
+    Session,
+    SessionClosed,
+    ToolEnded,
+    Word,
+    read_report,
+    write_report,
+)
+from model import answer
+
+KINDS = {"word": Word, "arg": Argument, "limit": Limit, "prices": Prices}
+EDIT = [Word(0, 1, 5)]
+
+
+def edits_of(rows: list[list]) -> list[Edit]:
+    return [KINDS[name](*numbers) for name, *numbers in rows]
+
+
+def answer_to(session: Session, number: int, batch: list[Edit]) -> Block:
+    """The block of a batch."""
+    try:
+        return session.apply(batch)
+    except Refused as refused:
+        return Refusal(number, refused.place, refused.fault)
+
+
+class Batches(unittest.TestCase):
+    def document(self, memories: list, args: list, **more: object) -> bytes:
+        values = {"program": "heat", "limit": 20, "g": 3, "l": 7, "memory": memories, "args": args, **more}
+        return "".join(f"{key} = {json.dumps(value)}\n" for key, value in values.items()).encode()
+
+    def test_fifty_batches_are_those_of_the_whole_document(self) -> None:
+        for seed, workers in ((1, 1), (2, 3), (3, 16)):
+            draw = Draw(seed)
+            _, memories, args = draw_heat(draw)
+            batches = [draw_batch(draw, memories, args) for _ in range(50)]
+            with Session(fake("heat"), self.document(memories, args), workers) as session:
+                blocks = [
+                    session.report,
+                    *(answer_to(session, n, edits_of(batch)) for n, batch in enumerate(batches, 1)),
+                ]
+            whole = answer("heat", self.document(memories, args, batches=batches), places=True)
+            self.assertEqual(whole.error, "")
+            self.assertEqual(write_report(blocks), whole.report)
+
+    def test_the_documents_own_batches(self) -> None:
+        document = self.document([[0, 8, 0]], [[1]], batches=[[["word", 0, 1, 4]], [["limit", 0]]])
+        with Session(fake("heat"), document) as session:
+            self.assertEqual(write_report(session.opening), answer("heat", document, places=True).report)
+            self.assertEqual(session.report.run, 1)
+            self.assertEqual(session.undo().memories, session.opening[0].memories)
+            self.assertRaises(NothingToUndo, session.undo)
+
+
+class Calls(unittest.TestCase):
+    def test_apply_undo_report_and_document(self) -> None:
+        with Session(fake("heat"), HEAT) as session:
+            first = session.report
+            self.assertEqual(len(first.executed or ()), 12)
+            second = session.apply([Word(0, 1, 80), Limit(8)])
+            self.assertEqual((second.run, second.memories[0]), (1, (0, 26, 22)))
+            self.assertIs(session.report, second)
+            with self.assertRaises(Refused) as raised:
+                session.apply([Limit(7), Word(9, 0, 0)])
+            self.assertEqual((raised.exception.place, raised.exception.fault), (1, "E1"))
+            self.assertIs(session.report, second)
+            self.assertEqual(tomllib.loads(session.document())["memory"][0], [0, 80, 0])
+            third = session.undo()
+            self.assertEqual((third.run, third.memories, third.costs), (3, first.memories, first.costs))
+            self.assertEqual(tomllib.loads(session.document()), tomllib.loads(HEAT.decode()))
+            self.assertEqual(session.apply([]).executed, ())
+
+    def test_the_document_opens_a_session_of_its_own(self) -> None:
+        with Session(fake("heat"), HEAT) as session:
+            session.apply([Word(2, 1, 3), Argument(1, 0, 1), Prices(5, 6)])
+            with Session(fake("heat"), session.document().encode()) as other:
+                self.assertEqual(other.report.memories, session.report.memories)
+                self.assertEqual(other.report.costs, session.report.costs)
+
+    def test_a_path(self) -> None:
+        with tempfile.TemporaryDirectory() as room:
+            path = f"{room}/a rod.toml"
+            with open(path, "wb") as file:
+                file.write(HEAT)
+            with Session(fake("heat"), path) as session:
+                self.assertEqual(session.report.status.kind, "halted")
+
+    def test_what_is_no_edit_is_not_sent(self) -> None:
+        for wrong in (lambda: Word(0, 0, -1), lambda: Word(0, 0, 2**63), lambda: Limit(-1)):
+            self.assertRaises(ValueError, wrong)
+        self.assertRaises(TypeError, lambda: Word(0, 0, 1.5))  # type: ignore[arg-type]
+        with Session(fake("heat"), HEAT) as session:
+            self.assertRaises(TypeError, session.apply, [["word", 0, 0, 1]])
+            self.assertEqual(session.apply(EDIT).run, 1)
+
+    def test_a_line_that_is_not_read(self) -> None:
+        with Session(fake("heat"), HEAT) as session:
+            with patch("fannulavo.session.batch_text", lambda _: "[1]"), self.assertRaises(NotRead) as raised:
+                session.apply(EDIT)
+            self.assertEqual(raised.exception.reason, "J3")
+            self.assertEqual(session.apply(EDIT).run, 2)
+
+    def test_workers(self) -> None:
+        for workers in (0, 17):
+            self.assertRaises(ValueError, Session, fake("heat"), HEAT, workers)
+
+    def test_a_closed_session(self) -> None:
+        session = Session(fake("heat"), HEAT)
+        session.close()
+        session.close()
+        self.assertFalse(session.is_open)
+        for call in (lambda: session.apply(EDIT), session.undo, session.document):
+            self.assertRaises(SessionClosed, call)
+        self.assertEqual(session.report.run, 0)
+
+
+class Failing(unittest.TestCase):
+    def setUp(self) -> None:
+        # Where the tests run in the background of a shell, interrupts are ignored.
+        before = signal.signal(signal.SIGINT, signal.default_int_handler)
+        self.addCleanup(signal.signal, signal.SIGINT, before)
+        self.started: list[int] = []
+        real = sys.modules["fannulavo.tools"].subprocess.Popen
+
+        def popen(*words: object, **more: object) -> object:
+            process = real(*words, **more)
+            self.started.append(process.pid)
+            return process
+
+        patcher = patch("fannulavo.tools.subprocess.Popen", popen)
+        patcher.start()
+        self.addCleanup(patcher.stop)
+
+    def tearDown(self) -> None:
+        self.assertTrue(self.started)
+        for pid in self.started:
+            self.assertRaises(ProcessLookupError, os.kill, pid, 0)
+
+    def fails(self, kind: type, *flaw: str) -> BaseException:
+        """What goes wrong with the second batch."""
+        with Session(fake("heat", *flaw), HEAT) as session:
+            session.apply(EDIT)
+            with self.assertRaises(kind) as raised:
+                session.apply(EDIT)
+            self.assertRaises(SessionClosed, session.apply, EDIT)
+        return raised.exception
+
+    def test_killed_in_the_middle(self) -> None:
+        error = self.fails(ToolEnded, "dies")
+        self.assertEqual(error.status, -signal.SIGKILL)
+        self.assertTrue(error.said.startswith("run 2\nstatus halted\nmemory 0 0 "), error.said)
+
+    def test_ended_in_the_middle(self) -> None:
+        error = self.fails(ToolEnded, "exits")
+        self.assertEqual((error.status, error.errors), (1, "fault memory\n"))
+        self.assertIn("fault memory", str(error))
+
+    def test_what_is_no_block(self) -> None:
+        error = self.fails(MalformedReport, "garbles")
+        self.assertEqual((error.line, error.text), (2, "status unheard"))
+
+    def test_killed_from_outside(self) -> None:
+        with Session(fake("heat"), HEAT) as session:
+            os.kill(self.started[-1], signal.SIGKILL)
+            with self.assertRaises(ToolEnded) as raised:
+                session.apply(EDIT)
+            self.assertEqual(raised.exception.status, -signal.SIGKILL)
+
+    def test_killed_before_the_document(self) -> None:
+        with Session(fake("heat"), HEAT) as session:
+            os.kill(self.started[-1], signal.SIGKILL)
+            self.assertRaises(ToolEnded, session.document)
+
+    @contextlib.contextmanager
+    def interrupt(self, session: Session, said: list[bytes]) -> Iterator[None]:
+        """Interrupts as soon as the tool has said so much of its answer, and half a second later at the earliest."""
+
+        def wait_and_kill() -> None:
+            for _ in range(3000):
+                time.sleep(0.01)
+                if session._tool._said == said:
+                    break
+            time.sleep(0.5)
+            os.kill(os.getpid(), signal.SIGINT)
+
+        thread = threading.Thread(target=wait_and_kill)
+        thread.start()
+        yield
+        thread.join()
+
+    def test_an_interrupt(self) -> None:
+        for flaw in ("hangs", "deaf"):
+            with self.subTest(flaw), patch("fannulavo.tools._GRACE", 0.2), Session(fake("heat", flaw), HEAT) as session:
+                with self.assertRaises(Interrupted) as raised, self.interrupt(session, [b"run 1\n"]):
+                    session.apply(EDIT)
+                self.assertEqual(raised.exception.said, "run 1\n")
+                self.assertRaises(SessionClosed, session.undo)
+
+    def test_an_interrupt_while_nothing_is_taken(self) -> None:
+        first = answer("heat", HEAT, places=True).report
+        script = f"import time; print({first!r}, end=''); print('ready', flush=True); time.sleep(60)"
+        text = "[" * 1_000_000  # more than a pipe holds
+        with Session([sys.executable, "-c", script], HEAT) as session, patch(
+            "fannulavo.session.batch_text", lambda _: text
+        ):
+            with self.assertRaises(Interrupted), self.interrupt(session, []):
+                session.apply(EDIT)
+
+    def test_an_interrupt_leaves_the_with_block(self) -> None:
+        with self.assertRaises(KeyboardInterrupt), Session(fake("heat", "hangs"), HEAT) as session:
+            with self.interrupt(session, [b"run 1\n"]):
+                session.apply(EDIT)
+
+    def test_a_tool_without_documents(self) -> None:
+        first = answer("heat", HEAT, places=True).report
+        script = f"print({first!r}, end=''); print('ready', flush=True); input(); print('run 1'); print('unread J1')"
+        with Session([sys.executable, "-c", script], HEAT) as session:
+            self.assertRaises(NotRead, session.document)
+
+    def test_two_blocks_in_one_answer(self) -> None:
+        first = answer("heat", HEAT, places=True).report
+        two = answer("heat", HEAT, scratch=True).report + "run 1\nunread J1\n"
+        script = f"print({first!r}, end=''); print('ready', flush=True); input(); print({two!r})"
+        with Session([sys.executable, "-c", script], HEAT) as session:
+            self.assertRaises(MalformedReport, session.apply, EDIT)
+
+    def test_an_exception_leaves_the_with_block(self) -> None:
+        with self.assertRaises(LookupError), Session(fake("heat"), HEAT):
+            raise LookupError
+
+    def test_a_session_that_is_dropped(self) -> None:
+        session = Session(fake("heat"), HEAT)
+        session.apply(EDIT)
+        del session
+        gc.collect()
+
+    def test_a_bad_end(self) -> None:
+        session = Session(fake("heat", "ends_badly"), HEAT)
+        with self.assertRaises(ToolEnded) as raised:
+            session.close()
+        self.assertEqual(raised.exception.status, 1)
+
+    def test_no_end(self) -> None:
+        session = Session(fake("heat", "stays"), HEAT)
+        with patch("fannulavo.tools._LAST", 0.2), self.assertRaises(ToolEnded) as raised:
+            session.close()
+        self.assertEqual(raised.exception.status, -signal.SIGTERM)
+
+    def starts_not(self, command: list[str], document: bytes = HEAT) -> ToolEnded:
+        with self.assertRaises(ToolEnded) as raised:
+            Session(command, document)
+        return raised.exception
+
+    def test_a_document_that_is_refused(self) -> None:
+        error = self.starts_not(fake("heat"), b"limit = 1\n")
+        self.assertEqual((error.status, error.errors, error.said), (3, "fault J2\n", ""))
+
+    def test_a_document_that_is_not_there(self) -> None:
+        with self.assertRaises(ToolEnded) as raised:
+            Session(fake("heat"), "/nowhere/at all")
+        self.assertEqual(raised.exception.errors, "fault read\n")
+
+    def test_a_program_that_is_no_tool(self) -> None:
+        self.assertEqual(self.starts_not(["true"]).status, 0)
+        self.assertIn("option", self.starts_not(["cat"]).errors)
+        self.starts_not([sys.executable, "-c", "print('run 0')"])
+
+    def test_a_tool_that_says_nothing_of_a_run(self) -> None:
+        with self.assertRaises(MalformedReport):
+            Session([sys.executable, "-c", "print('ready', flush=True); input()"], HEAT)
+        with self.assertRaises(MalformedReport):
+            Session(["sh", "-c", "echo hello; echo ready; read line"], HEAT)
+
+    def test_errors_do_not_fill_a_pipe(self) -> None:
+        script = "import sys; sys.stderr.write('x' * 300000 + '\\n'); sys.stderr.flush(); sys.exit(4)"
+        error = self.starts_not([sys.executable, "-c", script])
+        self.assertEqual((error.status, len(error.errors)), (4, 300001))
+
+
+class NotStarted(unittest.TestCase):
+    def test_no_such_program(self) -> None:
+        self.assertRaises(FileNotFoundError, Session, "/nowhere/at all", HEAT)
+
+    def test_one_word(self) -> None:
+        with Session(["env", sys.executable, "-B", FAKE, "heat"], HEAT) as session:
+            self.assertIsInstance(session.report, Report)
+            self.assertEqual(read_report(write_report([session.report])), [session.report])
