@@ -66,4 +66,4 @@ updated_delivered looks old r os u v e h k l =
     same_update v (update_of looks old (after_delivery (after_turns r os)))
     (executed_more looks old r os u.executed v.executed (supersteps_of (after_delivery (after_turns r os))) e (supersteps-delivered r os) (ap (λ (x : Update). x.executed) h) k)
     (l ∙ ap (λ (x : Update). x.redelivered ++ touched_in (length r.past) (delivered_outcomes old (length r.past)) os) h
-        ∙ sym (touched-push (delivered_before old) r.past (superstep (open_views r) os)) ∙ ap (touched (delivered_before old)) (sym (past-delivered r os)))
+    ∙ sym (touched-push (delivered_before old) r.past (superstep (open_views r) os)) ∙ ap (touched (delivered_before old)) (sym (past-delivered r os)))
