@@ -30,6 +30,7 @@ def rod() -> bytes:
 
 
 def main(words: list[str]) -> int:
+    """Does what the words of the command line ask for, and tells what was taken again."""
     if not words:
         print(__doc__, end="", file=sys.stderr)
         return 2

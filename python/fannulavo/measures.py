@@ -22,6 +22,7 @@ class Bar:
 
     @property
     def cost(self) -> int:
+        """The height of the bar."""
         return self.work + self.communication + self.synchronisation
 
 
@@ -53,6 +54,7 @@ class CostChange:
 
     @property
     def difference(self) -> int:
+        """By how much the superstep is dearer than before; a superstep that there is not costs 0."""
         return (self.after or 0) - (self.before or 0)
 
 

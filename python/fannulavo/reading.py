@@ -27,6 +27,7 @@ class _Lines:
             raise MalformedReport(len(self._all) + 1, text.rpartition("\n")[2], "a line with its end")
 
     def is_over(self) -> bool:
+        """Whether no line is left."""
         return self._at == len(self._all)
 
     def wrong(self, wanted: str) -> MalformedReport:
@@ -49,6 +50,7 @@ class _Lines:
         return rest
 
     def rest_after(self, word: str) -> str:
+        """What follows a word on the first line that is left, which has to begin with that."""
         rest = self.next_if(word)
         if rest is None:
             raise self.wrong(f"a line '{word}'")
@@ -61,6 +63,7 @@ class _Lines:
         return int(text)
 
     def numbers(self, text: str) -> list[int]:
+        """The numbers of the line that was looked at last, with a space between each two."""
         return [self.number(field) for field in text.split(" ")] if text else []
 
     def match(self, pattern: re.Pattern[str], text: str, wanted: str) -> re.Match[str]:

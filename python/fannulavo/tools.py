@@ -2,21 +2,24 @@
 
 from __future__ import annotations
 
+import os
 import subprocess
 import tempfile
+from collections import deque
 from collections.abc import Callable, Sequence
 
 from fannulavo.errors import Interrupted, ToolEnded
 
 _GRACE = 2.0  # seconds that a tool has to end itself when it is told to
 _LAST = 10.0  # seconds that it has to end after the end of its input
+_CHUNK = 1 << 16  # bytes that are read at once
 
 
 def _text(said: bytes) -> str:
     return said.decode("utf-8", "replace")
 
 
-def stop(process: subprocess.Popen[bytes]) -> None:
+def _kill(process: subprocess.Popen[bytes]) -> None:
     """Ends a process, if it has not ended. After this it is gone."""
     try:
         if process.poll() is None:
@@ -28,6 +31,13 @@ def stop(process: subprocess.Popen[bytes]) -> None:
         if process.poll() is None:
             process.kill()
         process.wait()
+
+
+def stop(process: subprocess.Popen[bytes]) -> None:
+    """Ends a process, if it has not ended, and closes its pipes."""
+    try:
+        _kill(process)
+    finally:
         for pipe in (process.stdin, process.stdout):
             _close(pipe)
 
@@ -60,11 +70,13 @@ class Tool:
             self._errors.close()
             raise
         assert self.process.stdin and self.process.stdout
-        self._in = self.process.stdin
-        self._out = open(self.process.stdout.fileno(), "rb", closefd=False)
+        self._in, self._out = self.process.stdin, self.process.stdout
+        self._lines: deque[bytes] = deque()  # that were read ahead
+        self._begun = b""  # the line after them, as far as it was read
 
     @property
     def has_ended(self) -> bool:
+        """Whether the tool was ended, and what it said was read."""
         return self._errors.closed
 
     def exchange(self, line: str, is_all: Callable[[list[str]], bool]) -> list[str]:
@@ -91,20 +103,41 @@ class Tool:
     def _read(self, is_all: Callable[[list[str]], bool]) -> list[str]:
         lines: list[str] = []
         while not lines or not is_all(lines):
-            said = self._out.readline()
+            said = self._line()
             self._said.append(said)
-            if not said.endswith(b"\n"):
-                raise self.ended("the tool has ended")
             lines.append(_text(said).removesuffix("\n"))
         return lines
+
+    def _line(self) -> bytes:
+        """The next line that the tool says."""
+        while not self._lines:
+            some = os.read(self._out.fileno(), _CHUNK)
+            if not some:
+                raise self.ended("the tool has ended")
+            *lines, self._begun = (self._begun + some).split(b"\n")
+            self._lines.extend(line + b"\n" for line in lines)
+        return self._lines.popleft()
+
+    def _unread(self) -> bytes:
+        """What the tool wrote that was not taken as a line of an answer. It waits for no more."""
+        said = [*self._lines, self._begun]
+        self._lines.clear()
+        self._begun = b""
+        try:
+            os.set_blocking(self._out.fileno(), False)
+            while some := os.read(self._out.fileno(), _CHUNK):
+                said.append(some)
+        except (OSError, ValueError):
+            pass  # no more has come yet, or the pipe is closed
+        return b"".join(said)
 
     def ended(self, what: str) -> ToolEnded:
         """Ends the tool, and tells what it said."""
         return ToolEnded(what, *self._end(wait=_GRACE))
 
     def _end(self, wait: float = 0.0) -> tuple[str, str, int | None]:
-        """Ends the input of the tool, and then the tool, which has so many seconds to end itself. What it said of
-        the last exchange, what on standard error, and its exit status."""
+        """Ends the input of the tool, and then the tool, which has so many seconds to end itself. What it said in
+        the last exchange and after it, what on standard error, and its exit status."""
         _close(self._in)
         try:
             if wait:
@@ -112,7 +145,11 @@ class Tool:
         except subprocess.TimeoutExpired:
             pass
         finally:
-            stop(self.process)
+            try:
+                _kill(self.process)
+                self._said.append(self._unread())
+            finally:
+                stop(self.process)
         self._errors.seek(0)
         errors = _text(self._errors.read())
         self._errors.close()

@@ -199,6 +199,19 @@ class Failing(unittest.TestCase):
                 session.apply(EDIT)
             self.assertEqual(raised.exception.status, -signal.SIGKILL)
 
+    def says_and_ends(self, said: str) -> list[str]:
+        """A tool that says more than was asked for once its document is run, and ends."""
+        first = answer("heat", HEAT, places=True).report
+        return [sys.executable, "-c", f"print({first + 'ready' + chr(10) + said!r}, end='', flush=True)"]
+
+    def test_what_was_said_before_a_broken_pipe(self) -> None:
+        with Session(self.says_and_ends("run 1\nsta"), HEAT) as session:
+            session._tool.process.wait()
+            with self.assertRaises(ToolEnded) as raised:
+                session.apply(EDIT)
+        self.assertEqual((raised.exception.said, raised.exception.status), ("run 1\nsta", 0))
+        self.assertIn("takes nothing more", str(raised.exception))
+
     def test_killed_before_the_document(self) -> None:
         with Session(fake("heat"), HEAT) as session:
             os.kill(self.started[-1], signal.SIGKILL)
@@ -228,6 +241,15 @@ class Failing(unittest.TestCase):
                     session.apply(EDIT)
                 self.assertEqual(raised.exception.said, "run 1\n")
                 self.assertRaises(SessionClosed, session.undo)
+
+    def test_an_interrupt_in_the_middle_of_a_line(self) -> None:
+        first = answer("heat", HEAT, places=True).report
+        script = f"import time; print({first!r}, end=''); print('ready', flush=True); input(); "
+        script += "print('run 1\\nstatus hal', end='', flush=True); time.sleep(60)"
+        with Session([sys.executable, "-c", script], HEAT) as session:
+            with self.assertRaises(Interrupted) as raised, self.interrupt(session, [b"run 1\n"]):
+                session.apply(EDIT)
+            self.assertEqual(raised.exception.said, "run 1\nstatus hal")
 
     def test_an_interrupt_while_nothing_is_taken(self) -> None:
         first = answer("heat", HEAT, places=True).report
