@@ -29,6 +29,30 @@ class Python(InAPlace):
         self.fails("0 passed, 1 failed", "nothing was tried", "ci/python")
 
 
+def talker(place, *words):
+    """Puts the tool that answers by the model, with these words, in the place of the built one."""
+    fake = '"$(dirname "$0")/../../../python/tests/fake_tool.py"'
+    place.program("heat", f'exec python3 -B {fake} heat {" ".join(words)} "$@"')
+
+
+class Sessions(InAPlace):
+    def test_a_right_tool_passes(self):
+        talker(self.place)
+        self.passes("5 passed, 0 failed", "ci/sessions")
+
+    def test_a_tool_that_takes_back_once(self):
+        talker(self.place, "--flaw", "undoes_once")
+        self.fails("3 passed, 2 failed", "test_twenty_batches_are_taken_back", "ci/sessions")
+
+    def test_a_program_that_knows_no_session(self):
+        self.place.program("heat", "exit 2")
+        self.fails("0 passed, 5 failed", "ToolEnded", "ci/sessions")
+
+    def test_a_program_that_is_not_built(self):
+        self.place.script("bin/rt", "exit 1")
+        self.fails("0 passed, 1 failed", "heat was not built", "ci/sessions")
+
+
 class Live(InAPlace):
     """Each flaw with talks of which one shows it."""
 
@@ -41,20 +65,15 @@ class Live(InAPlace):
         "stays": (0, "no end after"),
     }
 
-    def talker(self, *words):
-        self.place.program(
-            "heat", f'exec python3 -B "$(dirname "$0")/../../../python/tests/fake_tool.py" heat {" ".join(words)} "$@"'
-        )
-
     def test_a_right_session_passes(self):
-        self.talker()
+        talker(self.place)
         # Two talks, one with long lines, and the starts that fail.
         self.passes("4 passed, 0 failed", "ci/live", "2", "0", "heat")
 
     def test_flaws_are_seen(self):
         for flaw, (seed, said) in self.FLAWS.items():
             with self.subTest(flaw=flaw):
-                self.talker("--flaw", flaw)
+                talker(self.place, "--flaw", flaw)
                 status, lines = self.place.run("ci/live", "1", str(seed), "heat", LIVE_SECONDS="3")
                 self.assertEqual(status, 1, lines)
                 self.assertTrue(any(said in line for line in lines), lines)
@@ -64,7 +83,7 @@ class Live(InAPlace):
         self.fails("0 passed, 3 failed", "the first blocks", "ci/live", "1", "0", "heat")
 
     def test_no_talk(self):
-        self.talker()
+        talker(self.place)
         self.fails("0 passed, 1 failed", "nothing was tried", "ci/live", "0", "0", "heat")
 
     def test_a_program_that_is_not_modelled_or_not_built(self):

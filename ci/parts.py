@@ -6,5 +6,5 @@ def live(count):
 
 
 FIRST = (("ci/test_gate",), ("ci/statement",), ("ci/python",))  # before anything is proved
-LAST = (("ci/documents",), ("ci/random", "300"), live(40), ("ci/count_allocations",), ("ci/refuse_allocations",))
+LAST = (("ci/documents",), ("ci/random", "300"), live(40), ("ci/sessions",), ("ci/count_allocations",), ("ci/refuse_allocations",))
 LAST_QUICK = (("ci/documents",), live(10))  # of ./check --quick

@@ -57,7 +57,24 @@ def answer_to(session: Session, number: int, batch: list[Edit]) -> Block:
         return Refusal(number, refused.place, refused.fault)
 
 
+def results(report: Block) -> tuple:
+    """What a run gave, whatever was made anew for it."""
+    assert isinstance(report, Report)
+    return report.status, report.faults, report.memories, report.lines, report.costs, report.total
+
+
 class Batches(unittest.TestCase):
+    """Sessions of random batches, with the tool that answers by the model; built.py has the same with a built one."""
+
+    def tool(self) -> list[str]:
+        return fake("heat")
+
+    def whole(self, document: bytes) -> str:
+        """The report of a whole document, with its places."""
+        given = answer("heat", document, places=True)
+        self.assertEqual(given.error, "")
+        return given.report
+
     def document(self, memories: list, args: list, **more: object) -> bytes:
         values = {"program": "heat", "limit": 20, "g": 3, "l": 7, "memory": memories, "args": args, **more}
         return "".join(f"{key} = {json.dumps(value)}\n" for key, value in values.items()).encode()
@@ -67,19 +84,29 @@ class Batches(unittest.TestCase):
             draw = Draw(seed)
             _, memories, args = draw_heat(draw)
             batches = [draw_batch(draw, memories, args) for _ in range(50)]
-            with Session(fake("heat"), self.document(memories, args), workers) as session:
+            with Session(self.tool(), self.document(memories, args), workers) as session:
                 blocks = [
                     session.report,
                     *(answer_to(session, n, edits_of(batch)) for n, batch in enumerate(batches, 1)),
                 ]
-            whole = answer("heat", self.document(memories, args, batches=batches), places=True)
-            self.assertEqual(whole.error, "")
-            self.assertEqual(write_report(blocks), whole.report)
+            self.assertEqual(write_report(blocks), self.whole(self.document(memories, args, batches=batches)))
+
+    def test_twenty_batches_are_taken_back(self) -> None:
+        draw = Draw(4)
+        _, memories, args = draw_heat(draw)
+        with Session(self.tool(), self.document(memories, args)) as session:
+            reports = [session.report]
+            while len(reports) <= 20:
+                with contextlib.suppress(Refused):
+                    reports.append(session.apply(edits_of(draw_batch(draw, memories, args))))
+            for report in reversed(reports[:-1]):
+                self.assertEqual(results(session.undo()), results(report))
+            self.assertRaises(NothingToUndo, session.undo)
 
     def test_the_documents_own_batches(self) -> None:
         document = self.document([[0, 8, 0]], [[1]], batches=[[["word", 0, 1, 4]], [["limit", 0]]])
-        with Session(fake("heat"), document) as session:
-            self.assertEqual(write_report(session.opening), answer("heat", document, places=True).report)
+        with Session(self.tool(), document) as session:
+            self.assertEqual(write_report(session.opening), self.whole(document))
             self.assertEqual(session.report.run, 1)
             self.assertEqual(session.undo().memories, session.opening[0].memories)
             self.assertRaises(NothingToUndo, session.undo)
