@@ -10,7 +10,7 @@ use Rattle.bsp_step.specs.Perform.{perform_all}
 use Rattle.bsp_step.proofs.Running.{HasLeft, HasLeft-same, HasLeft-at_part, RunStops-left_part}
 use Rattle.bsp_scripts.specs.declared.exit.Exit.{Exit}
 use Rattle.bsp_scripts.specs.declared.exit.Exit.TheVariants.{Ended, Stopped}
-use Rattle.bsp_scripts.specs.Making.{Leaves}
+use Rattle.bsp_scripts.specs.Inside.Making.{Leaves}
 use Rattle.bsp_scripts.specs.Calls.{Plan, after}
 
 -- Of a plan that begins at a context, the context now has only the rest left, which ends in the same way.

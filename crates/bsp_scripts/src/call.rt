@@ -2,7 +2,7 @@
 
 ghost use Rattle.std.specs.Prelude.{◌≡◌};
 ghost use Rattle.bsp_scripts.specs.Calls.{call_plan, call_looks};
-ghost use Rattle.bsp_scripts.specs.Making.{Makes};
+ghost use Rattle.bsp_scripts.specs.Inside.Making.{Makes};
 
 mod local;
 mod messages;

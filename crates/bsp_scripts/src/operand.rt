@@ -3,7 +3,7 @@
 ghost use Rattle.std.specs.Prelude.{◌≡◌, IfOk, IfErr, Ok};
 ghost use Rattle.std.specs.List.{list_any};
 ghost use Rattle.bsp_scripts.specs.Operands.{word_of, words_of, is_word_at};
-ghost use Rattle.bsp_scripts.specs.Making.{IsUnread};
+ghost use Rattle.bsp_scripts.specs.Inside.Making.{IsUnread};
 
 use crate::exit::Exit;
 use bsp_model::{End, Words};

@@ -4,7 +4,7 @@ ghost use Rattle.std.specs.Prelude.{◌≡◌, Some, option_map, unwrap_or};
 ghost use Rattle.bsp_model.specs.declared.fault.End.TheVariants.{Sync};
 ghost use Rattle.bsp_step.specs.Calls.{Runs};
 ghost use Rattle.bsp_scripts.specs.Calls.{calls_plan};
-ghost use Rattle.bsp_scripts.specs.Making.{Makes};
+ghost use Rattle.bsp_scripts.specs.Inside.Making.{Makes};
 ghost use Rattle.bsp_scripts.specs.Scripts.{turn_at, turn_looks};
 
 use crate::Call;

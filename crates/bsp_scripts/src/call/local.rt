@@ -2,7 +2,7 @@
 
 ghost use Rattle.bsp_scripts.specs.declared.call.Call.TheVariants.{Store, Add, Charge, Print};
 ghost use Rattle.bsp_scripts.specs.Calls.{call_plan};
-ghost use Rattle.bsp_scripts.specs.Making.{Makes};
+ghost use Rattle.bsp_scripts.specs.Inside.Making.{Makes};
 
 use crate::Operand;
 use crate::exit::Exit;

@@ -4,7 +4,7 @@ ghost use Rattle.std.specs.Prelude.{◌≡◌, IfOk};
 ghost use Rattle.bsp_step.specs.Queue.{first_message, heading};
 ghost use Rattle.bsp_scripts.specs.declared.call.Call.TheVariants.{Send, SetTagsize, MoveInto, PrintQsize, PrintGetTag, PrintTagSize};
 ghost use Rattle.bsp_scripts.specs.Calls.{call_plan, makes, stores, heading_line};
-ghost use Rattle.bsp_scripts.specs.Making.{Makes};
+ghost use Rattle.bsp_scripts.specs.Inside.Making.{Makes};
 
 use crate::Operand;
 use crate::exit::Exit;
