@@ -15,7 +15,7 @@ use std::thread::Threads;
 
 /// The replies to a job: to its input, and then one to each batch. 1 to 16 workers share the work; from scratch the calling thread makes
 /// each run alone, and the replies have no updates.
-#[tactic(auto, unfolding(crate::specs::Inside::Replies::replies_of))]
+#[tactic(auto, using(bsp_incr::proofs::Replying::replies_fixed, bsp_incr::proofs::Replying::scratch_replies_fixed), unfolding(crate::specs::Inside::Replies::replies_of))]
 pub fn replies_to<P: Program + Drop, R: Threads + Sync, G: Gate>(
     rt: &R,
     alloc: Global,

@@ -1,5 +1,5 @@
 -- Replies by their law are those that are computed.
-use Rattle.std.proofs.Common.{◌≡◌, ℕ, Bool, List, [], ◌∷◌, Option, None, Some, refl, sym, ap, ◌∙◌}
+use Rattle.std.proofs.Common.{◌≡◌, ℕ, Bool, List, [], ◌∷◌, Option, None, Some, map, refl, sym, ap, ◌∙◌}
 use Rattle.bsp_model.specs.declared.input.Input.{Input}
 use Rattle.bsp_model.specs.Input.{input_fault}
 use Rattle.bsp_step.specs.ViewParts.{ViewParts}
@@ -15,7 +15,7 @@ use Rattle.bsp_incr.specs.declared.reply.Reply.{Reply}
 use Rattle.bsp_incr.specs.declared.reply.Reply.TheVariants.{Done}
 use Rattle.bsp_incr.specs.Edits.{refusal_of, edited}
 use Rattle.bsp_incr.specs.Exact.{IsExact}
-use Rattle.bsp_incr.specs.Replies.{input_if, input_after, IsDone, IsUpdated, IsReplyIf, IsReply, AreRepliesFrom, AreReplies}
+use Rattle.bsp_incr.specs.Replies.{input_if, input_after, IsDone, IsUpdated, IsReplyIf, IsReply, AreRepliesFrom, AreReplies, without_update, AreScratchReplies}
 use Rattle.bsp_incr.specs.Inside.Changes.{update_of}
 use Rattle.bsp_incr.specs.Inside.Replies.{done, reply_if, reply_to, replies_from, replies}
 use Rattle.bsp_incr.proofs.Exactness.{update_is_exact, update_of_exact}
@@ -84,3 +84,43 @@ law_from looks turn input (batch ∷ later) lawful = (
 
 pub law_of_replies : (looks : ViewParts → ℕ → Bool) (turn : ViewParts → OutcomeParts) (input : Input) (batches : List (List Edit)) → input_fault input ≡ None → AreReplies looks turn input batches (replies looks turn input batches)
 law_of_replies looks turn input batches lawful = (law_of_done looks turn None input lawful, law_from looks turn input batches lawful)
+
+-- Replies that keep the law are those that are computed.
+
+done_fixed : (looks : ViewParts → ℕ → Bool) (turn : ViewParts → OutcomeParts) (old : Option Run) (input : Input) (reply : Reply) → input_fault input ≡ None → IsDone looks turn old input reply → reply ≡ done looks old (run turn input)
+done_fixed looks turn old input reply lawful is =
+    is.gives ∙ done_is looks old is.run is.update is.exact ∙ ap (done looks old) ((one_run turn input is.run lawful).0 is.law)
+
+updated_fixed : (looks : ViewParts → ℕ → Bool) (turn : ViewParts → OutcomeParts) (before after : Input) (reply : Reply) → input_fault before ≡ None → input_fault after ≡ None → IsUpdated looks turn before after reply
+    → reply ≡ done looks (Some (run turn before)) (run turn after)
+updated_fixed looks turn before after reply lawful_before lawful_after is =
+    done_fixed looks turn (Some is.run_before) after reply lawful_after is.done
+    ∙ ap (λ (r : Run). done looks (Some r) (run turn after)) ((one_run turn before is.run_before lawful_before).0 is.law_before)
+
+fixed_if : (o : Option EditRefusal) (reply made : Reply) (accepted : Type 0) → (o ≡ None → accepted → reply ≡ made) → IsReplyIf o reply accepted → reply ≡ reply_if o made
+fixed_if None reply made accepted h is = h refl is
+fixed_if (Some refusal) reply made accepted h is = is
+
+reply_fixed : (looks : ViewParts → ℕ → Bool) (turn : ViewParts → OutcomeParts) (input : Input) (batch : List Edit) (reply : Reply) → input_fault input ≡ None → IsReply looks turn input batch reply → reply ≡ reply_to looks turn input batch
+reply_fixed looks turn input batch reply lawful is =
+    fixed_if (refusal_of input batch) reply (done looks (Some (run turn input)) (run turn (edited input batch))) (IsUpdated looks turn input (edited input batch) reply)
+    (λ none. updated_fixed looks turn input (edited input batch) reply lawful (edited_lawful input batch none lawful)) is
+
+from_fixed : (looks : ViewParts → ℕ → Bool) (turn : ViewParts → OutcomeParts) (input : Input) (batches : List (List Edit)) (all : List Reply) → input_fault input ≡ None → AreRepliesFrom looks turn input batches all → all ≡ replies_from looks turn input batches
+from_fixed looks turn input [] all lawful are = are
+from_fixed looks turn input (batch ∷ later) [] lawful are = absurd are
+from_fixed looks turn input (batch ∷ later) (reply ∷ others) lawful are =
+    let first = reply_fixed looks turn input batch reply lawful are.0 in
+    let rest = from_fixed looks turn (input_after input batch) later others (lawful_after input batch lawful) are.1 in
+    (λ i. first i ∷ rest i)
+
+pub replies_fixed : (looks : ViewParts → ℕ → Bool) (turn : ViewParts → OutcomeParts) (input : Input) (batches : List (List Edit)) (all : List Reply) → input_fault input ≡ None → AreReplies looks turn input batches all → all ≡ replies looks turn input batches
+replies_fixed looks turn input batches [] lawful are = absurd are
+replies_fixed looks turn input batches (opening ∷ others) lawful are =
+    let first = done_fixed looks turn None input opening lawful are.0 in
+    let rest = from_fixed looks turn input batches others lawful are.1 in
+    (λ i. first i ∷ rest i)
+
+pub scratch_replies_fixed : (looks : ViewParts → ℕ → Bool) (turn : ViewParts → OutcomeParts) (input : Input) (batches : List (List Edit)) (all : List Reply) → input_fault input ≡ None → AreScratchReplies looks turn input batches all → all ≡ map without_update (replies looks turn input batches)
+scratch_replies_fixed looks turn input batches all lawful are =
+    are.without ∙ ap (map without_update) (replies_fixed looks turn input batches are.whole lawful are.are)
