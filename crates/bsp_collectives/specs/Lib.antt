@@ -1,0 +1,4 @@
+pub mod Messages
+pub mod Operation
+pub mod Halves
+pub mod Arrivals
