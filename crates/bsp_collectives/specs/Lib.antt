@@ -2,3 +2,4 @@ pub mod Messages
 pub mod Operation
 pub mod Halves
 pub mod Arrivals
+pub mod WhatArrives
