@@ -1,0 +1,4 @@
+pub mod Joining
+pub mod MessagesSent
+pub mod MessagesArrived
+pub mod Arriving

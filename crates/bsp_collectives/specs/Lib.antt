@@ -1,0 +1,5 @@
+pub mod Messages
+pub mod Operation
+pub mod Halves
+pub mod Arrivals
+pub mod WhatArrives

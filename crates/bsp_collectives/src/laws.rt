@@ -1,0 +1,59 @@
+//! What arrives, as laws: where every process of a superstep makes the first half of a collective call, the words that its second half reads are those
+//! that the name says.
+
+ghost use Rattle.bsp_collectives.specs.WhatArrives.{AllGatherArrives, AllReduceArrives, BroadcastArrives, ExchangeArrives, ForwardArrives, GatherArrives, GatherArrivesAtTheRootAlone, ReduceArrives, ScanArrives, ScatterArrives, SpreadArrives};
+
+/// Broadcast: the root's words arrive at each process.
+pub fn broadcast_arrives()
+    ensures { BroadcastArrives }
+{}
+
+/// Broadcast in two supersteps: after the first, block d of the root's words arrives at process d, in blocks of the least size with which they make one for each process.
+pub fn spread_arrives()
+    ensures { SpreadArrives }
+{}
+
+/// After the second, where such blocks of some words came to the processes, all of these words arrive at each process.
+pub fn forward_arrives()
+    ensures { ForwardArrives }
+{}
+
+/// Scatter: block d of the root's words arrives at process d.
+pub fn scatter_arrives()
+    ensures { ScatterArrives }
+{}
+
+/// Gather: the words of all processes arrive at the root, those of process 0 first.
+pub fn gather_arrives()
+    ensures { GatherArrives }
+{}
+
+/// Nothing arrives elsewhere.
+pub fn gather_arrives_at_the_root_alone()
+    ensures { GatherArrivesAtTheRootAlone }
+{}
+
+/// All-gather: the words of all processes arrive at each, those of process 0 first.
+pub fn all_gather_arrives()
+    ensures { AllGatherArrives }
+{}
+
+/// Total exchange: block d of the words of all processes arrives at process d, that of process 0 first.
+pub fn exchange_arrives()
+    ensures { ExchangeArrives }
+{}
+
+/// Reduce: what the operation makes of what arrives at the root is what it makes of the words of all processes.
+pub fn reduce_arrives()
+    ensures { ReduceArrives }
+{}
+
+/// All-reduce: the same at each process.
+pub fn all_reduce_arrives()
+    ensures { AllReduceArrives }
+{}
+
+/// Inclusive scan: at process d it is what the operation makes of the words of processes 0 to d.
+pub fn scan_arrives()
+    ensures { ScanArrives }
+{}
