@@ -53,6 +53,18 @@ def draw_heat(draw):
     return "heat", memories, args
 
 
+def draw_oddeven(draw):
+    """Few words for each process, and mostly as many rounds as there are processes. Now and then a memory has a word more, or its own length."""
+    nprocs, length = draw.randint(1, 6), draw.choice((0, 1, 2, 2, 4, 4, 6, 8))
+    lengths = [draw.randrange(9) if draw.happens(0.03) else length + draw.happens(0.1) for _ in range(nprocs)]
+    rounds = nprocs if draw.happens(0.5) else draw.randrange(nprocs + 3)
+    memories = [[draw.choice((draw.small(), draw.randrange(100))) for _ in range(count)] for count in lengths]
+    return "oddeven", memories, [[rounds + draw.happens(0.02)] for _ in range(nprocs)]
+
+
+DRAWS = {"bsp_tool": draw_bundled, "heat": draw_heat, "oddeven": draw_oddeven}
+
+
 def draw_edit(draw, memories, args):
     """An edit of a part that mostly exists."""
     kind = draw.choice(("word",) * 6 + ("arg", "arg") * any(args) + ("limit", "prices"))
@@ -80,7 +92,7 @@ def draw_values(draw, tool):
     if tool == "bsp_script":
         key, (at_key, memories, args) = "script", draw_script(draw)
     else:
-        key, (at_key, memories, args) = "program", draw_bundled(draw) if tool == "bsp_tool" else draw_heat(draw)
+        key, (at_key, memories, args) = "program", DRAWS[tool](draw)
     for words in memories + args:
         if words and draw.happens(0.01):
             words.pop()

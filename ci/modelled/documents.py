@@ -5,7 +5,7 @@ import math
 import tomllib
 from dataclasses import dataclass, field
 
-from modelled.programs import Broadcast, Heat, MatVec, Prefix, Rank
+from modelled.programs import Broadcast, Heat, MatVec, OddEven, Prefix, Rank
 from modelled.runs import Input
 from modelled.scripts import Script, is_script
 from modelled.sessions import HIGHEST_PRICE, MOST_SUPERSTEPS, Edit
@@ -98,6 +98,7 @@ BUNDLED = {"broadcast": Broadcast(), "prefix": Prefix(), "matvec": MatVec(), "ra
 TOOLS = {
     "bsp_tool": Catalogue("program", is_string, BUNDLED),
     "heat": Catalogue("program", is_string, {"heat": Heat()}),
+    "oddeven": Catalogue("program", is_string, {"oddeven": OddEven()}),
     "bsp_script": Catalogue("script", is_script),
 }
 

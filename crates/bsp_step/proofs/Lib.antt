@@ -6,3 +6,4 @@ pub mod Finding
 pub mod Limits
 pub mod Storing
 pub mod Laws
+pub mod Sorting

@@ -17,3 +17,4 @@ pub mod LooksEverywhere
 pub mod Reads
 pub mod SameOutcome
 pub mod Queue
+pub mod Sorted

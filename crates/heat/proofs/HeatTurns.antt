@@ -1,22 +1,24 @@
 -- The turns of heat in a rod.
-use Rattle.std.proofs.Common.{◌≡◌, ◌≢◌, ◌≤◌, ◌<◌, ◌+◌, ◌-◌, ◌%◌, ◌^◌, ◌==◌, ◌++◌, ◌∙◌, ℕ, Bool, true, false, cond, List, None, Some, [], ◌∷◌, length, get_or, sum, nat_lt, length-append, append_assoc, arith, ap, refl, sym}
+use Rattle.std.proofs.Common.{◌≡◌, ◌≢◌, ◌≤◌, ◌<◌, ◌+◌, ◌-◌, ◌%◌, ◌^◌, ◌==◌, ◌++◌, ◌∙◌, ℕ, Bool, true, false, cond, List, None, Some, [], ◌∷◌, length, get_or, map, sum, zero, suc, nat_lt, length-append, append_assoc, arith, ap, refl, sym}
 use Rattle.std.specs.Prelude.{slice_get}
 use Rattle.std.specs.List.{range_with_len}
 use Rattle.std.proofs.lemmas.Bool.{eqb-false, le-ltb, ltb-true}
 use Rattle.std.proofs.lemmas.Bool.Decides.{nat_tests}
 use Rattle.std.proofs.lemmas.List.{append-nil}
-use Rattle.std.proofs.lemmas.List.FromFn.{length-map-range_with_len}
+use Rattle.std.proofs.lemmas.List.FromFn.{get_or-map-range_with_len, length-map-range_with_len}
+use Rattle.std.proofs.lemmas.Grind.{same_number_lists}
 use Rattle.bsp_model.specs.declared.fault.End.TheVariants.{Abort, Halt, Sync}
 use Rattle.bsp_model.specs.declared.request.Put.{Put}
 use Rattle.bsp_model.specs.declared.request.Store.{Store}
 use Rattle.bsp_table.specs.declared.area.Area.{Area}
 use Rattle.bsp_table.specs.NextTable.{no_area}
 use Rattle.bsp_step.specs.declared.outcome.Ended.TheVariants.{Halt as HaltEnd}
-use Rattle.bsp_step.specs.Act.{Act, charge, print, push_reg, put}
+use Rattle.bsp_step.specs.Act.{Act, charge, print, push_reg, put, store}
+use Rattle.bsp_step.specs.Blocks.{stores}
 use Rattle.bsp_step.specs.Context.{Context, fresh}
 use Rattle.bsp_step.specs.OutcomeParts.{OutcomeParts}
 use Rattle.bsp_step.specs.Perform.{count_of_requests, perform, perform_all}
-use Rattle.bsp_step.specs.Plan.{Plan, does, given_argument}
+use Rattle.bsp_step.specs.Plan.{Plan, after, does, given_argument}
 use Rattle.bsp_step.specs.Turn.{closed}
 use Rattle.bsp_step.specs.ViewParts.{ViewParts}
 use Rattle.bsp_step.proofs.Performing.{perform_all-append}
@@ -27,8 +29,8 @@ use Rattle.bsp_right.proofs.SuperstepEnds.{slots_pushed}
 use Rattle.bsp_right.proofs.DescribedStates.{no_queue, of_plan, quiet, view_described}
 use Rattle.bsp_right.proofs.OneWordPuts.{word_put}
 use Rattle.bsp_right.proofs.RowPuts.{puts_in_row, puts_up}
-use Rattle.heat.specs.Heat.{are_steps_left, cell_stores, heat_advancing, heat_telling, heat_working, next_cell_at, next_cells, own_cells, put_above, puts_to_neighbours}
-use Rattle.heat.specs.Cells.{length_of_own_cells, own_cells-next}
+use Rattle.heat.specs.Heat.{are_steps_left, heat_advancing, heat_charging, heat_telling, heat_working, next_cell_at, next_cells, own_cells, put_above, puts_to_neighbours}
+use Rattle.heat.specs.Cells.{length_of_next_cells, length_of_own_cells, own_cell}
 use Rattle.heat.specs.Rod.{heat_turn}
 use Rattle.heat.proofs.Pieces.{AreDealt, stepped}
 use Rattle.heat.proofs.CellsPut.{first_address, first_cell, last_address, last_cell}
@@ -75,6 +77,13 @@ pub turn_first : (args : List (List ℕ)) (n steps : ℕ) (memory : ℕ → List
     → heat_turn (view_described args 1 n memory no_queue table 0 p) ≡ then_tells (view_described args 1 n memory no_queue table 0 p) steps (memory p) [] 0 (own_cells (memory p))
 turn_first args n steps memory table p named long = works (view_described args 1 n memory no_queue table 0 p) steps named long
 
+-- where each own cell became what it becomes in a time step, the own cells are the next ones
+own_cells-next : (old new : List ℕ) → length new ≡ length old → ((k : ℕ) → k < length old - 2 → get_or new (k + 1) 0 ≡ next_cell_at old (k + 1)) → own_cells new ≡ next_cells old
+own_cells-next old new long became =
+    same_number_lists (own_cells new) (next_cells old) (omega (arith, length_of_own_cells new, length_of_next_cells old)) (λ k within.
+    let here : k < length old - 2 = omega (arith, length_of_own_cells new) in
+    own_cell new k (omega arith) ∙ became k here ∙ sym (get_or-map-range_with_len (next_cell_at old) 1 (length old - 2) k (k + 1) 0 here (omega arith)))
+
 cells-stepped : (memory : List ℕ) → own_cells (stepped memory) ≡ next_cells memory
 cells-stepped memory =
     own_cells-next memory (stepped memory) (length-stored (next_cell_at memory) 1 (length memory - 2) memory) (λ k h.
@@ -84,17 +93,22 @@ cells-stepped memory =
 abbrev pub cells_stored : List ℕ → List Store
 cells_stored memory = stores_made (next_cell_at memory) 1 (length memory - 2)
 
+stores-map : (f : ℕ → ℕ) (n start : ℕ) → stores start (map f (range_with_len start n)) ≡ map (λ i. store i (f i)) (range_with_len start n)
+stores-map f zero start = refl
+stores-map f (suc n) start = ap (λ acts. store start (f start) ∷ acts) (stores-map f n (start + 1))
+
 advances : (v : ViewParts) (steps : ℕ) → 3 ≤ length v.memory → length v.memory ≤ 4096 → of_plan v (heat_advancing v steps v.memory) ≡ then_tells v steps (stepped v.memory) (cells_stored v.memory) (length v.memory - 2) (own_cells (stepped v.memory))
 advances v steps long short =
     let m : List ℕ = v.memory in
-    let part : List Act = cell_stores m (range_with_len 1 (length m - 2)) in
+    let part : List Act = map (λ i. store i (next_cell_at m i)) (range_with_len 1 (length m - 2)) in
     let rest : Plan = heat_telling v steps (next_cells m) in
-    let after : Context = worked v (stepped m) (cells_stored m) 0 in
+    let stepping : Context = worked v (stepped m) (cells_stored m) 0 in
     let number : length (next_cells m) ≡ length m - 2 = length-map-range_with_len (next_cell_at m) 1 (length m - 2) in
     let work : 0 + length (next_cells m) ≡ length m - 2 = omega arith in
-    ap (λ (c : Context). closed c rest.ending) (perform_all-append (fresh v) part (charge (length (next_cells m)) ∷ rest.acts))
+    ap (λ acts. of_plan v (after acts (heat_charging v steps (next_cells m)))) (stores-map (next_cell_at m) (length m - 2) 1)
+    ∙ ap (λ (c : Context). closed c rest.ending) (perform_all-append (fresh v) part (charge (length (next_cells m)) ∷ rest.acts))
     ∙ ap (λ (c : Context). closed (perform_all c (charge (length (next_cells m)) ∷ rest.acts)) rest.ending) (perform_all-stores (next_cell_at m) (length m - 2) 1 (fresh v) refl (omega arith))
-    ∙ ap (λ (c : Context). closed (perform_all c rest.acts) rest.ending) (perform-charge after (length (next_cells m)) refl (omega arith))
+    ∙ ap (λ (c : Context). closed (perform_all c rest.acts) rest.ending) (perform-charge stepping (length (next_cells m)) refl (omega arith))
     ∙ ap (λ w. then_tells v steps (stepped m) (cells_stored m) w (next_cells m)) work
     ∙ ap (then_tells v steps (stepped m) (cells_stored m) (length m - 2)) (sym (cells-stepped m))
 

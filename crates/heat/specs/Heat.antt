@@ -3,7 +3,8 @@ use Rattle.std.specs.Prelude.{ℕ, Bool, false, true, List, [], ◌∷◌, Optio
 use Rattle.std.specs.List.{range_with_len}
 use Rattle.bsp_model.specs.declared.fault.End.TheVariants.{Sync, Halt, Abort}
 use Rattle.bsp_step.specs.ViewParts.{ViewParts}
-use Rattle.bsp_step.specs.Act.{Act, store, charge, put, push_reg, print}
+use Rattle.bsp_step.specs.Act.{Act, charge, put, push_reg, print}
+use Rattle.bsp_step.specs.Blocks.{stores}
 use Rattle.bsp_step.specs.Plan.{Plan, does, after, given_argument}
 
 -- What a cell becomes, by the word before it, its own and the word after it: their sum with its own word twice, modulo 2^64, divided by 4 and rounded down.
@@ -21,10 +22,6 @@ own_cells memory = take (length memory - 2) (drop 1 memory)
 -- the own cells after a time step, all from the words as they were before
 abbrev pub next_cells : List ℕ → List ℕ
 next_cells memory = map (next_cell_at memory) (range_with_len 1 (length memory - 2))
-
--- stores of what the cells at these addresses become
-abbrev pub cell_stores : List ℕ → List ℕ → List Act
-cell_stores memory addresses = map (λ i. store i (next_cell_at memory i)) addresses
 
 -- The last own cell goes to the process above, if there is one: over its first word, which is the area that goes by the address of the own first word.
 abbrev pub put_above : ViewParts → List ℕ → List Act
@@ -46,14 +43,17 @@ heat_telling v time_steps cells =
     if are_steps_left v time_steps then does (puts_to_neighbours v cells) Sync
     else does (print (sum cells % 2 ^ 64 ∷ []) ∷ []) Halt
 
--- the same after a time step, for which each own cell is charged
+-- After a time step each own cell is charged before that.
 abbrev pub heat_charging : ViewParts → ℕ → List ℕ → Plan
 heat_charging v time_steps cells = after (charge (length cells) ∷ []) (heat_telling v time_steps cells)
 
--- A time step stores what each own cell becomes, in ascending order.
+-- these are stored as the own cells, in ascending order, and then charged
+abbrev pub heat_storing : ViewParts → ℕ → List ℕ → Plan
+heat_storing v time_steps cells = after (stores 1 cells) (heat_charging v time_steps cells)
+
+-- A time step stores what each own cell becomes.
 abbrev pub heat_advancing : ViewParts → ℕ → List ℕ → Plan
-heat_advancing v time_steps memory =
-    after (cell_stores memory (range_with_len 1 (length memory - 2))) (heat_charging v time_steps (next_cells memory))
+heat_advancing v time_steps memory = heat_storing v time_steps (next_cells memory)
 
 -- Superstep 0 registers the first word and the last, each as an area of its own, and each superstep from 2 on begins with a time step.
 abbrev pub heat_working : ViewParts → ℕ → List ℕ → Plan

@@ -1,0 +1,3 @@
+pub mod OddEven
+pub mod OddEvenFootprint
+pub mod Programs
