@@ -5,6 +5,7 @@ import math
 import tomllib
 from dataclasses import dataclass, field
 
+from modelled.collectives import COLLECTIVES
 from modelled.programs import Broadcast, Heat, MatVec, Prefix, Rank
 from modelled.runs import Input
 from modelled.scripts import Script, is_script
@@ -98,6 +99,7 @@ BUNDLED = {"broadcast": Broadcast(), "prefix": Prefix(), "matvec": MatVec(), "ra
 TOOLS = {
     "bsp_tool": Catalogue("program", is_string, BUNDLED),
     "heat": Catalogue("program", is_string, {"heat": Heat()}),
+    "collectives": Catalogue("program", is_string, COLLECTIVES),
     "bsp_script": Catalogue("script", is_script),
 }
 
