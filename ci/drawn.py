@@ -62,7 +62,19 @@ def draw_oddeven(draw):
     return "oddeven", memories, [[rounds + draw.happens(0.02)] for _ in range(nprocs)]
 
 
-DRAWS = {"bsp_tool": draw_bundled, "heat": draw_heat, "oddeven": draw_oddeven}
+def draw_collective(draw):
+    """A collective call, and memories that mostly have room for what arrives."""
+    program = draw.choice(("broadcast", "broadcast_in_two", "scatter", "gather", "all_gather", "exchange", "reduce", "all_reduce", "scan"))
+    nprocs = draw.choice((1, 2, 3, 3, 4, 5, 7))
+    combines = program in ("reduce", "all_reduce", "scan")
+    count, root = draw.randrange(5), draw.randrange(nprocs)
+    firsts = [draw.randrange(5)] * nprocs if combines else [count] * nprocs
+    if draw.happens(0.3):
+        firsts = [draw.randrange(6) for _ in range(nprocs)]
+    roots = [draw.randrange(nprocs + 1) if draw.happens(0.03) else root for _ in range(nprocs)]
+    args = [[first, named] if program in ("broadcast", "broadcast_in_two", "scatter", "gather", "reduce") else [first] for first, named in zip(firsts, roots)]
+    lengths = [2 if combines else max(0, first + sum(firsts) - draw.happens(0.05)) for first in firsts]
+    return program, [draw.words(length) for length in lengths], args
 
 
 def draw_edit(draw, memories, args):
@@ -87,12 +99,13 @@ def draw_batch(draw, memories, args):
     return [draw_edit(draw, memories, args) for _ in range(draw.choice((0, 1, 1, 1, 2, 3)))]
 
 
+DRAWN = {"bsp_tool": draw_bundled, "heat": draw_heat, "oddeven": draw_oddeven, "collectives": draw_collective, "bsp_script": draw_script}
+
+
 def draw_values(draw, tool):
     """The values of a document's keys. Now and then an argument list or a memory loses its last word."""
-    if tool == "bsp_script":
-        key, (at_key, memories, args) = "script", draw_script(draw)
-    else:
-        key, (at_key, memories, args) = "program", DRAWS[tool](draw)
+    key = "script" if tool == "bsp_script" else "program"
+    at_key, memories, args = DRAWN[tool](draw)
     for words in memories + args:
         if words and draw.happens(0.01):
             words.pop()

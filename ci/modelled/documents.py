@@ -5,6 +5,7 @@ import math
 import tomllib
 from dataclasses import dataclass, field
 
+from modelled.collectives import COLLECTIVES
 from modelled.programs import Broadcast, Heat, MatVec, OddEven, Prefix, Rank
 from modelled.runs import Input
 from modelled.scripts import Script, is_script
@@ -99,6 +100,7 @@ TOOLS = {
     "bsp_tool": Catalogue("program", is_string, BUNDLED),
     "heat": Catalogue("program", is_string, {"heat": Heat()}),
     "oddeven": Catalogue("program", is_string, {"oddeven": OddEven()}),
+    "collectives": Catalogue("program", is_string, COLLECTIVES),
     "bsp_script": Catalogue("script", is_script),
 }
 

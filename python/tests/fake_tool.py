@@ -3,7 +3,7 @@
 
 usage: fake_tool.py TOOL [--workers N] [--scratch] [--places] [--changes] [--follow FILE] [--flaw NAME]
 
-TOOL is bsp_tool, heat or bsp_script. All is as with the program of that name, but that it is slow, that no line says
+TOOL is bsp_tool, heat, collectives or bsp_script. All is as with the program of that name, but that it is slow, that no line says
 where a document's fault is, and that the words are not checked. With a flaw it is wrong in one way (FLAWS), so that
 it can be shown that its client notices.
 """
