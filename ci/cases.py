@@ -62,20 +62,23 @@ def built_program(crate, *of_tests):
     return None if built.returncode else built.stdout.strip()
 
 
-def with_word(case, word, report):
-    return replace(case, name=f"{case.name} {word}", report=report, words=(word,))
+def given_words(case, report, *words):
+    return replace(case, name=" ".join([case.name, *words]), report=report, words=words)
 
 
-def with_words(case, placed=None):
-    """A case that has no words of its own, with each number of workers and with --scratch too, and with --places where that report is known."""
+def with_words(case, placed=None, changed=None):
+    """A case that has no words of its own, with each number of workers and with --scratch too; with --places, and with --places and --changes, where
+    these reports are known, and then with --scratch and --changes too."""
     if isinstance(case, str) or case.words:
         return [case]
-    return [
-        case,
-        *(replace(case, name=f"{case.name} --workers {count}", words=("--workers", count)) for count in WORKERS),
-        with_word(case, "--scratch", without_updates(case.report)),
-        *([] if placed is None else [with_word(case, "--places", placed)]),
-    ]
+    cases = [case, *(given_words(case, case.report, "--workers", count) for count in WORKERS)]
+    cases.append(given_words(case, without_updates(case.report), "--scratch"))
+    if placed is not None:
+        cases.append(given_words(case, placed, "--places"))
+    if changed is not None:
+        cases.append(given_words(case, changed, "--places", "--changes"))
+        cases.append(given_words(case, without_updates(without_places(changed)), "--scratch", "--changes"))
+    return cases
 
 
 def run(program, case):

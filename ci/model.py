@@ -1,7 +1,7 @@
 #!/usr/bin/env python3
 """A plain model of the programs, written from docs/ and the definitions of specs/ alone, with which ci/random compares what was built.
 
-usage: ci/model.py TOOL [--workers N] [--scratch] [--places] < DOCUMENT
+usage: ci/model.py TOOL [--workers N] [--scratch] [--places] [--changes] < DOCUMENT
 
 TOOL is bsp_tool, heat, oddeven, collectives or bsp_script. Report, fault line and exit status are those of the program of that name; the number of
 workers counts for nothing, and the line that says where a document's fault is can't be had here. Every process of every superstep is run, what is
@@ -38,15 +38,40 @@ def line(*fields) -> str:
     return " ".join(str(each) for each in fields)
 
 
+def cost_rows(made: Run) -> list[tuple[int, int, int]]:
+    return [cost_row(superstep, made.input) for superstep in made.supersteps]
+
+
+def total_line(made: Run) -> str:
+    return line("total", sum(cost for _, _, cost in cost_rows(made)))
+
+
+def print_lines(made: Run, pid: int) -> list[str]:
+    """What a process printed."""
+    return [line("print", pid, *words) for s in made.supersteps for words in s.outcomes[pid].lines]
+
+
 def result_lines(made: Run) -> list[str]:
     """What a run gives: its status, the memories, what was printed, and the costs."""
     lines = [*made.status]
     lines += [line("memory", pid, *memory) for pid, memory in enumerate(made.memories)]
     for pid in range(len(made.memories)):
-        lines += [line("print", pid, *words) for s in made.supersteps for words in s.outcomes[pid].lines]
-    rows = [cost_row(superstep, made.input) for superstep in made.supersteps]
-    lines += [line("cost", step, *row) for step, row in enumerate(rows)]
-    return [*lines, line("total", sum(cost for _, _, cost in rows))]
+        lines += print_lines(made, pid)
+    lines += [line("cost", step, *row) for step, row in enumerate(cost_rows(made))]
+    return [*lines, total_line(made)]
+
+
+def changed_lines(old: Run, new: Run) -> list[str]:
+    """What a run gives, where it is another than what the run before gave; its status and its total in any case."""
+    lines = [*new.status]
+    lines += [line("memory", pid, *words) for pid, words in enumerate(new.memories) if words != old.memories[pid]]
+    for pid in range(len(new.memories)):
+        if print_lines(old, pid) != print_lines(new, pid):
+            lines += print_lines(new, pid) or [line("silent", pid)]
+    before, rows = cost_rows(old), cost_rows(new)
+    lines += [line("cost", step, *row) for step, row in enumerate(rows) if step >= len(before) or before[step] != row]
+    lines += [line("costs", len(rows))] if len(before) != len(rows) else []
+    return [*lines, total_line(new)]
 
 
 def place_lines(word: str, places: list[tuple[int, int]]) -> list[str]:
@@ -62,7 +87,7 @@ def update_lines(program: Program, old: Run | None, new: Run, places: bool) -> l
     return [*told, line("executed", len(executed), "redelivered", len(redelivered))]
 
 
-def report_of(job: Job, scratch: bool, places: bool) -> str:
+def report_of(job: Job, scratch: bool, places: bool, changes: bool = False) -> str:
     """The reply to the input, and then one to each batch, which is made on what the accepted batches before it left."""
     made: Run | None = None
     given = job.input
@@ -77,7 +102,7 @@ def report_of(job: Job, scratch: bool, places: bool) -> str:
             given = edit.make(given)
         old, made = made, run(job.program, given)
         job.program.check(made)
-        lines += result_lines(made)
+        lines += changed_lines(old, made) if changes and old else result_lines(made)
         if not scratch:
             lines += update_lines(job.program, old, made, places)
     return "".join(f"{each}\n" for each in lines)
@@ -92,11 +117,11 @@ class Answer:
     status: int
 
 
-def answer(tool: str, document: bytes, scratch: bool = False, places: bool = False) -> Answer:
+def answer(tool: str, document: bytes, scratch: bool = False, places: bool = False, changes: bool = False) -> Answer:
     if len(document) > MOST_BYTES:
         return Answer("", "fault long\n", 3)
     try:
-        return Answer(report_of(job_of(TOOLS[tool], document), scratch, places), "", 0)
+        return Answer(report_of(job_of(TOOLS[tool], document), scratch, places, changes), "", 0)
     except Refused as fault:
         return Answer("", f"fault {fault}\n", 3)
 
@@ -105,7 +130,8 @@ def main(words: list[str]) -> int:
     if not words or words[0] not in TOOLS:
         print(__doc__, end="", file=sys.stderr)
         return 2
-    given = answer(words[0], sys.stdin.buffer.read(), "--scratch" in words, "--places" in words)
+    options = [word in words for word in ("--scratch", "--places", "--changes")]
+    given = answer(words[0], sys.stdin.buffer.read(), *options)
     sys.stdout.write(given.report)
     sys.stderr.write(given.error)
     return given.status

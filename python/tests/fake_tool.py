@@ -19,7 +19,7 @@ ROOT = os.path.dirname(os.path.dirname(os.path.dirname(os.path.realpath(__file__
 sys.path.insert(0, f"{ROOT}/ci")
 sys.dont_write_bytecode = True
 
-from model import MOST_BYTES, answer, cost_row, line, result_lines, update_lines  # noqa: E402
+from model import MOST_BYTES, answer, changed_lines, line, result_lines, update_lines  # noqa: E402
 from modelled.documents import SHAPES, TOOLS, Refused, has_negative, job_of, tree_of  # noqa: E402
 from modelled.runs import Input, Run, run  # noqa: E402
 from modelled.sessions import Edit  # noqa: E402
@@ -39,23 +39,6 @@ FLAWS = {
     "ends_badly": "at the end of input the status is 1",
     "stays": "it does not end at the end of its input",
 }
-
-
-def printed(made: Run, pid: int) -> list[str]:
-    return [line("print", pid, *words) for s in made.supersteps for words in s.outcomes[pid].lines]
-
-
-def changed_lines(old: Run, new: Run) -> list[str]:
-    """What a run gives, where it differs from that of the run before."""
-    lines = [*new.status]
-    lines += [line("memory", pid, *words) for pid, words in enumerate(new.memories) if words != old.memories[pid]]
-    for pid in range(len(new.memories)):
-        if printed(old, pid) != printed(new, pid):
-            lines += printed(new, pid) or [line("silent", pid)]
-    before, rows = ([cost_row(s, made.input) for s in made.supersteps] for made in (old, new))
-    lines += [line("cost", step, *row) for step, row in enumerate(rows) if step >= len(before) or before[step] != row]
-    lines += [line("costs", len(rows))] if len(before) != len(rows) else []
-    return [*lines, line("total", sum(cost for _, _, cost in rows))]
 
 
 class Live:
@@ -211,7 +194,8 @@ def main(words: list[str]) -> int:
         if not path or "--scratch" in words:
             return ended("error: the option --follow wants FILE, and no --scratch beside it", 2)
         return follow(tool, path[0], words)
-    given = answer(tool, sys.stdin.buffer.read(), "--scratch" in words, "--places" in words)
+    options = [word in words for word in ("--scratch", "--places", "--changes")]
+    given = answer(tool, sys.stdin.buffer.read(), *options)
     sys.stdout.write(given.report)
     sys.stderr.write(given.error)
     return given.status

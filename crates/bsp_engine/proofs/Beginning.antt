@@ -1,26 +1,28 @@
 -- A live session from its job on.
-use Rattle.std.proofs.Common.{◌≡◌, ℕ, ◌+◌, Bool, false, List, [], ◌∷◌, ◌++◌, length, Option, None, Some, Result, Ok, Err, refl, sym, ap, subst, ◌∙◌, inl, codes}
-use Rattle.std.specs.Prelude.{IfSome, IfOk, IfErr, IsOkAnd, IsErrAnd}
+use Rattle.std.proofs.Common.{◌≡◌, ℕ, ◌+◌, Bool, cond, List, [], ◌∷◌, ◌++◌, length, Option, None, Some, Result, Ok, Err, refl, sym, ap, subst, ◌∙◌, codes}
+use Rattle.std.specs.Prelude.{IfSome, IfOk, IfErr, IsOkAnd}
 use Rattle.bsp_model.specs.declared.fault.End.{End}
 use Rattle.bsp_step.specs.ViewParts.{ViewParts}
 use Rattle.bsp_step.specs.Act.{Act}
 use Rattle.bsp_step.specs.Turn.{turn_of}
 use Rattle.bsp_run.specs.Run.{run}
+use Rattle.bsp_run.specs.Result.{result_of}
 use Rattle.bsp_incr.specs.declared.edit.Edit.{Edit}
 use Rattle.bsp_incr.specs.declared.reply.Reply.{Reply}
-use Rattle.bsp_incr.specs.Inside.Replies.{done, replies_from}
+use Rattle.bsp_incr.specs.Edits.{refusal_of, edited}
+use Rattle.bsp_incr.specs.Replies.{input_if}
+use Rattle.bsp_incr.specs.Inside.Replies.{done, reply_if, replies_from}
 use Rattle.bsp_engine.specs.declared.errors.EngineError.{EngineError}
 use Rattle.bsp_engine.specs.declared.errors.JobFault.{JobFault}
 use Rattle.bsp_engine.specs.declared.jobs.Job.{Job}
+use Rattle.bsp_engine.specs.declared.options.Detail.{Detail}
 use Rattle.bsp_engine.specs.Asked.{asked_of}
 use Rattle.bsp_engine.specs.declared.attending.Attendant.{Attendant}
 use Rattle.bsp_engine.specs.DueAt.{due_at}
-use Rattle.bsp_engine.specs.Lines.{numbered}
-use Rattle.bsp_engine.specs.LiveOf.{parts_of}
-use Rattle.bsp_engine.specs.Live.{LiveParts, after, after_batch, after_batches, opened, live_reply, live_replies, answer_to, answer_block, blocks, blocks-none, first_text, due_of}
+use Rattle.bsp_engine.specs.Live.{LiveParts, after, after_batch, after_batches, opened, live_reply, live_replies, last_result, answer_to, answer_block, blocks, blocks-none, first_text, due_of}
 use Rattle.bsp_engine.specs.Inside.Replies.{replies_of}
 use Rattle.bsp_engine.specs.Talk.{Event, Due, Breaks}
-use Rattle.bsp_engine.specs.Text.{reply_block}
+use Rattle.bsp_engine.specs.Blocks.{reply_block, result_before, blocks_after}
 use Rattle.bsp_engine.proofs.Conversations.{breaks_before}
 
 module _ {P : Type 0} (acts : P → ViewParts → List Act) (ending : P → ViewParts → End) (looks : P → ViewParts → ℕ → Bool) where
@@ -30,57 +32,80 @@ module _ {P : Type 0} (acts : P → ViewParts → List Act) (ending : P → View
   live_replies-from live [] = refl
   live_replies-from live (batch ∷ later) = ap (λ l. live_reply acts ending looks live batch ∷ l) (live_replies-from (after_batch live batch) later)
 
-  pub first_is : (places : Bool) (job : Job P) (live : LiveParts P) → live ≡ opened job.program job.input
-      → (reply_block places 0 (done (looks job.program) None (run (turn_of (acts job.program) (ending job.program)) job.input)) ++ numbered (reply_block places) 1 (live_replies acts ending looks live job.batches)) ++ codes "ready\n" ≡ first_text acts ending looks places job
-  unfolding first_text replies_of
-  first_is places job live is =
-      ap (λ rs. (reply_block places 0 (done (looks job.program) None (run (turn_of (acts job.program) (ending job.program)) job.input)) ++ numbered (reply_block places) 1 rs) ++ codes "ready\n")
-      (ap (λ (v : LiveParts P). live_replies acts ending looks v job.batches) is ∙ live_replies-from (opened job.program job.input) job.batches)
+  -- the result that the blocks after a batch are told against
+  pub last_result-next : (live : LiveParts P) (batch : List Edit) → last_result acts ending (after_batch live batch) ≡ result_before live.changes (last_result acts ending live) (live_reply acts ending looks live batch)
+  unfolding last_result live_reply
+  last_result-next live batch =
+      let turn = turn_of (acts live.program) (ending live.program) in
+      elim (refusal_of live.input batch) as (λ r. cond live.changes (Some (result_of (run turn (input_if r live.input (edited live.input batch))))) None
+      ≡ result_before live.changes (cond live.changes (Some (result_of (run turn live.input))) None) (reply_if r (done (looks live.program) (Some (run turn live.input)) (run turn (edited live.input batch))))) [
+        | Some refusal ↦ refl
+        | None ↦ refl
+      ]
 
-  pub first_text_is : (places : Bool) (job : Job P) (live : LiveParts P) (opening : Reply) (batches : List (List Edit)) (none one two three : List ℕ) → none ≡ [] → one ≡ none ++ reply_block places 0 opening
-      → two ≡ one ++ numbered (reply_block places) 1 (live_replies acts ending looks live batches) → three ≡ two ++ codes "ready\n"
-      → opening ≡ done (looks job.program) None (run (turn_of (acts job.program) (ending job.program)) job.input) → batches ≡ job.batches → live ≡ opened job.program job.input → three ≡ first_text acts ending looks places job
-  first_text_is places job live opening batches none one two three n h i j o b l =
+  -- a batch more
+  pub blocks-batch : (detail : Detail) (k : ℕ) (live next : LiveParts P) (batch : List Edit) (later : List (List Edit)) → live.changes ≡ detail.changes → next ≡ after_batch live batch
+      → blocks_after detail k (last_result acts ending live) (live_replies acts ending looks live (batch ∷ later))
+      ≡ reply_block detail.places k (last_result acts ending live) (live_reply acts ending looks live batch) ++ blocks_after detail (k + 1) (last_result acts ending next) (live_replies acts ending looks next later)
+  blocks-batch detail k live next batch later same is =
+      let reply = live_reply acts ending looks live batch in
+      ap (λ b. reply_block detail.places k (last_result acts ending live) reply ++ blocks_after detail (k + 1) b (live_replies acts ending looks (after_batch live batch) later))
+      (ap (λ c. result_before c (last_result acts ending live) reply) (sym same) ∙ sym (last_result-next live batch))
+      ∙ ap (λ (v : LiveParts P). reply_block detail.places k (last_result acts ending live) reply ++ blocks_after detail (k + 1) (last_result acts ending v) (live_replies acts ending looks v later)) (sym is)
+
+  pub first_is : (detail : Detail) (job : Job P) (live : LiveParts P) → live ≡ opened detail.changes job.program job.input
+      → (reply_block detail.places 0 None (done (looks job.program) None (run (turn_of (acts job.program) (ending job.program)) job.input)) ++ blocks_after detail 1 (last_result acts ending live) (live_replies acts ending looks live job.batches)) ++ codes "ready\n" ≡ first_text acts ending looks detail job
+  unfolding first_text replies_of last_result
+  first_is detail job live is =
+      let first = reply_block detail.places 0 None (done (looks job.program) None (run (turn_of (acts job.program) (ending job.program)) job.input)) in
+      ap (λ (v : LiveParts P). (first ++ blocks_after detail 1 (last_result acts ending v) (live_replies acts ending looks v job.batches)) ++ codes "ready\n") is
+      ∙ ap (λ rs. (first ++ blocks_after detail 1 (last_result acts ending (opened detail.changes job.program job.input)) rs) ++ codes "ready\n") (live_replies-from (opened detail.changes job.program job.input) job.batches)
+
+  pub first_text_is : (detail : Detail) (job : Job P) (live : LiveParts P) (opening : Reply) (batches : List (List Edit)) (none one two three : List ℕ) → none ≡ [] → one ≡ none ++ reply_block detail.places 0 None opening
+      → two ≡ one ++ blocks_after detail 1 (last_result acts ending live) (live_replies acts ending looks live batches) → three ≡ two ++ codes "ready\n"
+      → opening ≡ done (looks job.program) None (run (turn_of (acts job.program) (ending job.program)) job.input) → batches ≡ job.batches → live ≡ opened detail.changes job.program job.input → three ≡ first_text acts ending looks detail job
+  first_text_is detail job live opening batches none one two three n h i j o b l =
       let reply = done (looks job.program) None (run (turn_of (acts job.program) (ending job.program)) job.input) in
-      let first : one ≡ reply_block places 0 reply = h ∙ (ap (λ t. t ++ reply_block places 0 opening) n ∙ ap (reply_block places 0) o) in
-      let others : two ≡ reply_block places 0 reply ++ numbered (reply_block places) 1 (live_replies acts ending looks live job.batches) =
-      i ∙ (ap (λ t. t ++ numbered (reply_block places) 1 (live_replies acts ending looks live batches)) first
-      ∙ ap (λ bs. reply_block places 0 reply ++ numbered (reply_block places) 1 (live_replies acts ending looks live bs)) b) in
-      j ∙ (ap (λ t. t ++ codes "ready\n") others ∙ first_is places job live l)
+      let last = last_result acts ending live in
+      let first : one ≡ reply_block detail.places 0 None reply = h ∙ (ap (λ t. t ++ reply_block detail.places 0 None opening) n ∙ ap (reply_block detail.places 0 None) o) in
+      let others : two ≡ reply_block detail.places 0 None reply ++ blocks_after detail 1 last (live_replies acts ending looks live job.batches) =
+      i ∙ (ap (λ t. t ++ blocks_after detail 1 last (live_replies acts ending looks live batches)) first
+      ∙ ap (λ bs. reply_block detail.places 0 None reply ++ blocks_after detail 1 last (live_replies acts ending looks live bs)) b) in
+      j ∙ (ap (λ t. t ++ codes "ready\n") others ∙ first_is detail job live l)
 
   -- one line more
-  pub blocks_next : (places : Bool) (last number : ℕ) (live next : LiveParts P) (l text : List ℕ) → number ≡ last + 1 → text ≡ answer_block places number (answer_to acts ending looks live (asked_of l)) → next ≡ after live (asked_of l)
+  pub blocks_next : (places : Bool) (last number : ℕ) (live next : LiveParts P) (l text : List ℕ) → number ≡ last + 1 → text ≡ answer_block places number (last_result acts ending live) (answer_to acts ending looks live (asked_of l)) → next ≡ after live (asked_of l)
       → (later : List (List ℕ)) → blocks acts ending looks places (last + 1) live (l ∷ later) ≡ text ++ blocks acts ending looks places (number + 1) next later
   unfolding blocks
   blocks_next places last number live next l text n t x later =
-      ap (λ (k : ℕ). answer_block places k (answer_to acts ending looks live (asked_of l)) ++ blocks acts ending looks places (k + 1) (after live (asked_of l)) later) (sym n)
+      ap (λ (k : ℕ). answer_block places k (last_result acts ending live) (answer_to acts ending looks live (asked_of l)) ++ blocks acts ending looks places (k + 1) (after live (asked_of l)) later) (sym n)
       ∙ (ap (λ b. b ++ blocks acts ending looks places (number + 1) (after live (asked_of l)) later) (sym t)
       ∙ ap (λ (v : LiveParts P). text ++ blocks acts ending looks places (number + 1) v later) (sym x))
 
   -- the same of whoever answers
-  pub attendant_next : (a b : Attendant P) (l text : List ℕ) (number : ℕ) → number ≡ a.last + 1 → b.last ≡ number → b.places ≡ a.places → text ≡ answer_block a.places number (answer_to acts ending looks (parts_of a.live) (asked_of l)) → parts_of b.live ≡ after (parts_of a.live) (asked_of l)
+  pub attendant_next : (a b : Attendant P) (l text : List ℕ) (number : ℕ) → number ≡ a.last + 1 → b.last ≡ number → b.places ≡ a.places → text ≡ answer_block a.places number (last_result acts ending a.live) (answer_to acts ending looks a.live (asked_of l)) → b.live ≡ after a.live (asked_of l)
       → (later : List (List ℕ)) → due_at acts ending looks a (l ∷ later) ≡ text ++ due_at acts ending looks b later
   unfolding due_at
   attendant_next a b l text number n m p t x later =
-      blocks_next a.places a.last number (parts_of a.live) (parts_of b.live) l text n t x later
-      ∙ (ap (λ (k : ℕ). text ++ blocks acts ending looks a.places (k + 1) (parts_of b.live) later) (sym m)
-      ∙ ap (λ (q : Bool). text ++ blocks acts ending looks q (b.last + 1) (parts_of b.live) later) (sym p))
+      blocks_next a.places a.last number a.live b.live l text n t x later
+      ∙ (ap (λ (k : ℕ). text ++ blocks acts ending looks a.places (k + 1) b.live later) (sym m)
+      ∙ ap (λ (q : Bool). text ++ blocks acts ending looks q (b.last + 1) b.live later) (sym p))
 
   pub due_at-none : (a : Attendant P) → due_at acts ending looks a [] ≡ []
   unfolding due_at
-  due_at-none a = blocks-none acts ending looks a.places (a.last + 1) (parts_of a.live)
+  due_at-none a = blocks-none acts ending looks a.places (a.last + 1) a.live
 
   -- what is known of the session that was begun is known of the job's
-  pub job_due : (X : Due → Type 0) (places : Bool) (job : Job P) (first : List ℕ) (a : Attendant P) → a.places ≡ places → first ≡ first_text acts ending looks places job → a.last ≡ length job.batches → parts_of a.live ≡ after_batches (opened job.program job.input) job.batches
-      → X (λ lines. first ++ due_at acts ending looks a lines) → X (due_of acts ending looks places job)
+  pub job_due : (X : Due → Type 0) (detail : Detail) (job : Job P) (first : List ℕ) (a : Attendant P) → a.places ≡ detail.places → first ≡ first_text acts ending looks detail job → a.last ≡ length job.batches → a.live ≡ after_batches (opened detail.changes job.program job.input) job.batches
+      → X (λ lines. first ++ due_at acts ending looks a lines) → X (due_of acts ending looks detail job)
   unfolding due_of due_at
-  job_due X places job first a q f n v x =
+  job_due X detail job first a q f n v x =
       let last = a.last in
-      let live = parts_of a.live in
-      let end = after_batches (opened job.program job.input) job.batches in
-      subst (λ (t : List ℕ). X (λ lines. t ++ blocks acts ending looks places (length job.batches + 1) end lines)) f
-      (subst (λ (k : ℕ). X (λ lines. first ++ blocks acts ending looks places (k + 1) end lines)) n
-      (subst (λ (w : LiveParts P). X (λ lines. first ++ blocks acts ending looks places (last + 1) w lines)) v
+      let live = a.live in
+      let end = after_batches (opened detail.changes job.program job.input) job.batches in
+      subst (λ (t : List ℕ). X (λ lines. t ++ blocks acts ending looks detail.places (length job.batches + 1) end lines)) f
+      (subst (λ (k : ℕ). X (λ lines. first ++ blocks acts ending looks detail.places (k + 1) end lines)) n
+      (subst (λ (w : LiveParts P). X (λ lines. first ++ blocks acts ending looks detail.places (last + 1) w lines)) v
       (subst (λ (b : Bool). X (λ lines. first ++ blocks acts ending looks b (last + 1) live lines)) q x)))
 
 -- what is known of the bytes that were read is known of all that the source had

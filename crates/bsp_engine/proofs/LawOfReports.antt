@@ -1,5 +1,5 @@
 -- The report that is computed is that of the document.
-use Rattle.std.proofs.Common.{◌≡◌, ℕ, Bool, true, false, cond, List, map, Option, None, Some, Result, Ok, Err, refl}
+use Rattle.std.proofs.Common.{◌≡◌, ℕ, Bool, true, false, cond, List, Option, None, Some, Result, Ok, Err, refl}
 use Rattle.std.specs.Prelude.{IfSome}
 use Rattle.bsp_model.specs.declared.fault.End.{End}
 use Rattle.bsp_model.specs.declared.fault.InputFault.{InputFault}
@@ -11,11 +11,12 @@ use Rattle.bsp_incr.specs.Inside.Replies.{replies}
 use Rattle.bsp_incr.proofs.Replying.{law_of_replies}
 use Rattle.toml.specs.Data.{Members}
 use Rattle.bsp_engine.specs.declared.errors.JobFault.{JobFault}
-use Rattle.bsp_engine.specs.declared.errors.JobFault.TheVariants.{NotToml, UnknownProgram, Input as InputRefused, BadWord}
+use Rattle.bsp_engine.specs.declared.errors.JobFault.TheVariants.{BadWord}
 use Rattle.bsp_engine.specs.declared.errors.EngineError.{EngineError}
 use Rattle.bsp_engine.specs.declared.errors.EngineError.TheVariants.{TooLong}
 use Rattle.bsp_engine.specs.declared.jobs.Job.{Job}
 use Rattle.bsp_engine.specs.Answer.{Answers}
+use Rattle.bsp_engine.specs.declared.options.Detail.{Detail}
 use Rattle.bsp_engine.specs.Catalogue.{Meaning}
 use Rattle.bsp_engine.specs.JobOf.{job_with, job_named, job_unless, job_of_tree, job_of}
 use Rattle.bsp_engine.specs.Keys.{key_fault}
@@ -60,25 +61,25 @@ lawful_tree : {P : Type 0} (meaning : Meaning P) (o : Option Members) → IsLawf
 lawful_tree meaning None = tt
 lawful_tree meaning (Some t) = lawful_unless meaning (key_fault meaning t) t
 
-law_of_job : {P : Type 0} (acts : P → ViewParts → List Act) (ending : P → ViewParts → End) (looks : P → ViewParts → ℕ → Bool) (scratch places : Bool) (job : Result (Job P) JobFault) → IsLawful job
-    → IsJobReport acts ending looks scratch places job (job_report acts ending looks scratch places job)
-law_of_job acts ending looks scratch places (Ok job) lawful =
+law_of_job : {P : Type 0} (acts : P → ViewParts → List Act) (ending : P → ViewParts → End) (looks : P → ViewParts → ℕ → Bool) (scratch : Bool) (detail : Detail) (job : Result (Job P) JobFault) → IsLawful job
+    → IsJobReport acts ending looks scratch detail job (job_report acts ending looks scratch detail job)
+law_of_job acts ending looks scratch detail (Ok job) lawful =
     record { replies = replies_of acts ending looks scratch job; are = law_of_replies_to acts ending looks scratch job lawful; is = refl }
-law_of_job acts ending looks scratch places (Err fault) lawful = refl
+law_of_job acts ending looks scratch detail (Err fault) lawful = refl
 
 law_unless : (b : Bool) (report : Result (List ℕ) EngineError) (of_job : Result (List ℕ) EngineError → Type 0) → of_job report → IsReportUnless b (cond b (Err TooLong) report) (of_job (cond b (Err TooLong) report))
 law_unless true report of_job h = refl
 law_unless false report of_job h = h
 
-is_report : {P : Type 0} (meaning : Meaning P) (acts : P → ViewParts → List Act) (ending : P → ViewParts → End) (looks : P → ViewParts → ℕ → Bool) (scratch places : Bool) (bytes : List ℕ)
-    → IsReport meaning acts ending looks scratch places bytes (report_of meaning acts ending looks scratch places bytes)
-is_report meaning acts ending looks scratch places bytes =
-    law_unless (is_too_long bytes) (job_report acts ending looks scratch places (job_of meaning bytes)) (IsJobReport acts ending looks scratch places (job_of meaning bytes))
-    (law_of_job acts ending looks scratch places (job_of meaning bytes) (lawful_tree meaning (tree_of bytes)))
+is_report : {P : Type 0} (meaning : Meaning P) (acts : P → ViewParts → List Act) (ending : P → ViewParts → End) (looks : P → ViewParts → ℕ → Bool) (scratch : Bool) (detail : Detail) (bytes : List ℕ)
+    → IsReport meaning acts ending looks scratch detail bytes (report_of meaning acts ending looks scratch detail bytes)
+is_report meaning acts ending looks scratch detail bytes =
+    law_unless (is_too_long bytes) (job_report acts ending looks scratch detail (job_of meaning bytes)) (IsJobReport acts ending looks scratch detail (job_of meaning bytes))
+    (law_of_job acts ending looks scratch detail (job_of meaning bytes) (lawful_tree meaning (tree_of bytes)))
 
 -- Whoever is answered by the report that is computed is answered by the document's.
-pub is_answered : {P : Type 0} (meaning : Meaning P) (acts : P → ViewParts → List Act) (ending : P → ViewParts → End) (looks : P → ViewParts → ℕ → Bool) (scratch places : Bool) (source old new : Option (List ℕ)) (answer : Result (Unit {0}) EngineError)
-    → IfSome source (λ bytes. Answers (report_of meaning acts ending looks scratch places bytes) old new answer) → IfSome source (λ bytes. IsAnswered meaning acts ending looks scratch places bytes old new answer)
-is_answered meaning acts ending looks scratch places None old new answer h = tt
-is_answered meaning acts ending looks scratch places (Some bytes) old new answer h =
-    record { report = report_of meaning acts ending looks scratch places bytes; is = is_report meaning acts ending looks scratch places bytes; answers = h }
+pub is_answered : {P : Type 0} (meaning : Meaning P) (acts : P → ViewParts → List Act) (ending : P → ViewParts → End) (looks : P → ViewParts → ℕ → Bool) (scratch : Bool) (detail : Detail) (source old new : Option (List ℕ)) (answer : Result (Unit {0}) EngineError)
+    → IfSome source (λ bytes. Answers (report_of meaning acts ending looks scratch detail bytes) old new answer) → IfSome source (λ bytes. IsAnswered meaning acts ending looks scratch detail bytes old new answer)
+is_answered meaning acts ending looks scratch detail None old new answer h = tt
+is_answered meaning acts ending looks scratch detail (Some bytes) old new answer h =
+    record { report = report_of meaning acts ending looks scratch detail bytes; is = is_report meaning acts ending looks scratch detail bytes; answers = h }

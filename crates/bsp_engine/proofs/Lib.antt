@@ -1,12 +1,15 @@
 pub mod Answering
 pub mod Beginning
+pub mod Changed
 pub mod Conversations
 pub mod Described
 pub mod Flowing
 pub mod LiveLaws
 pub mod Logs
+pub mod Made
 pub mod Numbering
 pub mod Optional
 pub mod TooLong
 pub mod Trees
 pub mod LawOfReports
+pub mod WholeAgain

@@ -1,6 +1,8 @@
 pub mod Answer
 pub mod Asked
+pub mod Blocks
 pub mod Catalogue
+pub mod Changes
 pub mod Counting
 pub mod DueAt
 pub mod Faults
@@ -10,7 +12,6 @@ pub mod Keys
 pub mod Limits
 pub mod Lines
 pub mod Live
-pub mod LiveOf
 pub mod Naming
 pub mod Options
 pub mod Places
@@ -22,4 +23,5 @@ pub mod Talk
 pub mod Text
 pub mod Tree
 pub mod Values
+pub mod Whole
 pub mod Inside

@@ -1,11 +1,14 @@
 -- What an open session answers to lines (this profile).
-use Rattle.std.specs.Prelude.{◌≡◌, ℕ, ◌+◌, Bool, false, List, [], ◌∷◌, ◌++◌, length, codes, Option, None, Some, refl}
+use Rattle.std.specs.Prelude.{◌≡◌, ℕ, ◌+◌, Bool, false, List, [], ◌∷◌, ◌++◌, length, codes, Option, None, Some, refl, if◌then◌else◌}
 use Rattle.bsp_model.specs.declared.input.Input.{Input}
 use Rattle.bsp_model.specs.Input.{input_fault}
 use Rattle.bsp_model.specs.declared.fault.End.{End}
 use Rattle.bsp_step.specs.ViewParts.{ViewParts}
 use Rattle.bsp_step.specs.Act.{Act}
 use Rattle.bsp_step.specs.Turn.{turn_of}
+use Rattle.bsp_run.specs.declared.result.RunResult.{RunResult}
+use Rattle.bsp_run.specs.Run.{run}
+use Rattle.bsp_run.specs.Result.{result_of}
 use Rattle.bsp_incr.specs.declared.edit.Edit.{Edit}
 use Rattle.bsp_incr.specs.declared.edit.EditRefusal.{EditRefusal}
 use Rattle.bsp_incr.specs.declared.reply.Reply.{Reply}
@@ -17,20 +20,26 @@ use Rattle.bsp_engine.specs.declared.asking.Asked.{Asked}
 use Rattle.bsp_engine.specs.declared.asking.Asked.TheVariants.{Batch, Undo, Nothing}
 use Rattle.bsp_engine.specs.declared.asking.Unread.{Unread}
 use Rattle.bsp_engine.specs.declared.asking.Unread.TheVariants.{NotToml, WrongType, BadWord, TooLong, NothingToUndo}
-use Rattle.bsp_engine.specs.declared.answers.Answer.{Answer}
-use Rattle.bsp_engine.specs.declared.answers.Answer.TheVariants.{Replied, Unanswered}
 use Rattle.bsp_engine.specs.declared.jobs.Job.{Job}
+use Rattle.bsp_engine.specs.declared.options.Detail.{Detail}
 use Rattle.bsp_engine.specs.Asked.{asked_of}
 use Rattle.bsp_engine.specs.Lines.{line}
 use Rattle.bsp_engine.specs.Reported.{AreRepliesTo}
 use Rattle.bsp_engine.specs.Inside.Replies.{replies_of}
-use Rattle.bsp_engine.specs.Text.{reply_lines, text_of}
+use Rattle.bsp_engine.specs.Blocks.{reply_lines, text_of}
 
--- What lasts of an open session: its program, its input, and the batches that take the accepted ones back that still stand, the newest first.
+-- What lasts of an open session: its program, its input, the batches that take the accepted ones back that still stand, the newest first, and whether its
+-- blocks tell changes alone.
 pub record LiveParts (P : Type 0) : Type 0 where
   pub program : P
   pub input : Input
   pub undos : List (List Edit)
+  pub changes : Bool
+
+-- an answer to a line: the reply to a batch, or to one that is taken back; or none, and nothing has changed
+pub data Answer : Type 0 where
+  replied : Reply → Answer
+  unanswered : Unread → Answer
 
 -- a batch that is refused leaves nothing to take back
 abbrev pub undos_after : {P : Type 0} → Option EditRefusal → LiveParts P → List Edit → List (List Edit)
@@ -43,12 +52,13 @@ after_batch live batch =
       program = live.program;
       input = input_after live.input batch;
       undos = undos_after (refusal_of live.input batch) live batch;
+      changes = live.changes;
     }
 
 -- the newest batch is taken back; taking it back is no batch itself
 abbrev pub after_undo : {P : Type 0} → LiveParts P → List (List Edit) → LiveParts P
 after_undo live [] = live
-after_undo live (undo ∷ former) = record { program = live.program; input = input_after live.input undo; undos = former }
+after_undo live (undo ∷ former) = record live { input = input_after live.input undo; undos = former }
 
 abbrev pub after : {P : Type 0} → LiveParts P → Asked → LiveParts P
 after live (Batch batch) = after_batch live batch
@@ -61,8 +71,8 @@ after_batches live [] = live
 after_batches live (batch ∷ later) = after_batches (after_batch live batch) later
 
 -- the session of a job, before its batches
-abbrev pub opened : {P : Type 0} → P → Input → LiveParts P
-opened program input = record { program = program; input = input; undos = [] }
+abbrev pub opened : {P : Type 0} → Bool → P → Input → LiveParts P
+opened changes program input = record { program = program; input = input; undos = []; changes = changes }
 
 -- the reply to a batch
 unfoldable pub live_reply : {P : Type 0} → (P → ViewParts → List Act) → (P → ViewParts → End) → (P → ViewParts → ℕ → Bool) → LiveParts P → List Edit → Reply
@@ -74,13 +84,13 @@ live_replies acts ending looks live [] = []
 live_replies acts ending looks live (batch ∷ later) = live_reply acts ending looks live batch ∷ live_replies acts ending looks (after_batch live batch) later
 
 abbrev pub answer_to_undo : {P : Type 0} → (P → ViewParts → List Act) → (P → ViewParts → End) → (P → ViewParts → ℕ → Bool) → LiveParts P → List (List Edit) → Answer
-answer_to_undo acts ending looks live [] = Unanswered NothingToUndo
-answer_to_undo acts ending looks live (undo ∷ former) = Replied (live_reply acts ending looks live undo)
+answer_to_undo acts ending looks live [] = unanswered NothingToUndo
+answer_to_undo acts ending looks live (undo ∷ former) = replied (live_reply acts ending looks live undo)
 
 abbrev pub answer_to : {P : Type 0} → (P → ViewParts → List Act) → (P → ViewParts → End) → (P → ViewParts → ℕ → Bool) → LiveParts P → Asked → Answer
-answer_to acts ending looks live (Batch batch) = Replied (live_reply acts ending looks live batch)
+answer_to acts ending looks live (Batch batch) = replied (live_reply acts ending looks live batch)
 answer_to acts ending looks live Undo = answer_to_undo acts ending looks live live.undos
-answer_to acts ending looks live (Nothing unread) = Unanswered unread
+answer_to acts ending looks live (Nothing unread) = unanswered unread
 
 -- why a line was not read
 abbrev pub unread_word : Unread → List ℕ
@@ -95,19 +105,24 @@ abbrev pub unread_line : Unread → List ℕ
 unread_line unread = codes "unread " ++ line (unread_word unread) []
 
 -- what follows the line `run K`
-abbrev pub answer_lines : Bool → Answer → List ℕ
-answer_lines places (Replied reply) = reply_lines places reply
-answer_lines places (Unanswered unread) = unread_line unread
+abbrev pub answer_lines : Bool → Option RunResult → Answer → List ℕ
+answer_lines places before (replied reply) = reply_lines places before reply
+answer_lines places before (unanswered unread) = unread_line unread
 
 -- the block of answer K
-abbrev pub answer_block : Bool → ℕ → Answer → List ℕ
-answer_block places k answer = line (codes "run") (k ∷ []) ++ answer_lines places answer
+abbrev pub answer_block : Bool → ℕ → Option RunResult → Answer → List ℕ
+answer_block places k before answer = line (codes "run") (k ∷ []) ++ answer_lines places before answer
+
+-- With changes, the result of the last block that has one: that of the input as it is. Without, none.
+unfoldable pub last_result : {P : Type 0} → (P → ViewParts → List Act) → (P → ViewParts → End) → LiveParts P → Option RunResult
+last_result acts ending live = if live.changes then Some (result_of (run (turn_of (acts live.program) (ending live.program)) live.input)) else None
 
 -- The text due for lines: a block for each, of which the first has this number.
 unfoldable pub blocks : {P : Type 0} → (P → ViewParts → List Act) → (P → ViewParts → End) → (P → ViewParts → ℕ → Bool) → Bool → ℕ → LiveParts P → List (List ℕ) → List ℕ
 blocks acts ending looks places k live [] = []
 blocks acts ending looks places k live (l ∷ later) =
-    answer_block places k (answer_to acts ending looks live (asked_of l)) ++ blocks acts ending looks places (k + 1) (after live (asked_of l)) later
+    answer_block places k (last_result acts ending live) (answer_to acts ending looks live (asked_of l))
+    ++ blocks acts ending looks places (k + 1) (after live (asked_of l)) later
 
 -- nothing is due for no lines
 pub blocks-none : {P : Type 0} (acts : P → ViewParts → List Act) (ending : P → ViewParts → End) (looks : P → ViewParts → ℕ → Bool) (places : Bool) (k : ℕ) (live : LiveParts P) → blocks acts ending looks places k live [] ≡ []
@@ -115,14 +130,14 @@ unfolding blocks
 blocks-none acts ending looks places k live = refl
 
 -- The text with which a live session of a job begins: the report of the job, and a line `ready`.
-unfoldable pub first_text : {P : Type 0} → (P → ViewParts → List Act) → (P → ViewParts → End) → (P → ViewParts → ℕ → Bool) → Bool → Job P → List ℕ
-first_text acts ending looks places job = text_of places (replies_of acts ending looks false job) ++ codes "ready\n"
+unfoldable pub first_text : {P : Type 0} → (P → ViewParts → List Act) → (P → ViewParts → End) → (P → ViewParts → ℕ → Bool) → Detail → Job P → List ℕ
+first_text acts ending looks detail job = text_of detail (replies_of acts ending looks false job) ++ codes "ready\n"
 
 -- What is due once these lines were heard: the first text, and then a block for each line. The job's input and its batches come first.
-unfoldable pub due_of : {P : Type 0} → (P → ViewParts → List Act) → (P → ViewParts → End) → (P → ViewParts → ℕ → Bool) → Bool → Job P → List (List ℕ) → List ℕ
-due_of acts ending looks places job lines =
-    first_text acts ending looks places job
-    ++ blocks acts ending looks places (length job.batches + 1) (after_batches (opened job.program job.input) job.batches) lines
+unfoldable pub due_of : {P : Type 0} → (P → ViewParts → List Act) → (P → ViewParts → End) → (P → ViewParts → ℕ → Bool) → Detail → Job P → List (List ℕ) → List ℕ
+due_of acts ending looks detail job lines =
+    first_text acts ending looks detail job
+    ++ blocks acts ending looks detail.places (length job.batches + 1) (after_batches (opened detail.changes job.program job.input) job.batches) lines
 
 -- What these replies are, in the words of a session: the replies to a job and its batches, and the reply to each batch after them.
 pub record AreLiveReplies {P : Type 0} (acts : P → ViewParts → List Act) (ending : P → ViewParts → End) (looks : P → ViewParts → ℕ → Bool) : Type 0 where

@@ -6,6 +6,7 @@ use Rattle.clap.specs.ValueTests.{is_numeral}
 use Rattle.clap.specs.Words.{App, Row, Rule, Text, new_app, new_rule, one_of, with_rule}
 use Rattle.clap.specs.declared.builder.action.ArgAction.TheVariants.{SetTrue}
 use Rattle.clap.specs.declared.builder.value_parser.ValueParser.TheVariants.{Signed}
+use Rattle.bsp_engine.specs.declared.options.Detail.{Detail}
 use Rattle.bsp_engine.specs.declared.options.Options.{Options}
 
 -- `--workers N`, from 1 to 16, 1 where absent
@@ -20,6 +21,10 @@ scratch_rule = record (new_rule (codes "scratch")) { long = Some (codes "scratch
 abbrev pub places_rule : Rule
 places_rule = record (new_rule (codes "places")) { long = Some (codes "places"); action = Some SetTrue }
 
+-- `--changes`
+abbrev pub changes_rule : Rule
+changes_rule = record (new_rule (codes "changes")) { long = Some (codes "changes"); action = Some SetTrue }
+
 -- `--follow FILE`
 abbrev pub follow_rule : Rule
 follow_rule = record (new_rule (codes "follow")) { long = Some (codes "follow"); value_names = 1 }
@@ -28,9 +33,10 @@ follow_rule = record (new_rule (codes "follow")) { long = Some (codes "follow");
 abbrev pub with_version : App → App
 with_version a = record a { top = record a.top { has_version = true } }
 
--- the command of a tool with this name: its version, and these four options
+-- the command of a tool with this name: its version, and these five options
 abbrev pub tool_app : List ℕ → App
-tool_app name = with_rule (with_rule (with_rule (with_rule (with_version (new_app name)) workers_rule) scratch_rule) places_rule) follow_rule
+tool_app name =
+    with_rule (with_rule (with_rule (with_rule (with_rule (with_version (new_app name)) workers_rule) scratch_rule) places_rule) changes_rule) follow_rule
 
 -- the number that a text writes
 abbrev pub number_of : Text → ℕ
@@ -55,11 +61,15 @@ abbrev pub is_given : Option Text → Bool
 is_given None = false
 is_given (Some text) = bytes_eq text (codes "true")
 
+-- what the blocks are to tell, by the matches of the words
+abbrev pub detail_of : List Row → Detail
+detail_of rows = record { places = is_given (one_of (codes "places") rows); changes = is_given (one_of (codes "changes") rows) }
+
 -- the options that the matches of the words name, 1 and false where absent
 abbrev pub options_of : List Row → Options
 options_of rows =
     record {
       workers = workers_of (one_of (codes "workers") rows);
       scratch = is_given (one_of (codes "scratch") rows);
-      places = is_given (one_of (codes "places") rows);
+      detail = detail_of rows;
     }

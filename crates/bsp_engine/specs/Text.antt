@@ -13,8 +13,6 @@ use Rattle.bsp_run.specs.declared.result.Status.TheVariants.{Halted, Limit, Faul
 use Rattle.bsp_incr.specs.declared.edit.EditFault.{EditFault}
 use Rattle.bsp_incr.specs.declared.edit.EditFault.TheVariants.{NoSuchProcess, NoSuchWord, NoSuchArg, BadLimit, BadPrice}
 use Rattle.bsp_incr.specs.declared.edit.EditRefusal.{EditRefusal}
-use Rattle.bsp_incr.specs.declared.reply.Reply.{Reply}
-use Rattle.bsp_incr.specs.declared.reply.Reply.TheVariants.{Done, Refused}
 use Rattle.bsp_incr.specs.declared.reply.Update.{Update}
 use Rattle.bsp_engine.specs.Lines.{field, line, numbered}
 use Rattle.bsp_engine.specs.Places.{place_lines}
@@ -103,16 +101,3 @@ edit_fault_word BadPrice = codes "E5"
 -- `refused En at PLACE`
 abbrev pub refusal_line : EditRefusal → List ℕ
 refusal_line r = codes "refused " ++ edit_fault_word r.fault ++ codes " " ++ line (codes "at") (r.place ∷ [])
-
--- what follows the line `run K`
-abbrev pub reply_lines : Bool → Reply → List ℕ
-reply_lines places (Done result update) = result_lines result ++ update_lines places update
-reply_lines places (Refused refusal) = refusal_line refusal
-
--- the block of reply K
-abbrev pub reply_block : Bool → ℕ → Reply → List ℕ
-reply_block places k reply = line (codes "run") (k ∷ []) ++ reply_lines places reply
-
--- the text of a report, with the places of its updates or without
-abbrev pub text_of : Bool → List Reply → List ℕ
-text_of places replies = numbered (reply_block places) 0 replies

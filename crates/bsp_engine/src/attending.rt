@@ -3,13 +3,12 @@
 ghost use Rattle.std.specs.Prelude.{◌≡◌, ◌≢◌, ◌∷◌, ◌++◌, List, ℕ, IfOk, OnOk, Err};
 ghost use Rattle.bsp_engine.specs.Asked.{asked_of};
 ghost use Rattle.bsp_engine.specs.DueAt.{due_at};
-ghost use Rattle.bsp_engine.specs.Live.{after, answer_block, answer_to};
-ghost use Rattle.bsp_engine.specs.LiveOf.{parts_of};
+ghost use Rattle.bsp_engine.specs.Live.{after, answer_block, answer_to, last_result};
 
-use crate::answers::push_answer_block;
 use crate::asking::asked_of;
 use crate::errors::EngineError;
-use crate::live::{Crew, Live, answer_to};
+use crate::lines::push_line;
+use crate::live::{Crew, Live, push_answer};
 use bsp_model::OutOfMemory;
 use bsp_pool::Gate;
 use bsp_step::Program;
@@ -32,13 +31,13 @@ fn block_for<P: Program + Drop, R: Threads + Sync, G: Gate>(
     number: u64,
     line: &[u8],
 ) -> Result<Vec<u8>, OutOfMemory>
-    ensures after { OnOk result (parts_of live.new ≡ after (parts_of live.old) (asked_of line.now)) }
-    ensures text { IfOk result (λ text. text.items ≡ answer_block places number (answer_to P.acts P.ending P.looks (parts_of live.old) (asked_of line.now))) }
+    ensures after { OnOk result (live.new ≡ after live.old (asked_of line.now)) }
+    ensures text { IfOk result (λ text. text.items ≡ answer_block places number (last_result P.acts P.ending live.old) (answer_to P.acts P.ending P.looks live.old (asked_of line.now))) }
 {
     let asked = asked_of(crew.alloc, line)?;
-    let answer = answer_to(crew, live, asked)?;
     let mut text = Vec::new(crew.alloc);
-    push_answer_block(&mut text, places, number, &answer)?;
+    push_line(&mut text, "run", &[number])?;
+    push_answer(crew, places, live, &mut text, asked)?;
     Ok(text)
 }
 

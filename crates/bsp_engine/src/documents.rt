@@ -8,13 +8,13 @@ ghost use Rattle.bsp_engine.specs.Refusal.{IfFault};
 ghost use Rattle.bsp_engine.specs.Reported.{IsAnswered};
 ghost use Rattle.bsp_engine.specs.Inside.Report.{report_of};
 
+use crate::blocks::report;
 use crate::catalogue::Catalogue;
 use crate::errors::{EngineError, JobError, JobFault};
 use crate::flow::{Sink, Source};
 use crate::jobs::read_job;
 use crate::options::Options;
 use crate::reading::read_all;
-use crate::reporting::report;
 use crate::running::replies_to;
 use crate::writing::write_text;
 use bsp_pool::Gate;
@@ -31,17 +31,18 @@ fn answer<C: Catalogue, R: Threads + Sync, G: Gate>(
 ) -> Result<Vec<u8>, JobError>
     requires short { length bytes.now ≤ most_document_bytes }
     requires workers { (0 < options.workers) × (options.workers ≤ 16) }
-    ensures ok { IfOk result (λ text. report_of C.meaning C.Program.acts C.Program.ending C.Program.looks options.scratch options.places bytes.now ≡ Ok text.items) }
-    ensures fault { IfErr result (λ e. IfFault e (λ f. report_of C.meaning C.Program.acts C.Program.ending C.Program.looks options.scratch options.places bytes.now ≡ Err (EngineError.Job f))) }
+    ensures ok { IfOk result (λ text. report_of C.meaning C.Program.acts C.Program.ending C.Program.looks options.scratch options.detail bytes.now ≡ Ok text.items) }
+    ensures fault { IfErr result (λ e. IfFault e (λ f. report_of C.meaning C.Program.acts C.Program.ending C.Program.looks options.scratch options.detail bytes.now ≡ Err (EngineError.Job f))) }
 {
     let job = read_job::<C>(alloc, bytes)?;
     let replies = replies_to(rt, alloc, job, options.workers, options.scratch, gate)?;
-    Ok(report(alloc, replies.as_slice(), options.places)?)
+    Ok(report(alloc, replies.as_slice(), options.detail)?)
 }
 
 /// Reads a document to its end, runs its job by 1 to 16 workers, and writes the report: all of it is made before the first write.
 ///
-/// From scratch each input is run from its start on the calling thread, and the report has no updates. With places each update tells its own.
+/// From scratch each input is run from its start on the calling thread, and the report has no updates. With places each update tells its own, and with
+/// changes each block after the first only what is another than before.
 /// At most 16,777,217 bytes are taken from the reader, and more than 16,777,216 are `TooLong`. Others are left in `document`.
 /// `Job` is answered where the bytes are no job, `Read` where a read failed, `Write` where a write failed or took no byte; then a beginning of
 /// the report went out. After every other error nothing was written.
@@ -60,7 +61,7 @@ pub fn engine<C: Catalogue, R: Threads + Sync, S: Source, K: Sink, G: Gate>(
 
     // The document's report went out, or it has none for the reason that is answered, unless the machine failed; and nothing else went out.
     ensures answer { IfSome (S.remaining reader.old) (λ bytes.
-        IsAnswered C.meaning C.Program.acts C.Program.ending C.Program.looks options.scratch options.places bytes (K.contents writer.old) (K.contents writer.new) result) }
+        IsAnswered C.meaning C.Program.acts C.Program.ending C.Program.looks options.scratch options.detail bytes (K.contents writer.old) (K.contents writer.new) result) }
     ensures nothing { IfErr result (λ e. e ≢ EngineError.Write → writer.new ≡ writer.old) }
 
     // All was read, and never more than one byte past the limit.

@@ -12,7 +12,7 @@ use crate::errors::{EngineError, JobFault};
 use crate::flow::Source;
 use crate::jobs::{Job, read_job};
 use crate::live::{Crew, begin};
-use crate::options::Options;
+use crate::options::{Detail, Options};
 use crate::reading::read_all;
 use crate::talking::talk;
 use crate::terminal::Terminal;
@@ -24,19 +24,23 @@ use std::thread::Threads;
 /// Opens the session of a job, says its report, and then answers each line.
 fn follow_job<P: Program + Drop, R: Threads + Sync, T: Terminal, G: Gate>(
     crew: &Crew<'_, R, G>,
-    places: bool,
+    detail: Detail,
     terminal: &mut T,
     job: Job<P>,
 ) -> Result<(), EngineError>
     requires lawful { input_fault job.input ≡ None }
-    ensures ok { OnOk result (Talks (due_of P.acts P.ending P.looks places job) (T.log terminal.old) (T.log terminal.new)) }
-    ensures err { IfErr result (λ e. Breaks (due_of P.acts P.ending P.looks places job) (T.log terminal.old) (T.log terminal.new) e) }
+    ensures ok { OnOk result (Talks (due_of P.acts P.ending P.looks detail job) (T.log terminal.old) (T.log terminal.new)) }
+    ensures err { IfErr result (λ e. Breaks (due_of P.acts P.ending P.looks detail job) (T.log terminal.old) (T.log terminal.new) e) }
 {
-    let (live, last, text) = match begin(crew, places, job) {
+    let (live, last, text) = match begin(crew, detail, job) {
         Ok(begun) => begun,
         Err(_) => return Err(EngineError::OutOfMemory),
     };
-    let mut attendant = Attendant { places, live, last };
+    let mut attendant = Attendant {
+        places: detail.places,
+        live,
+        last,
+    };
     match talk(crew, &mut attendant, terminal, text.as_slice()) {
         Ok(()) => Ok(()),
         Err(error) => Err(error),
@@ -62,11 +66,11 @@ pub fn follow<C: Catalogue, R: Threads + Sync, S: Source, T: Terminal, G: Gate>(
 
     // The job's report was said, and then a block for each line, before more was waited for.
     ensures ok { OnOk result (IfSome (S.remaining source.old) (λ bytes.
-        IsOkAnd (job_of C.meaning bytes) (λ job. Talks (due_of C.Program.acts C.Program.ending C.Program.looks options.places job) (T.log terminal.old) (T.log terminal.new)))) }
+        IsOkAnd (job_of C.meaning bytes) (λ job. Talks (due_of C.Program.acts C.Program.ending C.Program.looks options.detail job) (T.log terminal.old) (T.log terminal.new)))) }
 
     // Where it broke off, a beginning of that was; before, each line that was whole was answered before more was waited for.
     ensures err { IfErr result (λ e. IfSome (S.remaining source.old) (λ bytes.
-        IfOk (job_of C.meaning bytes) (λ job. Breaks (due_of C.Program.acts C.Program.ending C.Program.looks options.places job) (T.log terminal.old) (T.log terminal.new) e))) }
+        IfOk (job_of C.meaning bytes) (λ job. Breaks (due_of C.Program.acts C.Program.ending C.Program.looks options.detail job) (T.log terminal.old) (T.log terminal.new) e))) }
 
     // The replies of which that text tells are those of a session.
     ensures replies { AreLiveReplies C.Program.acts C.Program.ending C.Program.looks }
@@ -86,7 +90,7 @@ pub fn follow<C: Catalogue, R: Threads + Sync, S: Source, T: Terminal, G: Gate>(
         workers: options.workers,
         gate,
     };
-    match follow_job(&crew, options.places, terminal, job) {
+    match follow_job(&crew, options.detail, terminal, job) {
         Ok(()) => Ok(()),
         Err(error) => Err(error),
     }

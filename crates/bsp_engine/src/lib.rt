@@ -1,10 +1,12 @@
 //! From the bytes of a document to the bytes of its report, for any catalogue of programs, and the whole of a tool that does so.
 #![tactic(auto)]
 
-mod answers;
 mod asking;
 mod attending;
+mod blocks;
 mod catalogue;
+mod change_lines;
+mod changes;
 mod counting;
 mod documents;
 mod errors;
@@ -25,9 +27,12 @@ mod talking;
 mod terminal;
 mod tool;
 pub mod tree;
+mod unread;
 mod writing;
 
+pub use blocks::report;
 pub use catalogue::Catalogue;
+pub use changes::changes_tell_the_rest;
 pub use counting::Counted;
 pub use documents::engine;
 pub use errors::{EngineError, JobError, JobFault};
@@ -35,8 +40,7 @@ pub use flow::{Failed, Sink, Source};
 pub use following::follow;
 pub use jobs::{Job, read_job};
 pub use naming::{ByName, Named};
-pub use options::{Options, Tool, VERSION, read_options, words_status};
-pub use reporting::report;
+pub use options::{Detail, Options, Tool, VERSION, read_options, words_status};
 pub use terminal::{Console, Terminal};
 pub use tool::run_tool;
 

@@ -1,28 +1,33 @@
 //! Sessions that stay open, with what takes their batches back.
 
-ghost use Rattle.std.specs.Prelude.{◌≡◌, ◌<◌, ◌≤◌, ◌++◌, IfOk, OnOk, None, Some, length};
+ghost use Rattle.std.specs.Prelude.{◌≡◌, ◌<◌, ◌≤◌, ◌++◌, IfOk, OnOk, None, Some, length, is_some};
 ghost use Rattle.bsp_model.specs.Input.{input_fault};
 ghost use Rattle.bsp_step.specs.Turn.{turn_of};
 ghost use Rattle.bsp_run.specs.Result.{result_of};
 ghost use Rattle.bsp_run.specs.Run.{run};
+ghost use Rattle.bsp_incr.specs.Edits.{refusal_of};
 ghost use Rattle.bsp_incr.specs.Replies.{input_after};
+ghost use Rattle.bsp_incr.specs.Undo.{undo_of};
 ghost use Rattle.bsp_incr.specs.Inside.Replies.{done, reply_to};
-ghost use Rattle.bsp_engine.specs.Lines.{numbered};
-ghost use Rattle.bsp_engine.specs.Live.{after, after_batch, after_batches, answer_to, first_text, live_replies, live_reply, opened};
-ghost use Rattle.bsp_engine.specs.LiveOf.{parts_of};
-ghost use Rattle.bsp_engine.specs.Text.{reply_block};
+ghost use Rattle.bsp_engine.specs.Blocks.{blocks_after, lines_after, reply_lines};
+ghost use Rattle.bsp_engine.specs.Inside.Given.{IsResultIn, result_if, undo_if};
+ghost use Rattle.bsp_engine.specs.Live.{after, after_batch, after_batches, answer_lines, answer_to, first_text, last_result, live_replies, live_reply, opened};
 
-use crate::answers::Answer;
 use crate::asking::{Asked, Unread};
+use crate::blocks::{push_block, push_result_after};
 use crate::jobs::Job;
-use crate::reporting::push_block;
+use crate::lines::push_line;
+use crate::options::Detail;
+use crate::reporting::{push_refusal, push_update};
+use crate::unread::push_unread;
 use bsp_incr::{Batch, Edit, EditError, Reply, Session, Update};
 use bsp_model::{Input, OutOfMemory};
 use bsp_pool::Gate;
-use bsp_run::{History, RunError};
+use bsp_run::{History, RunError, RunResult};
 use bsp_step::Program;
 use std::alloc::{AllocError, Global};
 use std::collections::VecDeque;
+use std::marker::Model;
 use std::thread::Threads;
 
 /// Who shares the work of a session.
@@ -43,6 +48,20 @@ pub struct Live<P: Program> {
     session: Session<P>,
     /// The batches that take the accepted ones back that still stand, the newest first.
     undos: VecDeque<Batch>,
+    /// What the run gives, if the blocks tell changes alone.
+    last: Option<RunResult>,
+}
+
+impl<P: Program> Model for Live<P> {
+    ghost use Rattle.std.specs.Prelude.{is_some};
+    ghost use Rattle.bsp_engine.specs.Live.{LiveParts};
+    ghost use Rattle.bsp_engine.specs.Inside.Given.{IsResultIn};
+
+    ghost Value = { LiveParts P };
+
+    ghost view = { λ l. record { program = l.session.program; input = l.session.input; undos = l.undos.items; changes = is_some l.last } };
+
+    ghost invariant = { λ l. IsResultIn l.last l.session.history };
 }
 
 /// The reply that gives a history.
@@ -56,14 +75,27 @@ fn reply_with(history: &History, update: Update) -> Result<Reply, OutOfMemory>
     })
 }
 
+/// What a history gives, if it is asked for.
+fn result_if(asked: bool, history: &History) -> Result<Option<RunResult>, OutOfMemory>
+    ensures is { IfOk result (λ r. IsResultIn r history.now) }
+    ensures asked { IfOk result (λ r. is_some r ≡ asked) }
+{
+    if asked {
+        Ok(Some(history.result()?))
+    } else {
+        Ok(None)
+    }
+}
+
 /// Opens the session of a job, without its batches.
 fn open<P: Program + Drop, R: Threads + Sync, G: Gate>(
     crew: &Crew<'_, R, G>,
+    changes: bool,
     program: P,
     input: Input,
 ) -> Result<(Live<P>, Reply), OutOfMemory>
     requires lawful { input_fault input ≡ None }
-    ensures live { IfOk result (λ r. parts_of r.0 ≡ opened program input) }
+    ensures live { IfOk result (λ r. r.0 ≡ opened changes program input) }
     ensures reply { IfOk result (λ r. r.1 ≡ done (P.looks program) None (run (turn_of (P.acts program) (P.ending program)) input)) }
 {
     let opened = Session::open(crew.rt, crew.alloc, program, input, crew.workers, crew.gate);
@@ -73,51 +105,122 @@ fn open<P: Program + Drop, R: Threads + Sync, G: Gate>(
         Err(RunError::OutOfMemory) => return Err(AllocError),
     };
     let reply = reply_with(session.history(), update)?;
+    let last = result_if(changes, session.history())?;
     let undos = VecDeque::new(crew.alloc);
-    Ok((Live { session, undos }, reply))
+    let live = Live {
+        session,
+        undos,
+        last,
+    };
+    Ok((live, reply))
 }
 
-/// Makes a batch. What takes it back is kept, unless it is refused.
+/// Appends the lines of a history: all, or what of it is another than in the result of the run before. Answers its own result where there was one.
+fn push_history(
+    text: &mut Vec<u8>,
+    before: Option<RunResult>,
+    history: &History,
+) -> Result<Option<RunResult>, OutOfMemory>
+    ensures text { OnOk result (text.new.items ≡ text.old.items ++ lines_after before (result_of history.now)) }
+    ensures is { IfOk result (λ r. IsResultIn r history.now) }
+    ensures asked { IfOk result (λ r. is_some r ≡ is_some before) }
+{
+    let new = history.result()?;
+    match before {
+        Some(old) => {
+            push_result_after(text, Some(&old), &new)?;
+            Ok(Some(new))
+        }
+        None => {
+            push_result_after(text, None, &new)?;
+            Ok(None)
+        }
+    }
+}
+
+/// Makes a batch of edits, and appends the lines of its reply.
+fn advance<P: Program + Drop, R: Threads + Sync, G: Gate>(
+    crew: &Crew<'_, R, G>,
+    places: bool,
+    session: &mut Session<P>,
+    last: &mut Option<RunResult>,
+    text: &mut Vec<u8>,
+    batch: &[Edit],
+) -> Result<(), OutOfMemory>
+    requires { IsResultIn last.old session.old.history }
+    ensures program { session.new.program ≡ session.old.program }
+    ensures input { OnOk result (session.new.input ≡ input_after session.old.input batch.now) }
+    ensures text { OnOk result (text.new.items ≡ text.old.items ++ reply_lines places (result_if (is_some last.old) (turn_of (P.acts session.old.program) (P.ending session.old.program)) session.old.input) (reply_to (P.looks session.old.program) (turn_of (P.acts session.old.program) (P.ending session.old.program)) session.old.input batch.now)) }
+    ensures last { IsResultIn last.new session.new.history }
+    ensures asked { OnOk result (is_some last.new ≡ is_some last.old) }
+{
+    // That the input is lawful, and the history its run, is known where they are read.
+    let _input = session.input();
+    let _history = session.history();
+    let before = last.take();
+    match session.apply(crew.rt, crew.alloc, batch, crew.workers, crew.gate) {
+        Ok(update) => {
+            *last = push_history(text, before, session.history())?;
+            push_update(text, places, &update)
+        }
+        Err(EditError::Refused(refusal)) => {
+            *last = before;
+            push_refusal(text, refusal)
+        }
+        Err(EditError::OutOfMemory) => Err(AllocError),
+    }
+}
+
+/// What takes a batch back, unless the batch is refused.
+fn undo_of<P: Program + Drop>(
+    alloc: Global,
+    session: &Session<P>,
+    batch: &[Edit],
+) -> Result<Option<Batch>, OutOfMemory>
+    ensures { IfOk result (λ undo. undo ≡ undo_if (refusal_of session.now.input batch.now) (undo_of session.now.input batch.now)) }
+{
+    match session.undo_of(alloc, batch) {
+        Ok(undo) => Ok(Some(undo)),
+        Err(EditError::Refused(_)) => Ok(None),
+        Err(EditError::OutOfMemory) => Err(AllocError),
+    }
+}
+
+/// Makes a batch, and appends the lines of its reply. What takes it back is kept, unless it is refused.
 #[tactic(auto, unfolding(crate::specs::Live::live_reply))]
 fn make<P: Program + Drop, R: Threads + Sync, G: Gate>(
     crew: &Crew<'_, R, G>,
+    places: bool,
     live: &mut Live<P>,
+    text: &mut Vec<u8>,
     batch: &[Edit],
-) -> Result<Reply, OutOfMemory>
-    ensures after { OnOk result (parts_of live.new ≡ after_batch (parts_of live.old) batch.now) }
-    ensures reply { IfOk result (λ reply. reply ≡ live_reply P.acts P.ending P.looks (parts_of live.old) batch.now) }
+) -> Result<(), OutOfMemory>
+    ensures after { OnOk result (live.new ≡ after_batch live.old batch.now) }
+    ensures text { OnOk result (text.new.items ≡ text.old.items ++ reply_lines places (last_result P.acts P.ending live.old) (live_reply P.acts P.ending P.looks live.old batch.now)) }
 {
-    // That the input is lawful, and the history its run, is known where they are read.
-    let _input = live.session.input();
-    let _history = live.session.history();
-    let made = live
-        .session
-        .apply_with_undo(crew.rt, crew.alloc, batch, crew.workers, crew.gate);
-    match made {
-        Ok((update, undo)) => {
-            live.undos.push_front(undo)?;
-            let reply = reply_with(live.session.history(), update)?;
-            Ok(reply)
-        }
-        Err(EditError::Refused(refusal)) => Ok(Reply::Refused(refusal)),
-        Err(EditError::OutOfMemory) => Err(AllocError),
+    let undo = undo_of(crew.alloc, &live.session, batch)?;
+    advance(crew, places, &mut live.session, &mut live.last, text, batch)?;
+    if let Some(undo) = undo {
+        live.undos.push_front(undo)?;
     }
+    Ok(())
 }
 
 /// Makes batches, and appends the block of each; the first has the number 1.
 fn make_all<P: Program + Drop, R: Threads + Sync, G: Gate>(
     crew: &Crew<'_, R, G>,
-    places: bool,
+    detail: Detail,
     live: &mut Live<P>,
     text: &mut Vec<u8>,
     batches: &[Batch],
 ) -> Result<(), OutOfMemory>
-    ensures live { OnOk result (parts_of live.new ≡ after_batches (parts_of live.old) batches.now) }
-    ensures text { OnOk result (text.new.items ≡ text.old.items ++ numbered (reply_block places) 1 (live_replies P.acts P.ending P.looks (parts_of live.old) batches.now)) }
+    requires { live.old.changes ≡ detail.changes }
+    ensures live { OnOk result (live.new ≡ after_batches live.old batches.now) }
+    ensures text { OnOk result (text.new.items ≡ text.old.items ++ blocks_after detail 1 (last_result P.acts P.ending live.old) (live_replies P.acts P.ending P.looks live.old batches.now)) }
 {
     for (index, batch) in batches.iter().enumerate() {
-        let reply = make(crew, live, batch.as_slice())?;
-        push_block(text, places, index as u64 + 1, &reply)?;
+        push_line(text, "run", &[index as u64 + 1])?;
+        make(crew, detail.places, live, text, batch.as_slice())?;
     }
     Ok(())
 }
@@ -125,83 +228,65 @@ fn make_all<P: Program + Drop, R: Threads + Sync, G: Gate>(
 /// Opens the session of a job, and makes its batches. Answers it with the number of its last block, and the text with which it begins.
 pub fn begin<P: Program + Drop, R: Threads + Sync, G: Gate>(
     crew: &Crew<'_, R, G>,
-    places: bool,
+    detail: Detail,
     job: Job<P>,
 ) -> Result<(Live<P>, u64, Vec<u8>), OutOfMemory>
     requires lawful { input_fault job.input ≡ None }
-    ensures live { IfOk result (λ r. parts_of r.0 ≡ after_batches (opened job.program job.input) job.batches) }
+    ensures live { IfOk result (λ r. r.0 ≡ after_batches (opened detail.changes job.program job.input) job.batches) }
     ensures last { IfOk result (λ r. r.1 ≡ length job.batches) }
-    ensures text { IfOk result (λ r. r.2.items ≡ first_text P.acts P.ending P.looks places job) }
+    ensures text { IfOk result (λ r. r.2.items ≡ first_text P.acts P.ending P.looks detail job) }
 {
     let Job {
         program,
         input,
         batches,
     } = job;
-    let (mut live, opening) = open(crew, program, input)?;
+    let (mut live, opening) = open(crew, detail.changes, program, input)?;
     let mut text = Vec::new(crew.alloc);
-    push_block(&mut text, places, 0, &opening)?;
-    make_all(crew, places, &mut live, &mut text, batches.as_slice())?;
+    push_block(&mut text, detail.places, 0, None, &opening)?;
+    make_all(crew, detail, &mut live, &mut text, batches.as_slice())?;
     text.extend_from_slice(b"ready\n")?;
     Ok((live, batches.len() as u64, text))
 }
 
-/// Makes a batch that takes another one back.
-fn take_back<P: Program + Drop, R: Threads + Sync, G: Gate>(
-    crew: &Crew<'_, R, G>,
-    session: &mut Session<P>,
-    undo: &[Edit],
-) -> Result<Reply, OutOfMemory>
-    ensures program { OnOk result (session.new.program ≡ session.old.program) }
-    ensures input { OnOk result (session.new.input ≡ input_after session.old.input undo.now) }
-    ensures reply { IfOk result (λ reply. reply ≡ reply_to (P.looks session.old.program) (turn_of (P.acts session.old.program) (P.ending session.old.program)) session.old.input undo.now) }
-{
-    // That the input is lawful, and the history its run, is known where they are read.
-    let _input = session.input();
-    let _history = session.history();
-    match session.apply(crew.rt, crew.alloc, undo, crew.workers, crew.gate) {
-        Ok(update) => {
-            let reply = reply_with(session.history(), update)?;
-            Ok(reply)
-        }
-        Err(EditError::Refused(refusal)) => Ok(Reply::Refused(refusal)),
-        Err(EditError::OutOfMemory) => Err(AllocError),
-    }
-}
-
-/// Takes the last accepted batch back that still stands.
+/// Takes the last accepted batch back that still stands, and appends what is answered.
 #[tactic(auto, unfolding(crate::specs::Live::live_reply))]
 fn undo<P: Program + Drop, R: Threads + Sync, G: Gate>(
     crew: &Crew<'_, R, G>,
+    places: bool,
     live: &mut Live<P>,
-) -> Result<Answer, OutOfMemory>
-    ensures after { OnOk result (parts_of live.new ≡ after (parts_of live.old) Asked.Undo) }
-    ensures answer { IfOk result (λ answer. answer ≡ answer_to P.acts P.ending P.looks (parts_of live.old) Asked.Undo) }
+    text: &mut Vec<u8>,
+) -> Result<(), OutOfMemory>
+    ensures after { OnOk result (live.new ≡ after live.old Asked.Undo) }
+    ensures text { OnOk result (text.new.items ≡ text.old.items ++ answer_lines places (last_result P.acts P.ending live.old) (answer_to P.acts P.ending P.looks live.old Asked.Undo)) }
 {
     match live.undos.pop_front() {
-        Some(undo) => {
-            let reply = take_back(crew, &mut live.session, undo.as_slice())?;
-            Ok(Answer::Replied(reply))
-        }
-        None => Ok(Answer::Unanswered(Unread::NothingToUndo)),
+        Some(undo) => advance(
+            crew,
+            places,
+            &mut live.session,
+            &mut live.last,
+            text,
+            undo.as_slice(),
+        ),
+        None => push_unread(text, Unread::NothingToUndo),
     }
 }
 
-/// Does what a line asks.
-pub fn answer_to<P: Program + Drop, R: Threads + Sync, G: Gate>(
+/// Does what a line asks, and appends what is answered.
+pub fn push_answer<P: Program + Drop, R: Threads + Sync, G: Gate>(
     crew: &Crew<'_, R, G>,
+    places: bool,
     live: &mut Live<P>,
+    text: &mut Vec<u8>,
     asked: Asked,
-) -> Result<Answer, OutOfMemory>
-    ensures after { OnOk result (parts_of live.new ≡ after (parts_of live.old) asked) }
-    ensures answer { IfOk result (λ answer. answer ≡ answer_to P.acts P.ending P.looks (parts_of live.old) asked) }
+) -> Result<(), OutOfMemory>
+    ensures after { OnOk result (live.new ≡ after live.old asked) }
+    ensures text { OnOk result (text.new.items ≡ text.old.items ++ answer_lines places (last_result P.acts P.ending live.old) (answer_to P.acts P.ending P.looks live.old asked)) }
 {
     match asked {
-        Asked::Batch(batch) => {
-            let reply = make(crew, live, batch.as_slice())?;
-            Ok(Answer::Replied(reply))
-        }
-        Asked::Undo => Ok(undo(crew, live)?),
-        Asked::Nothing(unread) => Ok(Answer::Unanswered(unread)),
+        Asked::Batch(batch) => make(crew, places, live, text, batch.as_slice()),
+        Asked::Undo => undo(crew, places, live, text),
+        Asked::Nothing(unread) => push_unread(text, unread),
     }
 }

@@ -2,7 +2,7 @@
 
 ghost use Rattle.std.specs.Prelude.{◌≡◌, ◌≢◌, ◌≤◌, IfOk, IfErr, codes, true, false, map, option_map};
 ghost use Rattle.clap.specs.Words.{FailsBy, app_of, fault_of, first_of, found_of, kind_of, matches_of, new_app, one_text, rows_of, rule_of, takes, with_rule};
-ghost use Rattle.bsp_engine.specs.Options.{follow_rule, is_given, number_or_1, options_of, places_rule, scratch_rule, tool_app, with_version, workers_of, workers_rule};
+ghost use Rattle.bsp_engine.specs.Options.{changes_rule, detail_of, follow_rule, is_given, number_or_1, options_of, places_rule, scratch_rule, tool_app, with_version, workers_of, workers_rule};
 
 use clap::error::ErrorKind;
 use clap::{Arg, ArgAction, ArgMatches, Command, Error, value_parser};
@@ -11,6 +11,15 @@ use std::alloc::{AllocError, Global};
 /// The version of every tool: of the options, the document and the report.
 pub const VERSION: &str = "0.1.0";
 
+/// What the blocks of a report tell.
+#[derive(Clone, Copy, Debug, PartialEq, Eq)]
+pub struct Detail {
+    /// Whether they tell at which places turns were taken and deliveries made.
+    pub places: bool,
+    /// Whether each block after the first tells only what is another than in the last block with a status before it.
+    pub changes: bool,
+}
+
 /// What the words ask for.
 #[derive(Clone, Copy, Debug, PartialEq, Eq)]
 pub struct Options {
@@ -18,8 +27,8 @@ pub struct Options {
     pub workers: usize,
     /// Whether each input is run from its start, on one thread.
     pub scratch: bool,
-    /// Whether the report tells at which places turns were taken and deliveries made.
-    pub places: bool,
+    /// What the report tells.
+    pub detail: Detail,
 }
 
 /// A tool: how its command line is called, and what the help tells. The options are those of every tool.
@@ -101,6 +110,16 @@ fn places_arg<'a>(alloc: Global) -> Arg<'a>
         .action(ArgAction::SetTrue)
 }
 
+fn changes_arg<'a>(alloc: Global) -> Arg<'a>
+    ensures own { result.global ≡ false }
+    ensures rule { rule_of result ≡ changes_rule }
+{
+    Arg::new(alloc, "changes")
+        .long("changes")
+        .help("Tells of each run after the first only what is another than in the run before")
+        .action(ArgAction::SetTrue)
+}
+
 fn follow_arg<'a>(alloc: Global) -> Arg<'a>
     ensures own { result.global ≡ false }
     ensures rule { rule_of result ≡ follow_rule }
@@ -130,6 +149,7 @@ fn command<'a>(alloc: Global, tool: &Tool) -> Result<Command<'a>, AllocError>
 {
     running_command(alloc, tool)?
         .arg(places_arg(alloc))?
+        .arg(changes_arg(alloc))?
         .arg(follow_arg(alloc))
 }
 
@@ -163,15 +183,22 @@ fn follow_in<'a>(matches: &ArgMatches<'a>) -> Option<&'a str>
     matches.get_str("follow")
 }
 
+fn detail_in(matches: &ArgMatches<'_>) -> Detail
+    ensures { result ≡ detail_of (rows_of (found_of matches.now)) }
+{
+    let places = is_given(matches, "places");
+    let changes = is_given(matches, "changes");
+    Detail { places, changes }
+}
+
 fn options_in(matches: &ArgMatches<'_>) -> Options
     ensures { result ≡ options_of (rows_of (found_of matches.now)) }
 {
     let scratch = is_given(matches, "scratch");
-    let places = is_given(matches, "places");
     Options {
         workers: workers_in(matches),
         scratch,
-        places,
+        detail: detail_in(matches),
     }
 }
 

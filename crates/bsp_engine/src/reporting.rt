@@ -1,16 +1,15 @@
-//! The text of a report.
+//! The lines of a block, one function for each kind.
 
-ghost use Rattle.std.specs.Prelude.{◌≡◌, ◌++◌, OnOk, IfOk};
+ghost use Rattle.std.specs.Prelude.{◌≡◌, ◌++◌, OnOk};
 ghost use Rattle.std.specs.List.{flat_map};
 ghost use Rattle.bsp_engine.specs.Lines.{line, numbered};
-ghost use Rattle.bsp_engine.specs.Text.{fault_word, fault_numbers, process_fault_line, sync_fault_word, status_lines, memory_line, print_lines, cost_line, result_lines, counts_line, update_places, update_lines, edit_fault_word, refusal_line, reply_lines, reply_block, text_of};
+ghost use Rattle.bsp_engine.specs.Text.{fault_word, fault_numbers, process_fault_line, sync_fault_word, status_lines, memory_line, print_lines, cost_line, result_lines, counts_line, update_places, update_lines, edit_fault_word, refusal_line};
 
 use crate::lines::{push_field, push_line, push_long_line, push_memory};
 use crate::places::push_places;
-use bsp_incr::{EditFault, EditRefusal, Reply, Update};
+use bsp_incr::{EditFault, EditRefusal, Update};
 use bsp_model::{CostRow, Fault, Memory, OutOfMemory, Shared, SyncFault, Words};
 use bsp_run::{Lines, ProcessFault, RunResult, Status};
-use std::alloc::Global;
 
 fn fault_word(fault: Fault) -> &'static str
     ensures { result.now ≡ fault_word fault }
@@ -90,7 +89,7 @@ fn push_sync_fault(text: &mut Vec<u8>, step: u64, fault: SyncFault) -> Result<()
     push_line(text, sync_fault_word(fault), &[])
 }
 
-fn push_status(text: &mut Vec<u8>, status: &Status) -> Result<(), OutOfMemory>
+pub fn push_status(text: &mut Vec<u8>, status: &Status) -> Result<(), OutOfMemory>
     ensures { OnOk result (text.new.items ≡ text.old.items ++ status_lines status.now) }
 {
     match status {
@@ -101,7 +100,7 @@ fn push_status(text: &mut Vec<u8>, status: &Status) -> Result<(), OutOfMemory>
     }
 }
 
-fn push_memory_line(text: &mut Vec<u8>, pid: u64, memory: &Memory) -> Result<(), OutOfMemory>
+pub fn push_memory_line(text: &mut Vec<u8>, pid: u64, memory: &Memory) -> Result<(), OutOfMemory>
     ensures { OnOk result (text.new.items ≡ text.old.items ++ memory_line pid memory.now) }
 {
     text.extend_from_slice(b"memory")?;
@@ -119,7 +118,7 @@ fn push_memories(text: &mut Vec<u8>, memories: &[Memory]) -> Result<(), OutOfMem
     Ok(())
 }
 
-fn push_lines(text: &mut Vec<u8>, pid: u64, lines: &[Words]) -> Result<(), OutOfMemory>
+pub fn push_lines(text: &mut Vec<u8>, pid: u64, lines: &[Words]) -> Result<(), OutOfMemory>
     ensures { OnOk result (text.new.items ≡ text.old.items ++ print_lines pid lines.now) }
 {
     for words in lines {
@@ -137,7 +136,7 @@ fn push_all_lines(text: &mut Vec<u8>, lines: &[Shared<Lines>]) -> Result<(), Out
     Ok(())
 }
 
-fn push_cost(text: &mut Vec<u8>, step: u64, row: &CostRow) -> Result<(), OutOfMemory>
+pub fn push_cost(text: &mut Vec<u8>, step: u64, row: &CostRow) -> Result<(), OutOfMemory>
     ensures { OnOk result (text.new.items ≡ text.old.items ++ cost_line step row.now) }
 {
     push_line(text, "cost", &[step, row.work, row.h, row.cost])
@@ -152,7 +151,8 @@ fn push_costs(text: &mut Vec<u8>, costs: &[CostRow]) -> Result<(), OutOfMemory>
     Ok(())
 }
 
-fn push_result(text: &mut Vec<u8>, run: &RunResult) -> Result<(), OutOfMemory>
+/// Appends all of a result.
+pub fn push_result(text: &mut Vec<u8>, run: &RunResult) -> Result<(), OutOfMemory>
     ensures { OnOk result (text.new.items ≡ text.old.items ++ result_lines run.now) }
 {
     push_status(text, &run.status)?;
@@ -181,7 +181,8 @@ fn push_update_places(text: &mut Vec<u8>, places: bool, update: &Update) -> Resu
     push_places(text, "deliveries", update.redelivered.as_slice())
 }
 
-fn push_update(text: &mut Vec<u8>, places: bool, update: &Update) -> Result<(), OutOfMemory>
+/// Appends how much was done, with its places if they are asked for.
+pub fn push_update(text: &mut Vec<u8>, places: bool, update: &Update) -> Result<(), OutOfMemory>
     ensures { OnOk result (text.new.items ≡ text.old.items ++ update_lines places (Some update.now)) }
 {
     push_update_places(text, places, update)?;
@@ -204,54 +205,12 @@ fn edit_fault_word(fault: EditFault) -> &'static str
     }
 }
 
-fn push_refusal(text: &mut Vec<u8>, refusal: EditRefusal) -> Result<(), OutOfMemory>
+/// Appends why a batch was refused.
+pub fn push_refusal(text: &mut Vec<u8>, refusal: EditRefusal) -> Result<(), OutOfMemory>
     ensures { OnOk result (text.new.items ≡ text.old.items ++ refusal_line refusal) }
 {
     text.extend_from_slice(b"refused ")?;
     text.extend_from_slice(edit_fault_word(refusal.fault).as_bytes())?;
     text.push(b' ')?;
     push_line(text, "at", &[refusal.place as u64])
-}
-
-/// Appends what follows the line `run K` of a reply.
-pub fn push_reply(text: &mut Vec<u8>, places: bool, reply: &Reply) -> Result<(), OutOfMemory>
-    ensures { OnOk result (text.new.items ≡ text.old.items ++ reply_lines places reply.now) }
-{
-    match reply {
-        Reply::Done {
-            result: run,
-            update,
-        } => {
-            push_result(text, run)?;
-            match update {
-                Some(update) => push_update(text, places, update),
-                None => Ok(()),
-            }
-        }
-        Reply::Refused(refusal) => push_refusal(text, *refusal),
-    }
-}
-
-/// Appends the block of a reply.
-pub fn push_block(
-    text: &mut Vec<u8>,
-    places: bool,
-    number: u64,
-    reply: &Reply,
-) -> Result<(), OutOfMemory>
-    ensures { OnOk result (text.new.items ≡ text.old.items ++ reply_block places number reply.now) }
-{
-    push_line(text, "run", &[number])?;
-    push_reply(text, places, reply)
-}
-
-/// The text of a report: for each reply a block of lines, which ends with LF. With `places` each update tells its turns and its deliveries.
-pub fn report(alloc: Global, replies: &[Reply], places: bool) -> Result<Vec<u8>, OutOfMemory>
-    ensures { IfOk result (λ text. text.items ≡ text_of places replies.now) }
-{
-    let mut text = Vec::new(alloc);
-    for (number, reply) in replies.iter().enumerate() {
-        push_block(&mut text, places, number as u64, reply)?;
-    }
-    Ok(text)
 }

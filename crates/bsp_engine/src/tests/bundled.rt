@@ -6,7 +6,7 @@ use super::failing::{sink, source};
 use crate::documents::engine;
 use crate::errors::EngineError;
 use crate::naming::{ByName, Named};
-use crate::options::Options;
+use crate::options::{Detail, Options};
 use bsp_pool::Gate;
 use bsp_programs::Bundled;
 use std::alloc::Global;
@@ -83,7 +83,10 @@ pub fn run<R: Threads + Sync, G: Gate>(
     let options = Options {
         workers,
         scratch: flow.scratch,
-        places: false,
+        detail: Detail {
+            places: false,
+            changes: false,
+        },
     };
     let done = engine::<AllBundled, _, _, _, _>(
         rt,

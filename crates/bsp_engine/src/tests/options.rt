@@ -1,6 +1,6 @@
 //! Command lines: which words are taken, what they ask for, and with which status others end.
 
-use crate::options::{Options, Tool, read_options, words_status};
+use crate::options::{Detail, Options, Tool, read_options, words_status};
 use std::alloc::Global;
 use std::process::Abort;
 
@@ -10,40 +10,58 @@ const TOOL: Tool = Tool {
     after_help: "It reads a document.",
 };
 
-/// What comes of words: how many workers they ask for, whether from scratch, whether places are told, and whether a file is followed; of those
-/// that are refused the exit status.
-type Meaning = Result<(usize, bool, bool, bool), u8>;
+/// What comes of words: how many workers they ask for, whether from scratch, whether places are told, whether changes alone, and whether a file is
+/// followed; of those that are refused the exit status.
+type Meaning = Result<(usize, bool, bool, bool, bool), u8>;
 
 /// Words, the name of the program first, and what comes of them.
-const LINES: [(&[&str], Meaning); 22] = [
-    (&["bsp_tool"], Ok((1, false, false, false))),
+const LINES: [(&[&str], Meaning); 25] = [
+    (&["bsp_tool"], Ok((1, false, false, false, false))),
     (
         &["bsp_tool", "--workers", "1"],
-        Ok((1, false, false, false)),
+        Ok((1, false, false, false, false)),
     ),
-    (&["bsp_tool", "--workers=16"], Ok((16, false, false, false))),
-    (&["bsp_tool", "--scratch"], Ok((1, true, false, false))),
+    (
+        &["bsp_tool", "--workers=16"],
+        Ok((16, false, false, false, false)),
+    ),
+    (
+        &["bsp_tool", "--scratch"],
+        Ok((1, true, false, false, false)),
+    ),
     (
         &["bsp_tool", "--workers", "3", "--scratch"],
-        Ok((3, true, false, false)),
+        Ok((3, true, false, false, false)),
     ),
     (
         &["bsp_tool", "--scratch", "--workers", "+7"],
-        Ok((7, true, false, false)),
+        Ok((7, true, false, false, false)),
     ),
-    (&["bsp_tool", "--places"], Ok((1, false, true, false))),
+    (
+        &["bsp_tool", "--places"],
+        Ok((1, false, true, false, false)),
+    ),
     (
         &["bsp_tool", "--scratch", "--places", "--workers", "2"],
-        Ok((2, true, true, false)),
+        Ok((2, true, true, false, false)),
     ),
     (
         &["bsp_tool", "--follow", "job.toml"],
-        Ok((1, false, false, true)),
+        Ok((1, false, false, false, true)),
     ),
     (
         &["bsp_tool", "--places", "--follow=job.toml", "--workers=3"],
-        Ok((3, false, true, true)),
+        Ok((3, false, true, false, true)),
     ),
+    (
+        &["bsp_tool", "--changes"],
+        Ok((1, false, false, true, false)),
+    ),
+    (
+        &["bsp_tool", "--changes", "--follow", "job.toml", "--places"],
+        Ok((1, false, true, true, true)),
+    ),
+    (&["bsp_tool", "--changes", "--changes"], Err(2)),
     (&["bsp_tool", "--follow"], Err(2)),
     (&["bsp_tool", "--help"], Err(0)),
     (&["bsp_tool", "--version"], Err(0)),
@@ -65,11 +83,11 @@ fn meaning_of(alloc: Global, words: &'static [&'static str]) -> Meaning {
                 Options {
                     workers,
                     scratch,
-                    places,
+                    detail: Detail { places, changes },
                 },
                 followed,
             ),
-        ) => Ok((workers, scratch, places, followed.is_some())),
+        ) => Ok((workers, scratch, places, changes, followed.is_some())),
         Err(error) => Err(words_status(&error)),
     }
 }

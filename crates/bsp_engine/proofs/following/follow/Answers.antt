@@ -7,12 +7,12 @@ use Rattle.bsp_engine.proofs.following.follow.Goals as goal
 pub returns-in_err-bytes-clause-err : goal.returns-in_err-bytes-clause-err
 returns-in_err-bytes-clause-err g c =
     nothing_said _ (g.S.Source.remaining c.args.source.now) (job_of g.C.Catalogue.meaning)
-    (due_of g.C.Program.Program.acts g.C.Program.Program.ending g.C.Program.Program.looks c.args.options.places) (g.T.Terminal.log c.args.terminal.now)
+    (due_of g.C.Program.Program.acts g.C.Program.Program.ending g.C.Program.Program.looks c.args.options.detail) (g.T.Terminal.log c.args.terminal.now)
 
 pub returns-in_err-job-clause-err : goal.returns-in_err-job-clause-err
 returns-in_err-job-clause-err g c =
     nothing_said _ (g.S.Source.remaining c.args.source.now) (job_of g.C.Catalogue.meaning)
-    (due_of g.C.Program.Program.acts g.C.Program.Program.ending g.C.Program.Program.looks c.args.options.places) (g.T.Terminal.log c.args.terminal.now)
+    (due_of g.C.Program.Program.acts g.C.Program.Program.ending g.C.Program.Program.looks c.args.options.detail) (g.T.Terminal.log c.args.terminal.now)
 
 pub returns-in_err-bytes-clause-replies : goal.returns-in_err-bytes-clause-replies
 returns-in_err-bytes-clause-replies g c = are_live_replies g.C.Program.Program.acts g.C.Program.Program.ending g.C.Program.Program.looks

@@ -1,14 +1,13 @@
 use Rattle.std.proofs.Common.{◌≡◌, ◌+◌, ◌++◌, drop}
-use Rattle.bsp_engine.specs.Lines.{numbered}
-use Rattle.bsp_engine.specs.Live.{after_batches, live_replies}
-use Rattle.bsp_engine.specs.LiveOf.{parts_of}
-use Rattle.bsp_engine.specs.Text.{reply_block}
+use Rattle.bsp_engine.specs.Blocks.{blocks_after}
+use Rattle.bsp_engine.specs.Live.{after_batches, last_result, live_replies}
 use Rattle.bsp_engine.proofs.live.make_all.Given as goal
 
 -- the batches that are left, and their blocks
 abbrev pub invariant-loop-index : goal.invariant-loop-index
 invariant-loop-index g l = record {
-  live : after_batches (parts_of l.live) (drop l.index l.batches) ≡ after_batches (parts_of l.fn.live) l.batches;
-  text : l.text.items ++ numbered (reply_block l.places) (l.index + 1) (live_replies g.P.Program.acts g.P.Program.ending g.P.Program.looks (parts_of l.live) (drop l.index l.batches))
-      ≡ l.fn.text.items ++ numbered (reply_block l.places) 1 (live_replies g.P.Program.acts g.P.Program.ending g.P.Program.looks (parts_of l.fn.live) l.batches);
+  changes : l.live.changes ≡ l.detail.changes;
+  live : after_batches l.live (drop l.index l.batches) ≡ after_batches l.fn.live l.batches;
+  text : l.text.items ++ blocks_after l.detail (l.index + 1) (last_result g.P.Program.acts g.P.Program.ending l.live) (live_replies g.P.Program.acts g.P.Program.ending g.P.Program.looks l.live (drop l.index l.batches))
+      ≡ l.fn.text.items ++ blocks_after l.detail 1 (last_result g.P.Program.acts g.P.Program.ending l.fn.live) (live_replies g.P.Program.acts g.P.Program.ending g.P.Program.looks l.fn.live l.batches);
 }

@@ -9,5 +9,4 @@ returns c =
     let found = found_of c.args.matches.now in
     let workers = c.workers_in.ensures ∙ ap workers_of (one_text-rows found (codes "workers")) in
     let scratch = c.is_given-scratch.ensures ∙ ap is_given (one_text-rows found (codes "scratch")) in
-    let places = c.is_given-places.ensures ∙ ap is_given (one_text-rows found (codes "places")) in
-    rw (workers, scratch, places)
+    rw (workers, scratch, c.detail_in.ensures)

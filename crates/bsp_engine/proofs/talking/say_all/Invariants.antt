@@ -1,4 +1,4 @@
-use Rattle.std.proofs.Common.{◌≡◌, ◌≤◌, ◌-◌, length, take}
+use Rattle.std.proofs.Common.{◌≤◌, ◌-◌, length, take}
 use Rattle.bsp_engine.specs.Talk.{Says}
 use Rattle.bsp_engine.proofs.talking.say_all.Given as goal
 

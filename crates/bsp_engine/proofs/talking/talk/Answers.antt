@@ -1,8 +1,8 @@
-use Rattle.std.proofs.Common.{◌≡◌, ◌∙◌, ◌++◌, [], List, ℕ, length, take, drop, ap, refl, sym, subst, arith}
+use Rattle.std.proofs.Common.{◌≡◌, ◌∙◌, ◌++◌, [], ℕ, take, ap, refl, sym, arith}
 use Rattle.std.proofs.lemmas.Grind.{common_steps}
 use Rattle.bsp_engine.specs.declared.errors.EngineError.{EngineError}
-use Rattle.bsp_engine.specs.declared.errors.EngineError.TheVariants.{Write, Read}
-use Rattle.bsp_engine.specs.Talk.{Answered, Breaks, Stopped}
+use Rattle.bsp_engine.specs.declared.errors.EngineError.TheVariants.{Read}
+use Rattle.bsp_engine.specs.Talk.{Breaks}
 use Rattle.bsp_engine.specs.DueAt.{due_at}
 use Rattle.bsp_engine.proofs.Beginning.{due_at-none}
 use Rattle.bsp_engine.proofs.Conversations.{breaks_first, breaks_here, breaks_in_byte, breaks_in_last, breaks_now, drop_next, goes_as, goes_first, goes_heard, going_byte, handed_on, none_begun, some_begun, talks_end, talks_last}

@@ -1,0 +1,10 @@
+use Rattle.std.proofs.Common.{◌∙◌, ◌++◌, ◌∷◌, [], ℕ, List, Option, ap}
+use Rattle.bsp_engine.specs.Changes.{other, same_lines}
+use Rattle.bsp_engine.proofs.Changed.{others_grow}
+use Rattle.bsp_engine.proofs.changes.all_other_lines.Goals as goal
+
+pub loop-pid-preserved : goal.loop-pid-preserved
+loop-pid-preserved c =
+    let item = c.in_ok-other_lines.ensures ∙ ap (λ (o : Option (List (List ℕ))). other same_lines o c.index-news-pid.result) c.item_at.ensures in
+    others_grow same_lines c.args.olds.now c.args.news.now c.loop-pid.pid c.index-news-pid.result _ _ c.loop-pid-test.true c.index-news-pid.is c.loop-pid.invariant
+    (c.in_ok-push.ensures.ok ∙ ap (λ (x : Option (List (List ℕ))). c.loop-pid.all ++ x ∷ []) item)

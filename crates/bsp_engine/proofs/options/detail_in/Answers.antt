@@ -1,0 +1,12 @@
+use Rattle.std.proofs.Common.{◌∙◌, ap, codes}
+use Rattle.clap.specs.Words.{found_of}
+use Rattle.clap.proofs.WalkLemmas.{one_text-rows}
+use Rattle.bsp_engine.specs.Options.{is_given}
+use Rattle.bsp_engine.proofs.options.detail_in.Goals as goal
+
+pub returns : goal.returns
+returns c =
+    let found = found_of c.args.matches.now in
+    let places = c.is_given-places.ensures ∙ ap is_given (one_text-rows found (codes "places")) in
+    let changes = c.is_given-changes.ensures ∙ ap is_given (one_text-rows found (codes "changes")) in
+    rw (places, changes)

@@ -1,0 +1,111 @@
+//! The blocks of a report.
+
+ghost use Rattle.std.specs.Prelude.{◌≡◌, ◌++◌, IfOk, OnOk, option_map};
+ghost use Rattle.bsp_engine.specs.Blocks.{lines_after, reply_block, reply_lines, result_before, text_of};
+ghost use Rattle.bsp_engine.specs.Text.{update_lines};
+
+use crate::change_lines::push_changes;
+use crate::changes::changes_of;
+use crate::lines::push_line;
+use crate::options::Detail;
+use crate::reporting::{push_refusal, push_result, push_update};
+use bsp_incr::{Reply, Update};
+use bsp_model::OutOfMemory;
+use bsp_run::RunResult;
+use std::alloc::Global;
+
+/// Appends all of a result, or what of it is another than in a result before.
+pub fn push_result_after(
+    text: &mut Vec<u8>,
+    before: Option<&RunResult>,
+    run: &RunResult,
+) -> Result<(), OutOfMemory>
+    ensures { OnOk result (text.new.items ≡ text.old.items ++ lines_after (option_map (λ r. r.now) before.entry) run.now) }
+{
+    match before {
+        None => push_result(text, run),
+        Some(old) => {
+            let changes = changes_of(*text.allocator(), old, run)?;
+            push_changes(text, &changes)
+        }
+    }
+}
+
+fn push_update_if(
+    text: &mut Vec<u8>,
+    places: bool,
+    update: &Option<Update>,
+) -> Result<(), OutOfMemory>
+    ensures { OnOk result (text.new.items ≡ text.old.items ++ update_lines places update.now) }
+{
+    match update {
+        Some(update) => push_update(text, places, update),
+        None => Ok(()),
+    }
+}
+
+/// Appends what follows the line `run K` of a reply.
+fn push_reply(
+    text: &mut Vec<u8>,
+    places: bool,
+    before: Option<&RunResult>,
+    reply: &Reply,
+) -> Result<(), OutOfMemory>
+    ensures { OnOk result (text.new.items ≡ text.old.items ++ reply_lines places (option_map (λ r. r.now) before.entry) reply.now) }
+{
+    match reply {
+        Reply::Done {
+            result: run,
+            update,
+        } => {
+            push_result_after(text, before, run)?;
+            push_update_if(text, places, update)
+        }
+        Reply::Refused(refusal) => push_refusal(text, *refusal),
+    }
+}
+
+/// Appends the block of a reply.
+pub fn push_block(
+    text: &mut Vec<u8>,
+    places: bool,
+    number: u64,
+    before: Option<&RunResult>,
+    reply: &Reply,
+) -> Result<(), OutOfMemory>
+    ensures { OnOk result (text.new.items ≡ text.old.items ++ reply_block places number (option_map (λ r. r.now) before.entry) reply.now) }
+{
+    push_line(text, "run", &[number])?;
+    push_reply(text, places, before, reply)
+}
+
+/// With changes, the result of the last block that has one.
+fn result_before<'a>(
+    changes: bool,
+    before: Option<&'a RunResult>,
+    reply: &'a Reply,
+) -> Option<&'a RunResult>
+    ensures { option_map (λ r. r.now) result ≡ result_before changes (option_map (λ r. r.now) before.entry) reply.now }
+{
+    match reply {
+        Reply::Done {
+            result: run,
+            update: _,
+        } => { if changes { Some(run) } else { None } }
+        Reply::Refused(_) => before,
+    }
+}
+
+/// The text of a report: for each reply a block of lines, which ends with LF. With places each update tells its turns and its deliveries, and with
+/// changes each block after the first only what is another than in the last one before it that has a status.
+pub fn report(alloc: Global, replies: &[Reply], detail: Detail) -> Result<Vec<u8>, OutOfMemory>
+    ensures { IfOk result (λ text. text.items ≡ text_of detail replies.now) }
+{
+    let mut text = Vec::new(alloc);
+    let mut before = None;
+    for (number, reply) in replies.iter().enumerate() {
+        push_block(&mut text, detail.places, number as u64, before, reply)?;
+        before = result_before(detail.changes, before, reply);
+    }
+    Ok(text)
+}
