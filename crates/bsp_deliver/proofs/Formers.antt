@@ -4,7 +4,7 @@ use Rattle.std.proofs.lemmas.List.{get_or_default}
 use Rattle.std.proofs.lemmas.List.FromFn.{get_or-map-range_with_len, length-map-range_with_len}
 use Rattle.bsp_step.specs.OutcomeParts.{OutcomeParts}
 use Rattle.bsp_deliver.specs.Requests.{no_outcome, outcome_of}
-use Rattle.bsp_deliver.specs.Inside.Touched.{former_or, outcomes_before}
+use Rattle.bsp_deliver.specs.Touched.{former_or, outcomes_before}
 use Rattle.bsp_deliver.proofs.Senders.{outcome_of-item}
 
 pub length-outcomes_before : (formers : List (Option (Bor OutcomeParts))) (os : List OutcomeParts) → length (outcomes_before formers os) ≡ length os

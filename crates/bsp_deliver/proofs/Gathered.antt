@@ -10,9 +10,9 @@ use Rattle.bsp_model.specs.declared.request.Send.{Send}
 use Rattle.bsp_model.specs.declared.request.Message.{Message}
 use Rattle.bsp_step.specs.OutcomeParts.{OutcomeParts}
 use Rattle.bsp_deliver.specs.Requests.{requests_from, all_puts, all_sends}
-use Rattle.bsp_deliver.specs.Delivery.{overlay, get_write, put_write, message_of, delivery_parts, next_memory, next_queue}
+use Rattle.bsp_deliver.specs.Delivery.{get_write, put_write, message_of, delivery_parts, next_memory, next_queue}
+use Rattle.bsp_deliver.specs.Inside.Gathering.{overlay, changed_at, put_into, sent_into, put_at, sent_at, ArePlaces}
 use Rattle.bsp_deliver.specs.Condition.{sizes_of, IsPutInside, AreDeliverable, IsAscending}
-use Rattle.bsp_deliver.specs.Inside.Gathering.{changed_at, put_into, sent_into, put_at, sent_at, ArePlaces}
 use Rattle.bsp_deliver.proofs.Writes.{overlay-none, overlay-overlay, length-overlay, memory_written-overlay, overlay-next_memory}
 use Rattle.bsp_deliver.proofs.Senders.{requests_of-more, all_requests, puts_inside, sizes-outcome_of, length-sizes_of}
 

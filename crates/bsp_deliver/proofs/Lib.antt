@@ -9,6 +9,5 @@ pub mod Aligned
 pub mod Formers
 pub mod SameParts
 pub mod SameDelivery
-pub mod TouchedMarks
 pub mod Gathered
 mod Origins

@@ -9,7 +9,8 @@ use Rattle.bsp_model.specs.Memory.{memory_written}
 use Rattle.bsp_model.specs.declared.request.Get.{Get}
 use Rattle.bsp_step.specs.OutcomeParts.{OutcomeParts}
 use Rattle.bsp_deliver.specs.Requests.{each_below, outcome_of, words_read}
-use Rattle.bsp_deliver.specs.Delivery.{DeliveryParts, Write, put_write, get_write, later, last_of, covers, word_of, written, next_word, next_memory, overlay}
+use Rattle.bsp_deliver.specs.Delivery.{DeliveryParts, Write, put_write, get_write, later, last_of, covers, word_of, written, next_word, next_memory}
+use Rattle.bsp_deliver.specs.Inside.Gathering.{overlay}
 
 pub each_below-same : (n : ℕ) (f g : ℕ → ℕ) → ((a : ℕ) → a < n → f a ≡ g a) → each_below n f ≡ each_below n g
 each_below-same n f g h =

@@ -77,7 +77,3 @@ message_of m = record { tag = m.tag; words = m.words }
 -- The messages to the process, by sender, then by issue (Hill et al. 1998; order: this profile). What was not taken before is gone.
 unfoldable pub next_queue : DeliveryParts → List Message
 next_queue parts = map (λ m. message_of m.1) parts.sends
-
--- the memory after these writes, of which private functions alone speak
-abbrev pub overlay : List ℕ → List Write → List ℕ
-overlay memory ws = each_below (length memory) (λ a. written ws a (slice_index memory a))

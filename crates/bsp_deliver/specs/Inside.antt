@@ -2,7 +2,5 @@ pub mod Inbox
 pub mod Sums
 pub mod Comparison
 pub mod SameDelivery
-pub mod Touched
 pub mod Marks
 pub mod Gathering
-pub mod Sorting

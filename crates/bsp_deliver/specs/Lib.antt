@@ -4,4 +4,6 @@ pub mod Inbox
 pub mod Condition
 pub mod SyncFault
 pub mod Cost
+pub mod Touched
 pub mod Inside
+pub mod Sorting

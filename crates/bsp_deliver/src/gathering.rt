@@ -3,9 +3,9 @@
 ghost use Rattle.std.specs.Prelude.{◌≡◌, ◌<◌, ◌+◌, ◌∷◌, All, IfOk, OnOk, length, map, fold, zip, replicate, []};
 ghost use Rattle.std.specs.Vec.Iter.{into_iter_items, into_iter_len};
 ghost use Rattle.bsp_deliver.specs.Requests.{all_puts, all_sends};
-ghost use Rattle.bsp_deliver.specs.Delivery.{overlay, get_write, delivery_parts, next_memory, next_queue};
+ghost use Rattle.bsp_deliver.specs.Delivery.{get_write, delivery_parts, next_memory, next_queue};
+ghost use Rattle.bsp_deliver.specs.Inside.Gathering.{overlay, put_at, sent_at, ArePlaces};
 ghost use Rattle.bsp_deliver.specs.Condition.{AreDeliverable, AreRequestsInside, IsAscending, sizes_of};
-ghost use Rattle.bsp_deliver.specs.Inside.Gathering.{put_at, sent_at, ArePlaces};
 
 use crate::delivery::{memory_with_gets, message};
 use crate::lists::empty_lists;

@@ -6,7 +6,7 @@ ghost use Rattle.bsp_deliver.specs.Delivery.{delivery_parts};
 ghost use Rattle.bsp_deliver.specs.Condition.{AreDeliverable};
 ghost use Rattle.bsp_deliver.specs.Inside.Comparison.{HasSameParcel, HasSameOwn, IsReadable};
 ghost use Rattle.bsp_deliver.specs.Inside.Marks.{AreMarkedUnless, AreToKnown};
-ghost use Rattle.bsp_deliver.specs.Inside.Touched.{former_or, outcomes_before, depends_on_other};
+ghost use Rattle.bsp_deliver.specs.Touched.{former_or, outcomes_before, AreTouched};
 
 use crate::marking::mark_parcels;
 use crate::same::leave_same_words;
@@ -140,7 +140,7 @@ pub fn touched_by_changes(
     requires count { length formers.now ≡ length outcomes.now }
     requires before { AreDeliverable (outcomes_before formers.now outcomes.now) }
     requires after { AreDeliverable outcomes.now }
-    ensures { IfOk result (λ touched. touched.items ≡ each_below (length outcomes.now) (depends_on_other (outcomes_before formers.now outcomes.now) outcomes.now)) }
+    ensures { IfOk result (λ touched. AreTouched (outcomes_before formers.now outcomes.now) outcomes.now touched.items) }
 {
     let mut touched = vec![in alloc; false; outcomes.len()]?;
     mark_touched(touched.as_mut_slice(), formers, outcomes);

@@ -13,10 +13,10 @@ use Rattle.bsp_step.specs.ViewParts.{ViewParts}
 use Rattle.bsp_step.specs.OutcomeParts.{OutcomeParts}
 use Rattle.bsp_deliver.specs.Requests.{each_below, outcome_of, no_outcome}
 use Rattle.bsp_deliver.specs.Delivery.{delivery_parts, next_memory, next_queue}
-use Rattle.bsp_deliver.specs.Inside.Touched.{former_or}
+use Rattle.bsp_deliver.specs.Touched.{former_or}
 use Rattle.bsp_run.specs.Run.{Run}
 use Rattle.bsp_run.specs.Condition.{no_view, deliveries_of}
-use Rattle.bsp_run.specs.Inside.Shares.{deliveries_to}
+use Rattle.bsp_run.specs.Shares.{deliveries_to}
 use Rattle.bsp_run.proofs.Shares.{deliveries_to-all}
 use Rattle.bsp_incr.specs.Inside.Changes.{is_touched, processes_where}
 use Rattle.bsp_incr.specs.Inside.Marks.{AreDelivered}

@@ -9,7 +9,7 @@ use Rattle.bsp_step.specs.ViewParts.{ViewParts}
 use Rattle.bsp_step.specs.OutcomeParts.{OutcomeParts}
 use Rattle.bsp_deliver.specs.Requests.{no_outcome}
 use Rattle.bsp_run.specs.Condition.{no_view}
-use Rattle.bsp_run.specs.Inside.Shares.{turns_of}
+use Rattle.bsp_run.specs.Shares.{turns_of}
 use Rattle.bsp_run.proofs.Shares.{turns_of-all}
 use Rattle.bsp_incr.specs.Inside.Reuse.{needs_turn, serves}
 use Rattle.bsp_incr.specs.Inside.Changes.{differs, processes_where}

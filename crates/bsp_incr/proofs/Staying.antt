@@ -20,7 +20,7 @@ use Rattle.bsp_run.specs.Law.{state_at, views_in, outcomes_in}
 use Rattle.bsp_run.specs.Inside.Record.{IsRecord}
 use Rattle.bsp_run.specs.Condition.{no_view, is_open, is_turned, AreOutcomesOf}
 use Rattle.bsp_run.specs.Supersteps.{supersteps_of, last_superstep, superstep_at}
-use Rattle.bsp_run.specs.Inside.TakingOver.{CanTakeOver, outcomes_there}
+use Rattle.bsp_run.specs.TakingOver.{CanTakeOver, outcomes_there}
 use Rattle.bsp_run.proofs.Opens.{state_seen-views_of, state_seen}
 use Rattle.bsp_run.proofs.Turns.{AreOutcomesOf-turns}
 use Rattle.bsp_run.proofs.Runs.{open_phase}

@@ -3,10 +3,10 @@
 
 ghost use Rattle.std.specs.Prelude.{◌≡◌, ◌<◌, ◌||◌, ℕ, [], All, IfOk, None, length, map, slice_index_or, true, false};
 ghost use Rattle.bsp_deliver.specs.Requests.{each_below, outcome_of};
-ghost use Rattle.bsp_deliver.specs.Inside.Touched.{former_or, outcomes_before};
+ghost use Rattle.bsp_deliver.specs.Touched.{former_or, outcomes_before};
 ghost use Rattle.bsp_deliver.specs.Condition.{AreDeliverable};
 ghost use Rattle.bsp_run.specs.Condition.{no_view, deliveries_of};
-ghost use Rattle.bsp_run.specs.Inside.Shares.{deliveries_to};
+ghost use Rattle.bsp_run.specs.Shares.{deliveries_to};
 ghost use Rattle.bsp_incr.specs.Inside.Changes.{is_touched, processes_where};
 ghost use Rattle.bsp_incr.specs.Inside.Marks.{AreDelivered, AreComparable, OutcomesDifferAtMost};
 ghost use Rattle.bsp_incr.specs.Inside.Next.{IsNextOf, cell_of, next_view};

@@ -4,7 +4,7 @@
 ghost use Rattle.std.specs.Prelude.{◌≡◌, ◌<◌, ◌++◌, All, IfOk, OnOk, filter, map, length, not, slice_index_or, true, false};
 ghost use Rattle.bsp_step.specs.Turn.{turn_of};
 ghost use Rattle.bsp_run.specs.Condition.{no_view};
-ghost use Rattle.bsp_run.specs.Inside.Shares.{turns_of};
+ghost use Rattle.bsp_run.specs.Shares.{turns_of};
 ghost use Rattle.bsp_incr.specs.Inside.Changes.{differs, differ_in};
 ghost use Rattle.bsp_incr.specs.Inside.Marks.{AreMarked, ViewsDifferAtMost, HaveOneTable};
 

@@ -6,7 +6,8 @@ use Rattle.std.proofs.lemmas.Bool.Decides.{nat_tests}
 use Rattle.std.proofs.lemmas.List.Folds.{list_all_at}
 use Rattle.bsp_model.specs.Limits.{highest_price, most_arguments, most_memory_words, most_processes, most_supersteps}
 use Rattle.bsp_model.specs.declared.input.Input.{Input}
-use Rattle.bsp_model.specs.Input.{input_fault, IsLawfulInput}
+use Rattle.bsp_model.specs.Input.{input_fault}
+use Rattle.bsp_model.specs.Inside.LawfulInput.{IsLawfulInput}
 
 chosen : {X : Type 0} (b : Bool) (x : X) (rest : Option X) → cond b (Some x) rest ≡ None → (b ≡ false) × (rest ≡ None)
 chosen true x rest h = cc

@@ -10,7 +10,7 @@ use Rattle.std.proofs.lemmas.Option.{slice_get-get_or, slice_get_past}
 use Rattle.std.proofs.lemmas.List.{get_or-set_same, get_or-set_other, get_or_append_left, get_or_default, get_or-take, get_or-drop, length-append, set-append_left, drop-drop, ext_get_or}
 use Rattle.std.proofs.lemmas.List.FromFn.{length-map-range_with_len, get_or-map-range_with_len, fill_by_all}
 use mathlib.Core.Logic.{inl, inr}
-use Rattle.bsp_model.specs.Memory.{paged_word, words_of, HasPages}
+use Rattle.bsp_model.specs.Inside.Pages.{paged_word, words_of, HasPages}
 
 pub length-words_of : (pages : List (List ℕ)) (len : ℕ) → length (words_of pages len) ≡ len
 unfolding words_of

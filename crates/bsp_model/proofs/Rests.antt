@@ -1,7 +1,8 @@
 -- The words from an address on, to the end of its page.
 use Rattle.std.proofs.Common.{◌≡◌, ◌≤◌, ◌<◌, ℕ, ◌+◌, ◌*◌, ◌/◌, ◌%◌, ◌-◌, List, [], ◌∷◌, ◌++◌, length, get_or, drop, sym, ap, ◌∙◌, arith, length-take, length-drop}
 use Rattle.std.proofs.lemmas.List.{get_or-take, get_or-drop, get_or_default, ext_get_or}
-use Rattle.bsp_model.specs.Memory.{words_of, HasPages, rest_of_page}
+use Rattle.bsp_model.specs.Memory.{rest_of_page}
+use Rattle.bsp_model.specs.Inside.Pages.{words_of, HasPages}
 use Rattle.bsp_model.proofs.Pages.{words_len, get_or-words_of, in_full, in_last, paged_word_at, parts}
 
 word_of_rest : (words : List ℕ) (a i : ℕ) → i < 64 - a % 64 → get_or (rest_of_page words a) i 0 ≡ get_or words (a + i) 0

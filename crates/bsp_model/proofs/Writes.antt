@@ -7,7 +7,8 @@ use Rattle.std.proofs.lemmas.Bool.Decides.{nat_tests}
 use Rattle.std.proofs.lemmas.List.{get_or-set_same, get_or-set_other, get_or_append_left, get_or_default, get_or-take, get_or-drop, get_or-append_right, length-append, length-drop, length-take-le, places}
 use borrow.Rule.Slice.PartMut.{put_mid}
 use mathlib.Core.Logic.{inl, inr}
-use Rattle.bsp_model.specs.Memory.{paged_word, words_of, HasPages, memory_written, word_after}
+use Rattle.bsp_model.specs.Memory.{memory_written}
+use Rattle.bsp_model.specs.Inside.Pages.{paged_word, words_of, HasPages, word_after}
 use Rattle.bsp_model.proofs.Pages.{words_of-each, get_or-words_of, words_len, paged_word_at, parts, place_below, in_full, in_last}
 
 -- which word stands at an address

@@ -1,5 +1,5 @@
 -- When an input is refused.
-use Rattle.std.specs.Prelude.{◌≡◌, ◌≤◌, Option, None, Some, ◌==◌, ◌&&◌, not, nat_le, nat_lt, length, All, if◌then◌else◌}
+use Rattle.std.specs.Prelude.{Option, None, Some, ◌==◌, ◌&&◌, not, nat_le, nat_lt, length, if◌then◌else◌}
 use Rattle.std.specs.List.{list_all}
 use Rattle.bsp_model.specs.Limits.{highest_price, most_arguments, most_memory_words, most_processes, most_supersteps}
 use Rattle.bsp_model.specs.declared.input.Input.{Input}
@@ -17,15 +17,3 @@ input_fault i =
     else (if not (nat_le 1 i.limit && nat_le i.limit most_supersteps) then Some BadLimit
     else (if not (nat_le i.g highest_price && nat_le i.l highest_price) then Some BadPrice
     else None))))))
-
--- What no fault means.
-pub record IsLawfulInput (i : Input) : Type 0 where
-  pub some_process : 1 ≤ length i.mems
-  pub few_processes : length i.mems ≤ most_processes
-  pub same_count : length i.args ≡ length i.mems
-  pub short_memories : All (λ m. length m ≤ most_memory_words) i.mems
-  pub short_arguments : All (λ a. length a ≤ most_arguments) i.args
-  pub some_superstep : 1 ≤ i.limit
-  pub few_supersteps : i.limit ≤ most_supersteps
-  pub small_g : i.g ≤ highest_price
-  pub small_l : i.l ≤ highest_price

@@ -1,4 +1,4 @@
 pub mod Input
 pub mod Limits
 pub mod Memory
-pub mod Shared
+pub mod Inside

@@ -26,7 +26,7 @@ pub struct Memory {
 
 impl Model for Memory {
     ghost use Rattle.std.specs.Prelude.{List, ℕ, ◌++◌, ◌∷◌, []};
-    ghost use Rattle.bsp_model.specs.Memory.{words_of, HasPages};
+    ghost use Rattle.bsp_model.specs.Inside.Pages.{words_of, HasPages};
 
     ghost Value = { List ℕ };
 

@@ -1,7 +1,7 @@
 //! The full pages of a memory.
 
 ghost use Rattle.std.specs.Prelude.{◌≡◌, ℕ, ◌+◌, ◌*◌, ◌<◌, ◌≤◌, ◌↔◌, IsTrue, length, IfOk, OnOk, OnErr};
-ghost use Rattle.bsp_model.specs.Memory.{paged_word, word_after};
+ghost use Rattle.bsp_model.specs.Inside.Pages.{paged_word, word_after};
 
 use crate::OutOfMemory;
 use crate::page::{Page, WORDS_OF_A_PAGE};

@@ -17,7 +17,7 @@ pub struct SharedSeq<T> {
 
 impl<T> Model for SharedSeq<T> {
     ghost use Rattle.std.specs.Prelude.{List};
-    ghost use Rattle.bsp_model.specs.Shared.{items_of};
+    ghost use Rattle.bsp_model.specs.Inside.Shared.{items_of};
 
     ghost Value = { List T };
 

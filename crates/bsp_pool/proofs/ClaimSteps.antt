@@ -6,9 +6,9 @@ use mathlib.Core.Option.{some, some-injective, some-ne-none}
 use lib.ListN.{get_elem?}
 use Rattle.atomic_table.proofs.Lists.{at_set, at_snoc, set_again}
 use Rattle.atomic_table.specs.Table.{State, Final, Seen}
-use Rattle.bsp_pool.specs.Views.{View}
+use Rattle.bsp_pool.specs.Inside.Views.{View}
 use Rattle.bsp_pool.specs.Numbers.{occurrences, units_kept, units_given}
-use Rattle.bsp_pool.specs.Claim.{view_of, total, once_below, IsClaimed, Looks, kept_view, given_view, joined_view}
+use Rattle.bsp_pool.specs.Inside.Claim.{view_of, total, once_below, IsClaimed, Looks, kept_view, given_view, joined_view}
 
 -- a sum after a change of one view
 total_set : (f : View → ℕ) (views : List View) (seat : ℕ) (v w : View) → get_elem? views seat ≡ some v → total f (set views seat w) + f v ≡ total f views + f w

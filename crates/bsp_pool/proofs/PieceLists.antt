@@ -10,7 +10,7 @@ use Rattle.std.proofs.lemmas.List.Elements.{All-append}
 use Rattle.std.specs.List.Sorted.{IsPermutation}
 use Rattle.std.proofs.lemmas.List.Sorted.{All-permutation}
 use Rattle.bsp_pool.specs.declared.piece.Piece.{Piece}
-use Rattle.bsp_pool.specs.Pieces.{ArePieces}
+use Rattle.bsp_pool.specs.Inside.Pieces.{ArePieces}
 
 abbrev IsPieceOf : {T : Type 0} → List T → Piece T → Type 0
 IsPieceOf outs p = slice_get outs p.number ≡ Some p.output

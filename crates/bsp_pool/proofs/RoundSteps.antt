@@ -8,7 +8,8 @@ use Rattle.bsp_pool.specs.declared.round.Worker.{Worker}
 use Rattle.bsp_pool.specs.declared.round.Worker.TheVariants.{Ready, Holding, PastEnd, Gone}
 use Rattle.bsp_pool.specs.declared.event.CoreRefusal.{CoreRefusal}
 use Rattle.bsp_pool.specs.declared.event.CoreRefusal.TheVariants.{NotNow, OutOfMemory}
-use Rattle.bsp_pool.specs.Rounds.{RoundParts, opened, Applies, after_draw, after_run, after_leave, number_of, finished, IsRoundSound}
+use Rattle.bsp_pool.specs.Rounds.{RoundParts, opened, Applies, after_draw, after_run, after_leave, finished, IsRoundSound}
+use Rattle.bsp_pool.specs.Inside.Holding.{number_of}
 use Rattle.bsp_pool.specs.Machine.{Machine, starting, with_round, inputs_of, turned, IsSound}
 
 pub some-inj : {X : Type 0} {x y : X} → Some x ≡ Some y → x ≡ y

@@ -2,7 +2,7 @@
 use Rattle.std.proofs.lemmas.List.{take_all}
 use Rattle.std.proofs.Common.{◌≡◌, ℕ, zero, suc, ◌<◌, ◌≤◌, ◌+◌, take, List, [], ◌∷◌, ◌++◌, length, refl, sym, ap, ◌∙◌, arith}
 use Rattle.std.specs.Prelude.{Option, Some, None, slice_get, slice_index_or}
-use Rattle.bsp_pool.specs.Turning.{made_unless, missing_of, merged_of}
+use Rattle.bsp_pool.specs.Inside.Turning.{made_unless, missing_of, merged_of}
 use Rattle.bsp_pool.specs.Rounds.{RoundParts, opened, finished}
 use Rattle.bsp_pool.specs.Machine.{Machine, machine, inputs_of, turned}
 use Rattle.bsp_pool.proofs.PieceLists.{output_more}

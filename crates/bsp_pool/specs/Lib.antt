@@ -1,10 +1,7 @@
-pub mod Views
 pub mod Numbers
-pub mod Claim
 pub mod Passes
-pub mod Pieces
 pub mod Rounds
 pub mod Machine
-pub mod Turning
 pub mod EventLists
 pub mod Refusals
+pub mod Inside

@@ -1,5 +1,5 @@
--- What contracts see of a pass: its deck, and what its view in Claim.antt has. This profile's own.
-use Rattle.std.specs.Prelude.{◌≡◌, ℕ, ◌+◌, ◌≤◌, List, [], ◌∷◌, ◌++◌, length}
+-- What contracts see of a pass: its deck, and what its view in Inside/Claim.antt has. This profile's own.
+use Rattle.std.specs.Prelude.{ℕ, ◌+◌, List, [], ◌∷◌, ◌++◌, length}
 use Rattle.atomic_table.specs.Seated.{TableId}
 use Rattle.bsp_pool.specs.Numbers.{units_kept, units_given}
 
@@ -27,9 +27,3 @@ given p = pass_of p.deck (units_given p.units (length p.numbers)) []
 -- both of two passes of a deck
 abbrev pub joined : PassContent → PassContent → PassContent
 joined p q = pass_of p.deck (p.units + q.units) (p.numbers ++ q.numbers)
-
--- a pass of the deck without numbers, with a unit for each of so many workers
-pub record IsFreshFor (deck : TableId) (workers : ℕ) (pass : PassContent) : Type 0 where
-  pub of_deck : pass.deck ≡ deck
-  pub fresh : pass.numbers ≡ []
-  pub units : workers ≤ pass.units

@@ -33,11 +33,6 @@ after_run does inputs p w (Some (Holding number)) =
     Some (with_output p w number (option_map does (slice_get inputs number)))
 after_run does inputs p w _ = None
 
--- the number that a worker holds
-abbrev pub number_of : Option Worker → Option ℕ
-number_of (Some (Holding number)) = Some number
-number_of _ = None
-
 -- Left: a worker that hasn't left leaves. A number that it held is given up
 abbrev pub after_leave : {Out : Type 0} → RoundParts Out → ℕ → Option Worker → Option (RoundParts Out)
 after_leave p w None = None

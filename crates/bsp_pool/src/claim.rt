@@ -9,7 +9,7 @@ pub(crate) struct ClaimRule;
 impl TableRule<Infallible, PassView, ()> for ClaimRule {
     ghost use Rattle.std.specs.Prelude.{[]};
     ghost use Rattle.bsp_pool.specs.Numbers.{all_units};
-    ghost use Rattle.bsp_pool.specs.Claim.{view_of, IsClaimed};
+    ghost use Rattle.bsp_pool.specs.Inside.Claim.{view_of, IsClaimed};
 
     ghost holds = { λ _ s. IsClaimed s.words s.views };
 
@@ -21,7 +21,7 @@ pub(crate) struct Draw;
 
 impl Play<Infallible, PassView> for Draw {
     ghost use Rattle.std.specs.Prelude.{◌≡◌};
-    ghost use Rattle.bsp_pool.specs.Claim.{Draws};
+    ghost use Rattle.bsp_pool.specs.Inside.Claim.{Draws};
 
     ghost then = { λ _ before found after. Draws before.0 found after.0 × (after.1 ≡ before.1) };
 }
@@ -31,7 +31,7 @@ pub(crate) struct Look;
 
 impl Play<Infallible, PassView> for Look {
     ghost use Rattle.std.specs.Prelude.{◌≡◌};
-    ghost use Rattle.bsp_pool.specs.Claim.{Looks};
+    ghost use Rattle.bsp_pool.specs.Inside.Claim.{Looks};
 
     ghost then = { λ _ before found after. Looks before.0 found after.0 × (after.1 ≡ before.1) };
 }
@@ -40,7 +40,7 @@ impl Play<Infallible, PassView> for Look {
 pub(crate) struct ShareUnit;
 
 impl Split<PassView> for ShareUnit {
-    ghost use Rattle.bsp_pool.specs.Claim.{kept_view, given_view};
+    ghost use Rattle.bsp_pool.specs.Inside.Claim.{kept_view, given_view};
 
     ghost left = { kept_view };
 
@@ -52,7 +52,7 @@ pub(crate) struct JoinPasses;
 
 impl Join<PassView> for JoinPasses {
     ghost use Rattle.std.specs.Prelude.{[]};
-    ghost use Rattle.bsp_pool.specs.Claim.{view_of, joined_view};
+    ghost use Rattle.bsp_pool.specs.Inside.Claim.{view_of, joined_view};
 
     ghost both = { joined_view };
 

@@ -1,7 +1,7 @@
 //! A phase, by the thread that calls it.
 
 ghost use Rattle.std.specs.Prelude.{◌≡◌, ◌<◌, ◌≤◌, All, IfOk, Some, map, length, slice_get};
-ghost use Rattle.bsp_pool.specs.Pieces.{ArePieces};
+ghost use Rattle.bsp_pool.specs.Inside.Pieces.{ArePieces};
 
 use crate::piece::{Piece, lowest_last, next_output, no_pieces};
 use crate::work::{Gate, Work};

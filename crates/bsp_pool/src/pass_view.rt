@@ -9,7 +9,7 @@ use std::marker::Model;
 pub(crate) struct PassView;
 
 impl Model for PassView {
-    ghost use Rattle.bsp_pool.specs.Views.{View, no_view};
+    ghost use Rattle.bsp_pool.specs.Inside.Views.{View, no_view};
 
     ghost Value = { View };
 

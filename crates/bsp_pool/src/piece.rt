@@ -1,7 +1,7 @@
 //! What workers hand back: pieces, each the output of one number.
 
 ghost use Rattle.std.specs.Prelude.{◌≡◌, ◌++◌, if◌then◌else◌, is_ok, IfSome, List, Some, slice_get};
-ghost use Rattle.bsp_pool.specs.Pieces.{ArePieces};
+ghost use Rattle.bsp_pool.specs.Inside.Pieces.{ArePieces};
 
 use crate::OutOfMemory;
 use std::alloc::Global;

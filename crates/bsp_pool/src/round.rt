@@ -2,9 +2,10 @@
 
 ghost use Rattle.std.specs.Prelude.{◌≡◌, ◌+◌, ◌<◌, ◌≤◌, ◌++◌, IfOk, All, length, replicate, slice_get, vec_len};
 ghost use Rattle.std.specs.List.{list_all};
-ghost use Rattle.bsp_pool.specs.Rounds.{opened, after_draw, after_leave, number_of, with_output, is_gone, Applies};
+ghost use Rattle.bsp_pool.specs.Rounds.{opened, after_draw, after_leave, with_output, is_gone, Applies};
+ghost use Rattle.bsp_pool.specs.Inside.Holding.{number_of};
 ghost use Rattle.std.specs.Vec.{vec_capacity};
-ghost use Rattle.bsp_pool.specs.Turning.{merged_of};
+ghost use Rattle.bsp_pool.specs.Inside.Turning.{merged_of};
 
 use crate::event::CoreRefusal;
 use crate::turning::merged;

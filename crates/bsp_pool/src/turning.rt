@@ -3,7 +3,7 @@
 
 ghost use Rattle.std.specs.Prelude.{◌≡◌, ◌+◌, ◌≤◌, ◌++◌, IfOk, All, length, vec_len};
 ghost use Rattle.std.specs.Vec.{vec_capacity};
-ghost use Rattle.bsp_pool.specs.Turning.{made_unless, missing_of, merged_of};
+ghost use Rattle.bsp_pool.specs.Inside.Turning.{made_unless, missing_of, merged_of};
 
 use crate::OutOfMemory;
 use crate::work::Work;

@@ -2,8 +2,7 @@
 
 ghost use Rattle.std.specs.Prelude.{◌≡◌, ◌+◌, ◌-◌, ◌<◌, All, List, map};
 ghost use Rattle.std.specs.Thread.{IsSync};
-ghost use Rattle.bsp_pool.specs.Passes.{IsFreshFor};
-ghost use Rattle.bsp_pool.specs.Pieces.{HandsBack};
+ghost use Rattle.bsp_pool.specs.Inside.Pieces.{IsFreshFor, HandsBack};
 
 use crate::piece::{Piece, gather};
 use crate::watch::Watch;

@@ -6,7 +6,7 @@ use Rattle.std.proofs.lemmas.List.Elements.{All-map, All-nil}
 use Rattle.std.proofs.lemmas.List.FromFn.{fill_by_all}
 use Rattle.bsp_model.specs.declared.input.Input.{Input}
 use Rattle.bsp_model.specs.declared.request.Message.{Message}
-use Rattle.bsp_model.specs.Input.{IsLawfulInput}
+use Rattle.bsp_model.specs.Inside.LawfulInput.{IsLawfulInput}
 use Rattle.bsp_table.specs.declared.area.Area.{Area}
 use Rattle.bsp_table.specs.NextTable.{IsSlotInside}
 use Rattle.bsp_step.specs.ViewParts.{ViewParts, IsQueue, IsTableFor, IsShortMessage}

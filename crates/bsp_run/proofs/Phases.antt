@@ -28,7 +28,8 @@ use Rattle.bsp_run.specs.State.{State, views_of, next_state, pops_of, pushes_of}
 use Rattle.bsp_run.specs.Ending.{end_of, end_without_fault, faults_from}
 use Rattle.bsp_run.specs.Run.{Run, open_views, after_turns, after_delivery, phase_after}
 use Rattle.bsp_run.specs.Inside.Opening.{CanOpen, state_of}
-use Rattle.bsp_run.specs.Condition.{CanSync, deliveries_of, IsNextTable, IsState, IsRun, IsInPhase, IsTurned, IsOpen, AreOutcomesOf}
+use Rattle.bsp_run.specs.Condition.{deliveries_of, IsState, IsRun, IsInPhase, IsTurned, IsOpen, AreOutcomesOf}
+use Rattle.bsp_run.specs.Inside.Condition.{CanSync, IsNextTable}
 use Rattle.bsp_run.proofs.Lists.{map_twice}
 use Rattle.bsp_run.proofs.Opens.{can_open, reopened, state_seen}
 use Rattle.bsp_run.proofs.Conditions.{count_of_outcomes, sizes, sizes-same, outcome_at, AreDeliverable-from_turns, pops_are_slots, pushes_are_inside, pushes_within}

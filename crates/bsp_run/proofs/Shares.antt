@@ -13,7 +13,7 @@ use Rattle.bsp_deliver.specs.Requests.{no_outcome}
 use Rattle.bsp_run.specs.Run.{Run, open_views, after_turns}
 use Rattle.bsp_run.specs.Condition.{AreOutcomesOf, no_view, is_open, is_turned, deliveries_of}
 use Rattle.bsp_run.specs.Shown.{views_shown, outcomes_shown}
-use Rattle.bsp_run.specs.Inside.Shares.{turns_of, deliveries_to}
+use Rattle.bsp_run.specs.Shares.{turns_of, deliveries_to}
 use Rattle.bsp_run.proofs.Runs.{views_shown-open, outcomes_shown-turned, turned_phase_is}
 use Rattle.bsp_run.proofs.Turns.{AreOutcomesOf-turns}
 

@@ -8,7 +8,7 @@ use Rattle.std.proofs.lemmas.List.Elements.{All-nil}
 use Rattle.bsp_model.specs.declared.input.Input.{Input}
 use Rattle.bsp_model.specs.declared.cost.CostRow.{CostRow}
 use Rattle.bsp_model.specs.declared.fault.End.{End}
-use Rattle.bsp_model.specs.Input.{IsLawfulInput}
+use Rattle.bsp_model.specs.Inside.LawfulInput.{IsLawfulInput}
 use Rattle.bsp_table.specs.declared.area.Area.{Area}
 use Rattle.bsp_table.specs.NextTable.{AreSlots}
 use Rattle.bsp_step.specs.Act.{Act}
@@ -26,7 +26,8 @@ use Rattle.bsp_run.specs.State.{State, first_state, next_state, views_of}
 use Rattle.bsp_run.specs.Ending.{end_of}
 use Rattle.bsp_run.specs.Run.{Run, start, open_views, after_turns, after_delivery, phase_after, is_limit, advance, times, run}
 use Rattle.bsp_run.specs.Inside.Opening.{CanOpen}
-use Rattle.bsp_run.specs.Condition.{IsInPhase, IsAtLimit, IsRun, CanSync, AreOutcomesOf, is_open, is_turned}
+use Rattle.bsp_run.specs.Condition.{IsInPhase, IsAtLimit, IsRun, AreOutcomesOf, is_open, is_turned}
+use Rattle.bsp_run.specs.Inside.Condition.{CanSync}
 use Rattle.bsp_run.specs.Result.{status_in, status_of, memories_of, lines_of, lines_of_process, delivered_turns, turns_in, costs_of, cost_of_delivery, cost_of_end, total_of, result_of}
 use Rattle.bsp_run.specs.Inside.Tape.{IsSmall}
 use Rattle.bsp_run.specs.Inside.Unrecorded.{lines_and, state_after}

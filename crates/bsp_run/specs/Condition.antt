@@ -1,20 +1,18 @@
 -- What a run keeps, and what its calls ask.
 use Rattle.std.specs.Prelude.{◌≡◌, ◌≤◌, ◌<◌, ℕ, None, Some, Bool, true, false, List, [], map, length, All, slice_index_or}
-use Rattle.bsp_model.specs.Limits.{highest_price, most_arguments, most_memory_words, most_processes, most_slots, most_supersteps, most_tag_words}
+use Rattle.bsp_model.specs.Limits.{highest_price, most_arguments, most_memory_words, most_processes, most_supersteps, most_tag_words}
 use Rattle.bsp_model.specs.declared.request.Message.{Message}
-use Rattle.bsp_table.specs.declared.area.Area.{Area}
-use Rattle.bsp_table.specs.NextTable.{AreFull, AreSlots, AreSlotsInside, AreSlotsWithin, ArePushesInside, AreWithin, table_fault}
+use Rattle.bsp_table.specs.NextTable.{AreSlotsInside}
 use Rattle.bsp_step.specs.ViewParts.{ViewParts, IsQueue, IsTableFor}
 use Rattle.bsp_step.specs.OutcomeParts.{OutcomeParts, IsOutcome, IsOutcomeOf}
-use Rattle.bsp_deliver.specs.Requests.{no_outcome}
-use Rattle.bsp_deliver.specs.Requests.{each_below}
+use Rattle.bsp_deliver.specs.Requests.{no_outcome, each_below}
 use Rattle.bsp_deliver.specs.Delivery.{delivery_parts, next_memory, next_queue}
 use Rattle.bsp_deliver.specs.Condition.{AreDeliverable}
 use Rattle.bsp_run.specs.declared.result.Status.{Status}
 use Rattle.bsp_run.specs.declared.result.Status.TheVariants.{Halted, Limit, Faulted, SyncFaulted}
 use Rattle.bsp_run.specs.declared.phase.Phase.{Phase}
 use Rattle.bsp_run.specs.declared.phase.Phase.TheVariants.{Open, Turned, Ended}
-use Rattle.bsp_run.specs.State.{State, pops_of, pushes_of}
+use Rattle.bsp_run.specs.State.{State}
 use Rattle.bsp_run.specs.Ending.{end_of}
 use Rattle.bsp_run.specs.Run.{Run, open_views}
 
@@ -42,25 +40,6 @@ pub record IsState (s : State) : Type 0 where
   pub table : IsTableFor (length s.memories) s.table
   pub inside : AreSlotsInside (map (λ m. length m) s.memories) s.table
   pub small_tag : s.tag_size ≤ most_tag_words
-
--- A next table within the limits, whose areas lie inside the memories.
-pub record IsNextTable (n : ℕ) (ns : List ℕ) (slots : List (List Area)) : Type 0 where
-  pub few : length slots ≤ most_slots
-  pub full : AreFull n slots
-  pub inside : AreSlotsInside ns slots
-  pub within : AreSlotsWithin most_memory_words slots
-
--- What the step to the next table asks: the turns of processes that all see this table, at whose end there is no fault.
-pub record CanSync (slots : List (List Area)) (os : List OutcomeParts) : Type 0 where
-  pub some : 1 ≤ length os
-  pub few : length os ≤ most_processes
-  pub full : AreFull (length os) slots
-  pub pops : All (λ o. AreSlots slots o.pops) os
-  pub faultless : table_fault slots (pops_of os) (pushes_of os) ≡ None
-  pub inside : AreSlotsInside (map (λ o. length o.memory) os) slots
-  pub pushes : ArePushesInside (map (λ o. length o.memory) os) (pushes_of os)
-  pub within : AreSlotsWithin most_memory_words slots
-  pub short_pushes : All (λ o. AreWithin most_memory_words o.pushes) os
 
 -- What holds of a superstep that ended the run so.
 pub record IsEnd (r : Run) (status : Status) : Type 0 where

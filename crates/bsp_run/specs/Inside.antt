@@ -2,7 +2,6 @@ pub mod Tape
 pub mod History
 pub mod Opening
 pub mod Record
-pub mod Shares
-pub mod TakingOver
 pub mod Unrecorded
 pub mod IsUnrecorded
+pub mod Condition

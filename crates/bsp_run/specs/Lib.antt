@@ -8,3 +8,5 @@ pub mod RunErrors
 pub mod Supersteps
 pub mod Law
 pub mod Inside
+pub mod Shares
+pub mod TakingOver

@@ -4,7 +4,7 @@ ghost use Rattle.std.specs.Prelude.{◌≡◌, ◌≤◌, ◌==◌, ◌++◌, �
 ghost use Rattle.bsp_table.specs.NextTable.{AreFull, AreSlots, AreSlotsInside, AreSlotsWithin, ArePushesInside, AreWithin, next_table, table_fault};
 ghost use Rattle.bsp_run.specs.State.{pops_of, pushes_of};
 ghost use Rattle.bsp_run.specs.Run.{phase_after, is_limit};
-ghost use Rattle.bsp_run.specs.Condition.{CanSync};
+ghost use Rattle.bsp_run.specs.Inside.Condition.{CanSync};
 
 use crate::{Outcomes, Phase, Status, Superstep, Views};
 use bsp_model::{CostRow, OutOfMemory, Shared, SharedSeq};

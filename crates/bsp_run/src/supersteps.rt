@@ -7,7 +7,7 @@ ghost use Rattle.bsp_step.specs.Turn.{turn_of};
 ghost use Rattle.bsp_deliver.specs.Condition.{AreDeliverable, IsAscending};
 ghost use Rattle.bsp_run.specs.Run.{advance, run};
 ghost use Rattle.bsp_run.specs.Condition.{is_turned};
-ghost use Rattle.bsp_run.specs.Inside.Shares.{turns_of, deliveries_to};
+ghost use Rattle.bsp_run.specs.Shares.{turns_of, deliveries_to};
 ghost use Rattle.bsp_run.specs.Law.{IsBspRun};
 ghost use Rattle.bsp_run.specs.RunErrors.{input_fault_of};
 

@@ -3,7 +3,7 @@
 ghost use Rattle.std.specs.Prelude.{◌≡◌, ◌≤◌, IfOk, OnOk, OnErr, length};
 ghost use Rattle.bsp_run.specs.Run.{after_turns, after_delivery};
 ghost use Rattle.bsp_run.specs.Supersteps.{views_at};
-ghost use Rattle.bsp_run.specs.Inside.TakingOver.{CanTakeOver, outcomes_there};
+ghost use Rattle.bsp_run.specs.TakingOver.{CanTakeOver, outcomes_there};
 
 use crate::costs::cost_at;
 use crate::keeping::{keep_superstep, phase_at};

@@ -4,7 +4,7 @@ ghost use Rattle.std.specs.Prelude.{◌<◌, length, slice_index_or};
 ghost use Rattle.bsp_step.specs.Turn.{turn_of};
 ghost use Rattle.bsp_deliver.specs.Condition.{AreDeliverable};
 ghost use Rattle.bsp_deliver.specs.Delivery.{delivery_parts, next_memory, next_queue};
-ghost use Rattle.bsp_deliver.specs.Inside.Sorting.{IsSortedFrom};
+ghost use Rattle.bsp_deliver.specs.Sorting.{IsSortedFrom};
 ghost use Rattle.bsp_run.specs.Condition.{no_view};
 
 use crate::seen::seen_by;

@@ -16,7 +16,8 @@ use Rattle.bsp_step.specs.ViewParts.{ViewParts, IsView, IsShortMessage}
 use Rattle.bsp_step.specs.Context.{Context, fresh}
 use Rattle.bsp_step.specs.CtxInside.{IsContext}
 use Rattle.bsp_step.specs.Act.{Act, store, charge, put, get, send, move_into, push_reg, pop_reg, set_tagsize, print}
-use Rattle.bsp_step.specs.Perform.{perform, performed, perform_all, refusal, done, first_fault, fault_unless, area_fault, place_fault, slot_fault, start_of, target_area, count_of_requests}
+use Rattle.bsp_step.specs.Perform.{perform, performed, perform_all, refusal, done, first_fault, fault_unless, area_fault, slot_fault, start_of, target_area, count_of_requests}
+use Rattle.bsp_step.specs.Inside.Checks.{place_fault}
 use Rattle.bsp_step.specs.Requests.{IsAddressed, IsPlaced, IsAsked}
 use Rattle.bsp_step.specs.OutcomeParts.{IsOutcome, IsOutcomeOf, IsHaltOnFault, IsShortSend}
 use Rattle.bsp_step.specs.Turn.{closed, ended_of, abort_of, turn_of}

@@ -1,14 +1,13 @@
 -- What an acting call promises, and what a part of a step promises that is written with `?`.
 use Rattle.std.specs.Prelude.{◌≡◌, ℕ, IfOk, List, Option, Result, Ok, Err, None, Some, alloc_error}
 use Rattle.std.specs.declared.alloc.AllocError.{AllocError}
-use Rattle.bsp_model.specs.declared.fault.Fault.{Fault as FaultKind}
 use Rattle.bsp_model.specs.declared.fault.End.{End}
 use Rattle.bsp_model.specs.declared.fault.End.TheVariants.{Halt}
 use Rattle.bsp_step.specs.declared.stop.Stop.{Stop}
 use Rattle.bsp_step.specs.declared.stop.Stop.TheVariants.{Fault, OutOfMemory}
 use Rattle.bsp_step.specs.Context.{Context}
 use Rattle.bsp_step.specs.Act.{Act}
-use Rattle.bsp_step.specs.Perform.{perform, performed, perform_all, refusal, done}
+use Rattle.bsp_step.specs.Perform.{perform, perform_all, refusal, done}
 
 -- The act is performed and this fault is kept; or memory is wanted, no check fails, and nothing changes.
 abbrev pub Stops : Context → Act → Context → Stop → Type 0
@@ -49,12 +48,6 @@ PerformsAll old acts new (Err OutOfMemory) = (new ≡ old) × (old.fault ≡ Non
 abbrev pub PutsWords : Context → Option (List ℕ) → (List ℕ → Act) → Context → Result (Option (Unit {0})) Stop → Type 0
 PutsWords old None act new result = (new ≡ old) × (result ≡ Ok None)
 PutsWords old (Some words) act new result = Performs old (act words) new result × IfOk result (λ answer. answer ≡ Some tt)
-
--- A check passes, and nothing changes; or the fault is kept, that of an earlier call or else that of the check.
-abbrev pub Passes : {T : Type 0} → Context → Option FaultKind → Context → Result T Stop → Type 0
-Passes old refused new (Ok _) = (new ≡ old) × (old.fault ≡ None) × (refused ≡ None)
-Passes old refused new (Err (Fault f)) = (new ≡ performed old.fault refused old old) × (new.fault ≡ Some f)
-Passes old refused new (Err OutOfMemory) = ⊥
 
 -- What becomes of the answer of a step that is written with `?`.
 abbrev pub settled : Result End Stop → Result End AllocError

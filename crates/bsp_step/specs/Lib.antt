@@ -15,6 +15,6 @@ pub mod Plan
 pub mod Footprints
 pub mod LooksEverywhere
 pub mod Reads
-pub mod SameOutcome
 pub mod Queue
 pub mod Sorted
+pub mod Inside

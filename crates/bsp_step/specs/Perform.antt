@@ -41,11 +41,6 @@ slot_fault (Some slot) start = None
 abbrev pub request_fault : Context → Option Fault
 request_fault c = fault_unless (nat_lt (count_of_requests c) most_requests) TooManyRequests
 
--- the checks of a request to words of an area of a process, up to this end
-abbrev pub place_fault : Context → ℕ → ℕ → ℕ → Option Fault
-place_fault c pid area end =
-    first_fault (request_fault c) (first_fault (fault_unless (nat_lt pid c.view.nprocs) (BadPid pid)) (area_fault (target_area c.view pid area) area end))
-
 -- The first check of an act that fails, if one does: the checks of each call from left to right (this profile). Sums don't wrap.
 abbrev pub refusal : Context → Act → Option Fault
 refusal c (store a v) = fault_unless (nat_lt a (length c.memory)) BadLocal

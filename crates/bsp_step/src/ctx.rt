@@ -3,7 +3,7 @@
 ghost use Rattle.std.specs.Prelude.{◌≡◌, IfOk, Err, Some};
 ghost use Rattle.bsp_step.specs.Context.{fresh};
 ghost use Rattle.bsp_step.specs.Perform.{count_of_requests, request_fault};
-ghost use Rattle.bsp_step.specs.Calls.{Passes};
+ghost use Rattle.bsp_step.specs.Inside.Checks.{Passes};
 ghost use Rattle.bsp_step.specs.OutcomeParts.{IsOutcome, IsOutcomeOf};
 ghost use Rattle.bsp_step.specs.Turn.{closed};
 

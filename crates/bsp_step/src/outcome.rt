@@ -57,7 +57,7 @@ impl Model for Outcome {
 }
 
 impl Outcome {
-    ghost use Rattle.bsp_step.specs.SameOutcome.{HasSameRequests, HasSameEnd};
+    ghost use Rattle.bsp_step.specs.Inside.SameOutcome.{HasSameRequests, HasSameEnd};
 
     fn has_same_requests(&self, other: &Outcome) -> bool
         ensures { IsTrue result ↔ HasSameRequests self.now other.now }

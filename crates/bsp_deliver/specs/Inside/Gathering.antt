@@ -1,10 +1,11 @@
 -- Requests that change, one after another, what stands at their target's place in a list: private functions alone speak of them.
-use Rattle.std.specs.Prelude.{◌≡◌, ◌↔◌, ℕ, ◌<◌, List, [], ◌∷◌, ◌++◌, length, slice_index, slice_index_or, slice_set}
+use Rattle.std.specs.Prelude.{◌≡◌, ◌↔◌, ℕ, ◌<◌, List, [], ◌∷◌, ◌++◌, length, slice_index, slice_index_or, slice_set, ◌+◌}
 use Rattle.bsp_model.specs.Memory.{memory_written}
 use Rattle.bsp_model.specs.declared.request.Put.{Put}
 use Rattle.bsp_model.specs.declared.request.Send.{Send}
 use Rattle.bsp_model.specs.declared.request.Message.{Message}
-use Rattle.bsp_deliver.specs.Delivery.{message_of}
+use Rattle.bsp_deliver.specs.Delivery.{message_of, Write, written}
+use Rattle.bsp_deliver.specs.Requests.{each_below}
 
 -- the item at a request's place, changed by it. Where there is no such place, nothing changes.
 abbrev pub changed_at : {S R : Type 0} → (S → R → S) → S → (R → ℕ) → List S → R → List S
@@ -28,3 +29,7 @@ sent_at places = changed_at sent_into [] (λ m. slice_index places m.target)
 pub record ArePlaces (n : ℕ) (processes places : List ℕ) : Type 0 where
   pub count : length places ≡ n
   pub each : (d k : ℕ) → d < n → k < length processes → (slice_index places d ≡ k) ↔ (slice_index processes k ≡ d)
+
+-- the memory after these writes, of which private functions alone speak
+abbrev pub overlay : List ℕ → List Write → List ℕ
+overlay memory ws = each_below (length memory) (λ a. written ws a (slice_index memory a))

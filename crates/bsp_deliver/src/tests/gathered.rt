@@ -1,6 +1,6 @@
 ghost use Rattle.std.specs.Prelude.{◌≡◌, ◌<◌, All, ◌∷◌, [], length};
 ghost use Rattle.bsp_deliver.specs.Condition.{AreDeliverable};
-ghost use Rattle.bsp_deliver.specs.Inside.Sorting.{IsSortedFrom};
+ghost use Rattle.bsp_deliver.specs.Sorting.{IsSortedFrom};
 
 use crate::tests::exchange::exchange;
 use crate::tests::memories::leaves;

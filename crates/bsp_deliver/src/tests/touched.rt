@@ -1,6 +1,6 @@
 ghost use Rattle.std.specs.Prelude.{◌≡◌, IfOk, length};
 ghost use Rattle.bsp_deliver.specs.Condition.{AreDeliverable};
-ghost use Rattle.bsp_deliver.specs.Inside.Touched.{outcomes_before};
+ghost use Rattle.bsp_deliver.specs.Touched.{outcomes_before};
 
 use crate::tests::outcomes::{Process, outcomes_of};
 use crate::touched_by_changes;

@@ -2,8 +2,9 @@
 
 ghost use Rattle.std.specs.Prelude.{◌≡◌, ◌<◌, ◌≤◌, ◌+◌, IfOk, IfSome};
 ghost use Rattle.bsp_step.specs.Act as act;
-ghost use Rattle.bsp_step.specs.Perform.{place_fault, start_of, target_area};
-ghost use Rattle.bsp_step.specs.Calls.{Passes, Performs};
+ghost use Rattle.bsp_step.specs.Perform.{start_of, target_area};
+ghost use Rattle.bsp_step.specs.Inside.Checks.{place_fault, Passes};
+ghost use Rattle.bsp_step.specs.Calls.{Performs};
 
 use crate::{Ctx, Stop};
 use bsp_model::limits::MOST_MEMORY_WORDS;

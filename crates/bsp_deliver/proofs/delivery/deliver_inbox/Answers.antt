@@ -2,7 +2,8 @@ use Rattle.std.proofs.Common.{◌∙◌, ap, sym, length, map, ◌≡◌, ◌+�
 use Rattle.bsp_model.specs.declared.request.Put.{Put}
 use Rattle.bsp_model.specs.declared.request.Send.{Send}
 use Rattle.bsp_step.specs.ViewParts.{IsQueue}
-use Rattle.bsp_deliver.specs.Delivery.{overlay, get_write, put_write, message_of, delivery_parts, next_memory, next_queue}
+use Rattle.bsp_deliver.specs.Delivery.{get_write, put_write, message_of, delivery_parts, next_memory, next_queue}
+use Rattle.bsp_deliver.specs.Inside.Gathering.{overlay}
 use Rattle.bsp_deliver.specs.Inbox.{InboxParts}
 use Rattle.bsp_deliver.specs.Condition.{sizes_of}
 use Rattle.bsp_deliver.proofs.Writes.{overlay-next_memory, length-overlay, length-next_memory}

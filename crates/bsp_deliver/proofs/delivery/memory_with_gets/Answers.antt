@@ -2,7 +2,8 @@ use Rattle.std.proofs.Common.{◌≡◌, ℕ, ◌∙◌, ap, sym, arith, length,
 use Rattle.bsp_model.specs.declared.request.Get.{Get}
 use Rattle.bsp_step.specs.OutcomeParts.{OutcomeParts}
 use Rattle.bsp_deliver.specs.Requests.{words_read}
-use Rattle.bsp_deliver.specs.Delivery.{overlay, get_write, delivery_parts}
+use Rattle.bsp_deliver.specs.Delivery.{get_write, delivery_parts}
+use Rattle.bsp_deliver.specs.Inside.Gathering.{overlay}
 use Rattle.bsp_deliver.specs.Condition.{sizes_of, AreRequestsInside}
 use Rattle.bsp_deliver.proofs.Senders.{outcome_of-item, at_item, map_twice}
 use Rattle.bsp_deliver.proofs.delivery.memory_with_gets.Goals as goal

@@ -2,7 +2,8 @@ use Rattle.std.proofs.Common.{◌≡◌, ℕ, ◌+◌, ◌≤◌, ◌==◌, ◌�
 use Rattle.bsp_model.specs.declared.request.Put.{Put}
 use Rattle.bsp_step.specs.OutcomeParts.{OutcomeParts}
 use Rattle.bsp_deliver.specs.Requests.{all_puts}
-use Rattle.bsp_deliver.specs.Delivery.{overlay, put_write, write_of}
+use Rattle.bsp_deliver.specs.Delivery.{put_write, write_of}
+use Rattle.bsp_deliver.specs.Inside.Gathering.{overlay}
 use Rattle.bsp_deliver.specs.Condition.{sizes_of, AreRequestsInside}
 use Rattle.bsp_deliver.proofs.Writes.{overlay-none, overlay-overlay, length-overlay}
 use Rattle.bsp_deliver.proofs.Senders.{passing_more, at_item}

@@ -2,7 +2,8 @@ use Rattle.std.proofs.Common.{◌≡◌, ◌∷◌, [], length, map, take, sym, 
 use Rattle.std.proofs.lemmas.List.{get_or_default}
 use Rattle.bsp_model.specs.declared.request.Get.{Get}
 use Rattle.bsp_deliver.specs.Requests.{words_read}
-use Rattle.bsp_deliver.specs.Delivery.{overlay, get_write}
+use Rattle.bsp_deliver.specs.Delivery.{get_write}
+use Rattle.bsp_deliver.specs.Inside.Gathering.{overlay}
 use Rattle.bsp_deliver.proofs.Writes.{overlay-none, overlay-more, length-overlay}
 use Rattle.bsp_deliver.proofs.delivery.write_gets.Goals as goal
 

@@ -1,6 +1,7 @@
 use Rattle.std.proofs.Common.{◌≡◌, take, map}
 use Rattle.bsp_deliver.specs.Requests.{words_read}
-use Rattle.bsp_deliver.specs.Delivery.{overlay, get_write}
+use Rattle.bsp_deliver.specs.Delivery.{get_write}
+use Rattle.bsp_deliver.specs.Inside.Gathering.{overlay}
 use Rattle.bsp_deliver.proofs.delivery.write_gets.Given as goal
 
 -- the words of the gets so far stand over the memory

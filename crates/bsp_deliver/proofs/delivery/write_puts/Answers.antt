@@ -3,7 +3,8 @@ use Rattle.std.proofs.lemmas.List.{map-append}
 use Rattle.std.proofs.lemmas.Bool.{eq-eqb, ne_eqb}
 use Rattle.bsp_model.specs.declared.request.Put.{Put}
 use Rattle.bsp_model.specs.Memory.{memory_written}
-use Rattle.bsp_deliver.specs.Delivery.{overlay, write_of, Write}
+use Rattle.bsp_deliver.specs.Delivery.{write_of, Write}
+use Rattle.bsp_deliver.specs.Inside.Gathering.{overlay}
 use Rattle.bsp_deliver.proofs.Writes.{overlay-none, overlay-overlay, length-overlay, memory_written-overlay}
 use Rattle.bsp_deliver.proofs.Senders.{at_item, filter_more_yes, filter_more_no}
 use Rattle.bsp_deliver.proofs.delivery.write_puts.Goals as goal

@@ -1,5 +1,6 @@
 use Rattle.std.proofs.Common.{◌≡◌, ◌==◌, take, map, filter}
-use Rattle.bsp_deliver.specs.Delivery.{overlay, write_of}
+use Rattle.bsp_deliver.specs.Delivery.{write_of}
+use Rattle.bsp_deliver.specs.Inside.Gathering.{overlay}
 use Rattle.bsp_deliver.proofs.delivery.write_puts.Given as goal
 
 -- the puts to d so far stand over the memory

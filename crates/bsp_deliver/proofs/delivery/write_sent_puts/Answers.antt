@@ -1,7 +1,8 @@
 use Rattle.std.proofs.Common.{◌≡◌, ℕ, ◌+◌, ◌≤◌, ◌∷◌, [], length, map, take, List, sym, ap, ◌∙◌, arith}
 use Rattle.bsp_model.specs.declared.request.Put.{Put}
 use Rattle.bsp_model.specs.Memory.{memory_written}
-use Rattle.bsp_deliver.specs.Delivery.{overlay, put_write}
+use Rattle.bsp_deliver.specs.Delivery.{put_write}
+use Rattle.bsp_deliver.specs.Inside.Gathering.{overlay}
 use Rattle.bsp_deliver.proofs.Writes.{overlay-none, overlay-more, length-overlay, memory_written-overlay}
 use Rattle.bsp_deliver.proofs.Senders.{at_item}
 use Rattle.bsp_deliver.proofs.delivery.write_sent_puts.Goals as goal

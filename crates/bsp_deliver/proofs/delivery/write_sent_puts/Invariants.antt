@@ -1,5 +1,6 @@
 use Rattle.std.proofs.Common.{◌≡◌, take, map}
-use Rattle.bsp_deliver.specs.Delivery.{overlay, put_write}
+use Rattle.bsp_deliver.specs.Delivery.{put_write}
+use Rattle.bsp_deliver.specs.Inside.Gathering.{overlay}
 use Rattle.bsp_deliver.proofs.delivery.write_sent_puts.Given as goal
 
 -- the puts so far stand over the memory

@@ -2,8 +2,8 @@ use Rattle.std.proofs.Common.{◌≡◌, ◌∙◌, ℕ, List, [], length, map, 
 use Rattle.std.proofs.lemmas.List.{length-map}
 use Rattle.std.proofs.lemmas.Result.{IfOk-weaker}
 use Rattle.bsp_model.specs.declared.request.Message.{Message}
-use Rattle.bsp_deliver.specs.Delivery.{overlay, get_write, delivery_parts, next_memory, next_queue}
-use Rattle.bsp_deliver.specs.Inside.Gathering.{ArePlaces}
+use Rattle.bsp_deliver.specs.Delivery.{get_write, delivery_parts, next_memory, next_queue}
+use Rattle.bsp_deliver.specs.Inside.Gathering.{overlay, ArePlaces}
 use Rattle.bsp_deliver.proofs.Gathered.{memories_gathered, queues_gathered, zip_maps}
 use Rattle.bsp_deliver.proofs.gathering.deliver_some.Goals as goal
 

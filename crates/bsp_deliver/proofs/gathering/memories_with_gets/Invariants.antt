@@ -1,5 +1,6 @@
 use Rattle.std.proofs.Common.{◌≡◌, take, map}
-use Rattle.bsp_deliver.specs.Delivery.{overlay, get_write, delivery_parts}
+use Rattle.bsp_deliver.specs.Delivery.{get_write, delivery_parts}
+use Rattle.bsp_deliver.specs.Inside.Gathering.{overlay}
 use Rattle.bsp_deliver.proofs.gathering.memories_with_gets.Given as goal
 
 abbrev pub invariant-loop-process : goal.invariant-loop-process

@@ -4,7 +4,7 @@ use Rattle.bsp_model.specs.declared.request.Get.{Get}
 use Rattle.bsp_step.specs.OutcomeParts.{OutcomeParts}
 use Rattle.bsp_deliver.specs.Requests.{words_read}
 use Rattle.bsp_deliver.specs.Inside.Comparison.{IsReadable}
-use Rattle.bsp_deliver.specs.Inside.Touched.{outcomes_before}
+use Rattle.bsp_deliver.specs.Touched.{outcomes_before}
 use Rattle.bsp_deliver.proofs.Senders.{outcome_of-item}
 use Rattle.bsp_deliver.proofs.Formers.{outcome_before-item, length-outcomes_before}
 use Rattle.bsp_deliver.proofs.SameParts.{same_own, readable_of}

@@ -6,7 +6,7 @@ use Rattle.bsp_deliver.specs.Requests.{outcome_of}
 use Rattle.bsp_deliver.specs.Delivery.{delivery_parts}
 use Rattle.bsp_deliver.specs.Inside.Comparison.{HasSameParcel, HasSameOwn}
 use Rattle.bsp_deliver.specs.Inside.Marks.{AreMarkedUnless, AreToKnown}
-use Rattle.bsp_deliver.specs.Inside.Touched.{outcomes_before}
+use Rattle.bsp_deliver.specs.Touched.{outcomes_before}
 use Rattle.bsp_deliver.proofs.Senders.{outcome_of-item}
 use Rattle.bsp_deliver.proofs.Formers.{outcome_before-item, length-outcomes_before}
 use Rattle.bsp_deliver.proofs.Unmarked.{none_marked, marked_as, one_marked, mark_stays, unmarked_within}

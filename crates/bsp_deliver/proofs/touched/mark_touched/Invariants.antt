@@ -1,5 +1,5 @@
 use Rattle.bsp_deliver.specs.Inside.Marks.{AreMarkedUnless}
-use Rattle.bsp_deliver.specs.Inside.Touched.{outcomes_before}
+use Rattle.bsp_deliver.specs.Touched.{outcomes_before}
 use Rattle.bsp_deliver.proofs.SameParts.{IsSameBelow}
 use Rattle.bsp_deliver.proofs.touched.mark_touched.Given as goal
 

@@ -2,7 +2,7 @@ use Rattle.std.proofs.Common.{◌≡◌, ℕ, [], List, sym, ap, ◌∙◌, get_
 use Rattle.std.proofs.lemmas.List.{get_or-map}
 use Rattle.bsp_model.specs.declared.request.Get.{Get}
 use Rattle.bsp_deliver.specs.Requests.{words_read}
-use Rattle.bsp_deliver.specs.Inside.Touched.{outcomes_before}
+use Rattle.bsp_deliver.specs.Touched.{outcomes_before}
 use Rattle.bsp_deliver.proofs.touched.read_same_words.Goals as goal
 
 abbrev no_get : Get

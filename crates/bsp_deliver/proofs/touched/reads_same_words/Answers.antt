@@ -1,7 +1,7 @@
 use Rattle.std.proofs.Common.{ℕ, ◌<◌, ◌+◌, List, length, get_or, sym, ap, ◌∙◌, arith}
 use Rattle.bsp_step.specs.OutcomeParts.{OutcomeParts}
 use Rattle.bsp_deliver.specs.Requests.{each_below}
-use Rattle.bsp_deliver.specs.Inside.Touched.{outcomes_before}
+use Rattle.bsp_deliver.specs.Touched.{outcomes_before}
 use Rattle.bsp_deliver.proofs.Senders.{outcome_of-item, sizes-outcome_of}
 use Rattle.bsp_deliver.proofs.Formers.{outcome_before-item}
 use Rattle.bsp_deliver.proofs.touched.reads_same_words.Goals as goal

@@ -1,15 +1,23 @@
-use Rattle.std.proofs.Common.{◌≡◌, List, Bool, false, length, replicate, ap, ◌∙◌, subst}
-use Rattle.std.proofs.lemmas.List.{with_items_is, length-replicate}
+use Rattle.std.proofs.Common.{◌≡◌, List, Bool, false, true, length, replicate, sym, ap, ◌∙◌, subst}
+use Rattle.std.proofs.lemmas.List.{with_items_is, length-replicate, get_or-replicate}
+use Rattle.bsp_step.specs.OutcomeParts.{OutcomeParts}
 use Rattle.bsp_deliver.specs.Delivery.{delivery_parts}
+use Rattle.bsp_deliver.specs.Touched.{outcomes_before, AreTouched}
 use Rattle.bsp_deliver.specs.Inside.Marks.{AreMarkedUnless}
-use Rattle.bsp_deliver.specs.Inside.Touched.{outcomes_before}
-use Rattle.bsp_deliver.proofs.TouchedMarks.{marks_decide}
 use Rattle.bsp_deliver.proofs.touched.touched_by_changes.Goals as goal
 
 pub mark_touched-requires-clause-marks : goal.mark_touched-requires-clause-marks
 mark_touched-requires-clause-marks c =
     let n = length c.args.outcomes.now in
     ap (λ (bs : List Bool). length bs) (c.as_mut_slice.ensures.value ∙ c.in_ok-touched.ensures.items_if_clones_equal (λ y h. h)) ∙ length-replicate n false
+
+-- where no process was marked at first, those are not marked of which the rest holds
+touched_of_marks : (os us : List OutcomeParts) (marks : List Bool) → AreMarkedUnless (λ d. delivery_parts os d ≡ delivery_parts us d) (replicate (length us) false) marks → AreTouched os us marks
+touched_of_marks os us marks h =
+    record {
+      count = h.count ∙ length-replicate (length us) false;
+      each = λ d l. (λ unmarked. ((h.each d).0 unmarked).1, λ same. (h.each d).1 (get_or-replicate (length us) d false true l, same));
+    }
 
 pub returns : goal.returns
 returns c =
@@ -18,5 +26,5 @@ returns c =
     let marks = c.mark_touched.new.marks in
     let none : c.as_mut_slice.result.now ≡ replicate (length us) false = c.as_mut_slice.ensures.value ∙ c.in_ok-touched.ensures.items_if_clones_equal (λ y h. h) in
     let long = c.mark_touched.ensures.count ∙ c.as_mut_slice.ensures.len in
-    with_items_is c.in_ok-touched.touched marks long
-    ∙ marks_decide os us (length us) marks (subst (λ (bs : List Bool). AreMarkedUnless (λ d. delivery_parts os d ≡ delivery_parts us d) bs marks) none c.mark_touched.ensures)
+    subst (AreTouched os us) (sym (with_items_is c.in_ok-touched.touched marks long))
+    (touched_of_marks os us marks (subst (λ (bs : List Bool). AreMarkedUnless (λ d. delivery_parts os d ≡ delivery_parts us d) bs marks) none c.mark_touched.ensures))

@@ -2,7 +2,7 @@ use Rattle.std.proofs.Common.{◌<◌, ◌∙◌, ℕ, length, get_or, None, sym
 use Rattle.std.proofs.Math.ListN.{length-set}
 use Rattle.std.proofs.lemmas.List.FromFn.{fill_by_all}
 use Rattle.bsp_deliver.specs.Requests.{outcome_of, no_outcome}
-use Rattle.bsp_deliver.specs.Inside.Touched.{former_or}
+use Rattle.bsp_deliver.specs.Touched.{former_or}
 use Rattle.bsp_incr.proofs.Gathering.{listed_below}
 use Rattle.bsp_incr.proofs.Carrying.{not_listed, former_set, former_got, later_or_here}
 use Rattle.bsp_incr.proofs.deliveries.formers.Goals as goal

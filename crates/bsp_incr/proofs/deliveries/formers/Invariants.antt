@@ -1,6 +1,6 @@
 use Rattle.std.proofs.Common.{◌≡◌, ◌<◌, ◌≤◌, ℕ, length, get_or, None}
 use Rattle.bsp_deliver.specs.Requests.{outcome_of}
-use Rattle.bsp_deliver.specs.Inside.Touched.{former_or}
+use Rattle.bsp_deliver.specs.Touched.{former_or}
 use Rattle.bsp_incr.proofs.deliveries.formers.Given as goal
 
 -- A process that does not come later in the list has the outcome that it had before.

@@ -1,6 +1,6 @@
 use Rattle.std.proofs.Common.{◌≡◌, ◌-◌, take, drop, map, length}
 use Rattle.std.specs.Vec.Iter.{into_iter_items, into_iter_len}
-use Rattle.bsp_run.specs.Inside.Shares.{deliveries_to}
+use Rattle.bsp_run.specs.Shares.{deliveries_to}
 use Rattle.bsp_incr.specs.Inside.Next.{next_view}
 use Rattle.bsp_incr.proofs.deliveries.views_with.Given as goal
 

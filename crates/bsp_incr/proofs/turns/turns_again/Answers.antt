@@ -5,7 +5,7 @@ use Rattle.std.proofs.lemmas.List.{length-map}
 use Rattle.std.proofs.lemmas.List.Elements.{All-filter, filter_passes}
 use Rattle.bsp_step.specs.OutcomeParts.{OutcomeParts}
 use Rattle.bsp_step.specs.Turn.{turn_of}
-use Rattle.bsp_run.specs.Inside.Shares.{turns_of}
+use Rattle.bsp_run.specs.Shares.{turns_of}
 use Rattle.bsp_incr.specs.Inside.Changes.{differs, places_of}
 use Rattle.bsp_incr.specs.Inside.Replaced.{replaced}
 use Rattle.bsp_incr.proofs.Gathering.{not_empty}

@@ -1,5 +1,5 @@
 use Rattle.std.proofs.Common.{◌≡◌, ℕ, ◌*◌, ◌<◌}
-use Rattle.bsp_model.specs.Memory.{paged_word}
+use Rattle.bsp_model.specs.Inside.Pages.{paged_word}
 use Rattle.bsp_model.proofs.paging.are_same_pages.Given as goal
 
 abbrev pub invariant-loop-k : goal.invariant-loop-k

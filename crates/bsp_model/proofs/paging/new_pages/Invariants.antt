@@ -1,5 +1,5 @@
 use Rattle.std.proofs.Common.{◌≡◌, ℕ, ◌+◌, ◌*◌, ◌<◌, length}
-use Rattle.bsp_model.specs.Memory.{paged_word, word_after}
+use Rattle.bsp_model.specs.Inside.Pages.{paged_word, word_after}
 use Rattle.bsp_model.proofs.paging.new_pages.Given as goal
 
 abbrev pub invariant-loop-k : goal.invariant-loop-k

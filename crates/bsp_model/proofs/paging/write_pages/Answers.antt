@@ -1,7 +1,7 @@
 use Rattle.std.proofs.Common.{◌≡◌, ◌<◌, ◌+◌, ◌/◌, ◌%◌, ◌-◌, length, get_or, ◌∙◌, arith}
 use Rattle.std.proofs.lemmas.List.{get_or_default}
 use Rattle.std.proofs.lemmas.Bool.Decides.{nat_tests}
-use Rattle.bsp_model.specs.Memory.{paged_word}
+use Rattle.bsp_model.specs.Inside.Pages.{paged_word}
 use Rattle.bsp_model.proofs.Writes.{no_words, one_page, pages_replaced}
 use Rattle.bsp_model.proofs.paging.write_pages.Goals as goal
 

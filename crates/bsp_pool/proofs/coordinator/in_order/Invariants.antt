@@ -1,5 +1,5 @@
 use Rattle.std.proofs.Common.{◌≡◌, map, take}
-use Rattle.bsp_pool.specs.Pieces.{ArePieces}
+use Rattle.bsp_pool.specs.Inside.Pieces.{ArePieces}
 use Rattle.bsp_pool.proofs.coordinator.in_order.Given as goal
 
 abbrev pub invariant-loop-number : goal.invariant-loop-number

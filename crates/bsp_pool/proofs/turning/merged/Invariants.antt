@@ -1,7 +1,7 @@
 use Rattle.std.proofs.Common.{◌≡◌, ◌+◌, ◌≤◌, ◌++◌, length, vec_len}
 use Rattle.std.specs.Vec.{vec_capacity}
 use Rattle.std.specs.Vec.Iter.{into_iter_items}
-use Rattle.bsp_pool.specs.Turning.{merged_of}
+use Rattle.bsp_pool.specs.Inside.Turning.{merged_of}
 use Rattle.bsp_pool.proofs.turning.merged.Given as goal
 
 abbrev pub invariant-loop-output : goal.invariant-loop-output

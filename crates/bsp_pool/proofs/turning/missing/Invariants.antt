@@ -1,5 +1,5 @@
 use Rattle.std.proofs.Common.{◌≡◌, take}
-use Rattle.bsp_pool.specs.Turning.{missing_of}
+use Rattle.bsp_pool.specs.Inside.Turning.{missing_of}
 use Rattle.bsp_pool.proofs.turning.missing.Given as goal
 
 abbrev pub invariant-loop-number : goal.invariant-loop-number

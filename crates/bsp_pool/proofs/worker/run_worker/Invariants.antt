@@ -1,5 +1,5 @@
 use Rattle.std.proofs.Common.{◌≡◌, ◌<◌, length, map}
-use Rattle.bsp_pool.specs.Pieces.{ArePieces}
+use Rattle.bsp_pool.specs.Inside.Pieces.{ArePieces}
 use Rattle.bsp_pool.proofs.PieceLists.{AreOf}
 use Rattle.bsp_pool.proofs.worker.run_worker.Given as goal
 

@@ -1,6 +1,6 @@
 use Rattle.std.proofs.Common.{◌≡◌, take}
 use Rattle.bsp_step.specs.Turn.{turn_of}
-use Rattle.bsp_run.specs.Inside.Shares.{turns_of}
+use Rattle.bsp_run.specs.Shares.{turns_of}
 use Rattle.bsp_run.proofs.plain.turns.Given as goal
 
 abbrev pub invariant-loop-process : goal.invariant-loop-process

@@ -1,7 +1,7 @@
 use Rattle.std.proofs.Common.{length, get_or, None, sym, arith}
 use Rattle.std.proofs.lemmas.List.FromFn.{fill_by_all}
 use Rattle.bsp_deliver.specs.Requests.{outcome_of, no_outcome}
-use Rattle.bsp_deliver.specs.Inside.Touched.{former_or}
+use Rattle.bsp_deliver.specs.Touched.{former_or}
 use Rattle.bsp_deliver.proofs.tests.touched.formers.Goals as goal
 
 pub returns-clause-before : goal.returns-clause-before

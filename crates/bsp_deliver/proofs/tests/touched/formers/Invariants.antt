@@ -1,6 +1,6 @@
 use Rattle.std.proofs.Common.{◌≡◌, ◌<◌, ℕ, length, get_or, None}
 use Rattle.bsp_deliver.specs.Requests.{outcome_of}
-use Rattle.bsp_deliver.specs.Inside.Touched.{former_or}
+use Rattle.bsp_deliver.specs.Touched.{former_or}
 use Rattle.bsp_deliver.proofs.tests.touched.formers.Given as goal
 
 abbrev pub invariant-loop-p : goal.invariant-loop-p

@@ -2,7 +2,7 @@ use Rattle.std.proofs.Common.{◌≡◌, ◌<◌, ◌+◌, ◌*◌, ◌++◌, �
 use Rattle.std.specs.Vec.{with_items}
 use Rattle.std.proofs.lemmas.List.{with_items_is}
 use Rattle.std.proofs.lemmas.Bool.Decides.{nat_tests}
-use Rattle.bsp_model.specs.Memory.{words_of, paged_word, word_after}
+use Rattle.bsp_model.specs.Inside.Pages.{words_of, paged_word, word_after}
 use Rattle.bsp_model.proofs.Pages.{words_len}
 use Rattle.bsp_model.proofs.Writes.{written, not_written}
 use Rattle.bsp_model.proofs.memory.Memory.write.Goals as goal

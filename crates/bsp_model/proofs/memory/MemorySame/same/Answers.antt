@@ -2,7 +2,7 @@ use Rattle.std.proofs.Common.{◌≡◌, ◌++◌, ◌∷◌, [], sym, ap, ◌�
 use Rattle.std.proofs.lemmas.Bool.{false≢true}
 use Rattle.std.proofs.lemmas.Bool.Decides.{Decides-eqb}
 use Rattle.std.proofs.lemmas.Slice.Eq.{slice_eq-Decides}
-use Rattle.bsp_model.specs.Memory.{words_of, HasPages}
+use Rattle.bsp_model.specs.Inside.Pages.{words_of, HasPages}
 use Rattle.bsp_model.proofs.Pages.{words_len, same_full, same_last, same_words}
 use Rattle.bsp_model.proofs.memory.MemorySame.same.Goals as goal
 

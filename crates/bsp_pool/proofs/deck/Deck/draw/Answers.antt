@@ -1,7 +1,7 @@
 use Rattle.std.proofs.Common.{◌<◌, ◌*◌, length, refl, ap, sym, arith, subst, ◌∙◌}
 use Rattle.bsp_pool.proofs.deck.Deck.draw.Goals as goal
 use Rattle.bsp_pool.proofs.ClaimSteps.{drawn_next, drawn_above}
-use Rattle.bsp_pool.specs.Claim.{view_of}
+use Rattle.bsp_pool.specs.Inside.Claim.{view_of}
 use Rattle.atomic_table.specs.Table.{keeps}
 use Rattle.bsp_pool.specs.Passes.{PassContent}
 use Rattle.std.specs.Prelude.{slice_index, ◌++◌, ◌∷◌, []}

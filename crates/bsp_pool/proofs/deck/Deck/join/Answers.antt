@@ -3,8 +3,8 @@ use Rattle.std.specs.Prelude.{◌++◌}
 use Rattle.atomic_table.specs.Table.{keeps}
 use Rattle.bsp_pool.specs.Passes.{PassContent}
 use Rattle.bsp_pool.specs.Numbers.{occurrences}
-use Rattle.bsp_pool.specs.Claim.{once_below}
-use Rattle.bsp_pool.specs.Views.{View}
+use Rattle.bsp_pool.specs.Inside.Claim.{once_below}
+use Rattle.bsp_pool.specs.Inside.Views.{View}
 use Rattle.bsp_pool.proofs.ClaimSteps.{joins, looked, looks_once, looks_whole, apart}
 use Rattle.bsp_pool.proofs.deck.Deck.join.Goals as goal
 

@@ -2,7 +2,7 @@ use Rattle.std.proofs.Common.{◌≡◌, ◌∙◌, ap, sym, subst, Bool, true, 
 use Rattle.std.specs.Prelude.{slice_index_or, Some, None, if◌then◌else◌}
 use Rattle.std.specs.List.{list_all}
 use Rattle.std.proofs.lemmas.Grind.{common_steps}
-use Rattle.bsp_pool.specs.Turning.{merged_of}
+use Rattle.bsp_pool.specs.Inside.Turning.{merged_of}
 use Rattle.bsp_pool.specs.Rounds.{RoundParts, opened, is_gone}
 use Rattle.bsp_pool.specs.Machine.{Machine, machine, inputs_of, turned, IsSound}
 use Rattle.bsp_pool.proofs.RoundSteps.{turned_sound}

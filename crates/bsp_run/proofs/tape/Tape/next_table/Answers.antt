@@ -4,7 +4,7 @@ use Rattle.bsp_step.specs.OutcomeParts.{OutcomeParts}
 use Rattle.bsp_run.specs.State.{next_state, pops_of, pushes_of}
 use Rattle.bsp_run.specs.Run.{Run}
 use Rattle.bsp_run.specs.Inside.Tape.{run_of}
-use Rattle.bsp_run.specs.Condition.{CanSync}
+use Rattle.bsp_run.specs.Inside.Condition.{CanSync}
 use Rattle.bsp_run.proofs.Phases.{can_sync, is_turned_run}
 use Rattle.bsp_run.proofs.tape.Tape.next_table.Goals as goal
 

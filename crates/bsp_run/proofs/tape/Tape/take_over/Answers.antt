@@ -8,7 +8,7 @@ use Rattle.bsp_run.specs.Run.{Run, open_views, after_turns, after_delivery}
 use Rattle.bsp_run.specs.Result.{cost_of_delivery}
 use Rattle.bsp_run.specs.Condition.{IsRun, AreOutcomesOf}
 use Rattle.bsp_run.specs.Supersteps.{superstep_at, views_at}
-use Rattle.bsp_run.specs.Inside.TakingOver.{outcomes_there}
+use Rattle.bsp_run.specs.TakingOver.{outcomes_there}
 use Rattle.bsp_run.specs.Inside.Tape.{run_of, IsSmall}
 use Rattle.bsp_run.proofs.KeptCosts.{costs_kept}
 use Rattle.bsp_run.proofs.TakingOver.{AreTaken, taken_is_run, taken_over, taken_views, first_taken, first_view, no_outcomes, superstep_is, row_is, row_for_each}

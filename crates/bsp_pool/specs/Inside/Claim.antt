@@ -3,7 +3,7 @@
 use Rattle.std.specs.Prelude.{◌≡◌, ℕ, ◌+◌, ◌*◌, ◌<◌, ◌≤◌, nat_lt, if◌then◌else◌, List, [], ◌∷◌, ◌++◌, length, slice_index, All}
 use mathlib.Core.Option.{some}
 use lib.ListN.{get_elem?}
-use Rattle.bsp_pool.specs.Views.{View}
+use Rattle.bsp_pool.specs.Inside.Views.{View}
 use Rattle.bsp_pool.specs.Numbers.{all_units, numbers_a_unit, occurrences, units_kept, units_given}
 
 abbrev pub view_of : ℕ → List ℕ → View

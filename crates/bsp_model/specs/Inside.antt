@@ -1,0 +1,3 @@
+pub mod LawfulInput
+pub mod Pages
+pub mod Shared

@@ -1,0 +1,21 @@
+-- The pages in which the words of a memory are kept.
+use Rattle.std.specs.Prelude.{ℕ, ◌+◌, ◌*◌, ◌/◌, ◌%◌, ◌-◌, ◌<◌, ◌≡◌, List, [], length, map, get_or, nat_le, nat_lt, ◌&&◌, if◌then◌else◌}
+use Rattle.std.specs.List.{range_with_len}
+use Rattle.bsp_model.specs.declared.page.TheConstants.{WORDS_OF_A_PAGE}
+
+-- The word at an address: its page has the number address / 64, and its place there is address % 64 (this profile).
+unfoldable pub paged_word : List (List ℕ) → ℕ → ℕ
+paged_word pages address = get_or (get_or pages (address / WORDS_OF_A_PAGE) []) (address % WORDS_OF_A_PAGE) 0
+
+-- The words of these pages, so many of them.
+unfoldable pub words_of : List (List ℕ) → ℕ → List ℕ
+words_of pages len = map (paged_word pages) (range_with_len 0 len)
+
+-- So many words are in the full pages and the last, which is not full.
+pub record HasPages (full : List (List ℕ)) (last : List ℕ) (len : ℕ) : Type 0 where
+  pub short : length last < WORDS_OF_A_PAGE
+  pub count : len ≡ WORDS_OF_A_PAGE * length full + length last
+
+-- The word at an address after such a write.
+abbrev pub word_after : (ℕ → ℕ) → ℕ → List ℕ → ℕ → ℕ
+word_after word start words address = if nat_le start address && nat_lt address (start + length words) then get_or words (address - start) 0 else word address

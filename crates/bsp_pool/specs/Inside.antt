@@ -1,0 +1,5 @@
+pub mod Claim
+pub mod Views
+pub mod Turning
+pub mod Pieces
+pub mod Holding
