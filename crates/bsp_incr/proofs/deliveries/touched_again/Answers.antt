@@ -23,5 +23,5 @@ pub returns : goal.returns
 returns c =
     let old = c.args.old.now in let new = c.args.new.now in
     let before = ap (λ fs. outcomes_before fs new) c.as_slice.ensures.value ∙ c.in_ok-formers.ensures.before in
-    let marks = c.in_ok-touched_by_changes.ok.items in
+    let marks = c.in_ok-touched_by_changes.field-0.items in
     touched_are old new marks c.requires.count (subst (λ (os : List OutcomeParts). AreTouched os new marks) before c.in_ok-touched_by_changes.ensures)
