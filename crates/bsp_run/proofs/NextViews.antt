@@ -1,6 +1,5 @@
 -- The view of a process in the next superstep.
 use Rattle.std.proofs.Common.{◌≡◌, ◌<◌, ◌+◌, ℕ, List, [], length, arith, get_or, ap, sym, ◌∙◌, subst}
-use Rattle.bsp_deliver.specs.SyncFault.{next_tag_size}
 use Rattle.std.proofs.lemmas.List.{get_or_default}
 use Rattle.bsp_model.specs.declared.request.Message.{Message}
 use Rattle.bsp_table.specs.declared.area.Area.{Area}
@@ -10,7 +9,7 @@ use Rattle.bsp_run.specs.Run.{Run, after_delivery}
 use Rattle.bsp_run.specs.Inside.Opening.{view_with}
 use Rattle.bsp_run.specs.Condition.{IsRun, IsTurned}
 use Rattle.bsp_run.proofs.Conditions.{count_of_outcomes}
-use Rattle.bsp_run.proofs.Phases.{can_open_next, count-next_state, is_turned_run, next_counts, tag-next}
+use Rattle.bsp_run.proofs.Phases.{can_open_next, count-next_state, is_turned_run, next_counts}
 use Rattle.bsp_run.proofs.Views.{view_within}
 use Rattle.bsp_run.specs.declared.phase.Phase.TheVariants.{Turned}
 
@@ -27,7 +26,7 @@ pub record ArePartsOfNext (r : Run) (p nprocs step : ℕ) (own memory : List ℕ
 
 -- the parts, from what the fields of a tape say of the run that they make
 pub parts_of : (r now : Run) (p nprocs step : ℕ) (own memory : List ℕ) (table : List (List Area)) (tag : ℕ) (queue : List Message) → r ≡ now → p < length now.outcomes → nprocs ≡ length r.state.memories → step ≡ length r.past + 1 → own ≡ get_or r.args p own
-    → memory ≡ get_or (next_state now.state now.outcomes).memories p [] → table ≡ (next_state now.state now.outcomes).table → tag ≡ next_tag_size r.state.tag_size r.outcomes → queue ≡ get_or (next_state now.state now.outcomes).queues p []
+    → memory ≡ get_or (next_state now.state now.outcomes).memories p [] → table ≡ (next_state now.state now.outcomes).table → tag ≡ (next_state now.state now.outcomes).tag_size → queue ≡ get_or (next_state now.state now.outcomes).queues p []
     → ArePartsOfNext r p nprocs step own memory table tag queue
 parts_of r now p nprocs step own memory table tag queue same known many later args words slots size messages =
     record {
@@ -37,7 +36,7 @@ parts_of r now p nprocs step own memory table tag queue same known many later ar
       args = args;
       words = words ∙ sym (ap (λ (x : Run). get_or (next_state x.state x.outcomes).memories p []) same);
       slots = slots ∙ sym (ap (λ (x : Run). (next_state x.state x.outcomes).table) same);
-      size = tag-next r tag size;
+      size = size ∙ sym (ap (λ (x : Run). (next_state x.state x.outcomes).tag_size) same);
       messages = messages ∙ sym (ap (λ (x : Run). get_or (next_state x.state x.outcomes).queues p []) same);
     }
 

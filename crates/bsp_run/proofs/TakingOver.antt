@@ -11,7 +11,8 @@ use Rattle.bsp_run.specs.declared.phase.Phase.{Phase}
 use Rattle.bsp_run.specs.declared.phase.Phase.TheVariants.{Open, Turned, Ended}
 use Rattle.bsp_run.specs.declared.result.Status.TheVariants.{Limit}
 use Rattle.bsp_run.specs.State.{State, next_state, view_of, views_of}
-use Rattle.bsp_run.specs.Result.{cost_of_delivery}
+use Rattle.bsp_deliver.specs.Cost.{h_relation}
+use Rattle.bsp_run.specs.Result.{largest_work, cost_of_delivery}
 use Rattle.bsp_run.specs.Shown.{no_superstep}
 use Rattle.bsp_run.specs.Supersteps.{superstep_at}
 use Rattle.bsp_run.specs.Inside.Opening.{state_of}
@@ -105,3 +106,7 @@ pub row_for_each : (past : List Superstep) (rows : List CostRow) (g l : ℕ) →
 row_for_each past rows g l is =
     let of : Superstep → List OutcomeParts = λ x. x.outcomes in
     ap (λ (xs : List CostRow). length xs) is ∙ length-map (map of past) (cost_of_delivery g l) ∙ length-map past of
+
+-- as much was computed and moved
+pub same_cost : (g l : ℕ) (os us : List OutcomeParts) → largest_work os ≡ largest_work us → h_relation os ≡ h_relation us → cost_of_delivery g l os ≡ cost_of_delivery g l us
+same_cost g l os us w h = λ i. record { work = w i; h = h i; cost = w i + h i * g + l }

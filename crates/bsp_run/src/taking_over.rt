@@ -1,14 +1,17 @@
 //! A superstep of another run, taken over whole.
 
-ghost use Rattle.std.specs.Prelude.{◌≡◌, ◌≤◌, IfOk, OnOk, OnErr, length};
+ghost use Rattle.std.specs.Prelude.{◌≡◌, ◌≤◌, ◌<◌, IfOk, OnOk, OnErr, length};
+ghost use Rattle.bsp_deliver.specs.Cost.{h_relation};
 ghost use Rattle.bsp_run.specs.Run.{after_turns, after_delivery};
 ghost use Rattle.bsp_run.specs.Supersteps.{views_at};
+ghost use Rattle.bsp_run.specs.Result.{largest_work, cost_of_delivery};
+ghost use Rattle.bsp_run.specs.Inside.Tape.{IsSmall};
 ghost use Rattle.bsp_run.specs.TakingOver.{CanTakeOver, outcomes_there};
 
 use crate::costs::cost_at;
 use crate::keeping::{keep_superstep, phase_at};
 use crate::{History, Phase, Tape, Views};
-use bsp_model::{OutOfMemory, TryCopy};
+use bsp_model::{CostRow, OutOfMemory, TryCopy};
 use bsp_step::View;
 
 /// The list of what the processes see in a superstep.
@@ -50,5 +53,18 @@ impl Tape {
         self.tag_size = tag_size;
         self.phase = phase_at(step as u64 + 1, self.limit);
         Ok(())
+    }
+
+    /// The cost of the superstep whose turns are taken, at the prices of this run, where as much was computed and moved as in the same superstep of
+    /// another run.
+    pub fn cost_like(&self, other: &History) -> CostRow
+        requires past { length self.now.past < length other.now.past }
+        requires work { largest_work (outcomes_there other.now self.now) ≡ largest_work self.now.outcomes }
+        requires moved { h_relation (outcomes_there other.now self.now) ≡ h_relation self.now.outcomes }
+        ensures value { result ≡ cost_of_delivery self.now.g self.now.l self.now.outcomes }
+        ensures small { IsSmall result }
+    {
+        let run = &other.run;
+        cost_at(self.g, self.l, &run.costs[self.past.len()])
     }
 }

@@ -9,6 +9,9 @@ ghost use Rattle.bsp_run.specs.Shown.{views_shown, outcomes_shown};
 ghost use Rattle.bsp_run.specs.State.{next_state, view_of, views_of};
 ghost use Rattle.bsp_run.specs.Condition.{AreOutcomesOf, deliveries_of, is_turned, is_open};
 ghost use Rattle.bsp_run.specs.RunErrors.{input_fault_of};
+ghost use Rattle.bsp_run.specs.Ending.{end_of};
+ghost use Rattle.bsp_run.specs.Result.{cost_of_delivery};
+ghost use Rattle.bsp_run.specs.Inside.Tape.{IsSmall};
 
 use crate::costs::cost_of_delivery;
 use crate::ending::end_of;
@@ -16,7 +19,7 @@ use crate::keeping::{keep_superstep, next_table, phase_after, phase_at};
 use crate::opening::{args_of, first_cells, open_views, shared_args, view_at};
 use crate::{Outcomes, Phase, RunError, Status, Superstep, Views};
 use bsp_deliver::next_tag_size;
-use bsp_model::{CostRow, Input, Memory, OutOfMemory, Seq, Shared, SharedSeq};
+use bsp_model::{CostRow, Input, Memory, OutOfMemory, Seq, Shared, SharedSeq, TryCopy};
 use bsp_step::{Outcome, Queue, View};
 use bsp_table::Table;
 use std::alloc::Global;
@@ -150,6 +153,21 @@ impl Tape {
         Ok(goes_on)
     }
 
+    /// Takes the outcomes of the open superstep, one for each view, of which it is known that the superstep ends by delivery. After `OutOfMemory`
+    /// nothing has changed.
+    pub fn turned_on(&mut self, outcomes: Vec<Shared<Outcome>>) -> Result<(), OutOfMemory>
+        requires open { self.old.phase ≡ Phase.Open }
+        requires turns { AreOutcomesOf (open_views self.old) outcomes.items }
+        requires delivers { end_of (length self.old.past) self.old.state.table outcomes.items ≡ None }
+        ensures ok { OnOk result (self.new ≡ after_turns self.old outcomes.items) }
+        ensures err { OnErr result (self.new ≡ self.old) }
+    {
+        let outcomes = SharedSeq::from_vec(outcomes)?;
+        self.outcomes = outcomes;
+        self.phase = Phase::Turned;
+        Ok(())
+    }
+
     /// The table of the next superstep.
     pub fn next_table(&self) -> Result<Table, OutOfMemory>
         requires { self.now.phase ≡ Phase.Turned }
@@ -166,17 +184,18 @@ impl Tape {
         next_tag_size(self.tag_size, self.outcomes.as_slice())
     }
 
-    /// The view of a process in the next superstep, of its next memory and queue.
+    /// The view of a process in the next superstep, of its next memory and queue. The table and the tag size are those of a view of that superstep.
     pub fn next_view(
         &self,
-        table: &Table,
+        like: &View,
         pid: usize,
         memory: Memory,
         queue: Queue,
     ) -> Result<Shared<View>, OutOfMemory>
         requires turned { self.now.phase ≡ Phase.Turned }
         requires known { pid < length self.now.outcomes }
-        requires table { table.now ≡ (next_state self.now.state self.now.outcomes).table }
+        requires table { like.now.table ≡ (next_state self.now.state self.now.outcomes).table }
+        requires tag_size { like.now.tag_size ≡ (next_state self.now.state self.now.outcomes).tag_size }
         requires memory { memory ≡ slice_index_or (next_state self.now.state self.now.outcomes).memories pid [] }
         requires queue { queue ≡ slice_index_or (next_state self.now.state self.now.outcomes).queues pid [] }
         ensures { IfOk result (λ v. v ≡ view_of self.now.args (length self.now.past + 1) (next_state self.now.state self.now.outcomes) pid) }
@@ -184,9 +203,9 @@ impl Tape {
         let alloc = *self.past.allocator();
         let nprocs = self.views.len();
         let step = self.past.len() as u64 + 1;
-        let tag_size = next_tag_size(self.tag_size, self.outcomes.as_slice());
         let args = &self.args.as_slice()[pid];
-        let view = view_at(nprocs, pid, step, args, (memory, queue), table, tag_size)?;
+        let cell = (memory, queue);
+        let view = view_at(nprocs, pid, step, args, cell, &like.table, like.tag_size)?;
         Ok(Shared::new(alloc, view)?)
     }
 
@@ -204,22 +223,34 @@ impl Tape {
         let tag_size = self.next_tag_size();
         let step = self.past.len() as u64 + 1;
         let views = open_views(alloc, self.args.as_slice(), step, cells, &table, tag_size)?;
-        Ok(self.delivered_as(table, views)?)
+        let row = self.cost();
+        Ok(self.delivered_as(views, row)?)
     }
 
-    /// Takes the table and the views of the next superstep. True where it opens; else the limit has ended the run. After `OutOfMemory` nothing
-    /// has changed.
-    pub fn delivered_as(&mut self, table: Table, views: Views) -> Result<bool, OutOfMemory>
+    /// The cost of the superstep whose turns are taken.
+    pub fn cost(&self) -> CostRow
+        requires turned { self.now.phase ≡ Phase.Turned }
+        ensures value { result ≡ cost_of_delivery self.now.g self.now.l self.now.outcomes }
+        ensures small { IsSmall result }
+    {
+        cost_of_delivery(self.g, self.l, self.outcomes.as_slice())
+    }
+
+    /// Takes the views of the next superstep, and the cost of this one. True where the next one opens; else the limit has ended the run. After
+    /// `OutOfMemory` nothing has changed.
+    pub fn delivered_as(&mut self, views: Views, row: CostRow) -> Result<bool, OutOfMemory>
         requires turned { self.old.phase ≡ Phase.Turned }
-        requires table { table ≡ (next_state self.old.state self.old.outcomes).table }
         requires views { views ≡ views_of self.old.args (length self.old.past + 1) (next_state self.old.state self.old.outcomes) }
+        requires row { row ≡ cost_of_delivery self.old.g self.old.l self.old.outcomes }
+        requires small { IsSmall row }
         ensures ok { OnOk result (self.new ≡ after_delivery self.old) }
         ensures answer { IfOk result (λ goes_on. goes_on ≡ is_open self.new.phase) }
         ensures err { OnErr result (self.new ≡ self.old) }
     {
         let step = self.past.len() as u64 + 1;
-        let tag_size = next_tag_size(self.tag_size, self.outcomes.as_slice());
-        let row = cost_of_delivery(self.g, self.l, self.outcomes.as_slice());
+        let first: &View = &views.as_slice()[0];
+        let table = first.table.copy()?;
+        let tag_size = first.tag_size;
         keep_superstep(
             &mut self.past,
             &mut self.costs,
