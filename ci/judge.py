@@ -1,6 +1,8 @@
 """What a live session has to answer to lines, by the plain model of ci/model.py."""
+import json
 from itertools import groupby
 
+from cases import difference
 from model import TOOLS, line, report_of
 from modelled.documents import Job, Refused, job_of, tree_of
 from modelled.runs import Input
@@ -112,8 +114,17 @@ class Judge:
         lines = ["run 0", *(each for each in self.last if not each.startswith(UPDATE))]
         return "".join(f"{each}\n" for each in lines)
 
+    def document_start(self):
+        """The first lines of the document: the input. The keys of the catalogue's own come after them."""
+        given = self.input
+        values = {"limit": given.limit, "g": given.g, "l": given.l, "memory": given.memories, "args": given.args}
+        return "".join(f"{name} = {json.dumps(value)}\n" for name, value in values.items())
+
     def document_differences(self, document):
         """What is wrong with the text that says what the input is."""
+        start = self.document_start().encode()
+        if not document.startswith(start):
+            return difference("its first lines", document[: len(start)], start)
         try:
             tree, job = tree_of(document), job_of(self.catalogue, document)
         except Refused as fault:

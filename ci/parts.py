@@ -2,7 +2,7 @@
 
 
 def live(count):
-    return ("ci/live", str(count), "--changes", "--no-document")  # no line can ask for the session's document yet
+    return ("ci/live", str(count), "--changes")
 
 
 FIRST = (("ci/test_gate",), ("ci/statement",), ("ci/python",))  # before anything is proved

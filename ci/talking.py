@@ -83,8 +83,10 @@ class Client:
             raise Wrong(f"{what}: an answer before the line was whole, or one too many")
 
     def document(self):
+        """Reads a document, which stands between two lines."""
+        self.expect("the first line", "document\n")
         self.wait_for(lambda heard: heard.endswith(b"\nend\n"))
-        return self.take(len(self.heard)).removeprefix(b"document\n").removesuffix(b"end\n")
+        return self.take(len(self.heard)).removesuffix(b"end\n")
 
     def end(self):
         """Ends the input. Nothing more may come, and nothing on standard error."""
@@ -139,7 +141,7 @@ def drawn_asks(draw, crate, document, rates):
     given = job_of(TOOLS[crate], document).input
     lists = [[list(words) for words in each] for each in (given.memories, given.args)]
     asks = [draw_ask(draw, *lists, rates) for _ in range(LINES)]
-    return [*asks[:-1], Ask(b"document"), asks[-1]] if rates["document"] else asks
+    return [*asks[:-1], Ask(b"document"), asks[-1]]
 
 
 class Talk:
@@ -185,12 +187,12 @@ class Talk:
 
     def last(self, ask):
         """The last line has no end, and is answered at the end of the input."""
-        if not ask.line or ask.is_document:
+        if not ask.line:
             return
         self.client.say(ask.line)
         self.client.expect_nothing("the last line")
         self.client.process.stdin.close()
-        self.client.expect("the last line", self.judge.answer(ask))
+        self.hear(ask, "the last line")
 
     def go(self, asks):
         self.client.expect("the first blocks", self.judge.opening())
@@ -219,7 +221,7 @@ def random_talk(crate, command, room, options, seed):
     """What differs in the talk of a seed."""
     draw = Draw(f"live {crate} {seed}")
     document = drawn_job(crate, draw)
-    rates = {"undo": draw.choice((0.1, 0.3)), "document": 0 if "--no-document" in options else 0.08}
+    rates = {"undo": draw.choice((0.1, 0.3)), "document": 0.08}
     words, path = words_of(seed, "--changes" in options), f"{room}/{crate} {seed}.toml"
     judge = Judge(crate, document, "--places" in words, "--changes" in words)
     try:

@@ -131,7 +131,8 @@ class Session:
         return self._ask("undo")
 
     def document(self) -> str:
-        """The input as it is now, as a document without batches."""
+        """The input as it is now, as the text of a document without batches, of which `Session` opens another session.
+        Nothing changes. `NotRead` where the tool knows no line `document`."""
         lines = self._exchange("document", _is_document)
         if lines[0] != "document":
             self._report_in(lines)

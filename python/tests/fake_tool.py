@@ -92,12 +92,12 @@ class Live:
         key = TOOLS[self.tool].key
         limit = self.inputs[0].limit if self.flaw == "forgets" else given.limit
         values = {
-            key: self.tree[key],
             "limit": limit,
             "g": given.g,
             "l": given.l,
             "memory": given.memories,
             "args": given.args,
+            key: self.tree[key],
         }
         self.number += self.flaw == "numbers"
         return ["document", *(f"{name} = {json.dumps(value)}" for name, value in values.items()), "end"]

@@ -103,6 +103,20 @@ class Batches(unittest.TestCase):
                 self.assertEqual(results(session.undo()), results(report))
             self.assertRaises(NothingToUndo, session.undo)
 
+    def test_the_document_is_the_input_as_it_is(self) -> None:
+        draw = Draw(5)
+        _, memories, args = draw_heat(draw)
+        with Session(self.tool(), self.document(memories, args)) as session:
+            for _ in range(10):
+                with contextlib.suppress(Refused):
+                    session.apply(edits_of(draw_batch(draw, memories, args)))
+                text = session.document()
+                self.assertNotIn("batches", tomllib.loads(text))
+                with Session(self.tool(), text.encode()) as other:
+                    self.assertEqual(results(other.report), results(session.report))
+                    self.assertEqual(other.document(), text)
+            self.assertEqual(session.apply([]).run, 11)
+
     def test_the_documents_own_batches(self) -> None:
         document = self.document([[0, 8, 0]], [[1]], batches=[[["word", 0, 1, 4]], [["limit", 0]]])
         with Session(self.tool(), document) as session:

@@ -8,6 +8,7 @@ pub mod LiveLaws
 pub mod Logs
 pub mod Made
 pub mod Numbering
+pub mod OwnKeys
 pub mod Optional
 pub mod TooLong
 pub mod Trees

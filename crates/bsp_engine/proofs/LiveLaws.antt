@@ -1,5 +1,5 @@
 -- Laws of live sessions.
-use Rattle.std.proofs.Common.{◌≡◌, ℕ, ◌+◌, Bool, false, List, [], ◌∷◌, ◌++◌, map, Option, None, refl, sym, ap, ◌∙◌}
+use Rattle.std.proofs.Common.{◌≡◌, ℕ, ◌+◌, Bool, cond, false, List, [], ◌∷◌, ◌++◌, map, Option, None, refl, sym, ap, ◌∙◌}
 use Rattle.bsp_model.specs.declared.input.Input.{Input}
 use Rattle.bsp_model.specs.Input.{input_fault}
 use Rattle.bsp_model.specs.declared.fault.End.{End}
@@ -16,7 +16,10 @@ use Rattle.bsp_incr.proofs.TakingBack.{undone}
 use Rattle.bsp_engine.proofs.LawOfReports.{law_of_replies_to}
 use Rattle.bsp_engine.specs.declared.asking.Asked.{Asked}
 use Rattle.bsp_engine.specs.declared.asking.Asked.TheVariants.{Batch, Undo}
-use Rattle.bsp_engine.specs.Asked.{asked_of}
+use Rattle.std.specs.List.{list_any}
+use Rattle.std.proofs.lemmas.Bool.{or_parts}
+use Rattle.bsp_engine.specs.Asked.{asked_of, is_document}
+use Rattle.bsp_engine.specs.Document.{document_block}
 use Rattle.bsp_engine.specs.Live.{LiveParts, after, after_batch, undos_after, last_result, live_reply, live_replies, answer_to, answer_block, blocks, AreLiveReplies}
 use Rattle.bsp_engine.specs.Blocks.{blocks_after}
 use Rattle.bsp_engine.specs.declared.options.Detail.{Detail}
@@ -25,20 +28,24 @@ use Rattle.bsp_engine.proofs.Beginning.{blocks-batch}
 module _ {P : Type 0} (acts : P → ViewParts → List Act) (ending : P → ViewParts → End) (looks : P → ViewParts → ℕ → Bool) where
   -- One definition of a block serves documents and lines: where each line asks for a batch, the blocks are those of a document that has these batches
   -- from block k on.
-  pub blocks-batches : (places : Bool) (k : ℕ) (live : LiveParts P) (lines : List (List ℕ)) (batches : List (List Edit)) → map asked_of lines ≡ map Batch batches
-      → blocks acts ending looks places k live lines ≡ blocks_after (record { places = places; changes = live.changes }) k (last_result acts ending live) (live_replies acts ending looks live batches)
+  pub blocks-batches : (own : List ℕ) (places : Bool) (k : ℕ) (live : LiveParts P) (lines : List (List ℕ)) (batches : List (List Edit)) → map asked_of lines ≡ map Batch batches → list_any is_document lines ≡ false
+      → blocks acts ending looks own places k live lines ≡ blocks_after (record { places = places; changes = live.changes }) k (last_result acts ending live) (live_replies acts ending looks live batches)
   unfolding blocks
-  blocks-batches places k live [] [] same = refl
-  blocks-batches places k live [] (b ∷ bs) same = cc
-  blocks-batches places k live (l ∷ ls) [] same = cc
-  blocks-batches places k live (l ∷ ls) (b ∷ bs) same =
+  blocks-batches own places k live [] [] same none = refl
+  blocks-batches own places k live [] (b ∷ bs) same none = cc
+  blocks-batches own places k live (l ∷ ls) [] same none = cc
+  blocks-batches own places k live (l ∷ ls) (b ∷ bs) same none =
       let first : asked_of l ≡ Batch b = cc in
       let others : map asked_of ls ≡ map Batch bs = cc in
+      let (here, more) = or_parts (is_document l) (list_any is_document ls) none in
       let last = last_result acts ending live in
       let detail : Detail = record { places = places; changes = live.changes } in
-      ap (λ (a : Asked). answer_block places k last (answer_to acts ending looks live a) ++ blocks acts ending looks places (k + 1) (after live a) ls) first
-      ∙ ap (λ t. answer_block places k last (answer_to acts ending looks live (Batch b)) ++ t) (blocks-batches places (k + 1) (after_batch live b) ls bs others)
-      ∙ sym (blocks-batch acts ending looks detail k live (after_batch live b) b bs refl refl)
+      let told = document_block own live.input ++ blocks acts ending looks own places k live ls in
+      let block = answer_block places k last (answer_to acts ending looks live (asked_of l)) ++ blocks acts ending looks own places (k + 1) (after live (asked_of l)) ls in
+      ap (λ (q : Bool). cond q told block) here
+      ∙ (ap (λ (a : Asked). answer_block places k last (answer_to acts ending looks live a) ++ blocks acts ending looks own places (k + 1) (after live a) ls) first
+      ∙ ap (λ t. answer_block places k last (answer_to acts ending looks live (Batch b)) ++ t) (blocks-batches own places (k + 1) (after_batch live b) ls bs others more)
+      ∙ sym (blocks-batch acts ending looks detail k live (after_batch live b) b bs refl refl))
 
 -- `undo` after an accepted batch leaves the session as it was before: its input, and what else can be taken back. So it is never refused.
 pub undo-batch : {P : Type 0} (live : LiveParts P) (batch : List Edit) → input_fault live.input ≡ None → refusal_of live.input batch ≡ None → after (after_batch live batch) Undo ≡ live

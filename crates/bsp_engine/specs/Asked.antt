@@ -45,6 +45,10 @@ asked_at (Some t) = asked_in (get_member (codes "batch") t)
 abbrev pub is_word : List ℕ → List ℕ → Bool
 is_word word line = bytes_eq line word || bytes_eq line (word ++ 13 ∷ [])
 
+-- the line asks for the document
+abbrev pub is_document : List ℕ → Bool
+is_document line = is_word (codes "document") line
+
 -- What a line asks, of which no more is kept than a document may have and one byte.
 unfoldable pub asked_of : List ℕ → Asked
 asked_of line =

@@ -8,4 +8,4 @@ use Rattle.bsp_engine.specs.Live.{blocks}
 
 -- where an open session is
 unfoldable pub due_at : {P : Type 0} → (P → ViewParts → List Act) → (P → ViewParts → End) → (P → ViewParts → ℕ → Bool) → Attendant P → List (List ℕ) → List ℕ
-due_at acts ending looks a lines = blocks acts ending looks a.places (a.last + 1) a.live lines
+due_at acts ending looks a lines = blocks acts ending looks a.own.items a.places (a.last + 1) a.live lines

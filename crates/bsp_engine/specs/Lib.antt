@@ -4,6 +4,7 @@ pub mod Blocks
 pub mod Catalogue
 pub mod Changes
 pub mod Counting
+pub mod Document
 pub mod DueAt
 pub mod Faults
 pub mod Flow

@@ -22,7 +22,8 @@ use Rattle.bsp_engine.specs.declared.asking.Unread.{Unread}
 use Rattle.bsp_engine.specs.declared.asking.Unread.TheVariants.{NotToml, WrongType, BadWord, TooLong, NothingToUndo}
 use Rattle.bsp_engine.specs.declared.jobs.Job.{Job}
 use Rattle.bsp_engine.specs.declared.options.Detail.{Detail}
-use Rattle.bsp_engine.specs.Asked.{asked_of}
+use Rattle.bsp_engine.specs.Asked.{asked_of, is_document}
+use Rattle.bsp_engine.specs.Document.{document_block}
 use Rattle.bsp_engine.specs.Lines.{line}
 use Rattle.bsp_engine.specs.Reported.{AreRepliesTo}
 use Rattle.bsp_engine.specs.Inside.Replies.{replies_of}
@@ -117,27 +118,29 @@ answer_block places k before answer = line (codes "run") (k ∷ []) ++ answer_li
 unfoldable pub last_result : {P : Type 0} → (P → ViewParts → List Act) → (P → ViewParts → End) → LiveParts P → Option RunResult
 last_result acts ending live = if live.changes then Some (result_of (run (turn_of (acts live.program) (ending live.program)) live.input)) else None
 
--- The text due for lines: a block for each, of which the first has this number.
-unfoldable pub blocks : {P : Type 0} → (P → ViewParts → List Act) → (P → ViewParts → End) → (P → ViewParts → ℕ → Bool) → Bool → ℕ → LiveParts P → List (List ℕ) → List ℕ
-blocks acts ending looks places k live [] = []
-blocks acts ending looks places k live (l ∷ later) =
-    answer_block places k (last_result acts ending live) (answer_to acts ending looks live (asked_of l))
-    ++ blocks acts ending looks places (k + 1) (after live (asked_of l)) later
+-- The text due for lines: a block for each, of which the first has this number. A line that asks for the document is answered by it, has no number, and
+-- changes nothing; `own` is the text of the keys that are the catalogue's own.
+unfoldable pub blocks : {P : Type 0} → (P → ViewParts → List Act) → (P → ViewParts → End) → (P → ViewParts → ℕ → Bool) → List ℕ → Bool → ℕ → LiveParts P → List (List ℕ) → List ℕ
+blocks acts ending looks own places k live [] = []
+blocks acts ending looks own places k live (l ∷ later) =
+    if is_document l then document_block own live.input ++ blocks acts ending looks own places k live later
+    else answer_block places k (last_result acts ending live) (answer_to acts ending looks live (asked_of l))
+    ++ blocks acts ending looks own places (k + 1) (after live (asked_of l)) later
 
 -- nothing is due for no lines
-pub blocks-none : {P : Type 0} (acts : P → ViewParts → List Act) (ending : P → ViewParts → End) (looks : P → ViewParts → ℕ → Bool) (places : Bool) (k : ℕ) (live : LiveParts P) → blocks acts ending looks places k live [] ≡ []
+pub blocks-none : {P : Type 0} (acts : P → ViewParts → List Act) (ending : P → ViewParts → End) (looks : P → ViewParts → ℕ → Bool) (own : List ℕ) (places : Bool) (k : ℕ) (live : LiveParts P) → blocks acts ending looks own places k live [] ≡ []
 unfolding blocks
-blocks-none acts ending looks places k live = refl
+blocks-none acts ending looks own places k live = refl
 
 -- The text with which a live session of a job begins: the report of the job, and a line `ready`.
 unfoldable pub first_text : {P : Type 0} → (P → ViewParts → List Act) → (P → ViewParts → End) → (P → ViewParts → ℕ → Bool) → Detail → Job P → List ℕ
 first_text acts ending looks detail job = text_of detail (replies_of acts ending looks false job) ++ codes "ready\n"
 
 -- What is due once these lines were heard: the first text, and then a block for each line. The job's input and its batches come first.
-unfoldable pub due_of : {P : Type 0} → (P → ViewParts → List Act) → (P → ViewParts → End) → (P → ViewParts → ℕ → Bool) → Detail → Job P → List (List ℕ) → List ℕ
-due_of acts ending looks detail job lines =
+unfoldable pub due_of : {P : Type 0} → (P → ViewParts → List Act) → (P → ViewParts → End) → (P → ViewParts → ℕ → Bool) → Detail → List ℕ → Job P → List (List ℕ) → List ℕ
+due_of acts ending looks detail own job lines =
     first_text acts ending looks detail job
-    ++ blocks acts ending looks detail.places (length job.batches + 1) (after_batches (opened detail.changes job.program job.input) job.batches) lines
+    ++ blocks acts ending looks own detail.places (length job.batches + 1) (after_batches (opened detail.changes job.program job.input) job.batches) lines
 
 -- What these replies are, in the words of a session: the replies to a job and its batches, and the reply to each batch after them.
 pub record AreLiveReplies {P : Type 0} (acts : P → ViewParts → List Act) (ending : P → ViewParts → End) (looks : P → ViewParts → ℕ → Bool) : Type 0 where

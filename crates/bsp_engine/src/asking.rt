@@ -2,7 +2,7 @@
 
 ghost use Rattle.std.specs.Prelude.{◌≡◌, IfOk, Some, codes};
 ghost use Rattle.toml.specs.View.{table_view};
-ghost use Rattle.bsp_engine.specs.Asked.{asked_at, asked_of, document_of, is_blank, is_space, is_word, no_edits};
+ghost use Rattle.bsp_engine.specs.Asked.{asked_at, asked_of, document_of, is_blank, is_document, is_space, is_word, no_edits};
 ghost use Rattle.bsp_engine.specs.Tree.{tree_of};
 
 use crate::errors::JobError;
@@ -63,6 +63,13 @@ fn is_undo(line: &[u8]) -> bool
     ensures { result ≡ is_word (codes "undo") line.now }
 {
     line == b"undo".as_slice() || line == b"undo\r".as_slice()
+}
+
+/// Whether the word `document` stands on the line alone.
+pub fn is_document(line: &[u8]) -> bool
+    ensures { result ≡ is_document line.now }
+{
+    line == b"document".as_slice() || line == b"document\r".as_slice()
 }
 
 /// The batch of no edit, where no other is written.

@@ -1,11 +1,12 @@
 //! Who answers the lines of a live session, one after the other.
 
-ghost use Rattle.std.specs.Prelude.{◌≡◌, ◌≢◌, ◌∷◌, ◌++◌, List, ℕ, IfOk, OnOk, Err};
-ghost use Rattle.bsp_engine.specs.Asked.{asked_of};
+ghost use Rattle.std.specs.Prelude.{◌≡◌, ◌≢◌, ◌∷◌, ◌++◌, List, ℕ, IfOk, OnOk, Err, false};
+ghost use Rattle.bsp_engine.specs.Asked.{asked_of, is_document};
 ghost use Rattle.bsp_engine.specs.DueAt.{due_at};
 ghost use Rattle.bsp_engine.specs.Live.{after, answer_block, answer_to, last_result};
 
-use crate::asking::asked_of;
+use crate::asking::{asked_of, is_document};
+use crate::document::document_block;
 use crate::errors::EngineError;
 use crate::lines::push_line;
 use crate::live::{Crew, Live, push_answer};
@@ -21,6 +22,8 @@ pub struct Attendant<P: Program> {
     pub live: Live<P>,
     /// The number of the last block.
     pub last: u64,
+    /// The text of the keys of the document that are the catalogue's own.
+    pub own: Vec<u8>,
 }
 
 /// The block of a line, after what the line asks was done.
@@ -41,12 +44,13 @@ fn block_for<P: Program + Drop, R: Threads + Sync, G: Gate>(
     Ok(text)
 }
 
-/// The answer to a line, which has no LF, or why there is none.
-pub fn respond<P: Program + Drop, R: Threads + Sync, G: Gate>(
+/// The answer to a line that asks for no document, as the block with the next number.
+fn next_block<P: Program + Drop, R: Threads + Sync, G: Gate>(
     crew: &Crew<'_, R, G>,
     attendant: &mut Attendant<P>,
     line: &[u8],
 ) -> Result<Vec<u8>, EngineError>
+    requires { is_document line.now ≡ false }
     ensures answer { IfOk result (λ text. (later : List (List ℕ)) →
         due_at P.acts P.ending P.looks attendant.old (line.now ∷ later) ≡ text.items ++ due_at P.acts P.ending P.looks attendant.new later) }
     ensures failed { result ≢ Err EngineError.Write }
@@ -59,6 +63,25 @@ pub fn respond<P: Program + Drop, R: Threads + Sync, G: Gate>(
             attendant.last = number;
             Ok(text)
         }
+        Err(_) => Err(EngineError::OutOfMemory),
+    }
+}
+
+/// The answer to a line, which has no LF, or why there is none.
+pub fn respond<P: Program + Drop, R: Threads + Sync, G: Gate>(
+    crew: &Crew<'_, R, G>,
+    attendant: &mut Attendant<P>,
+    line: &[u8],
+) -> Result<Vec<u8>, EngineError>
+    ensures answer { IfOk result (λ text. (later : List (List ℕ)) →
+        due_at P.acts P.ending P.looks attendant.old (line.now ∷ later) ≡ text.items ++ due_at P.acts P.ending P.looks attendant.new later) }
+    ensures failed { result ≢ Err EngineError.Write }
+{
+    if !is_document(line) {
+        return next_block(crew, attendant, line);
+    }
+    match document_block(crew.alloc, attendant.own.as_slice(), attendant.live.input()) {
+        Ok(text) => Ok(text),
         Err(_) => Err(EngineError::OutOfMemory),
     }
 }

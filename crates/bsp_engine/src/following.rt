@@ -1,7 +1,8 @@
 //! Live sessions: the report of a document, and then a block for each line that is heard.
 
-ghost use Rattle.std.specs.Prelude.{◌≡◌, ◌<◌, ◌≤◌, ◌-◌, ◌^◌, IfOk, OnOk, IfErr, IfSome, IsOkAnd, Err, None};
+ghost use Rattle.std.specs.Prelude.{◌≡◌, ◌⊎◌, ◌<◌, ◌≤◌, ◌-◌, ◌^◌, IfOk, OnOk, IfErr, IfSome, IsOkAnd, Err, None};
 ghost use Rattle.bsp_model.specs.Input.{input_fault};
+ghost use Rattle.bsp_engine.specs.Document.{WithOwnText};
 ghost use Rattle.bsp_engine.specs.JobOf.{job_of};
 ghost use Rattle.bsp_engine.specs.Live.{due_of, AreLiveReplies};
 ghost use Rattle.bsp_engine.specs.Talk.{Breaks, Talks};
@@ -10,7 +11,7 @@ use crate::attending::Attendant;
 use crate::catalogue::Catalogue;
 use crate::errors::{EngineError, JobFault};
 use crate::flow::Source;
-use crate::jobs::{Job, read_job};
+use crate::jobs::{Job, read_job_and_keys};
 use crate::live::{Crew, begin};
 use crate::options::{Detail, Options};
 use crate::reading::read_all;
@@ -21,16 +22,17 @@ use bsp_step::Program;
 use std::alloc::Global;
 use std::thread::Threads;
 
-/// Opens the session of a job, says its report, and then answers each line.
+/// Opens the session of a job, says its report, and then answers each line. `own` is the text of the keys that are the catalogue's own.
 fn follow_job<P: Program + Drop, R: Threads + Sync, T: Terminal, G: Gate>(
     crew: &Crew<'_, R, G>,
     detail: Detail,
     terminal: &mut T,
     job: Job<P>,
+    own: Vec<u8>,
 ) -> Result<(), EngineError>
     requires lawful { input_fault job.input ≡ None }
-    ensures ok { OnOk result (Talks (due_of P.acts P.ending P.looks detail job) (T.log terminal.old) (T.log terminal.new)) }
-    ensures err { IfErr result (λ e. Breaks (due_of P.acts P.ending P.looks detail job) (T.log terminal.old) (T.log terminal.new) e) }
+    ensures ok { OnOk result (Talks (due_of P.acts P.ending P.looks detail own.items job) (T.log terminal.old) (T.log terminal.new)) }
+    ensures err { IfErr result (λ e. Breaks (due_of P.acts P.ending P.looks detail own.items job) (T.log terminal.old) (T.log terminal.new) e) }
 {
     let (live, last, text) = match begin(crew, detail, job) {
         Ok(begun) => begun,
@@ -40,6 +42,7 @@ fn follow_job<P: Program + Drop, R: Threads + Sync, T: Terminal, G: Gate>(
         places: detail.places,
         live,
         last,
+        own,
     };
     match talk(crew, &mut attendant, terminal, text.as_slice()) {
         Ok(()) => Ok(()),
@@ -65,12 +68,12 @@ pub fn follow<C: Catalogue, R: Threads + Sync, S: Source, T: Terminal, G: Gate>(
     requires source { S.failures source.old < 2 ^ 64 - 1 }
 
     // The job's report was said, and then a block for each line, before more was waited for.
-    ensures ok { OnOk result (IfSome (S.remaining source.old) (λ bytes.
-        IsOkAnd (job_of C.meaning bytes) (λ job. Talks (due_of C.Program.acts C.Program.ending C.Program.looks options.detail job) (T.log terminal.old) (T.log terminal.new)))) }
+    ensures ok { OnOk result (IfSome (S.remaining source.old) (λ bytes. IsOkAnd (job_of C.meaning bytes) (λ job. WithOwnText bytes (λ own.
+        Talks (due_of C.Program.acts C.Program.ending C.Program.looks options.detail own job) (T.log terminal.old) (T.log terminal.new))))) }
 
-    // Where it broke off, a beginning of that was; before, each line that was whole was answered before more was waited for.
-    ensures err { IfErr result (λ e. IfSome (S.remaining source.old) (λ bytes.
-        IfOk (job_of C.meaning bytes) (λ job. Breaks (due_of C.Program.acts C.Program.ending C.Program.looks options.detail job) (T.log terminal.old) (T.log terminal.new) e))) }
+    // Where it broke off, nothing was said or a beginning of that; before, each line that was whole was answered before more was waited for.
+    ensures err { IfErr result (λ e. IfSome (S.remaining source.old) (λ bytes. IfOk (job_of C.meaning bytes) (λ job. (terminal.new ≡ terminal.old) ⊎ WithOwnText bytes (λ own.
+        Breaks (due_of C.Program.acts C.Program.ending C.Program.looks options.detail own job) (T.log terminal.old) (T.log terminal.new) e)))) }
 
     // The replies of which that text tells are those of a session.
     ensures replies { AreLiveReplies C.Program.acts C.Program.ending C.Program.looks }
@@ -83,14 +86,14 @@ pub fn follow<C: Catalogue, R: Threads + Sync, S: Source, T: Terminal, G: Gate>(
 {
     let bytes = read_all(alloc, source)?;
     *document = bytes;
-    let job = read_job::<C>(alloc, document.as_slice())?;
+    let (job, own) = read_job_and_keys::<C>(alloc, document.as_slice())?;
     let crew = Crew {
         rt,
         alloc,
         workers: options.workers,
         gate,
     };
-    match follow_job(&crew, options.detail, terminal, job) {
+    match follow_job(&crew, options.detail, terminal, job, own) {
         Ok(()) => Ok(()),
         Err(error) => Err(error),
     }

@@ -7,15 +7,18 @@
 mod batches;
 mod inputs;
 mod keys;
+mod own;
 mod shapes;
 mod signs;
 mod sizes;
 
-ghost use Rattle.std.specs.Prelude.{◌≡◌, IfOk, IfErr, None, Some, Ok, Err};
+ghost use Rattle.std.specs.Prelude.{◌≡◌, IfOk, IfErr, IsSomeAnd, None, Some, Ok, Err};
 ghost use Rattle.toml.specs.View.{table_view};
 ghost use Rattle.bsp_model.specs.Input.{input_fault};
+ghost use Rattle.bsp_engine.specs.Document.{IsPrinted, own_members};
 ghost use Rattle.bsp_engine.specs.Refusal.{IfFault};
 ghost use Rattle.bsp_engine.specs.JobOf.{job_of_tree, job_of};
+ghost use Rattle.bsp_engine.specs.Tree.{tree_of};
 
 use crate::catalogue::Catalogue;
 use crate::errors::{JobError, JobFault};
@@ -27,6 +30,7 @@ use bsp_model::{Input, Seq};
 use inputs::read_input;
 use keys::key_fault;
 pub use keys::{integer_passes, is_known_key, rows_pass};
+use own::own_text;
 pub use shapes::{is_batch, is_edit, is_row};
 use signs::has_negative_word;
 pub use signs::{has_negative, has_negative_edit};
@@ -78,4 +82,20 @@ pub fn read_job<C: Catalogue>(alloc: Global, bytes: &[u8]) -> Result<Job<C::Prog
 {
     let table = read_tree(alloc, bytes)?;
     job_in::<C>(alloc, &table)
+}
+
+/// The same, and the text of the keys that are the catalogue's own.
+pub fn read_job_and_keys<C: Catalogue>(
+    alloc: Global,
+    bytes: &[u8],
+) -> Result<(Job<C::Program>, Vec<u8>), JobError>
+    ensures ok { IfOk result (λ r. job_of C.meaning bytes.now ≡ Ok r.0) }
+    ensures own { IfOk result (λ r. IsSomeAnd (tree_of bytes.now) (λ t. IsPrinted (own_members t) r.1.items)) }
+    ensures lawful { IfOk result (λ r. input_fault r.0.input ≡ None) }
+    ensures fault { IfErr result (λ e. IfFault e (λ f. job_of C.meaning bytes.now ≡ Err f)) }
+{
+    let table = read_tree(alloc, bytes)?;
+    let job = job_in::<C>(alloc, &table)?;
+    let own = own_text(alloc, table)?;
+    Ok((job, own))
 }

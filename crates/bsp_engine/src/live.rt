@@ -64,6 +64,15 @@ impl<P: Program> Model for Live<P> {
     ghost invariant = { λ l. IsResultIn l.last l.session.history };
 }
 
+impl<P: Program + Drop> Live<P> {
+    /// The input as it is now.
+    pub fn input(&self) -> &Input
+        ensures { result.now ≡ self.now.input }
+    {
+        self.session.input()
+    }
+}
+
 /// The reply that gives a history.
 fn reply_with(history: &History, update: Update) -> Result<Reply, OutOfMemory>
     ensures { IfOk result (λ reply. reply ≡ Reply.Done (result_of history.now) (Some update)) }
