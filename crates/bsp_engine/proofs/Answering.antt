@@ -8,7 +8,8 @@ use Rattle.bsp_engine.specs.declared.errors.EngineError.TheVariants.{Job, TooLon
 use Rattle.bsp_engine.specs.declared.reading.ReadError.{ReadError}
 use Rattle.bsp_engine.specs.declared.reading.ReadError.TheVariants.{Failed, TooLong, OutOfMemory as NoRoom}
 use Rattle.bsp_engine.specs.Answer.{IsFailure, Answers}
-use Rattle.bsp_engine.specs.Refusal.{IfFault, job_error_of, read_error_of}
+use Rattle.bsp_engine.specs.Refusal.{IfFault}
+use Rattle.bsp_engine.specs.Inside.Refusal.{job_error_of, read_error_of}
 
 err_of : (r : Result (Unit {0}) EngineError) (x : EngineError) → IsErrAnd r (λ y. y ≡ x) → r ≡ Err x
 err_of (Ok u) x h = absurd h

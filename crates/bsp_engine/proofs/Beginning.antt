@@ -20,10 +20,11 @@ use Rattle.bsp_engine.specs.Asked.{asked_of, is_document}
 use Rattle.bsp_engine.specs.Document.{IsPrinted, WithOwnText, document_block, own_members}
 use Rattle.bsp_engine.specs.Tree.{tree_of}
 use Rattle.bsp_engine.specs.declared.attending.Attendant.{Attendant}
-use Rattle.bsp_engine.specs.DueAt.{due_at}
-use Rattle.bsp_engine.specs.Live.{LiveParts, after, after_batch, after_batches, opened, live_reply, live_replies, last_result, answer_to, answer_block, blocks, blocks-none, first_text, due_of}
+use Rattle.bsp_engine.specs.Inside.DueAt.{due_at}
+use Rattle.bsp_engine.specs.Live.{LiveParts, after, after_batch, after_batches, opened, last_result, answer_to, answer_block, blocks, first_text, due_of}
+use Rattle.bsp_engine.specs.Inside.LiveReplies.{live_reply, live_replies, live_replying}
 use Rattle.bsp_engine.specs.Inside.Replies.{replies_of}
-use Rattle.bsp_engine.specs.Talk.{Event, Due, Breaks, Talks}
+use Rattle.bsp_engine.specs.Talk.{Due}
 use Rattle.bsp_engine.specs.Blocks.{reply_block, result_before, blocks_after}
 
 module _ {P : Type 0} (acts : P → ViewParts → List Act) (ending : P → ViewParts → End) (looks : P → ViewParts → ℕ → Bool) where
@@ -55,7 +56,7 @@ module _ {P : Type 0} (acts : P → ViewParts → List Act) (ending : P → View
       ∙ ap (λ (v : LiveParts P). reply_block detail.places k (last_result acts ending live) reply ++ blocks_after detail (k + 1) (last_result acts ending v) (live_replies acts ending looks v later)) (sym is)
 
   pub first_is : (detail : Detail) (job : Job P) (live : LiveParts P) → live ≡ opened detail.changes job.program job.input
-      → (reply_block detail.places 0 None (done (looks job.program) None (run (turn_of (acts job.program) (ending job.program)) job.input)) ++ blocks_after detail 1 (last_result acts ending live) (live_replies acts ending looks live job.batches)) ++ codes "ready\n" ≡ first_text acts ending looks detail job
+      → (reply_block detail.places 0 None (done (looks job.program) None (run (turn_of (acts job.program) (ending job.program)) job.input)) ++ blocks_after detail 1 (last_result acts ending live) (live_replies acts ending looks live job.batches)) ++ codes "ready\n" ≡ first_text (live_replying acts ending looks) detail job
   unfolding first_text replies_of last_result
   first_is detail job live is =
       let first = reply_block detail.places 0 None (done (looks job.program) None (run (turn_of (acts job.program) (ending job.program)) job.input)) in
@@ -64,7 +65,7 @@ module _ {P : Type 0} (acts : P → ViewParts → List Act) (ending : P → View
 
   pub first_text_is : (detail : Detail) (job : Job P) (live : LiveParts P) (opening : Reply) (batches : List (List Edit)) (none one two three : List ℕ) → none ≡ [] → one ≡ none ++ reply_block detail.places 0 None opening
       → two ≡ one ++ blocks_after detail 1 (last_result acts ending live) (live_replies acts ending looks live batches) → three ≡ two ++ codes "ready\n"
-      → opening ≡ done (looks job.program) None (run (turn_of (acts job.program) (ending job.program)) job.input) → batches ≡ job.batches → live ≡ opened detail.changes job.program job.input → three ≡ first_text acts ending looks detail job
+      → opening ≡ done (looks job.program) None (run (turn_of (acts job.program) (ending job.program)) job.input) → batches ≡ job.batches → live ≡ opened detail.changes job.program job.input → three ≡ first_text (live_replying acts ending looks) detail job
   first_text_is detail job live opening batches none one two three n h i j o b l =
       let reply = done (looks job.program) None (run (turn_of (acts job.program) (ending job.program)) job.input) in
       let last = last_result acts ending live in
@@ -76,38 +77,38 @@ module _ {P : Type 0} (acts : P → ViewParts → List Act) (ending : P → View
 
   -- one line more, that asks for no document
   blocks_next : (own : List ℕ) (places : Bool) (last number : ℕ) (live next : LiveParts P) (l text : List ℕ) → is_document l ≡ false → number ≡ last + 1
-      → text ≡ answer_block places number (last_result acts ending live) (answer_to acts ending looks live (asked_of l)) → next ≡ after live (asked_of l)
-      → (later : List (List ℕ)) → blocks acts ending looks own places (last + 1) live (l ∷ later) ≡ text ++ blocks acts ending looks own places (number + 1) next later
+      → text ≡ answer_block places number (last_result acts ending live) (answer_to (live_replying acts ending looks) live (asked_of l)) → next ≡ after live (asked_of l)
+      → (later : List (List ℕ)) → blocks acts ending (live_replying acts ending looks) own places (last + 1) live (l ∷ later) ≡ text ++ blocks acts ending (live_replying acts ending looks) own places (number + 1) next later
   unfolding blocks
   blocks_next own places last number live next l text d n t x later =
-      let told = document_block own live.input ++ blocks acts ending looks own places (last + 1) live later in
-      let block = answer_block places (last + 1) (last_result acts ending live) (answer_to acts ending looks live (asked_of l)) in
-      let rest = blocks acts ending looks own places (last + 1 + 1) (after live (asked_of l)) later in
+      let told = document_block own live.input ++ blocks acts ending (live_replying acts ending looks) own places (last + 1) live later in
+      let block = answer_block places (last + 1) (last_result acts ending live) (answer_to (live_replying acts ending looks) live (asked_of l)) in
+      let rest = blocks acts ending (live_replying acts ending looks) own places (last + 1 + 1) (after live (asked_of l)) later in
       ap (λ (b : Bool). cond b told (block ++ rest)) d
-      ∙ (ap (λ (k : ℕ). answer_block places k (last_result acts ending live) (answer_to acts ending looks live (asked_of l)) ++ blocks acts ending looks own places (k + 1) (after live (asked_of l)) later) (sym n)
-      ∙ (ap (λ b. b ++ blocks acts ending looks own places (number + 1) (after live (asked_of l)) later) (sym t)
-      ∙ ap (λ (v : LiveParts P). text ++ blocks acts ending looks own places (number + 1) v later) (sym x)))
+      ∙ (ap (λ (k : ℕ). answer_block places k (last_result acts ending live) (answer_to (live_replying acts ending looks) live (asked_of l)) ++ blocks acts ending (live_replying acts ending looks) own places (k + 1) (after live (asked_of l)) later) (sym n)
+      ∙ (ap (λ b. b ++ blocks acts ending (live_replying acts ending looks) own places (number + 1) (after live (asked_of l)) later) (sym t)
+      ∙ ap (λ (v : LiveParts P). text ++ blocks acts ending (live_replying acts ending looks) own places (number + 1) v later) (sym x)))
 
   -- one that asks for it
   document_next : (own : List ℕ) (places : Bool) (k : ℕ) (live : LiveParts P) (l text : List ℕ) → is_document l ≡ true → text ≡ document_block own live.input
-      → (later : List (List ℕ)) → blocks acts ending looks own places k live (l ∷ later) ≡ text ++ blocks acts ending looks own places k live later
+      → (later : List (List ℕ)) → blocks acts ending (live_replying acts ending looks) own places k live (l ∷ later) ≡ text ++ blocks acts ending (live_replying acts ending looks) own places k live later
   unfolding blocks
   document_next own places k live l text d t later =
-      let rest = blocks acts ending looks own places k live later in
-      let block = answer_block places k (last_result acts ending live) (answer_to acts ending looks live (asked_of l)) in
-      ap (λ (b : Bool). cond b (document_block own live.input ++ rest) (block ++ blocks acts ending looks own places (k + 1) (after live (asked_of l)) later)) d
+      let rest = blocks acts ending (live_replying acts ending looks) own places k live later in
+      let block = answer_block places k (last_result acts ending live) (answer_to (live_replying acts ending looks) live (asked_of l)) in
+      ap (λ (b : Bool). cond b (document_block own live.input ++ rest) (block ++ blocks acts ending (live_replying acts ending looks) own places (k + 1) (after live (asked_of l)) later)) d
       ∙ ap (λ b. b ++ rest) (sym t)
 
   -- the same of whoever answers
   pub attendant_next : (a b : Attendant P) (l text : List ℕ) (number : ℕ) → is_document l ≡ false → number ≡ a.last + 1 → b.last ≡ number → b.places ≡ a.places → b.own.items ≡ a.own.items
-      → text ≡ answer_block a.places number (last_result acts ending a.live) (answer_to acts ending looks a.live (asked_of l)) → b.live ≡ after a.live (asked_of l)
+      → text ≡ answer_block a.places number (last_result acts ending a.live) (answer_to (live_replying acts ending looks) a.live (asked_of l)) → b.live ≡ after a.live (asked_of l)
       → (later : List (List ℕ)) → due_at acts ending looks a (l ∷ later) ≡ text ++ due_at acts ending looks b later
   unfolding due_at
   attendant_next a b l text number d n m p o t x later =
       blocks_next a.own.items a.places a.last number a.live b.live l text d n t x later
-      ∙ (ap (λ (k : ℕ). text ++ blocks acts ending looks a.own.items a.places (k + 1) b.live later) (sym m)
-      ∙ (ap (λ (q : Bool). text ++ blocks acts ending looks a.own.items q (b.last + 1) b.live later) (sym p)
-      ∙ ap (λ (w : List ℕ). text ++ blocks acts ending looks w b.places (b.last + 1) b.live later) (sym o)))
+      ∙ (ap (λ (k : ℕ). text ++ blocks acts ending (live_replying acts ending looks) a.own.items a.places (k + 1) b.live later) (sym m)
+      ∙ (ap (λ (q : Bool). text ++ blocks acts ending (live_replying acts ending looks) a.own.items q (b.last + 1) b.live later) (sym p)
+      ∙ ap (λ (w : List ℕ). text ++ blocks acts ending (live_replying acts ending looks) w b.places (b.last + 1) b.live later) (sym o)))
 
   pub attendant_tells : (a : Attendant P) (l text : List ℕ) → is_document l ≡ true → text ≡ document_block a.own.items a.live.input
       → (later : List (List ℕ)) → due_at acts ending looks a (l ∷ later) ≡ text ++ due_at acts ending looks a later
@@ -115,22 +116,22 @@ module _ {P : Type 0} (acts : P → ViewParts → List Act) (ending : P → View
   attendant_tells a l text d t later = document_next a.own.items a.places (a.last + 1) a.live l text d t later
 
   pub due_at-none : (a : Attendant P) → due_at acts ending looks a [] ≡ []
-  unfolding due_at
-  due_at-none a = blocks-none acts ending looks a.own.items a.places (a.last + 1) a.live
+  unfolding due_at blocks
+  due_at-none a = refl
 
   -- what is known of the session that was begun is known of the job's
-  pub job_due : (X : Due → Type 0) (detail : Detail) (own : List ℕ) (job : Job P) (first : List ℕ) (a : Attendant P) → a.places ≡ detail.places → a.own.items ≡ own → first ≡ first_text acts ending looks detail job → a.last ≡ length job.batches
-      → a.live ≡ after_batches (opened detail.changes job.program job.input) job.batches → X (λ lines. first ++ due_at acts ending looks a lines) → X (due_of acts ending looks detail own job)
+  pub job_due : (X : Due → Type 0) (detail : Detail) (own : List ℕ) (job : Job P) (first : List ℕ) (a : Attendant P) → a.places ≡ detail.places → a.own.items ≡ own → first ≡ first_text (live_replying acts ending looks) detail job → a.last ≡ length job.batches
+      → a.live ≡ after_batches (opened detail.changes job.program job.input) job.batches → X (λ lines. first ++ due_at acts ending looks a lines) → X (due_of acts ending (live_replying acts ending looks) detail own job)
   unfolding due_of due_at
   job_due X detail own job first a q o f n v x =
       let last = a.last in
       let live = a.live in
       let end = after_batches (opened detail.changes job.program job.input) job.batches in
-      subst (λ (t : List ℕ). X (λ lines. t ++ blocks acts ending looks own detail.places (length job.batches + 1) end lines)) f
-      (subst (λ (k : ℕ). X (λ lines. first ++ blocks acts ending looks own detail.places (k + 1) end lines)) n
-      (subst (λ (w : LiveParts P). X (λ lines. first ++ blocks acts ending looks own detail.places (last + 1) w lines)) v
-      (subst (λ (b : Bool). X (λ lines. first ++ blocks acts ending looks own b (last + 1) live lines)) q
-      (subst (λ (w : List ℕ). X (λ lines. first ++ blocks acts ending looks w a.places (last + 1) live lines)) o x))))
+      subst (λ (t : List ℕ). X (λ lines. t ++ blocks acts ending (live_replying acts ending looks) own detail.places (length job.batches + 1) end lines)) f
+      (subst (λ (k : ℕ). X (λ lines. first ++ blocks acts ending (live_replying acts ending looks) own detail.places (k + 1) end lines)) n
+      (subst (λ (w : LiveParts P). X (λ lines. first ++ blocks acts ending (live_replying acts ending looks) own detail.places (last + 1) w lines)) v
+      (subst (λ (b : Bool). X (λ lines. first ++ blocks acts ending (live_replying acts ending looks) own b (last + 1) live lines)) q
+      (subst (λ (w : List ℕ). X (λ lines. first ++ blocks acts ending (live_replying acts ending looks) w a.places (last + 1) live lines)) o x))))
 
 -- what is known of the bytes that were read is known of all that the source had
 pub when_read : (source : Option (List ℕ)) (slice bytes : List ℕ) (F : List ℕ → Type 0) → slice ≡ bytes → IfSome source (λ all. bytes ≡ all) → F slice → IfSome source F
@@ -143,21 +144,21 @@ for_job r job X is fact = subst (λ (s : Result (Job _) JobFault). IsOkAnd s X) 
 pub if_job : {P : Type 0} (r : Result (Job P) JobFault) (job : Job P) (X : Job P → Type 0) → r ≡ Ok job → X job → IfOk r X
 if_job r job X is fact = subst (λ (s : Result (Job _) JobFault). IfOk s X) (sym is) fact
 
--- The conversation is due for the text of these keys: it is whole ..
-pub told_whole : {P : Type 0} (source : Option (List ℕ)) (read : List ℕ → Result (Job P) JobFault) (due : List ℕ → Job P → Due) (slice bytes : List ℕ) (job : Job P) (own : List ℕ) (old new : Option (List Event))
-    → slice ≡ bytes → IfSome source (λ all. bytes ≡ all) → read slice ≡ Ok job → IsSomeAnd (tree_of slice) (λ t. IsPrinted (own_members t) own) → Talks (due own job) old new
-    → IfSome source (λ all. IsOkAnd (read all) (λ j. WithOwnText all (λ w. Talks (due w j) old new)))
-told_whole source read due slice bytes job own old new same all is printed talks =
-    when_read source slice bytes (λ bs. IsOkAnd (read bs) (λ j. WithOwnText bs (λ w. Talks (due w j) old new))) same all
-    (for_job (read slice) job (λ j. WithOwnText slice (λ w. Talks (due w j) old new)) is (own, printed, talks))
+-- What is known of the job and of the text of its keys is known of all that the source had ..
+pub told_whole : {P : Type 0} (source : Option (List ℕ)) (read : List ℕ → Result (Job P) JobFault) (F : List ℕ → Job P → Type 0) (slice bytes : List ℕ) (job : Job P) (own : List ℕ)
+    → slice ≡ bytes → IfSome source (λ all. bytes ≡ all) → read slice ≡ Ok job → IsSomeAnd (tree_of slice) (λ t. IsPrinted (own_members t) own) → F own job
+    → IfSome source (λ all. IsOkAnd (read all) (λ j. WithOwnText all (λ w. F w j)))
+told_whole source read F slice bytes job own same all is printed fact =
+    when_read source slice bytes (λ bs. IsOkAnd (read bs) (λ j. WithOwnText bs (λ w. F w j))) same all
+    (for_job (read slice) job (λ j. WithOwnText slice (λ w. F w j)) is (own, printed, fact))
 
--- .. or it broke off
-pub told_part : {P X : Type 0} (source : Option (List ℕ)) (read : List ℕ → Result (Job P) JobFault) (due : List ℕ → Job P → Due) (slice bytes : List ℕ) (job : Job P) (own : List ℕ) (old new : Option (List Event)) (error : EngineError) (before after : X)
-    → slice ≡ bytes → IfSome source (λ all. bytes ≡ all) → read slice ≡ Ok job → IsSomeAnd (tree_of slice) (λ t. IsPrinted (own_members t) own) → Breaks (due own job) old new error
-    → IfSome source (λ all. IfOk (read all) (λ j. (after ≡ before) ⊎ WithOwnText all (λ w. Breaks (due w j) old new error)))
-told_part source read due slice bytes job own old new error before after same all is printed breaks =
-    when_read source slice bytes (λ bs. IfOk (read bs) (λ j. (after ≡ before) ⊎ WithOwnText bs (λ w. Breaks (due w j) old new error))) same all
-    (if_job (read slice) job (λ j. (after ≡ before) ⊎ WithOwnText slice (λ w. Breaks (due w j) old new error)) is (inr (own, printed, breaks)))
+-- .. and so it is where the conversation broke off
+pub told_part : {P X : Type 0} (source : Option (List ℕ)) (read : List ℕ → Result (Job P) JobFault) (F : List ℕ → Job P → Type 0) (slice bytes : List ℕ) (job : Job P) (own : List ℕ) (before after : X)
+    → slice ≡ bytes → IfSome source (λ all. bytes ≡ all) → read slice ≡ Ok job → IsSomeAnd (tree_of slice) (λ t. IsPrinted (own_members t) own) → F own job
+    → IfSome source (λ all. IfOk (read all) (λ j. (after ≡ before) ⊎ WithOwnText all (λ w. F w j)))
+told_part source read F slice bytes job own before after same all is printed fact =
+    when_read source slice bytes (λ bs. IfOk (read bs) (λ j. (after ≡ before) ⊎ WithOwnText bs (λ w. F w j))) same all
+    (if_job (read slice) job (λ j. (after ≡ before) ⊎ WithOwnText slice (λ w. F w j)) is (inr (own, printed, fact)))
 
 said_none : {P X : Type 0} (r : Result (Job P) JobFault) (before after : X) (F : Job P → Type 0) → after ≡ before → IfOk r (λ job. (after ≡ before) ⊎ F job)
 said_none (Ok job) before after F same = inl same

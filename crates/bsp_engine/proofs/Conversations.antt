@@ -5,7 +5,8 @@ use Rattle.std.specs.Prelude.{◌==◌, IfErr, IsErrAnd}
 use Rattle.std.proofs.lemmas.List.{append-nil}
 use Rattle.bsp_engine.specs.declared.errors.EngineError.{EngineError}
 use Rattle.bsp_engine.specs.declared.errors.EngineError.TheVariants.{Write}
-use Rattle.bsp_engine.specs.Talk.{Event, heard, Goes, heard_in, said_in, kept, lines_from, rest_from, whole_lines, unless_empty, all_lines, Says, SaysPart, Due, Answered, Stopped, AttendedIf, Attended, UnattendedIf, Unattended, IsPrompt, Talks, Breaks}
+use Rattle.bsp_engine.specs.Talk.{Event, heard, Goes, heard_in, said_in, kept, lines_from, rest_from, whole_lines, unless_empty, all_lines, Due, IsPrompt, Talks, Breaks}
+use Rattle.bsp_engine.specs.Inside.Talk.{Says, SaysPart, Answered, Stopped, AttendedIf, Attended, UnattendedIf, Unattended}
 use Rattle.bsp_engine.proofs.Logs.{goes_more, goes_none, said_append, heard_only, heard_none, prompt_only, prompt_first, ended_only}
 
 -- the answer to a line broke off in its text

@@ -20,7 +20,8 @@ use Rattle.std.specs.List.{list_any}
 use Rattle.std.proofs.lemmas.Bool.{or_parts}
 use Rattle.bsp_engine.specs.Asked.{asked_of, is_document}
 use Rattle.bsp_engine.specs.Document.{document_block}
-use Rattle.bsp_engine.specs.Live.{LiveParts, after, after_batch, undos_after, last_result, live_reply, live_replies, answer_to, answer_block, blocks, AreLiveReplies}
+use Rattle.bsp_engine.specs.Live.{LiveParts, after, after_batch, undos_after, last_result, answer_to, answer_block, blocks, AreLiveReplies}
+use Rattle.bsp_engine.specs.Inside.LiveReplies.{live_reply, live_replies, live_replying}
 use Rattle.bsp_engine.specs.Blocks.{blocks_after}
 use Rattle.bsp_engine.specs.declared.options.Detail.{Detail}
 use Rattle.bsp_engine.proofs.Beginning.{blocks-batch}
@@ -29,7 +30,7 @@ module _ {P : Type 0} (acts : P → ViewParts → List Act) (ending : P → View
   -- One definition of a block serves documents and lines: where each line asks for a batch, the blocks are those of a document that has these batches
   -- from block k on.
   pub blocks-batches : (own : List ℕ) (places : Bool) (k : ℕ) (live : LiveParts P) (lines : List (List ℕ)) (batches : List (List Edit)) → map asked_of lines ≡ map Batch batches → list_any is_document lines ≡ false
-      → blocks acts ending looks own places k live lines ≡ blocks_after (record { places = places; changes = live.changes }) k (last_result acts ending live) (live_replies acts ending looks live batches)
+      → blocks acts ending (live_replying acts ending looks) own places k live lines ≡ blocks_after (record { places = places; changes = live.changes }) k (last_result acts ending live) (live_replies acts ending looks live batches)
   unfolding blocks
   blocks-batches own places k live [] [] same none = refl
   blocks-batches own places k live [] (b ∷ bs) same none = cc
@@ -40,11 +41,11 @@ module _ {P : Type 0} (acts : P → ViewParts → List Act) (ending : P → View
       let (here, more) = or_parts (is_document l) (list_any is_document ls) none in
       let last = last_result acts ending live in
       let detail : Detail = record { places = places; changes = live.changes } in
-      let told = document_block own live.input ++ blocks acts ending looks own places k live ls in
-      let block = answer_block places k last (answer_to acts ending looks live (asked_of l)) ++ blocks acts ending looks own places (k + 1) (after live (asked_of l)) ls in
+      let told = document_block own live.input ++ blocks acts ending (live_replying acts ending looks) own places k live ls in
+      let block = answer_block places k last (answer_to (live_replying acts ending looks) live (asked_of l)) ++ blocks acts ending (live_replying acts ending looks) own places (k + 1) (after live (asked_of l)) ls in
       ap (λ (q : Bool). cond q told block) here
-      ∙ (ap (λ (a : Asked). answer_block places k last (answer_to acts ending looks live a) ++ blocks acts ending looks own places (k + 1) (after live a) ls) first
-      ∙ ap (λ t. answer_block places k last (answer_to acts ending looks live (Batch b)) ++ t) (blocks-batches own places (k + 1) (after_batch live b) ls bs others more)
+      ∙ (ap (λ (a : Asked). answer_block places k last (answer_to (live_replying acts ending looks) live a) ++ blocks acts ending (live_replying acts ending looks) own places (k + 1) (after live a) ls) first
+      ∙ ap (λ t. answer_block places k last (answer_to (live_replying acts ending looks) live (Batch b)) ++ t) (blocks-batches own places (k + 1) (after_batch live b) ls bs others more)
       ∙ sym (blocks-batch acts ending looks detail k live (after_batch live b) b bs refl refl))
 
 -- `undo` after an accepted batch leaves the session as it was before: its input, and what else can be taken back. So it is never refused.
@@ -58,7 +59,7 @@ undo-batch live batch lawful none =
     ∙ ap (λ (i : Input). record live { input = i }) input
 
 -- The replies of live sessions are those of sessions.
-pub are_live_replies : {P : Type 0} (acts : P → ViewParts → List Act) (ending : P → ViewParts → End) (looks : P → ViewParts → ℕ → Bool) → AreLiveReplies acts ending looks
+pub are_live_replies : {P : Type 0} (acts : P → ViewParts → List Act) (ending : P → ViewParts → End) (looks : P → ViewParts → ℕ → Bool) → AreLiveReplies acts ending looks (live_replying acts ending looks)
 unfolding live_reply
 are_live_replies acts ending looks =
     record {

@@ -1,7 +1,8 @@
 -- Logs: what was heard and said, stretch by stretch.
 use Rattle.std.proofs.Common.{◌≡◌, ℕ, List, [], ◌∷◌, ◌++◌, take, drop, Option, Some, None, refl, sym, ap, ◌∙◌, append_assoc}
 use Rattle.std.proofs.lemmas.List.{append-nil, take-append-drop}
-use Rattle.bsp_engine.specs.Talk.{Event, heard, said, Goes, heard_in, said_in, OnlySaid, HasEnded, Says, SaysPart, Due, IsPrompt}
+use Rattle.bsp_engine.specs.Talk.{Event, heard, said, Goes, heard_in, said_in, HasEnded, Due, IsPrompt}
+use Rattle.bsp_engine.specs.Inside.Talk.{OnlySaid, Says, SaysPart}
 
 pub goes_more : (a b c : Option (List Event)) (es fs : List Event) → Goes a b es → Goes b c fs → Goes a c (fs ++ es)
 goes_more None b c es fs h i = tt

@@ -18,7 +18,8 @@ use Rattle.bsp_incr.specs.Inside.Replies.{reply_to}
 use Rattle.bsp_engine.specs.declared.options.Detail.{Detail}
 use Rattle.bsp_engine.specs.Lines.{line}
 use Rattle.bsp_engine.specs.Blocks.{reply_lines, blocks_after}
-use Rattle.bsp_engine.specs.Live.{LiveParts, after_batch, undos_after, live_reply, live_replies, last_result, answer_to_undo, answer_lines}
+use Rattle.bsp_engine.specs.Live.{LiveParts, after_batch, undos_after, last_result, answer_to_undo, answer_lines}
+use Rattle.bsp_engine.specs.Inside.LiveReplies.{live_reply, live_replies, live_replying}
 use Rattle.bsp_engine.specs.Inside.Given.{IsResultIn, result_if, undo_if}
 use Rattle.bsp_engine.proofs.Beginning.{blocks-batch}
 
@@ -55,11 +56,11 @@ module _ {P : Type 0} (acts : P → ViewParts → List Act) (ending : P → View
   -- .. and of one that is taken back
   pub undone_text : {E : Type 0} (places : Bool) (before live : LiveParts P) (undo batch : List Edit) (former : List (List Edit)) (r : Result (Unit {0}) E) (old new : List ℕ) → before ≡ live → before.undos ≡ undo ∷ former → batch ≡ undo
       → OnOk r (new ≡ old ++ reply_lines places (result_if before.changes (turn_of (acts before.program) (ending before.program)) before.input) (reply_to (looks before.program) (turn_of (acts before.program) (ending before.program)) before.input batch))
-      → OnOk r (new ≡ old ++ answer_lines places (last_result acts ending live) (answer_to_undo acts ending looks live live.undos))
+      → OnOk r (new ≡ old ++ answer_lines places (last_result acts ending live) (answer_to_undo (live_replying acts ending looks) live live.undos))
   unfolding last_result live_reply
   undone_text places before live undo batch former r old new at us same e =
-      subst (λ v. OnOk r (new ≡ old ++ answer_lines places (last_result acts ending v) (answer_to_undo acts ending looks v v.undos))) at
-      (subst (λ (l : List (List Edit)). OnOk r (new ≡ old ++ answer_lines places (last_result acts ending before) (answer_to_undo acts ending looks before l))) (sym us)
+      subst (λ v. OnOk r (new ≡ old ++ answer_lines places (last_result acts ending v) (answer_to_undo (live_replying acts ending looks) v v.undos))) at
+      (subst (λ (l : List (List Edit)). OnOk r (new ≡ old ++ answer_lines places (last_result acts ending before) (answer_to_undo (live_replying acts ending looks) before l))) (sym us)
       (subst (λ b. OnOk r (new ≡ old ++ text_at places before b)) same e))
 
   -- a block more

@@ -9,7 +9,8 @@ use Rattle.std.specs.Char.{digit_value}
 use Rattle.clap.specs.Matches.{ReadsOne}
 use Rattle.clap.specs.ValueTests.{is_numeral}
 use Rattle.clap.specs.Words.{Text}
-use Rattle.bsp_engine.specs.Options.{number_of, is_workers_text, workers_of, number_or_1}
+use Rattle.bsp_engine.specs.Options.{number_of, is_workers_text, workers_of}
+use Rattle.bsp_engine.specs.Inside.Options.{number_or_1}
 
 digits_pass : (ds : List ℕ) → AllDigits 10 ds → list_all (λ d. nat_lt (digit_value d) 10) ds ≡ true
 digits_pass [] h = refl

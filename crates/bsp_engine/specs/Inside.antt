@@ -1,3 +1,10 @@
 pub mod Given
 pub mod Replies
 pub mod Report
+pub mod LiveReplies
+pub mod DueAt
+pub mod Flow
+pub mod Options
+pub mod Places
+pub mod Refusal
+pub mod Talk

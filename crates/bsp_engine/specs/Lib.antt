@@ -5,7 +5,6 @@ pub mod Catalogue
 pub mod Changes
 pub mod Counting
 pub mod Document
-pub mod DueAt
 pub mod Faults
 pub mod Flow
 pub mod JobOf

@@ -1,5 +1,5 @@
 -- What an open session answers to lines (this profile).
-use Rattle.std.specs.Prelude.{◌≡◌, ℕ, ◌+◌, Bool, false, List, [], ◌∷◌, ◌++◌, length, codes, Option, None, Some, refl, if◌then◌else◌}
+use Rattle.std.specs.Prelude.{◌≡◌, ℕ, ◌+◌, Bool, false, List, [], ◌∷◌, ◌++◌, length, codes, Option, None, Some, if◌then◌else◌}
 use Rattle.bsp_model.specs.declared.input.Input.{Input}
 use Rattle.bsp_model.specs.Input.{input_fault}
 use Rattle.bsp_model.specs.declared.fault.End.{End}
@@ -15,7 +15,6 @@ use Rattle.bsp_incr.specs.declared.reply.Reply.{Reply}
 use Rattle.bsp_incr.specs.Edits.{refusal_of}
 use Rattle.bsp_incr.specs.Undo.{undo_of}
 use Rattle.bsp_incr.specs.Replies.{input_after, IsReply}
-use Rattle.bsp_incr.specs.Inside.Replies.{reply_to}
 use Rattle.bsp_engine.specs.declared.asking.Asked.{Asked}
 use Rattle.bsp_engine.specs.declared.asking.Asked.TheVariants.{Batch, Undo, Nothing}
 use Rattle.bsp_engine.specs.declared.asking.Unread.{Unread}
@@ -26,7 +25,6 @@ use Rattle.bsp_engine.specs.Asked.{asked_of, is_document}
 use Rattle.bsp_engine.specs.Document.{document_block}
 use Rattle.bsp_engine.specs.Lines.{line}
 use Rattle.bsp_engine.specs.Reported.{AreRepliesTo}
-use Rattle.bsp_engine.specs.Inside.Replies.{replies_of}
 use Rattle.bsp_engine.specs.Blocks.{reply_lines, text_of}
 
 -- What lasts of an open session: its program, its input, the batches that take the accepted ones back that still stand, the newest first, and whether its
@@ -41,6 +39,11 @@ pub record LiveParts (P : Type 0) : Type 0 where
 pub data Answer : Type 0 where
   replied : Reply → Answer
   unanswered : Unread → Answer
+
+-- how an open session replies: to a job and its batches, and to a batch after them
+pub record Replying (P : Type 0) : Type 0 where
+  pub job : Job P → List Reply
+  pub batch : LiveParts P → List Edit → Reply
 
 -- a batch that is refused leaves nothing to take back
 abbrev pub undos_after : {P : Type 0} → Option EditRefusal → LiveParts P → List Edit → List (List Edit)
@@ -75,23 +78,14 @@ after_batches live (batch ∷ later) = after_batches (after_batch live batch) la
 abbrev pub opened : {P : Type 0} → Bool → P → Input → LiveParts P
 opened changes program input = record { program = program; input = input; undos = []; changes = changes }
 
--- the reply to a batch
-unfoldable pub live_reply : {P : Type 0} → (P → ViewParts → List Act) → (P → ViewParts → End) → (P → ViewParts → ℕ → Bool) → LiveParts P → List Edit → Reply
-live_reply acts ending looks live batch = reply_to (looks live.program) (turn_of (acts live.program) (ending live.program)) live.input batch
+abbrev pub answer_to_undo : {P : Type 0} → Replying P → LiveParts P → List (List Edit) → Answer
+answer_to_undo replying live [] = unanswered NothingToUndo
+answer_to_undo replying live (undo ∷ former) = replied (replying.batch live undo)
 
--- the replies to batches, one after the other
-abbrev pub live_replies : {P : Type 0} → (P → ViewParts → List Act) → (P → ViewParts → End) → (P → ViewParts → ℕ → Bool) → LiveParts P → List (List Edit) → List Reply
-live_replies acts ending looks live [] = []
-live_replies acts ending looks live (batch ∷ later) = live_reply acts ending looks live batch ∷ live_replies acts ending looks (after_batch live batch) later
-
-abbrev pub answer_to_undo : {P : Type 0} → (P → ViewParts → List Act) → (P → ViewParts → End) → (P → ViewParts → ℕ → Bool) → LiveParts P → List (List Edit) → Answer
-answer_to_undo acts ending looks live [] = unanswered NothingToUndo
-answer_to_undo acts ending looks live (undo ∷ former) = replied (live_reply acts ending looks live undo)
-
-abbrev pub answer_to : {P : Type 0} → (P → ViewParts → List Act) → (P → ViewParts → End) → (P → ViewParts → ℕ → Bool) → LiveParts P → Asked → Answer
-answer_to acts ending looks live (Batch batch) = replied (live_reply acts ending looks live batch)
-answer_to acts ending looks live Undo = answer_to_undo acts ending looks live live.undos
-answer_to acts ending looks live (Nothing unread) = unanswered unread
+abbrev pub answer_to : {P : Type 0} → Replying P → LiveParts P → Asked → Answer
+answer_to replying live (Batch batch) = replied (replying.batch live batch)
+answer_to replying live Undo = answer_to_undo replying live live.undos
+answer_to replying live (Nothing unread) = unanswered unread
 
 -- why a line was not read
 abbrev pub unread_word : Unread → List ℕ
@@ -120,30 +114,29 @@ last_result acts ending live = if live.changes then Some (result_of (run (turn_o
 
 -- The text due for lines: a block for each, of which the first has this number. A line that asks for the document is answered by it, has no number, and
 -- changes nothing; `own` is the text of the keys that are the catalogue's own.
-unfoldable pub blocks : {P : Type 0} → (P → ViewParts → List Act) → (P → ViewParts → End) → (P → ViewParts → ℕ → Bool) → List ℕ → Bool → ℕ → LiveParts P → List (List ℕ) → List ℕ
-blocks acts ending looks own places k live [] = []
-blocks acts ending looks own places k live (l ∷ later) =
-    if is_document l then document_block own live.input ++ blocks acts ending looks own places k live later
-    else answer_block places k (last_result acts ending live) (answer_to acts ending looks live (asked_of l))
-    ++ blocks acts ending looks own places (k + 1) (after live (asked_of l)) later
-
--- nothing is due for no lines
-pub blocks-none : {P : Type 0} (acts : P → ViewParts → List Act) (ending : P → ViewParts → End) (looks : P → ViewParts → ℕ → Bool) (own : List ℕ) (places : Bool) (k : ℕ) (live : LiveParts P) → blocks acts ending looks own places k live [] ≡ []
-unfolding blocks
-blocks-none acts ending looks own places k live = refl
+unfoldable pub blocks : {P : Type 0} → (P → ViewParts → List Act) → (P → ViewParts → End) → Replying P → List ℕ → Bool → ℕ → LiveParts P → List (List ℕ) → List ℕ
+blocks acts ending replying own places k live [] = []
+blocks acts ending replying own places k live (l ∷ later) =
+    if is_document l then document_block own live.input ++ blocks acts ending replying own places k live later
+    else answer_block places k (last_result acts ending live) (answer_to replying live (asked_of l))
+    ++ blocks acts ending replying own places (k + 1) (after live (asked_of l)) later
 
 -- The text with which a live session of a job begins: the report of the job, and a line `ready`.
-unfoldable pub first_text : {P : Type 0} → (P → ViewParts → List Act) → (P → ViewParts → End) → (P → ViewParts → ℕ → Bool) → Detail → Job P → List ℕ
-first_text acts ending looks detail job = text_of detail (replies_of acts ending looks false job) ++ codes "ready\n"
+unfoldable pub first_text : {P : Type 0} → Replying P → Detail → Job P → List ℕ
+first_text replying detail job = text_of detail (replying.job job) ++ codes "ready\n"
 
 -- What is due once these lines were heard: the first text, and then a block for each line. The job's input and its batches come first.
-unfoldable pub due_of : {P : Type 0} → (P → ViewParts → List Act) → (P → ViewParts → End) → (P → ViewParts → ℕ → Bool) → Detail → List ℕ → Job P → List (List ℕ) → List ℕ
-due_of acts ending looks detail own job lines =
-    first_text acts ending looks detail job
-    ++ blocks acts ending looks own detail.places (length job.batches + 1) (after_batches (opened detail.changes job.program job.input) job.batches) lines
+unfoldable pub due_of : {P : Type 0} → (P → ViewParts → List Act) → (P → ViewParts → End) → Replying P → Detail → List ℕ → Job P → List (List ℕ) → List ℕ
+due_of acts ending replying detail own job lines =
+    first_text replying detail job
+    ++ blocks acts ending replying own detail.places (length job.batches + 1) (after_batches (opened detail.changes job.program job.input) job.batches) lines
 
--- What these replies are, in the words of a session: the replies to a job and its batches, and the reply to each batch after them.
-pub record AreLiveReplies {P : Type 0} (acts : P → ViewParts → List Act) (ending : P → ViewParts → End) (looks : P → ViewParts → ℕ → Bool) : Type 0 where
-  pub job : (job : Job P) → input_fault job.input ≡ None → AreRepliesTo acts ending looks false job (replies_of acts ending looks false job)
+-- The replies are those of a session, by the acts, the endings and the footprints of programs: to a job and its batches, and to each batch after them.
+pub record AreLiveReplies {P : Type 0} (acts : P → ViewParts → List Act) (ending : P → ViewParts → End) (looks : P → ViewParts → ℕ → Bool) (replying : Replying P) : Type 0 where
+  pub job : (job : Job P) → input_fault job.input ≡ None → AreRepliesTo acts ending looks false job (replying.job job)
   pub batch : (live : LiveParts P) (batch : List Edit) → input_fault live.input ≡ None
-      → IsReply (looks live.program) (turn_of (acts live.program) (ending live.program)) live.input batch (live_reply acts ending looks live batch)
+      → IsReply (looks live.program) (turn_of (acts live.program) (ending live.program)) live.input batch (replying.batch live batch)
+
+-- the fact holds of such replies
+abbrev pub WithReplies : {P : Type 0} → (P → ViewParts → List Act) → (P → ViewParts → End) → (P → ViewParts → ℕ → Bool) → (Replying P → Type 0) → Type 0
+WithReplies acts ending looks fact = (replying : Replying _) × AreLiveReplies acts ending looks replying × fact replying

@@ -51,11 +51,6 @@ abbrev pub workers_of : Option Text → ℕ
 workers_of None = 1
 workers_of (Some text) = if is_workers_text text then number_of text else 1
 
--- a number from 1 to 16, else 1
-abbrev pub number_or_1 : Option ℕ → ℕ
-number_or_1 None = 1
-number_or_1 (Some n) = if nat_le 1 n && nat_le n 16 then n else 1
-
 -- whether a flag was given
 abbrev pub is_given : Option Text → Bool
 is_given None = false

@@ -1,8 +1,8 @@
 -- The places of an update, as `--places` tells them (this profile).
-use Rattle.std.specs.Prelude.{ℕ, ◌==◌, List, [], ◌∷◌, ◌++◌, if◌then◌else◌}
+use Rattle.std.specs.Prelude.{ℕ, ◌==◌, List, [], ◌∷◌, if◌then◌else◌}
 use Rattle.std.specs.List.{flat_map}
 use Rattle.bsp_incr.specs.declared.reply.Place.{Place}
-use Rattle.bsp_engine.specs.Lines.{field, line}
+use Rattle.bsp_engine.specs.Lines.{line}
 
 -- a superstep, and processes
 pub record StepPids : Type 0 where
@@ -32,7 +32,3 @@ step_lines word steps = flat_map (λ s. line word (s.step ∷ s.pids)) steps
 
 abbrev pub place_lines : List ℕ → List Place → List ℕ
 place_lines word places = step_lines word (by_superstep places)
-
--- what a place adds after one of this superstep: its process, on a line of its own superstep if that is another
-abbrev pub place_after : List ℕ → ℕ → Place → List ℕ
-place_after word step p = (if p.step == step then [] else 10 ∷ word ++ field p.step) ++ field p.pid

@@ -2,8 +2,9 @@
 
 ghost use Rattle.std.specs.Prelude.{◌≡◌, ◌≢◌, ◌∷◌, ◌++◌, List, ℕ, IfOk, OnOk, Err, false};
 ghost use Rattle.bsp_engine.specs.Asked.{asked_of, is_document};
-ghost use Rattle.bsp_engine.specs.DueAt.{due_at};
+ghost use Rattle.bsp_engine.specs.Inside.DueAt.{due_at};
 ghost use Rattle.bsp_engine.specs.Live.{after, answer_block, answer_to, last_result};
+ghost use Rattle.bsp_engine.specs.Inside.LiveReplies.{live_replying};
 
 use crate::asking::{asked_of, is_document};
 use crate::document::document_block;
@@ -35,7 +36,7 @@ fn block_for<P: Program + Drop, R: Threads + Sync, G: Gate>(
     line: &[u8],
 ) -> Result<Vec<u8>, OutOfMemory>
     ensures after { OnOk result (live.new ≡ after live.old (asked_of line.now)) }
-    ensures text { IfOk result (λ text. text.items ≡ answer_block places number (last_result P.acts P.ending live.old) (answer_to P.acts P.ending P.looks live.old (asked_of line.now))) }
+    ensures text { IfOk result (λ text. text.items ≡ answer_block places number (last_result P.acts P.ending live.old) (answer_to (live_replying P.acts P.ending P.looks) live.old (asked_of line.now))) }
 {
     let asked = asked_of(crew.alloc, line)?;
     let mut text = Vec::new(crew.alloc);

@@ -3,7 +3,7 @@
 ghost use Rattle.std.specs.Prelude.{◌≡◌};
 ghost use Rattle.bsp_engine.specs.declared.errors.JobError.TheVariants.{OutOfMemory as RefusedMemory};
 ghost use Rattle.bsp_engine.specs.Faults.{fault_line, exit_status};
-ghost use Rattle.bsp_engine.specs.Refusal.{job_error_of, read_error_of};
+ghost use Rattle.bsp_engine.specs.Inside.Refusal.{job_error_of, read_error_of};
 
 use crate::reading::ReadError;
 use bsp_model::{InputFault, OutOfMemory};

@@ -4,7 +4,8 @@ ghost use Rattle.std.specs.Prelude.{◌≡◌, ◌⊎◌, ◌<◌, ◌≤◌, �
 ghost use Rattle.bsp_model.specs.Input.{input_fault};
 ghost use Rattle.bsp_engine.specs.Document.{WithOwnText};
 ghost use Rattle.bsp_engine.specs.JobOf.{job_of};
-ghost use Rattle.bsp_engine.specs.Live.{due_of, AreLiveReplies};
+ghost use Rattle.bsp_engine.specs.Live.{due_of, WithReplies};
+ghost use Rattle.bsp_engine.specs.Inside.LiveReplies.{live_replying};
 ghost use Rattle.bsp_engine.specs.Talk.{Breaks, Talks};
 
 use crate::attending::Attendant;
@@ -31,8 +32,8 @@ fn follow_job<P: Program + Drop, R: Threads + Sync, T: Terminal, G: Gate>(
     own: Vec<u8>,
 ) -> Result<(), EngineError>
     requires lawful { input_fault job.input ≡ None }
-    ensures ok { OnOk result (Talks (due_of P.acts P.ending P.looks detail own.items job) (T.log terminal.old) (T.log terminal.new)) }
-    ensures err { IfErr result (λ e. Breaks (due_of P.acts P.ending P.looks detail own.items job) (T.log terminal.old) (T.log terminal.new) e) }
+    ensures ok { OnOk result (Talks (due_of P.acts P.ending (live_replying P.acts P.ending P.looks) detail own.items job) (T.log terminal.old) (T.log terminal.new)) }
+    ensures err { IfErr result (λ e. Breaks (due_of P.acts P.ending (live_replying P.acts P.ending P.looks) detail own.items job) (T.log terminal.old) (T.log terminal.new) e) }
 {
     let (live, last, text) = match begin(crew, detail, job) {
         Ok(begun) => begun,
@@ -67,16 +68,15 @@ pub fn follow<C: Catalogue, R: Threads + Sync, S: Source, T: Terminal, G: Gate>(
     requires workers { (0 < options.workers) × (options.workers ≤ 16) }
     requires source { S.failures source.old < 2 ^ 64 - 1 }
 
-    // The job's report was said, and then a block for each line, before more was waited for.
+    // The job's report was said, and then a block for each line, before more was waited for. The replies of which they tell are those of a session.
     ensures ok { OnOk result (IfSome (S.remaining source.old) (λ bytes. IsOkAnd (job_of C.meaning bytes) (λ job. WithOwnText bytes (λ own.
-        Talks (due_of C.Program.acts C.Program.ending C.Program.looks options.detail own job) (T.log terminal.old) (T.log terminal.new))))) }
+        WithReplies C.Program.acts C.Program.ending C.Program.looks (λ replying.
+        Talks (due_of C.Program.acts C.Program.ending replying options.detail own job) (T.log terminal.old) (T.log terminal.new)))))) }
 
     // Where it broke off, nothing was said or a beginning of that; before, each line that was whole was answered before more was waited for.
     ensures err { IfErr result (λ e. IfSome (S.remaining source.old) (λ bytes. IfOk (job_of C.meaning bytes) (λ job. (terminal.new ≡ terminal.old) ⊎ WithOwnText bytes (λ own.
-        Breaks (due_of C.Program.acts C.Program.ending C.Program.looks options.detail own job) (T.log terminal.old) (T.log terminal.new) e)))) }
-
-    // The replies of which that text tells are those of a session.
-    ensures replies { AreLiveReplies C.Program.acts C.Program.ending C.Program.looks }
+        WithReplies C.Program.acts C.Program.ending C.Program.looks (λ replying.
+        Breaks (due_of C.Program.acts C.Program.ending replying options.detail own job) (T.log terminal.old) (T.log terminal.new) e))))) }
 
     // Of a document that is no job nothing is said.
     ensures fault { IfSome (S.remaining source.old) (λ bytes. IfErr (job_of C.meaning bytes) (λ _. terminal.new ≡ terminal.old)) }

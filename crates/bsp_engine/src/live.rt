@@ -11,7 +11,8 @@ ghost use Rattle.bsp_incr.specs.Undo.{undo_of};
 ghost use Rattle.bsp_incr.specs.Inside.Replies.{done, reply_to};
 ghost use Rattle.bsp_engine.specs.Blocks.{blocks_after, lines_after, reply_lines};
 ghost use Rattle.bsp_engine.specs.Inside.Given.{IsResultIn, result_if, undo_if};
-ghost use Rattle.bsp_engine.specs.Live.{after, after_batch, after_batches, answer_lines, answer_to, first_text, last_result, live_replies, live_reply, opened};
+ghost use Rattle.bsp_engine.specs.Live.{after, after_batch, after_batches, answer_lines, answer_to, first_text, last_result, opened};
+ghost use Rattle.bsp_engine.specs.Inside.LiveReplies.{live_replies, live_reply, live_replying};
 
 use crate::asking::{Asked, Unread};
 use crate::blocks::{push_block, push_result_after};
@@ -196,7 +197,7 @@ fn undo_of<P: Program + Drop>(
 }
 
 /// Makes a batch, and appends the lines of its reply. What takes it back is kept, unless it is refused.
-#[tactic(auto, unfolding(crate::specs::Live::live_reply))]
+#[tactic(auto, unfolding(crate::specs::Inside::LiveReplies::live_reply))]
 fn make<P: Program + Drop, R: Threads + Sync, G: Gate>(
     crew: &Crew<'_, R, G>,
     places: bool,
@@ -243,7 +244,7 @@ pub fn begin<P: Program + Drop, R: Threads + Sync, G: Gate>(
     requires lawful { input_fault job.input ≡ None }
     ensures live { IfOk result (λ r. r.0 ≡ after_batches (opened detail.changes job.program job.input) job.batches) }
     ensures last { IfOk result (λ r. r.1 ≡ length job.batches) }
-    ensures text { IfOk result (λ r. r.2.items ≡ first_text P.acts P.ending P.looks detail job) }
+    ensures text { IfOk result (λ r. r.2.items ≡ first_text (live_replying P.acts P.ending P.looks) detail job) }
 {
     let Job {
         program,
@@ -259,7 +260,7 @@ pub fn begin<P: Program + Drop, R: Threads + Sync, G: Gate>(
 }
 
 /// Takes the last accepted batch back that still stands, and appends what is answered.
-#[tactic(auto, unfolding(crate::specs::Live::live_reply))]
+#[tactic(auto, unfolding(crate::specs::Inside::LiveReplies::live_reply))]
 fn undo<P: Program + Drop, R: Threads + Sync, G: Gate>(
     crew: &Crew<'_, R, G>,
     places: bool,
@@ -267,7 +268,7 @@ fn undo<P: Program + Drop, R: Threads + Sync, G: Gate>(
     text: &mut Vec<u8>,
 ) -> Result<(), OutOfMemory>
     ensures after { OnOk result (live.new ≡ after live.old Asked.Undo) }
-    ensures text { OnOk result (text.new.items ≡ text.old.items ++ answer_lines places (last_result P.acts P.ending live.old) (answer_to P.acts P.ending P.looks live.old Asked.Undo)) }
+    ensures text { OnOk result (text.new.items ≡ text.old.items ++ answer_lines places (last_result P.acts P.ending live.old) (answer_to (live_replying P.acts P.ending P.looks) live.old Asked.Undo)) }
 {
     match live.undos.pop_front() {
         Some(undo) => advance(
@@ -291,7 +292,7 @@ pub fn push_answer<P: Program + Drop, R: Threads + Sync, G: Gate>(
     asked: Asked,
 ) -> Result<(), OutOfMemory>
     ensures after { OnOk result (live.new ≡ after live.old asked) }
-    ensures text { OnOk result (text.new.items ≡ text.old.items ++ answer_lines places (last_result P.acts P.ending live.old) (answer_to P.acts P.ending P.looks live.old asked)) }
+    ensures text { OnOk result (text.new.items ≡ text.old.items ++ answer_lines places (last_result P.acts P.ending live.old) (answer_to (live_replying P.acts P.ending P.looks) live.old asked)) }
 {
     match asked {
         Asked::Batch(batch) => make(crew, places, live, text, batch.as_slice()),

@@ -2,7 +2,8 @@
 
 ghost use Rattle.std.specs.Prelude.{◌≡◌, ◌≢◌, ◌≤◌, IfOk, IfErr, codes, true, false, map, option_map};
 ghost use Rattle.clap.specs.Words.{FailsBy, app_of, fault_of, first_of, found_of, kind_of, matches_of, new_app, one_text, rows_of, rule_of, takes, with_rule};
-ghost use Rattle.bsp_engine.specs.Options.{changes_rule, detail_of, follow_rule, is_given, number_or_1, options_of, places_rule, scratch_rule, tool_app, with_version, workers_of, workers_rule};
+ghost use Rattle.bsp_engine.specs.Options.{changes_rule, detail_of, follow_rule, is_given, options_of, places_rule, scratch_rule, tool_app, with_version, workers_of, workers_rule};
+ghost use Rattle.bsp_engine.specs.Inside.Options.{number_or_1};
 
 use clap::error::ErrorKind;
 use clap::{Arg, ArgAction, ArgMatches, Command, Error, value_parser};

@@ -2,7 +2,8 @@
 
 ghost use Rattle.std.specs.Prelude.{◌≡◌, ◌++◌, OnOk};
 ghost use Rattle.bsp_engine.specs.Lines.{field};
-ghost use Rattle.bsp_engine.specs.Places.{place_after, place_lines};
+ghost use Rattle.bsp_engine.specs.Places.{place_lines};
+ghost use Rattle.bsp_engine.specs.Inside.Places.{place_after};
 
 use crate::lines::push_field;
 use bsp_incr::Place;

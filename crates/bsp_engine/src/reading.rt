@@ -2,7 +2,8 @@
 
 ghost use Rattle.std.specs.Prelude.{◌≡◌, ◌≢◌, ◌<◌, ◌≤◌, ◌+◌, ◌-◌, ◌^◌, length, IfOk, OnOk, IfSome, Ok, Err, true, false};
 ghost use Rattle.std.specs.Io.KnownBytes.{IsAtEnd};
-ghost use Rattle.bsp_engine.specs.Flow.{Gains, TakesAtMost};
+ghost use Rattle.bsp_engine.specs.Flow.{TakesAtMost};
+ghost use Rattle.bsp_engine.specs.Inside.Flow.{Gains};
 ghost use Rattle.bsp_engine.specs.Limits.{most_document_bytes};
 
 use crate::flow::Source;

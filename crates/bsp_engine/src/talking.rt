@@ -1,8 +1,9 @@
 //! Conversations: the lines that are heard at a terminal, and their answers.
 
 ghost use Rattle.std.specs.Prelude.{◌≡◌, ◌++◌, IfErr, OnOk, OnErr};
-ghost use Rattle.bsp_engine.specs.DueAt.{due_at};
-ghost use Rattle.bsp_engine.specs.Talk.{Answered, Attended, Breaks, Says, SaysPart, Stopped, Talks, Unattended, kept};
+ghost use Rattle.bsp_engine.specs.Inside.DueAt.{due_at};
+ghost use Rattle.bsp_engine.specs.Talk.{Breaks, Talks, kept};
+ghost use Rattle.bsp_engine.specs.Inside.Talk.{Answered, Attended, Says, SaysPart, Stopped, Unattended};
 
 use crate::attending::{Attendant, respond};
 use crate::errors::EngineError;

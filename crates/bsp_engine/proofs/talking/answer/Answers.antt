@@ -1,4 +1,4 @@
-use Rattle.bsp_engine.specs.DueAt.{due_at}
+use Rattle.bsp_engine.specs.Inside.DueAt.{due_at}
 use Rattle.bsp_engine.proofs.Conversations.{stopped_write}
 use Rattle.bsp_engine.proofs.talking.answer.Goals as goal
 

@@ -1,5 +1,5 @@
 use Rattle.std.proofs.Common.{◌≤◌, ◌-◌, length, take}
-use Rattle.bsp_engine.specs.Talk.{Says}
+use Rattle.bsp_engine.specs.Inside.Talk.{Says}
 use Rattle.bsp_engine.proofs.talking.say_all.Given as goal
 
 abbrev pub invariant-loop-at : goal.invariant-loop-at

@@ -3,7 +3,7 @@ use Rattle.std.proofs.lemmas.Grind.{common_steps}
 use Rattle.bsp_engine.specs.declared.errors.EngineError.{EngineError}
 use Rattle.bsp_engine.specs.declared.errors.EngineError.TheVariants.{Read}
 use Rattle.bsp_engine.specs.Talk.{Breaks}
-use Rattle.bsp_engine.specs.DueAt.{due_at}
+use Rattle.bsp_engine.specs.Inside.DueAt.{due_at}
 use Rattle.bsp_engine.proofs.Beginning.{due_at-none}
 use Rattle.bsp_engine.proofs.Conversations.{breaks_first, breaks_here, breaks_in_byte, breaks_in_last, breaks_now, drop_next, goes_as, goes_first, goes_heard, going_byte, handed_on, none_begun, some_begun, talks_end, talks_last}
 use Rattle.bsp_engine.proofs.talking.talk.Goals as goal

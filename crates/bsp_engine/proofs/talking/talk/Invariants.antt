@@ -1,5 +1,5 @@
 use Rattle.std.proofs.Common.{◌++◌, [], drop}
-use Rattle.bsp_engine.specs.DueAt.{due_at}
+use Rattle.bsp_engine.specs.Inside.DueAt.{due_at}
 use Rattle.bsp_engine.proofs.Conversations.{IsGoing}
 use Rattle.bsp_engine.proofs.talking.talk.Given as goal
 

@@ -1,0 +1,53 @@
+-- How a conversation goes on, byte by byte and line by line: private functions alone speak of it.
+use Rattle.std.specs.Prelude.{◌≡◌, ◌≢◌, ℕ, Bool, true, false, ◌==◌, List, [], ◌∷◌, ◌++◌, Option, ⊤}
+use Rattle.bsp_engine.specs.declared.errors.EngineError.{EngineError}
+use Rattle.bsp_engine.specs.declared.errors.EngineError.TheVariants.{Write}
+use Rattle.bsp_engine.specs.Talk.{Event, heard, said, Due, IsBeginning, kept, Goes, said_in}
+
+-- nothing was heard
+abbrev pub OnlySaid : List Event → Type 0
+OnlySaid [] = ⊤
+OnlySaid (heard bytes ∷ before) = ⊥
+OnlySaid (said bytes ∷ before) = OnlySaid before
+
+-- this text went out, and nothing was heard
+pub record Says (old new : Option (List Event)) (text : List ℕ) : Type 0 where
+  pub events : List Event
+  pub goes : Goes old new events
+  pub only : OnlySaid events
+  pub is : said_in events ≡ text
+
+-- a beginning of this text went out, and nothing was heard
+pub record SaysPart (old new : Option (List Event)) (whole : List ℕ) : Type 0 where
+  pub text : List ℕ
+  pub begins : IsBeginning text whole
+  pub says : Says old new text
+
+-- the line was answered; `due` is what was due before it, `now` what is due after it
+pub record Answered (due now : Due) (line : List ℕ) (old new : Option (List Event)) : Type 0 where
+  pub text : List ℕ
+  pub says : Says old new text
+  pub next : (later : List (List ℕ)) → due (line ∷ later) ≡ text ++ now later
+
+-- the answer to the line broke off for this reason: a beginning of it went out after a failed write, else nothing
+pub record Stopped (due : Due) (line : List ℕ) (old new : Option (List Event)) (error : EngineError) : Type 0 where
+  pub text : List ℕ
+  pub says : Says old new text
+  pub begins : (later : List (List ℕ)) → IsBeginning text (due (line ∷ later))
+  pub whole : error ≢ Write → text ≡ []
+
+-- One more byte was taken: at an LF the line that was begun was answered, else it is kept and nothing happened.
+abbrev pub AttendedIf : Bool → Due → Due → List ℕ → ℕ → List ℕ → Option (List Event) → Option (List Event) → Type 0
+AttendedIf true due now begun byte next old new = (next ≡ []) × Answered due now begun old new
+AttendedIf false due now begun byte next old new = (next ≡ kept begun byte) × (now ≡ due) × (new ≡ old)
+
+abbrev pub Attended : Due → Due → List ℕ → ℕ → List ℕ → Option (List Event) → Option (List Event) → Type 0
+Attended due now begun byte next old new = AttendedIf (byte == 10) due now begun byte next old new
+
+-- The byte was not taken: the answer to the line broke off, or nothing happened.
+abbrev pub UnattendedIf : Bool → Due → List ℕ → Option (List Event) → Option (List Event) → EngineError → Type 0
+UnattendedIf true due begun old new error = Stopped due begun old new error
+UnattendedIf false due begun old new error = new ≡ old
+
+abbrev pub Unattended : Due → List ℕ → ℕ → Option (List Event) → Option (List Event) → EngineError → Type 0
+Unattended due begun byte old new error = UnattendedIf (byte == 10) due begun old new error
