@@ -1,3 +1,4 @@
 pub mod Given
 pub mod Replies
 pub mod Report
+pub mod Touched
