@@ -3,6 +3,7 @@ pub mod Beginning
 pub mod Changed
 pub mod Conversations
 pub mod Described
+pub mod Flagging
 pub mod Flowing
 pub mod LiveLaws
 pub mod Logs
@@ -10,7 +11,9 @@ pub mod Made
 pub mod Numbering
 pub mod OwnKeys
 pub mod Optional
+pub mod Telling
 pub mod TooLong
 pub mod Trees
 pub mod LawOfReports
+pub mod Untouched
 pub mod WholeAgain

@@ -1,11 +1,15 @@
 -- Texts that grow by a piece for each item.
-use Rattle.std.proofs.Common.{◌≡◌, ℕ, ◌+◌, ◌<◌, List, [], ◌∷◌, ◌++◌, length, take, get_or, Some, Result, Ok, Err, OnOk, sym, ap, ◌∙◌, append_assoc, arith}
+use Rattle.std.proofs.Common.{◌≡◌, ℕ, ◌+◌, ◌-◌, ◌^◌, ◌<◌, ◌≤◌, min, List, [], ◌∷◌, ◌++◌, length, take, drop, get_or, Some, Result, Ok, Err, OnOk, sym, ap, ◌∙◌, append_assoc, arith}
+use Rattle.std.specs.Prelude.{decimal, slice_set}
 use Rattle.std.specs.List.{flat_map, slice_get}
-use Rattle.std.proofs.lemmas.List.{append-nil, take_more, length-take-le, flat_map_more}
+use Rattle.std.proofs.Math.Seq.{take-add}
+use Rattle.std.proofs.lemmas.Grind.{flat_map-append}
+use Rattle.std.proofs.lemmas.Fmt.{length-decimal-le}
+use Rattle.std.proofs.lemmas.List.{append-nil, drop_more, drop-set, flat_map_more, length-take, length-take-le, take_min, take_more}
 use Rattle.std.proofs.lemmas.Option.{get_or_from_slice_get}
-use Rattle.bsp_engine.specs.Lines.{numbered}
+use Rattle.bsp_engine.specs.Lines.{field, fields, numbered}
 
-numbered-snoc : {A : Type 0} (piece : ℕ → A → List ℕ) (n : ℕ) (xs : List A) (x : A) → numbered piece n (xs ++ x ∷ []) ≡ numbered piece n xs ++ piece (n + length xs) x
+pub numbered-snoc : {A : Type 0} (piece : ℕ → A → List ℕ) (n : ℕ) (xs : List A) (x : A) → numbered piece n (xs ++ x ∷ []) ≡ numbered piece n xs ++ piece (n + length xs) x
 numbered-snoc piece n [] x = let here : n + 0 ≡ n = omega arith in rw here (append-nil (piece n x))
 numbered-snoc piece n (y ∷ xs) x =
     let count : n + length (y ∷ xs) ≡ (n + 1) + length xs = omega arith in
@@ -38,3 +42,31 @@ two_pieces (Err x) old a b one two e f = tt
 -- the same for three
 pub three_pieces : {X E : Type 0} (r : Result X E) (old a b c one two three : List ℕ) → one ≡ old ++ a → two ≡ one ++ b → OnOk r (three ≡ two ++ c) → OnOk r (three ≡ old ++ ((a ++ b) ++ c))
 three_pieces r old a b c one two three e f g = two_pieces r old (a ++ b) c two three (f ∙ (ap (λ l. l ++ b) e ∙ append_assoc old a b)) g
+
+-- numbers that are written from the last to the first, each with a space before it
+
+pub few_digits : (n : ℕ) → n < 2 ^ 64 → length (decimal n) ≤ 20
+few_digits n l = length-decimal-le 20 n (omega arith) (omega arith) l
+
+pub field_before : (numbers room buf : List ℕ) (left at start : ℕ) → 0 < left → left ≤ length numbers → 0 < start → start ≤ length buf → drop start buf ≡ decimal (get_or numbers (left - 1) 0) ++ drop at room → drop at room ≡ fields (drop left numbers)
+    → drop (start - 1) (slice_set buf (start - 1) 32) ≡ fields (drop (left - 1) numbers)
+field_before numbers room buf left at start some few low high one others =
+    let digits = decimal (get_or numbers (left - 1) 0) in
+    let next : start - 1 + 1 ≡ start = omega arith in
+    let here : left ≡ left - 1 + 1 = omega arith in
+    drop-set buf (start - 1) 32 (omega arith)
+    ∙ ap (λ l. 32 ∷ l) (ap (λ k. drop k buf) next ∙ one ∙ ap (λ l. digits ++ l) (others ∙ ap (λ k. fields (drop k numbers)) here))
+    ∙ sym (ap fields (drop_more numbers (left - 1) 0 (omega arith)))
+
+-- a text that has the first numbers, and then those of a part
+pub fields_grow : (numbers part : List ℕ) (i count : ℕ) (text old new : List ℕ) → part ≡ take count (drop i numbers) → old ≡ text ++ fields (take i numbers) → new ≡ old ++ fields part → new ≡ text ++ fields (take (i + count) numbers)
+fields_grow numbers part i count text old new is so_far more =
+    more ∙ ap (λ l. l ++ fields part) so_far ∙ append_assoc text (fields (take i numbers)) (fields part)
+    ∙ ap (λ l. text ++ l) (ap (λ p. fields (take i numbers) ++ fields p) is ∙ sym (ap fields (take-add i count numbers) ∙ flat_map-append field (take i numbers) (take count (drop i numbers))))
+
+-- a part with all of its numbers
+pub part_whole : (numbers part : List ℕ) (i count : ℕ) → part ≡ take count (drop i numbers) → part ≡ take (length part) (drop i numbers)
+part_whole numbers part i count is =
+    let all = drop i numbers in
+    let long : length part ≡ min count (length all) = ap (λ (p : List ℕ). length p) is ∙ length-take count all in
+    is ∙ sym (take_min count all) ∙ ap (λ k. take k all) (sym long)

@@ -3,7 +3,7 @@ use Rattle.std.specs.Prelude.{ℕ, Bool, ◌==◌, ◌&&◌, nat_eq, List, [], �
 use Rattle.std.specs.Cmp.Lexicographic.{pointwise}
 use Rattle.bsp_model.specs.declared.cost.CostRow.{CostRow}
 use Rattle.bsp_run.specs.declared.result.RunResult.{RunResult}
-use Rattle.bsp_engine.specs.declared.changes.Changes.{Changes}
+use Rattle.bsp_run.specs.declared.result.Status.{Status}
 use Rattle.bsp_engine.specs.Lines.{line, numbered}
 use Rattle.bsp_engine.specs.Text.{status_lines, memory_line, print_lines, cost_line}
 
@@ -28,6 +28,16 @@ same_row a b = (a.work == b.work) && (a.h == b.h) && (a.cost == b.cost)
 
 abbrev pub other_number : ℕ → ℕ → Option ℕ
 other_number old new = other nat_eq (Some old) new
+
+-- What of a result is another. `None` stands for each process, and for each superstep, of which nothing is.
+pub record Changes : Type 0 where
+  pub status : Status
+  pub memories : List (Option (List ℕ))
+  pub lines : List (Option (List (List ℕ)))
+  pub costs : List (Option CostRow)
+  -- how many supersteps there are
+  pub supersteps : Option ℕ
+  pub total : ℕ
 
 abbrev pub changes_of : RunResult → RunResult → Changes
 changes_of old new =

@@ -8,3 +8,4 @@ pub mod Options
 pub mod Places
 pub mod Refusal
 pub mod Talk
+pub mod Touched

@@ -1,8 +1,7 @@
 -- A result again, out of the result before and what has changed (this profile).
 use Rattle.std.specs.Prelude.{◌≡◌, List, [], ◌∷◌, drop, Option, None, Some}
 use Rattle.bsp_run.specs.declared.result.RunResult.{RunResult}
-use Rattle.bsp_engine.specs.declared.changes.Changes.{Changes}
-use Rattle.bsp_engine.specs.Changes.{changes_of}
+use Rattle.bsp_engine.specs.Changes.{Changes, changes_of}
 
 -- each item that has changed; where none has, the item of the list before
 abbrev pub with_others : {A : Type 0} → List A → List (Option A) → List A

@@ -5,7 +5,6 @@ ghost use Rattle.bsp_engine.specs.Blocks.{lines_after, reply_block, reply_lines,
 ghost use Rattle.bsp_engine.specs.Text.{update_lines};
 
 use crate::change_lines::push_changes;
-use crate::changes::changes_of;
 use crate::lines::push_line;
 use crate::options::Detail;
 use crate::reporting::{push_refusal, push_result, push_update};
@@ -24,10 +23,7 @@ pub fn push_result_after(
 {
     match before {
         None => push_result(text, run),
-        Some(old) => {
-            let changes = changes_of(*text.allocator(), old, run)?;
-            push_changes(text, &changes)
-        }
+        Some(old) => push_changes(text, old, run),
     }
 }
 

@@ -1,35 +1,51 @@
-//! The text of what has changed.
+//! The text of what of a result is another than in the result before.
 
-ghost use Rattle.std.specs.Prelude.{◌≡◌, ◌++◌, OnOk};
-ghost use Rattle.bsp_engine.specs.Changes.{changes_lines, count_line, other_lines, piece_if};
+ghost use Rattle.std.specs.Prelude.{◌≡◌, ◌↔◌, ◌++◌, Some, IsTrue, false, OnOk, IfOk, option_map, slice_get};
+ghost use Rattle.bsp_engine.specs.Changes.{changes_lines, changes_of, count_line, other, other_lines, other_number, others, piece_if, same_lines, same_row, same_words};
 ghost use Rattle.bsp_engine.specs.Lines.{numbered};
 ghost use Rattle.bsp_engine.specs.Text.{cost_line, memory_line};
 
-use crate::changes::Changes;
 use crate::lines::push_line;
 use crate::reporting::{push_cost, push_lines, push_memory_line, push_status};
-use bsp_model::{CostRow, Memory, OutOfMemory, Shared};
-use bsp_run::Lines;
+use bsp_model::{CostRow, Memory, OutOfMemory, Same, Shared};
+use bsp_run::{Lines, RunResult};
 
-/// Appends the line of a memory that has changed.
-fn push_other_memory(
-    text: &mut Vec<u8>,
-    pid: u64,
-    memory: &Option<Memory>,
-) -> Result<(), OutOfMemory>
-    ensures { OnOk result (text.new.items ≡ text.old.items ++ piece_if memory_line pid memory.now) }
+/// The item at a place, if there is one.
+pub fn item_at<T>(items: &[T], at: usize) -> Option<&T>
+    ensures { option_map (λ x. x.now) result ≡ slice_get items.now at }
 {
-    match memory {
-        Some(memory) => push_memory_line(text, pid, memory),
-        None => Ok(()),
-    }
+    let item = items.get(at)?;
+    Some(item)
 }
 
-fn push_other_memories(text: &mut Vec<u8>, memories: &[Option<Memory>]) -> Result<(), OutOfMemory>
-    ensures { OnOk result (text.new.items ≡ text.old.items ++ numbered (piece_if memory_line) 0 memories.now) }
+/// Appends the line of a memory, unless it is the same as before. Whether it is another.
+pub fn push_other_memory(
+    text: &mut Vec<u8>,
+    pid: u64,
+    old: Option<&Memory>,
+    new: &Memory,
+) -> Result<bool, OutOfMemory>
+    ensures text { OnOk result (text.new.items ≡ text.old.items ++ piece_if memory_line pid (other same_words (option_map (λ m. m.now) old.entry) new.now)) }
+    ensures same { IfOk result (λ another. another ≡ false → option_map (λ m. m.now) old.entry ≡ Some new.now) }
 {
-    for (pid, memory) in memories.iter().enumerate() {
-        push_other_memory(text, pid as u64, memory)?;
+    if let Some(old) = old {
+        if new.same(old) {
+            return Ok(false);
+        }
+    }
+    push_memory_line(text, pid, new)?;
+    Ok(true)
+}
+
+fn push_other_memories(
+    text: &mut Vec<u8>,
+    olds: &[Memory],
+    news: &[Memory],
+) -> Result<(), OutOfMemory>
+    ensures { OnOk result (text.new.items ≡ text.old.items ++ numbered (piece_if memory_line) 0 (others same_words olds.now news.now)) }
+{
+    for (pid, new) in news.iter().enumerate() {
+        push_other_memory(text, pid as u64, item_at(olds, pid), new)?;
     }
     Ok(())
 }
@@ -44,69 +60,95 @@ fn push_lines_or_silence(text: &mut Vec<u8>, pid: u64, lines: &Lines) -> Result<
     push_lines(text, pid, lines.as_slice())
 }
 
-/// Appends the lines of a process, if they have changed.
-fn push_other_lines(
+/// Appends the lines of a process, unless they are the same as before. Whether they are other ones.
+pub fn push_other_lines(
     text: &mut Vec<u8>,
     pid: u64,
-    lines: &Option<Shared<Lines>>,
-) -> Result<(), OutOfMemory>
-    ensures { OnOk result (text.new.items ≡ text.old.items ++ piece_if other_lines pid lines.now) }
+    old: Option<&Shared<Lines>>,
+    new: &Lines,
+) -> Result<bool, OutOfMemory>
+    ensures text { OnOk result (text.new.items ≡ text.old.items ++ piece_if other_lines pid (other same_lines (option_map (λ l. l.now) old.entry) new.now)) }
+    ensures same { IfOk result (λ another. another ≡ false → option_map (λ l. l.now) old.entry ≡ Some new.now) }
 {
-    match lines {
-        Some(lines) => push_lines_or_silence(text, pid, lines),
-        None => Ok(()),
+    if let Some(old) = old {
+        if new.same(old) {
+            return Ok(false);
+        }
     }
+    push_lines_or_silence(text, pid, new)?;
+    Ok(true)
 }
 
 fn push_all_other_lines(
     text: &mut Vec<u8>,
-    lines: &[Option<Shared<Lines>>],
+    olds: &[Shared<Lines>],
+    news: &[Shared<Lines>],
 ) -> Result<(), OutOfMemory>
-    ensures { OnOk result (text.new.items ≡ text.old.items ++ numbered (piece_if other_lines) 0 lines.now) }
+    ensures { OnOk result (text.new.items ≡ text.old.items ++ numbered (piece_if other_lines) 0 (others same_lines olds.now news.now)) }
 {
-    for (pid, lines) in lines.iter().enumerate() {
-        push_other_lines(text, pid as u64, lines)?;
+    for (pid, new) in news.iter().enumerate() {
+        push_other_lines(text, pid as u64, item_at(olds, pid), new)?;
     }
     Ok(())
 }
 
-/// Appends the cost of a superstep, if it has changed.
-fn push_other_cost(text: &mut Vec<u8>, step: u64, row: &Option<CostRow>) -> Result<(), OutOfMemory>
-    ensures { OnOk result (text.new.items ≡ text.old.items ++ piece_if cost_line step row.now) }
+/// The cost of a superstep, unless it is the same as before.
+fn other_row(old: Option<&CostRow>, new: &CostRow) -> Option<CostRow>
+    ensures { result ≡ other same_row (option_map (λ r. r.now) old.entry) new.now }
 {
-    match row {
-        Some(row) => push_cost(text, step, row),
+    match old {
+        Some(old) if old.work == new.work && old.h == new.h && old.cost == new.cost => None,
+        _ => Some(*new),
+    }
+}
+
+/// Appends the cost of a superstep, unless it is the same as before.
+fn push_other_cost(
+    text: &mut Vec<u8>,
+    step: u64,
+    old: Option<&CostRow>,
+    new: &CostRow,
+) -> Result<(), OutOfMemory>
+    ensures { OnOk result (text.new.items ≡ text.old.items ++ piece_if cost_line step (other same_row (option_map (λ r. r.now) old.entry) new.now)) }
+{
+    match other_row(old, new) {
+        Some(row) => push_cost(text, step, &row),
         None => Ok(()),
     }
 }
 
-fn push_other_costs(text: &mut Vec<u8>, costs: &[Option<CostRow>]) -> Result<(), OutOfMemory>
-    ensures { OnOk result (text.new.items ≡ text.old.items ++ numbered (piece_if cost_line) 0 costs.now) }
+/// Appends the cost of each superstep that has another one than before.
+pub fn push_other_costs(
+    text: &mut Vec<u8>,
+    olds: &[CostRow],
+    news: &[CostRow],
+) -> Result<(), OutOfMemory>
+    ensures { OnOk result (text.new.items ≡ text.old.items ++ numbered (piece_if cost_line) 0 (others same_row olds.now news.now)) }
 {
-    for (step, row) in costs.iter().enumerate() {
-        push_other_cost(text, step as u64, row)?;
+    for (step, new) in news.iter().enumerate() {
+        push_other_cost(text, step as u64, item_at(olds, step), new)?;
     }
     Ok(())
 }
 
-/// Appends the number of supersteps, if it has changed.
-fn push_count(text: &mut Vec<u8>, count: Option<u64>) -> Result<(), OutOfMemory>
-    ensures { OnOk result (text.new.items ≡ text.old.items ++ count_line count) }
+/// Appends the number of supersteps, unless it is the same as before.
+pub fn push_other_count(text: &mut Vec<u8>, old: usize, new: usize) -> Result<(), OutOfMemory>
+    ensures { OnOk result (text.new.items ≡ text.old.items ++ count_line (other_number old new)) }
 {
-    match count {
-        Some(count) => push_line(text, "costs", &[count]),
-        None => Ok(()),
+    if old == new {
+        return Ok(());
     }
+    push_line(text, "costs", &[new as u64])
 }
 
-/// Appends the lines of what has changed.
-pub fn push_changes(text: &mut Vec<u8>, changes: &Changes) -> Result<(), OutOfMemory>
-    ensures { OnOk result (text.new.items ≡ text.old.items ++ changes_lines changes.now) }
+/// Appends the lines of what of a result is another than in the result before.
+pub fn push_changes(text: &mut Vec<u8>, old: &RunResult, new: &RunResult) -> Result<(), OutOfMemory>
+    ensures { OnOk result (text.new.items ≡ text.old.items ++ changes_lines (changes_of old.now new.now)) }
 {
-    push_status(text, &changes.status)?;
-    push_other_memories(text, changes.memories.as_slice())?;
-    push_all_other_lines(text, changes.lines.as_slice())?;
-    push_other_costs(text, changes.costs.as_slice())?;
-    push_count(text, changes.supersteps)?;
-    push_line(text, "total", &[changes.total])
+    push_status(text, &new.status)?;
+    push_other_memories(text, old.memories.as_slice(), new.memories.as_slice())?;
+    push_all_other_lines(text, old.lines.as_slice(), new.lines.as_slice())?;
+    push_other_costs(text, old.costs.as_slice(), new.costs.as_slice())?;
+    push_other_count(text, old.costs.len(), new.costs.len())?;
+    push_line(text, "total", &[new.total])
 }

@@ -1,26 +1,61 @@
 //! The lines of a report.
 
-ghost use Rattle.std.specs.Prelude.{◌≡◌, ◌++◌, ◌∷◌, [], OnOk};
+ghost use Rattle.std.specs.Prelude.{◌≡◌, ◌++◌, ◌∷◌, ◌*◌, ◌≤◌, [], OnOk, drop, length};
 ghost use Rattle.bsp_engine.specs.Lines.{field, fields, line};
 
 use bsp_model::{Memory, OutOfMemory};
-use itoa::Buffer;
+use itoa::write_digits;
+
+/// The most bytes of a number of 64 bits, with the space before it.
+const FIELD: usize = 21;
+
+/// So many numbers are appended at once.
+const FEW: usize = 16;
+
+/// Writes numbers to the end of a room, each after a space. Answers where they begin.
+fn write_fields(room: &mut [u8], numbers: &[u64]) -> usize
+    requires { 21 * length numbers.now ≤ length room.old }
+    ensures within { result ≤ length room.old }
+    ensures written { drop result room.new ≡ fields numbers.now }
+{
+    let mut at = room.len();
+    let mut left = numbers.len();
+    while left > 0 {
+        left -= 1;
+        at = write_digits(numbers[left], room, at) - 1;
+        room[at] = b' ';
+    }
+    at
+}
 
 /// Appends a number after a space.
 pub fn push_field(text: &mut Vec<u8>, number: u64) -> Result<(), OutOfMemory>
     ensures { OnOk result (text.new.items ≡ text.old.items ++ field number) }
 {
-    let mut buffer = Buffer::new();
-    text.push(b' ')?;
-    text.extend_from_slice(buffer.format(number).as_bytes())
+    let mut room = [0; FIELD];
+    let start = write_fields(&mut room, &[number]);
+    text.extend_from_slice(&room[start..])
+}
+
+/// Appends each of a few numbers after a space.
+fn push_few(text: &mut Vec<u8>, numbers: &[u64]) -> Result<(), OutOfMemory>
+    requires { length numbers.now ≤ 16 }
+    ensures { OnOk result (text.new.items ≡ text.old.items ++ fields numbers.now) }
+{
+    let mut room = [0; FIELD * FEW];
+    let start = write_fields(&mut room, numbers);
+    text.extend_from_slice(&room[start..])
 }
 
 /// Appends each number after a space.
 pub fn push_fields(text: &mut Vec<u8>, numbers: &[u64]) -> Result<(), OutOfMemory>
     ensures { OnOk result (text.new.items ≡ text.old.items ++ fields numbers.now) }
 {
-    for number in numbers {
-        push_field(text, *number)?;
+    let mut at = 0;
+    while at < numbers.len() {
+        let count = (numbers.len() - at).min(FEW);
+        push_few(text, &numbers[at..at + count])?;
+        at += count;
     }
     Ok(())
 }
@@ -29,11 +64,11 @@ pub fn push_fields(text: &mut Vec<u8>, numbers: &[u64]) -> Result<(), OutOfMemor
 pub fn push_memory(text: &mut Vec<u8>, memory: &Memory) -> Result<(), OutOfMemory>
     ensures { OnOk result (text.new.items ≡ text.old.items ++ fields memory.now) }
 {
-    for address in 0..memory.len() {
-        match memory.load(address as u64) {
-            Some(word) => push_field(text, word)?,
-            None => unreachable!(),
-        }
+    let mut address = 0;
+    while address < memory.len() {
+        let page = memory.words_from(address as u64);
+        push_fields(text, page)?;
+        address += page.len();
     }
     Ok(())
 }

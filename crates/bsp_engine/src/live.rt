@@ -1,6 +1,6 @@
 //! Sessions that stay open, with what takes their batches back.
 
-ghost use Rattle.std.specs.Prelude.{◌≡◌, ◌<◌, ◌≤◌, ◌++◌, IfOk, OnOk, None, Some, length, is_some};
+ghost use Rattle.std.specs.Prelude.{◌≡◌, ◌<◌, ◌≤◌, ◌++◌, IfOk, IfSome, OnOk, None, Some, length, is_some};
 ghost use Rattle.bsp_model.specs.Input.{input_fault};
 ghost use Rattle.bsp_step.specs.Turn.{turn_of};
 ghost use Rattle.bsp_run.specs.Result.{result_of};
@@ -13,18 +13,20 @@ ghost use Rattle.bsp_engine.specs.Blocks.{blocks_after, lines_after, reply_lines
 ghost use Rattle.bsp_engine.specs.Inside.Given.{IsResultIn, result_if, undo_if};
 ghost use Rattle.bsp_engine.specs.Live.{after, after_batch, after_batches, answer_lines, answer_to, first_text, last_result, opened};
 ghost use Rattle.bsp_engine.specs.Inside.LiveReplies.{live_replies, live_reply, live_replying};
+ghost use Rattle.bsp_engine.specs.Inside.Touched.{IsResultBefore};
 
 use crate::asking::{Asked, Unread};
-use crate::blocks::{push_block, push_result_after};
+use crate::blocks::push_block;
 use crate::jobs::Job;
+use crate::last::Last;
 use crate::lines::push_line;
 use crate::options::Detail;
-use crate::reporting::{push_refusal, push_update};
+use crate::reporting::{push_refusal, push_result, push_update};
 use crate::unread::push_unread;
 use bsp_incr::{Batch, Edit, EditError, Reply, Session, Update};
 use bsp_model::{Input, OutOfMemory};
 use bsp_pool::Gate;
-use bsp_run::{History, RunError, RunResult};
+use bsp_run::{History, RunError};
 use bsp_step::Program;
 use std::alloc::{AllocError, Global};
 use std::collections::VecDeque;
@@ -50,7 +52,7 @@ pub struct Live<P: Program> {
     /// The batches that take the accepted ones back that still stand, the newest first.
     undos: VecDeque<Batch>,
     /// What the run gives, if the blocks tell changes alone.
-    last: Option<RunResult>,
+    last: Option<Last>,
 }
 
 impl<P: Program> Model for Live<P> {
@@ -86,12 +88,12 @@ fn reply_with(history: &History, update: Update) -> Result<Reply, OutOfMemory>
 }
 
 /// What a history gives, if it is asked for.
-fn result_if(asked: bool, history: &History) -> Result<Option<RunResult>, OutOfMemory>
+fn result_if(alloc: Global, asked: bool, history: &History) -> Result<Option<Last>, OutOfMemory>
     ensures is { IfOk result (λ r. IsResultIn r history.now) }
     ensures asked { IfOk result (λ r. is_some r ≡ asked) }
 {
     if asked {
-        Ok(Some(history.result()?))
+        Ok(Some(Last::of(alloc, history)?))
     } else {
         Ok(None)
     }
@@ -115,7 +117,7 @@ fn open<P: Program + Drop, R: Threads + Sync, G: Gate>(
         Err(RunError::OutOfMemory) => return Err(AllocError),
     };
     let reply = reply_with(session.history(), update)?;
-    let last = result_if(changes, session.history())?;
+    let last = result_if(crew.alloc, changes, session.history())?;
     let undos = VecDeque::new(crew.alloc);
     let live = Live {
         session,
@@ -125,24 +127,27 @@ fn open<P: Program + Drop, R: Threads + Sync, G: Gate>(
     Ok((live, reply))
 }
 
-/// Appends the lines of a history: all, or what of it is another than in the result of the run before. Answers its own result where there was one.
+/// Appends the lines of the run after a batch: all, or what of it is another than in the result of the run before. Answers its own result where there
+/// was one.
 fn push_history(
     text: &mut Vec<u8>,
-    before: Option<RunResult>,
+    before: Option<Last>,
     history: &History,
-) -> Result<Option<RunResult>, OutOfMemory>
+    batch: &[Edit],
+    update: &Update,
+) -> Result<Option<Last>, OutOfMemory>
+    requires { IfSome before (λ last. IsResultBefore last batch.now update.now history.now) }
     ensures text { OnOk result (text.new.items ≡ text.old.items ++ lines_after before (result_of history.now)) }
     ensures is { IfOk result (λ r. IsResultIn r history.now) }
     ensures asked { IfOk result (λ r. is_some r ≡ is_some before) }
 {
-    let new = history.result()?;
     match before {
-        Some(old) => {
-            push_result_after(text, Some(&old), &new)?;
-            Ok(Some(new))
+        Some(mut last) => {
+            last.tell(text, history, batch, update)?;
+            Ok(Some(last))
         }
         None => {
-            push_result_after(text, None, &new)?;
+            push_result(text, &history.result()?)?;
             Ok(None)
         }
     }
@@ -153,7 +158,7 @@ fn advance<P: Program + Drop, R: Threads + Sync, G: Gate>(
     crew: &Crew<'_, R, G>,
     places: bool,
     session: &mut Session<P>,
-    last: &mut Option<RunResult>,
+    last: &mut Option<Last>,
     text: &mut Vec<u8>,
     batch: &[Edit],
 ) -> Result<(), OutOfMemory>
@@ -170,7 +175,7 @@ fn advance<P: Program + Drop, R: Threads + Sync, G: Gate>(
     let before = last.take();
     match session.apply(crew.rt, crew.alloc, batch, crew.workers, crew.gate) {
         Ok(update) => {
-            *last = push_history(text, before, session.history())?;
+            *last = push_history(text, before, session.history(), batch, &update)?;
             push_update(text, places, &update)
         }
         Err(EditError::Refused(refusal)) => {

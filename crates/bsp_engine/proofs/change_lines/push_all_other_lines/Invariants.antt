@@ -1,7 +1,7 @@
 use Rattle.std.proofs.Common.{◌≡◌, ◌++◌, take}
 use Rattle.bsp_engine.specs.Lines.{numbered}
-use Rattle.bsp_engine.specs.Changes.{other_lines, piece_if}
+use Rattle.bsp_engine.specs.Changes.{other_lines, others, piece_if, same_lines}
 use Rattle.bsp_engine.proofs.change_lines.push_all_other_lines.Given as goal
 
 abbrev pub invariant-loop-pid : goal.invariant-loop-pid
-invariant-loop-pid l = l.text.items ≡ l.initial.text.items ++ numbered (piece_if other_lines) 0 (take l.pid l.lines)
+invariant-loop-pid l = l.text.items ≡ l.initial.text.items ++ numbered (piece_if other_lines) 0 (others same_lines l.olds (take l.pid l.news))

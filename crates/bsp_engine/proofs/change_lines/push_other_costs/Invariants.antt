@@ -1,8 +1,8 @@
 use Rattle.std.proofs.Common.{◌≡◌, ◌++◌, take}
 use Rattle.bsp_engine.specs.Lines.{numbered}
-use Rattle.bsp_engine.specs.Changes.{piece_if}
+use Rattle.bsp_engine.specs.Changes.{others, piece_if, same_row}
 use Rattle.bsp_engine.specs.Text.{cost_line}
 use Rattle.bsp_engine.proofs.change_lines.push_other_costs.Given as goal
 
 abbrev pub invariant-loop-step : goal.invariant-loop-step
-invariant-loop-step l = l.text.items ≡ l.initial.text.items ++ numbered (piece_if cost_line) 0 (take l.step l.costs)
+invariant-loop-step l = l.text.items ≡ l.initial.text.items ++ numbered (piece_if cost_line) 0 (others same_row l.olds (take l.step l.news))

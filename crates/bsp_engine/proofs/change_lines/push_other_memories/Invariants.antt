@@ -1,8 +1,8 @@
 use Rattle.std.proofs.Common.{◌≡◌, ◌++◌, take}
 use Rattle.bsp_engine.specs.Lines.{numbered}
-use Rattle.bsp_engine.specs.Changes.{piece_if}
+use Rattle.bsp_engine.specs.Changes.{others, piece_if, same_words}
 use Rattle.bsp_engine.specs.Text.{memory_line}
 use Rattle.bsp_engine.proofs.change_lines.push_other_memories.Given as goal
 
 abbrev pub invariant-loop-pid : goal.invariant-loop-pid
-invariant-loop-pid l = l.text.items ≡ l.initial.text.items ++ numbered (piece_if memory_line) 0 (take l.pid l.memories)
+invariant-loop-pid l = l.text.items ≡ l.initial.text.items ++ numbered (piece_if memory_line) 0 (others same_words l.olds (take l.pid l.news))

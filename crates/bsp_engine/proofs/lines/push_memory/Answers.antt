@@ -1,10 +1,14 @@
-use Rattle.std.proofs.Common.{◌<◌, length, sym, arith}
-use Rattle.bsp_engine.specs.Lines.{field}
-use Rattle.bsp_engine.proofs.Numbering.{pieces_grow, found_at}
+use Rattle.std.proofs.Common.{ap, arith, drop, length, length-drop, length-take, List, ℕ}
+use Rattle.bsp_engine.proofs.Numbering.{fields_grow, part_whole}
 use Rattle.bsp_engine.proofs.lines.push_memory.Goals as goal
 
 pub loop-address-preserved : goal.loop-address-preserved
 loop-address-preserved c =
-    let within : c.loop-address.address < length c.args.memory.now = omega arith in
-    pieces_grow field _ _ _ c.args.memory.now c.loop-address.address c.in-Some.word within
-    (found_at c.args.memory.now c.loop-address.address c.in-Some.word within (sym c.in-Some.ensures)) c.loop-address.invariant c.in_ok-push_field-in-Some.ensures
+    let memory = c.args.memory.now in
+    let address = c.loop-address.address in
+    let page = c.words_from-page.result.now in
+    let whole = part_whole memory page address _ c.words_from-page.ensures in
+    record {
+      within = omega (arith, c.loop-address.invariant.within, ap (λ (p : List ℕ). length p) whole, length-take (length page) (drop address memory), length-drop address memory);
+      text = fields_grow memory page address (length page) c.args.text.now.items _ _ whole c.loop-address.invariant.text c.in_ok-push_fields.ensures;
+    }

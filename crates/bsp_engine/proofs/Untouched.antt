@@ -1,0 +1,366 @@
+-- A process that an update does not touch has what it had.
+use Rattle.std.proofs.Common.{◌≡◌, ◌<◌, ◌≢◌, ◌+◌, ◌≤◌, ◌==◌, ℕ, zero, suc, Bool, true, false, cond, not, List, [], ◌∷◌, ◌++◌, None, Some, map, length, get_or, slice_get, arith, refl, sym, ap, ◌∙◌, subst, length-append, add-one}
+use Rattle.std.specs.Prelude.{Contains}
+use Rattle.std.specs.List.{flat_map}
+use Rattle.std.proofs.lemmas.Bool.{false≢true, and_parts}
+use Rattle.std.proofs.lemmas.Bool.Decides.{nat_tests}
+use Rattle.std.proofs.lemmas.List.{get_or-map, length-map, get_or-set_other, get_or_at, map-append}
+use Rattle.std.proofs.lemmas.List.Elements.{Contains-append_left, Contains-append_right}
+use Rattle.std.proofs.lemmas.List.FromFn.{get_or-map-range_with_len, length-map-range_with_len}
+use Rattle.std.proofs.lemmas.Option.{slice_get-get_or}
+use Rattle.bsp_model.specs.declared.input.Input.{Input}
+use Rattle.bsp_model.specs.declared.cost.CostRow.{CostRow}
+use Rattle.bsp_step.specs.ViewParts.{ViewParts}
+use Rattle.bsp_step.specs.OutcomeParts.{OutcomeParts}
+use Rattle.bsp_step.specs.Footprint.{AreAlike}
+use Rattle.bsp_deliver.specs.Requests.{no_outcome, outcome_of}
+use Rattle.bsp_deliver.specs.Delivery.{delivery_parts, next_memory}
+use Rattle.bsp_run.specs.declared.result.RunResult.{RunResult}
+use Rattle.bsp_run.specs.declared.result.Status.TheVariants.{Halted, Limit, Faulted, SyncFaulted}
+use Rattle.bsp_run.specs.declared.phase.Phase.{Phase}
+use Rattle.bsp_run.specs.declared.phase.Phase.TheVariants.{Open, Turned, Ended}
+use Rattle.bsp_run.specs.declared.superstep.Superstep.{Superstep}
+use Rattle.bsp_run.specs.State.{State}
+use Rattle.bsp_run.specs.Run.{Run, open_views, is_limit}
+use Rattle.bsp_run.specs.Shown.{no_superstep}
+use Rattle.bsp_run.specs.Supersteps.{last_superstep, supersteps_of, superstep_at}
+use Rattle.bsp_run.specs.Law.{views_in, outcomes_in, IsBspRun}
+use Rattle.bsp_run.specs.Condition.{no_view, is_ended}
+use Rattle.bsp_run.specs.Result.{status_of, status_in, delivered_turns, last_turns, turns_in, all_turns, memories_of, lines_of, lines_of_process, costs_of, cost_of_delivery, cost_of_end, total_of, result_of}
+use Rattle.bsp_run.proofs.Records.{superstep, count-state_at, count-views_in, count-outcomes_in}
+use Rattle.bsp_run.proofs.OneRun.{count_past, front}
+use Rattle.bsp_incr.specs.declared.edit.Edit.{Edit}
+use Rattle.bsp_incr.specs.declared.edit.Edit.TheVariants.{Word, Arg, Limit as LimitEdit, Prices}
+use Rattle.bsp_incr.specs.declared.reply.Place.{Place}
+use Rattle.bsp_incr.specs.declared.reply.Update.{Update}
+use Rattle.bsp_incr.specs.Edits.{edited, edited_by}
+use Rattle.bsp_incr.specs.Exact.{IsServed, IsKept, HasTurn, HasDelivery, view_there}
+use Rattle.bsp_incr.specs.Inside.Reuse.{serves}
+use Rattle.bsp_incr.specs.Inside.Changes.{is_touched}
+use Rattle.bsp_incr.proofs.Lawful.{edited_count}
+use Rattle.bsp_incr.proofs.Propagation.{view-in, memory-in, first_memory, Decides-untouched, untouched_is}
+use Rattle.bsp_incr.proofs.Serving.{Decides-serves}
+use Rattle.bsp_engine.specs.Inside.Touched.{word_pids, touched, at_limit, end_alike, AreRunsAround, UntouchedProcessesStay}
+
+-- a process of which no edit changes a word begins with the memory that it had
+
+same_memory-edit : (i : Input) (e : Edit) (p : ℕ) → (Contains (word_pids e) p → ⊥) → get_or (edited_by i e).mems p [] ≡ get_or i.mems p []
+same_memory-edit i (Word pid addr value) p away =
+    let another : p ≢ pid = λ e. away (0, omega arith, sym e) in
+    get_or-set_other i.mems pid p _ [] another
+same_memory-edit i (Arg pid index value) p away = refl
+same_memory-edit i (LimitEdit n) p away = refl
+same_memory-edit i (Prices g l) p away = refl
+
+same_memory : (i : Input) (batch : List Edit) (p : ℕ) → (Contains (flat_map word_pids batch) p → ⊥) → get_or (edited i batch).mems p [] ≡ get_or i.mems p []
+same_memory i [] p away = refl
+same_memory i (e ∷ later) p away =
+    same_memory (edited_by i e) later p (λ c. away (Contains-append_right (word_pids e) (flat_map word_pids later) p c))
+    ∙ same_memory-edit i e p (λ c. away (Contains-append_left (word_pids e) (flat_map word_pids later) p c))
+
+-- a process of a place
+
+has_place : (places : List Place) (q : Place) → Contains places q → Contains (map (λ (x : Place). x.pid) places) q.pid
+has_place [] q (k, l, at) = absurd (omega arith)
+has_place (x ∷ places) q (zero, l, at) = (0, omega arith, ap (λ (y : Place). y.pid) at)
+has_place (x ∷ places) q (suc k, l, at) = let h = has_place places q (k, omega arith, at) in (suc h.0, omega (arith, h.1), h.2)
+
+-- the supersteps of a run, and its turns
+
+turns_at_end : (p : Phase) (x : Superstep) → is_ended p ≡ true → turns_in (cond (is_limit p) None (Some x.outcomes)) ≡ map (λ (s : Superstep). s.outcomes) (last_superstep p x)
+turns_at_end Open x h = cc
+turns_at_end Turned x h = cc
+turns_at_end (Ended Limit) x h = refl
+turns_at_end (Ended Halted) x h = refl
+turns_at_end (Ended (Faulted step faults)) x h = refl
+turns_at_end (Ended (SyncFaulted step fault)) x h = refl
+
+all_turns-is : (r : Run) → is_ended r.phase ≡ true → all_turns r ≡ map (λ (s : Superstep). s.outcomes) (supersteps_of r)
+all_turns-is r e =
+    let x = superstep (open_views r) r.outcomes in
+    ap (λ (ts : List (List OutcomeParts)). delivered_turns r ++ ts) (turns_at_end r.phase x e)
+    ∙ sym (map-append (λ (s : Superstep). s.outcomes) r.past (last_superstep r.phase x))
+
+turns_at : (turn : ViewParts → OutcomeParts) (i : Input) (r : Run) (s : ℕ) → IsBspRun turn i r → s < length (supersteps_of r) → get_or (all_turns r) s [] ≡ outcomes_in turn i s
+turns_at turn i r s h l =
+    ap (λ (ts : List (List OutcomeParts)). get_or ts s []) (all_turns-is r h.ended)
+    ∙ get_or-map (λ (x : Superstep). x.outcomes) (supersteps_of r) s no_superstep [] l ∙ h.outcomes s l
+
+count_turns : (r : Run) → is_ended r.phase ≡ true → length (all_turns r) ≡ length (supersteps_of r)
+count_turns r e = ap (λ (ts : List (List OutcomeParts)). length ts) (all_turns-is r e) ∙ length-map (supersteps_of r) (λ (s : Superstep). s.outcomes)
+
+-- as many rows as supersteps
+count_costs : (r : Run) → length (costs_of r) ≡ length (all_turns r)
+unfolding costs_of
+count_costs r =
+    omega (
+      arith,
+      length-append (map (cost_of_delivery r.g r.l) (delivered_turns r)) (map cost_of_end (last_turns r)),
+      length-map (delivered_turns r) (cost_of_delivery r.g r.l),
+      length-map (last_turns r) cost_of_end,
+      length-append (delivered_turns r) (last_turns r),
+    )
+
+limit_is : (p : Phase) → is_ended p ≡ true → is_limit p ≡ at_limit (status_in p)
+limit_is Open h = cc
+limit_is Turned h = cc
+limit_is (Ended Limit) h = refl
+limit_is (Ended Halted) h = refl
+limit_is (Ended (Faulted step faults)) h = refl
+limit_is (Ended (SyncFaulted step fault)) h = refl
+
+-- the outcomes that ended a run
+ending_turns : (turn : ViewParts → OutcomeParts) (i : Input) (r : Run) → IsBspRun turn i r → is_limit r.phase ≡ false → r.outcomes ≡ outcomes_in turn i (length r.past)
+ending_turns turn i r h b =
+    let n = length r.past in
+    let count = count_past false r h.ended b in
+    let delivered : length (delivered_turns r) ≡ n = length-map r.past (λ (s : Superstep). s.outcomes) in
+    let last : last_turns r ≡ r.outcomes ∷ [] = ap (λ c. turns_in (cond c None (Some r.outcomes))) b in
+    let here : get_or (all_turns r) n [] ≡ r.outcomes = ap (λ (ts : List (List OutcomeParts)). get_or (delivered_turns r ++ ts) n []) last ∙ get_or_at (delivered_turns r) r.outcomes [] [] n delivered in
+    sym here ∙ turns_at turn i r n h (omega (arith, count))
+
+-- tests
+
+not_both : (b : Bool) → not b ≡ true → b ≡ true → ⊥
+not_both true h k = false≢true h
+not_both false h k = false≢true k
+
+same_bits : (a b : Bool) → cond a b (not b) ≡ true → a ≡ b
+same_bits true b h = sym h
+same_bits false true h = absurd (false≢true h)
+same_bits false false h = refl
+
+few_past : (b : Bool) (n s : ℕ) → s < n + cond b 0 1 → s ≤ n
+few_past true n s l = omega arith
+few_past false n s l = omega arith
+
+-- views that are alike, and have one memory, are one
+alike_is : (v w : ViewParts) (looks : ℕ → Bool) → AreAlike looks v w → v.memory ≡ w.memory → v ≡ w
+alike_is v w looks a own =
+    λ k. record { nprocs = a.parts.nprocs k; pid = a.parts.pid k; step = a.parts.step k; args = a.parts.args k; memory = own k; table = a.parts.table k; tag_size = a.parts.tag_size k; queue = a.parts.queue k }
+
+-- what a process has at the end of a run
+
+memory-cut : (turn : ViewParts → OutcomeParts) (i : Input) (r : Run) (p : ℕ) → IsBspRun turn i r → p < length i.mems → is_limit r.phase ≡ true → get_or (memories_of r) p [] ≡ (get_or (views_in turn i (length r.past)) p no_view).memory
+memory-cut turn i r p h l b =
+    ap (λ c. get_or (cond c r.state.memories (map (λ (o : OutcomeParts). o.memory) r.outcomes)) p []) b ∙ ap (λ (x : State). get_or x.memories p []) h.state
+    ∙ sym (ap (λ (v : ViewParts). v.memory) (view-in turn i (length r.past) p l))
+
+memory-stopped : (turn : ViewParts → OutcomeParts) (i : Input) (r : Run) (p : ℕ) → IsBspRun turn i r → p < length i.mems → is_limit r.phase ≡ false → get_or (memories_of r) p [] ≡ (outcome_of (outcomes_in turn i (length r.past)) p).memory
+memory-stopped turn i r p h l b =
+    ap (λ c. get_or (cond c r.state.memories (map (λ (o : OutcomeParts). o.memory) r.outcomes)) p []) b
+    ∙ ap (λ (os : List OutcomeParts). get_or (map (λ (o : OutcomeParts). o.memory) os) p []) (ending_turns turn i r h b)
+    ∙ get_or-map (λ (o : OutcomeParts). o.memory) (outcomes_in turn i (length r.past)) p no_outcome [] (omega (arith, l, count-outcomes_in turn i (length r.past)))
+
+count_state : (turn : ViewParts → OutcomeParts) (i : Input) (r : Run) → IsBspRun turn i r → length r.state.memories ≡ length i.mems
+count_state turn i r h = ap (λ (x : State). length x.memories) h.state ∙ count-state_at turn i (length r.past)
+
+pub count_memories : (turn : ViewParts → OutcomeParts) (i : Input) (r : Run) → IsBspRun turn i r → length (memories_of r) ≡ length i.mems
+count_memories turn i r h =
+    elim (is_limit r.phase) as (λ b. is_limit r.phase ≡ b → length (memories_of r) ≡ length i.mems) [
+      | true ↦ λ b. ap (λ c. length (cond c r.state.memories (map (λ (o : OutcomeParts). o.memory) r.outcomes))) b ∙ count_state turn i r h
+      | false ↦ λ b.
+          ap (λ c. length (cond c r.state.memories (map (λ (o : OutcomeParts). o.memory) r.outcomes))) b ∙ length-map r.outcomes (λ (o : OutcomeParts). o.memory)
+          ∙ ap (λ (os : List OutcomeParts). length os) (ending_turns turn i r h b) ∙ count-outcomes_in turn i (length r.past)
+    ] refl
+
+pub count_lines : (turn : ViewParts → OutcomeParts) (i : Input) (r : Run) → IsBspRun turn i r → length (lines_of r) ≡ length i.mems
+unfolding lines_of
+count_lines turn i r h = length-map-range_with_len (lines_of_process (all_turns r)) 0 (length r.state.memories) ∙ count_state turn i r h
+
+lines-at : (turn : ViewParts → OutcomeParts) (i : Input) (r : Run) (p : ℕ) → IsBspRun turn i r → p < length i.mems → get_or (lines_of r) p [] ≡ lines_of_process (all_turns r) p
+unfolding lines_of
+lines-at turn i r p h l =
+    get_or-map-range_with_len (lines_of_process (all_turns r)) 0 (length r.state.memories) p p [] (omega (arith, l, count_state turn i r h)) (omega arith)
+
+lines_same : (xs ys : List (List OutcomeParts)) (p : ℕ) → length xs ≡ length ys → ((k : ℕ) → k < length xs → outcome_of (get_or xs k []) p ≡ outcome_of (get_or ys k []) p) → lines_of_process xs p ≡ lines_of_process ys p
+lines_same [] [] p long same = refl
+lines_same [] (y ∷ ys) p long same = absurd (omega (arith, long))
+lines_same (x ∷ xs) [] p long same = absurd (omega (arith, long))
+lines_same (x ∷ xs) (y ∷ ys) p long same =
+    ap (λ (o : OutcomeParts). o.lines ++ lines_of_process xs p) (same 0 (omega arith))
+    ∙ ap (λ ls. (outcome_of y p).lines ++ ls) (lines_same xs ys p (omega (arith, long)) (λ k l. same (suc k) (omega arith)))
+
+-- two runs around a batch, and a process that the update does not touch
+
+record AreWithout (turn : ViewParts → OutcomeParts) (looks : ViewParts → ℕ → Bool) (i : Input) (batch : List Edit) (update : Update) (old new : Run) (p : ℕ) : Type 0 where
+  pub runs : AreRunsAround turn looks i batch update old new
+  pub here : p < length i.mems
+  pub away : Contains (touched batch update) p → ⊥
+  pub count : length (supersteps_of old) ≡ length (supersteps_of new)
+  pub limit : is_limit old.phase ≡ is_limit new.phase
+
+module _ (turn : ViewParts → OutcomeParts) (looks : ViewParts → ℕ → Bool) (i : Input) (batch : List Edit) (update : Update) (old new : Run) (p : ℕ) (h : AreWithout turn looks i batch update old new p) where
+  abbrev j : Input
+  j = edited i batch
+
+  many : length i.mems ≡ length j.mems
+  many = sym (edited_count i batch)
+
+  there : p < length j.mems
+  there = omega (arith, h.here, many)
+
+  unnamed : Contains (flat_map word_pids batch) p → ⊥
+  unnamed c =
+      h.away (Contains-append_left (flat_map word_pids batch ++ map (λ (q : Place). q.pid) update.executed) (map (λ (q : Place). q.pid) update.redelivered) p
+      (Contains-append_left (flat_map word_pids batch) (map (λ (q : Place). q.pid) update.executed) p c))
+
+  not_executed : (s : ℕ) → Contains update.executed (record { step = s; pid = p }) → ⊥
+  not_executed s c =
+      h.away (Contains-append_left (flat_map word_pids batch ++ map (λ (q : Place). q.pid) update.executed) (map (λ (q : Place). q.pid) update.redelivered) p
+      (Contains-append_right (flat_map word_pids batch) (map (λ (q : Place). q.pid) update.executed) p (has_place update.executed (record { step = s; pid = p }) c)))
+
+  not_redelivered : (s : ℕ) → Contains update.redelivered (record { step = s; pid = p }) → ⊥
+  not_redelivered s c =
+      h.away (Contains-append_right (flat_map word_pids batch ++ map (λ (q : Place). q.pid) update.executed) (map (λ (q : Place). q.pid) update.redelivered) p
+      (has_place update.redelivered (record { step = s; pid = p }) c))
+
+  -- as many supersteps ended by delivery
+  count_delivered : length old.past ≡ length new.past
+  count_delivered =
+      let one = count_past (is_limit new.phase) old h.runs.before.ended h.limit in
+      let other = count_past (is_limit new.phase) new h.runs.after.ended refl in
+      omega (arith, one, other, h.count)
+
+  -- what it depends on in the next superstep is the same
+  same_delivery : (s : ℕ) → s < length new.past → delivery_parts (outcomes_in turn i s) p ≡ delivery_parts (outcomes_in turn j s) p
+  same_delivery s l =
+      let q : Place = record { step = s; pid = p } in
+      let f = front old s (omega (arith, l, count_delivered)) in
+      let g = front new s l in
+      let olds : (superstep_at old.past s).outcomes ≡ outcomes_in turn i s = ap (λ (x : Superstep). x.outcomes) (sym f.1) ∙ h.runs.before.outcomes s f.0 in
+      let news : (superstep_at new.past s).outcomes ≡ outcomes_in turn j s = ap (λ (x : Superstep). x.outcomes) (sym g.1) ∙ h.runs.after.outcomes s g.0 in
+      let made : HasDelivery new.past q = omega (arith, there, ap (λ (os : List OutcomeParts). length os) news, count-outcomes_in turn j s) in
+      elim (is_touched (superstep_at old.past s).outcomes (superstep_at new.past s).outcomes p) as (λ b. is_touched (superstep_at old.past s).outcomes (superstep_at new.past s).outcomes p ≡ b → delivery_parts (outcomes_in turn i s) p ≡ delivery_parts (outcomes_in turn j s) p) [
+        | true ↦ λ e. absurd (not_redelivered s ((h.runs.exact.redelivered q).1 (made, λ (kept : IsKept old.past new.past q). not_both _ e ((Decides-untouched (superstep_at old.past s).outcomes (superstep_at new.past s).outcomes p).1 (kept.there, kept.same)))))
+        | false ↦ λ e. ap (λ os. delivery_parts os p) (sym olds) ∙ (untouched_is (superstep_at old.past s).outcomes (superstep_at new.past s).outcomes p e).1 ∙ ap (λ os. delivery_parts os p) news
+      ] refl
+
+  -- it has the same memory in each superstep
+  same_own : (s : ℕ) → s ≤ length new.past → (get_or (views_in turn i s) p no_view).memory ≡ (get_or (views_in turn j s) p no_view).memory
+  same_own zero l =
+      let v = view-in turn i 0 p h.here in
+      let w = view-in turn j 0 p there in
+      ap (λ (x : ViewParts). x.memory) v ∙ first_memory turn i p ∙ sym (same_memory i batch p unnamed) ∙ sym (first_memory turn j p) ∙ sym (ap (λ (x : ViewParts). x.memory) w)
+  same_own (suc s) l =
+      subst (λ k. (get_or (views_in turn i k) p no_view).memory ≡ (get_or (views_in turn j k) p no_view).memory) (add-one s)
+      (memory-in turn i s p h.here ∙ ap next_memory (same_delivery s (omega arith)) ∙ sym (memory-in turn j s p there))
+
+  -- where it took a turn, it was served by that of before
+  served : (s : ℕ) → HasTurn (supersteps_of new) (record { step = s; pid = p })
+      → AreAlike (looks (view_there (supersteps_of old) (record { step = s; pid = p }))) (view_there (supersteps_of old) (record { step = s; pid = p })) (view_there (supersteps_of new) (record { step = s; pid = p }))
+  served s taken =
+      let q : Place = record { step = s; pid = p } in
+      let v = view_there (supersteps_of old) q in
+      let w = view_there (supersteps_of new) q in
+      elim (serves looks v w) as (λ b. serves looks v w ≡ b → AreAlike (looks v) v w) [
+        | true ↦ λ e. (Decides-serves looks v w).0 e
+        | false ↦ λ e. absurd (not_executed s ((h.runs.exact.executed q).1 (taken, λ (is : IsServed looks (supersteps_of old) (supersteps_of new) q). false≢true (sym e ∙ (Decides-serves looks v w).1 is.alike))))
+      ] refl
+
+  -- it sees the same
+  same_seen : (s : ℕ) → s < length (supersteps_of new) → get_or (views_in turn i s) p no_view ≡ get_or (views_in turn j s) p no_view
+  same_seen s l =
+      let q : Place = record { step = s; pid = p } in
+      let here : s < length (supersteps_of old) = omega (arith, l, h.count) in
+      let olds : (superstep_at (supersteps_of old) s).views ≡ views_in turn i s = h.runs.before.views s here in
+      let news : (superstep_at (supersteps_of new) s).views ≡ views_in turn j s = h.runs.after.views s l in
+      let v : view_there (supersteps_of old) q ≡ get_or (views_in turn i s) p no_view = ap (λ (vs : List ViewParts). get_or vs p no_view) olds in
+      let w : view_there (supersteps_of new) q ≡ get_or (views_in turn j s) p no_view = ap (λ (vs : List ViewParts). get_or vs p no_view) news in
+      let taken : HasTurn (supersteps_of new) q = omega (arith, there, ap (λ (vs : List ViewParts). length vs) news, count-views_in turn j s) in
+      let few = count_past (is_limit new.phase) new h.runs.after.ended refl in
+      let alike : AreAlike (looks (view_there (supersteps_of old) q)) (view_there (supersteps_of old) q) (view_there (supersteps_of new) q) = served s taken in
+      let own = same_own s (few_past (is_limit new.phase) (length new.past) s (omega (arith, l, few))) in
+      alike_is (get_or (views_in turn i s) p no_view) (get_or (views_in turn j s) p no_view) (looks (view_there (supersteps_of old) q))
+      (subst (λ x. AreAlike (looks (view_there (supersteps_of old) q)) x (get_or (views_in turn j s) p no_view)) v
+      (subst (AreAlike (looks (view_there (supersteps_of old) q)) (view_there (supersteps_of old) q)) w alike)) own
+
+  -- and leaves the same
+  same_left : (s : ℕ) → s < length (supersteps_of new) → outcome_of (outcomes_in turn i s) p ≡ outcome_of (outcomes_in turn j s) p
+  same_left s l =
+      get_or-map turn (views_in turn i s) p no_view no_outcome (omega (arith, h.here, count-views_in turn i s)) ∙ ap turn (same_seen s l)
+      ∙ sym (get_or-map turn (views_in turn j s) p no_view no_outcome (omega (arith, there, count-views_in turn j s)))
+
+  same_memory_at_end : get_or (memories_of old) p [] ≡ get_or (memories_of new) p []
+  same_memory_at_end =
+      let before = h.runs.before in
+      let after = h.runs.after in
+      let past = count_delivered in
+      elim (is_limit new.phase) as (λ b. is_limit new.phase ≡ b → get_or (memories_of old) p [] ≡ get_or (memories_of new) p []) [
+        | true ↦ λ b.
+            memory-cut turn i old p before h.here (h.limit ∙ b) ∙ ap (λ n. (get_or (views_in turn i n) p no_view).memory) past
+            ∙ same_own (length new.past) (omega arith) ∙ sym (memory-cut turn j new p after there b)
+        | false ↦ λ b.
+            let few = count_past false new after.ended b in
+            memory-stopped turn i old p before h.here (h.limit ∙ b) ∙ ap (λ n. (outcome_of (outcomes_in turn i n) p).memory) past
+            ∙ ap (λ (o : OutcomeParts). o.memory) (same_left (length new.past) (omega (arith, few))) ∙ sym (memory-stopped turn j new p after there b)
+      ] refl
+
+  same_lines_at_end : get_or (lines_of old) p [] ≡ get_or (lines_of new) p []
+  same_lines_at_end =
+      let before = h.runs.before in
+      let after = h.runs.after in
+      let olds = count_turns old before.ended in
+      let news = count_turns new after.ended in
+      lines-at turn i old p before h.here
+      ∙ lines_same (all_turns old) (all_turns new) p (olds ∙ h.count ∙ sym news)
+      (λ k l.
+      let m : k < length (supersteps_of new) = omega (arith, l, olds, h.count) in
+      ap (λ os. outcome_of os p) (turns_at turn i old k before (omega (arith, l, olds))) ∙ same_left k m ∙ sym (ap (λ os. outcome_of os p) (turns_at turn j new k after m)))
+      ∙ sym (lines-at turn j new p after there)
+
+-- results
+
+pub record Parts (r : Run) : Type 0 where
+  pub status : (result_of r).status ≡ status_of r
+  pub memories : (result_of r).memories ≡ memories_of r
+  pub lines : (result_of r).lines ≡ lines_of r
+  pub costs : (result_of r).costs ≡ costs_of r
+  pub total : (result_of r).total ≡ total_of (costs_of r)
+
+pub parts : (r : Run) → Parts r
+unfolding result_of
+parts r = record { status = refl; memories = refl; lines = refl; costs = refl; total = refl }
+
+pub count_result_memories : (turn : ViewParts → OutcomeParts) (i : Input) (r : Run) → IsBspRun turn i r → length (result_of r).memories ≡ length i.mems
+count_result_memories turn i r h = ap (λ (ms : List (List ℕ)). length ms) (parts r).memories ∙ count_memories turn i r h
+
+pub count_result_lines : (turn : ViewParts → OutcomeParts) (i : Input) (r : Run) → IsBspRun turn i r → length (result_of r).lines ≡ length i.mems
+count_result_lines turn i r h = ap (λ (ls : List (List (List ℕ))). length ls) (parts r).lines ∙ count_lines turn i r h
+
+same_item : {A : Type 0} (xs ys : List A) (p : ℕ) (d : A) → p < length xs → p < length ys → get_or xs p d ≡ get_or ys p d → slice_get xs p ≡ slice_get ys p
+same_item xs ys p d l m e = slice_get-get_or xs p d l ∙ ap (λ x. Some x) e ∙ sym (slice_get-get_or ys p d m)
+
+rows_of : (r : Run) → is_ended r.phase ≡ true → length (result_of r).costs ≡ length (supersteps_of r)
+rows_of r e = ap (λ (rows : List CostRow). length rows) (parts r).costs ∙ count_costs r ∙ count_turns r e
+
+as_many : (a b : RunResult) → end_alike a b ≡ true → length a.costs ≡ length b.costs
+as_many a b e =
+    let same = (and_parts (length a.costs == length b.costs) (cond (at_limit a.status) (at_limit b.status) (not (at_limit b.status))) e).0 in
+    grind (arith, nat_tests)
+
+both_at_limit : (a b : RunResult) → end_alike a b ≡ true → at_limit a.status ≡ at_limit b.status
+both_at_limit a b e =
+    same_bits (at_limit a.status) (at_limit b.status) (and_parts (length a.costs == length b.costs) (cond (at_limit a.status) (at_limit b.status) (not (at_limit b.status))) e).1
+
+pub untouched_stay : UntouchedProcessesStay
+untouched_stay turn looks i batch update old new runs e p l away =
+    let before = runs.before in
+    let after = runs.after in
+    let count_costs : length (result_of old).costs ≡ length (result_of new).costs = as_many (result_of old) (result_of new) e in
+    let limit : at_limit (status_of old) ≡ at_limit (status_of new) =
+    sym (ap at_limit (parts old).status) ∙ both_at_limit (result_of old) (result_of new) e ∙ ap at_limit (parts new).status in
+    let count : length (supersteps_of old) ≡ length (supersteps_of new) = sym (rows_of old before.ended) ∙ count_costs ∙ rows_of new after.ended in
+    let ends : is_limit old.phase ≡ is_limit new.phase = limit_is old.phase before.ended ∙ limit ∙ sym (limit_is new.phase after.ended) in
+    let h : AreWithout turn looks i batch update old new p = record { runs = runs; here = l; away = away; count = count; limit = ends } in
+    let m : p < length (edited i batch).mems = omega (arith, l, edited_count i batch) in
+    record {
+      memory =
+          ap (λ (ms : List (List ℕ)). slice_get ms p) (parts old).memories
+          ∙ same_item (memories_of old) (memories_of new) p [] (omega (arith, l, count_memories turn i old before)) (omega (arith, m, count_memories turn (edited i batch) new after)) (same_memory_at_end turn looks i batch update old new p h)
+          ∙ sym (ap (λ (ms : List (List ℕ)). slice_get ms p) (parts new).memories);
+      lines =
+          ap (λ (ls : List (List (List ℕ))). slice_get ls p) (parts old).lines
+          ∙ same_item (lines_of old) (lines_of new) p [] (omega (arith, l, count_lines turn i old before)) (omega (arith, m, count_lines turn (edited i batch) new after)) (same_lines_at_end turn looks i batch update old new p h)
+          ∙ sym (ap (λ (ls : List (List (List ℕ))). slice_get ls p) (parts new).lines);
+    }

@@ -1,0 +1,16 @@
+use Rattle.std.proofs.Common.{◌≡◌, ◌≤◌, ◌*◌, ℕ, List, length, drop}
+use Rattle.bsp_engine.specs.Lines.{fields}
+use Rattle.bsp_engine.proofs.lines.write_fields.Given as goal
+
+-- the first numbers are left, and there is room for them
+pub record IsUnderWay (numbers room : List ℕ) (left at : ℕ) : Type 0 where
+  pub few : left ≤ length numbers
+  pub within : at ≤ length room
+  pub fits : 21 * left ≤ at
+  pub written : drop at room ≡ fields (drop left numbers)
+
+abbrev pub invariant-loop-left : goal.invariant-loop-left
+invariant-loop-left l = IsUnderWay l.numbers l.room l.left l.at
+
+abbrev pub decreases-loop-left : goal.decreases-loop-left
+decreases-loop-left l = l.left
