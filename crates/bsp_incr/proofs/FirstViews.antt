@@ -12,6 +12,7 @@ use Rattle.bsp_run.specs.Run.{Run, start, open_views}
 use Rattle.bsp_run.specs.Condition.{no_view}
 use Rattle.bsp_run.specs.Law.{views_in}
 use Rattle.bsp_run.specs.Supersteps.{views_at}
+use Rattle.bsp_run.specs.Inside.Record.{IsRecord}
 use Rattle.bsp_run.proofs.Records.{state_at-first}
 use Rattle.bsp_incr.specs.Inside.Before.{AreFirstMarked, HasFirstViews, IsBefore, IsRecordBefore}
 use Rattle.bsp_incr.specs.Inside.Changes.{processes_where}
@@ -19,7 +20,7 @@ use Rattle.bsp_incr.specs.Inside.Replaced.{replaced}
 use Rattle.bsp_incr.proofs.Patching.{patched, patched_is}
 
 -- what each process sees first
-first_views : (input : Input) → open_views (start input) ≡ each_below (length input.mems) (view_of input.args 0 (first_state input))
+pub first_views : (input : Input) → open_views (start input) ≡ each_below (length input.mems) (view_of input.args 0 (first_state input))
 unfolding start views_of first_state
 first_views input = refl
 
@@ -60,10 +61,14 @@ started : (turn : ViewParts → OutcomeParts) (input : Input) → open_views (st
 unfolding start
 started turn input = ap (views_of input.args 0) (sym (state_at-first turn input))
 
+-- a run begins with the first views of its input
+pub first_views_of : (turn : ViewParts → OutcomeParts) (input : Input) (r : Run) → IsRecord turn input r → views_at r 0 ≡ open_views (start input)
+first_views_of turn input r h = h.views 0 (omega arith) ∙ sym (started turn input)
+
 -- The run before began with the first views of its input.
 pub first_views_before : (turn : ViewParts → OutcomeParts) (input : Input) (r : Run) → IsRecordBefore turn input r → HasFirstViews input r
 first_views_before turn input r h =
-    record { input_before = h.input_before; views = h.made.views 0 (omega arith) ∙ sym (started turn h.input_before); count = h.count }
+    record { input_before = h.input_before; views = first_views_of turn h.input_before r h.made; count = h.count }
 
 pub had_first_views : (turn : ViewParts → OutcomeParts) (input : Input) (old : Option Run) → IsBefore turn input old → ForSome old (HasFirstViews input)
 had_first_views turn input old h = λ r is. first_views_before turn input r (subst (IsBefore turn input) is h)

@@ -19,5 +19,6 @@ pub mod Exactness
 pub mod EditParts
 pub mod EditSequences
 pub mod TakingBack
+pub mod Marking
 pub mod LawOfReuse
 pub mod Replying

@@ -7,3 +7,4 @@ pub mod Next
 pub mod Replaced
 pub mod Before
 pub mod Replies
+pub mod Marking

@@ -17,7 +17,6 @@ use bsp_deliver::touched_by_changes;
 use bsp_model::{Memory, OutOfMemory, Same, Shared, TryCopy};
 use bsp_run::{Tape, seen_by, take_next};
 use bsp_step::{Outcome, Queue, View};
-use bsp_table::Table;
 use std::alloc::Global;
 
 /// For so many processes, that none may have another outcome.
@@ -121,11 +120,11 @@ fn cells_of(
 fn views_with(
     alloc: Global,
     tape: &Tape,
-    table: &Table,
+    like: &View,
     processes: &[usize],
     cells: Vec<(Memory, Queue)>,
 ) -> Result<Vec<Shared<View>>, OutOfMemory>
-    requires after { IsNextOf tape.now table.now }
+    requires after { IsNextOf tape.now like.now }
     requires known { All (λ p. p < length tape.now.outcomes) processes.now }
     requires cells { cells.items ≡ deliveries_to tape.now.outcomes processes.now }
     ensures { IfOk result (λ all. all.items ≡ map (next_view tape.now) processes.now) }
@@ -134,7 +133,7 @@ fn views_with(
     let mut views = Vec::with_capacity(alloc, processes.len())?;
     for process in processes {
         let (memory, queue) = take_next(&mut cells);
-        views.push(tape.next_view(table, *process, memory, queue)?)?;
+        views.push(tape.next_view(like, *process, memory, queue)?)?;
     }
     Ok(views)
 }
@@ -144,7 +143,6 @@ fn views_with(
 pub fn next_views(
     alloc: Global,
     tape: &Tape,
-    table: &Table,
     old_outcomes: &[Shared<Outcome>],
     old_next: &[Shared<View>],
     touched: &[usize],
@@ -152,7 +150,7 @@ pub fn next_views(
     always: &[bool],
     other_args: &[usize],
 ) -> Result<Vec<Shared<View>>, OutOfMemory>
-    requires after { IsNextOf tape.now table.now }
+    requires after { IsNextOf tape.now (slice_index_or old_next.now 0 no_view) }
     requires some { 0 < length old_next.now }
     requires comparable { AreComparable old_outcomes.now tape.now.outcomes }
     requires next { AreDelivered old_outcomes.now old_next.now }
@@ -163,11 +161,12 @@ pub fn next_views(
     requires stay { (p : ℕ) → p < length old_outcomes.now → is_touched old_outcomes.now tape.now.outcomes p ≡ false → slice_index_or always.now p true ≡ false → slice_index_or old_next.now p no_view ≡ next_view tape.now p }
     ensures { IfOk result (λ all. all.items ≡ each_below (length tape.now.outcomes) (next_view tape.now)) }
 {
+    let like = seen_by(old_next, 0);
     let mut views = copied(alloc, old_next)?;
-    let touched_views = views_with(alloc, tape, table, touched, made)?;
+    let touched_views = views_with(alloc, tape, like, touched, made)?;
     put_at(&mut views, touched, touched_views);
     let cells = cells_of(alloc, views.as_slice(), other_args)?;
-    let other_views = views_with(alloc, tape, table, other_args, cells)?;
+    let other_views = views_with(alloc, tape, like, other_args, cells)?;
     put_at(&mut views, other_args, other_views);
     Ok(views)
 }

@@ -48,7 +48,6 @@ fn open_next<P: Program, G: Gate, R: Threads + Sync>(
         let views = next_views(
             given.alloc,
             tape,
-            &table,
             old_outcomes,
             old_next,
             touched,
@@ -56,7 +55,8 @@ fn open_next<P: Program, G: Gate, R: Threads + Sync>(
             given.always,
             given.other_args,
         )?;
-        let _ = tape.delivered_as(table, SharedSeq::from_vec(views)?)?;
+        let row = tape.cost();
+        let _ = tape.delivered_as(SharedSeq::from_vec(views)?, row)?;
     } else {
         let cells = next_cells(
             given.alloc,

@@ -1,63 +1,142 @@
 //! Which processes have another memory or other arguments than in the run before.
 
-ghost use Rattle.std.specs.Prelude.{◌≡◌, IfOk, option_map, false};
-ghost use Rattle.bsp_incr.specs.Inside.Before.{HasSameArgs, HasSameMemory, AreArgsMarked, AreFirstMarked};
+ghost use Rattle.std.specs.Prelude.{◌≡◌, IfOk, None, Some, replicate};
+ghost use Rattle.bsp_incr.specs.Inside.Before.{IsEdited, AreArgsMarked, AreFirstMarked};
+ghost use Rattle.bsp_incr.specs.Inside.Marking.{word_before, word_now, arg_before, arg_now, word_place, arg_place};
+ghost use Rattle.bsp_incr.specs.Inside.Marking.{marked_if, marked_at, all_marked};
 
-use crate::before::first_view_before;
-use bsp_model::{Input, OutOfMemory, Same};
+use crate::Edit;
+use crate::before::first_views_before;
+use crate::undo::{arg_of, word_of};
+use bsp_model::{Input, OutOfMemory};
 use bsp_run::History;
 use std::alloc::Global;
 
-/// Whether a process may have other arguments.
-fn has_other_args(old: Option<&History>, input: &Input, p: usize) -> bool
-    ensures { result ≡ false → HasSameArgs (option_map (λ k. k.now) old.entry) input.now p }
+/// The processes that begin with something else than in the run before, by process.
+#[derive(Drop)]
+pub struct Marks {
+    /// Those with other arguments. They are marked in each superstep.
+    pub args: Vec<bool>,
+    /// Those with another memory or other arguments. They are marked in superstep 0.
+    pub first: Vec<bool>,
+}
+
+/// So many marks, all set or all not.
+fn marks_of(alloc: Global, count: usize, mark: bool) -> Result<Vec<bool>, OutOfMemory>
+    ensures { IfOk result (λ marks. marks.items ≡ replicate count mark) }
 {
-    match (first_view_before(old, p), input.args.as_slice().get(p)) {
-        (Some(view), Some(args)) => view.args.as_slice() != args.as_slice(),
-        _ => true,
+    Ok(vec![in alloc; mark; count]?)
+}
+
+/// Where there is no run before, all processes are marked.
+pub fn all_marks(alloc: Global, input: &Input) -> Result<Marks, OutOfMemory>
+    ensures args { IfOk result (λ marks. AreArgsMarked None input.now marks.args.items) }
+    ensures first { IfOk result (λ marks. AreFirstMarked None input.now marks.first.items) }
+{
+    Ok(Marks {
+        args: marks_of(alloc, input.mems.len(), true)?,
+        first: marks_of(alloc, input.mems.len(), true)?,
+    })
+}
+
+/// The word of a memory in the run before; 0 where there was none.
+fn word_before(old: &History, pid: u64, addr: u64) -> u64
+    ensures { result ≡ word_before old.now pid addr }
+{
+    let Some(view) = first_views_before(old).get(pid as usize) else {
+        return 0;
+    };
+    match view.memory.load(addr) {
+        Some(word) => word,
+        None => 0,
     }
 }
 
-/// Whether a process may have another memory.
-fn has_other_memory(old: Option<&History>, input: &Input, p: usize) -> bool
-    ensures { result ≡ false → HasSameMemory (option_map (λ k. k.now) old.entry) input.now p }
+/// An argument in the run before; 0 where there was none.
+fn arg_before(old: &History, pid: u64, index: u64) -> u64
+    ensures { result ≡ arg_before old.now pid index }
 {
-    match (first_view_before(old, p), input.mems.as_slice().get(p)) {
-        (Some(view), Some(memory)) => !view.memory.same(memory),
-        _ => true,
+    let Some(view) = first_views_before(old).get(pid as usize) else {
+        return 0;
+    };
+    match view.args.as_slice().get(index as usize) {
+        Some(arg) => *arg,
+        None => 0,
     }
 }
 
-/// The processes with other arguments. They are marked in each superstep.
-pub fn args_marks(
+/// Marks a process where the test holds.
+fn mark_if(marks: &mut Vec<bool>, pid: u64, is_other: bool)
+    ensures { marks.new.items ≡ marked_if is_other marks.old.items pid }
+{
+    if is_other && (pid as usize) < marks.len() {
+        marks[pid as usize] = true;
+    }
+}
+
+/// Marks the process of an edit of an argument, if the argument is another than in the run before.
+fn mark_arg(marks: &mut Vec<bool>, old: &History, input: &Input, edit: &Edit)
+    ensures { marks.new.items ≡ marked_at (arg_before old.now) (arg_now input.now) marks.old.items (arg_place edit.now) }
+{
+    if let Edit::Arg {
+        pid,
+        index,
+        value: _,
+    } = *edit
+    {
+        let is_other = arg_before(old, pid, index) != arg_of(input, pid, index);
+        mark_if(marks, pid, is_other);
+    }
+}
+
+/// Marks the process of an edit of a word, if the word is another than in the run before.
+fn mark_word(marks: &mut Vec<bool>, old: &History, input: &Input, edit: &Edit)
+    ensures { marks.new.items ≡ marked_at (word_before old.now) (word_now input.now) marks.old.items (word_place edit.now) }
+{
+    if let Edit::Word {
+        pid,
+        addr,
+        value: _,
+    } = *edit
+    {
+        let is_other = word_before(old, pid, addr) != word_of(input, pid, addr);
+        mark_if(marks, pid, is_other);
+    }
+}
+
+/// Marks the processes with other arguments.
+fn mark_args(marks: &mut Vec<bool>, old: &History, input: &Input, edits: &[Edit])
+    ensures { marks.new.items ≡ all_marked arg_place (arg_before old.now) (arg_now input.now) marks.old.items edits.now }
+{
+    for edit in edits {
+        mark_arg(marks, old, input, edit);
+    }
+}
+
+/// Marks the processes with another memory.
+fn mark_words(marks: &mut Vec<bool>, old: &History, input: &Input, edits: &[Edit])
+    ensures { marks.new.items ≡ all_marked word_place (word_before old.now) (word_now input.now) marks.old.items edits.now }
+{
+    for edit in edits {
+        mark_word(marks, old, input, edit);
+    }
+}
+
+/// The processes that a batch has left with other arguments or another memory. It looks at what the edits name, and at nothing else.
+pub fn marks_of_edits(
     alloc: Global,
-    old: Option<&History>,
+    old: &History,
     input: &Input,
-) -> Result<Vec<bool>, OutOfMemory>
-    ensures { IfOk result (λ marks. AreArgsMarked (option_map (λ k. k.now) old.entry) input.now marks.items) }
+    edits: &[Edit],
+) -> Result<Marks, OutOfMemory>
+    requires edited { IsEdited old.now edits.now input.now }
+    ensures args { IfOk result (λ marks. AreArgsMarked (Some old.now) input.now marks.args.items) }
+    ensures first { IfOk result (λ marks. AreFirstMarked (Some old.now) input.now marks.first.items) }
 {
-    let mut marks = Vec::with_capacity(alloc, input.mems.len())?;
-    for p in 0..input.mems.len() {
-        let mark = has_other_args(old, input, p);
-        marks.push(mark)?;
-    }
-    Ok(marks)
-}
-
-/// The processes with another memory, or with other arguments, which are those in `always`. They are marked in superstep 0.
-pub fn first_marks(
-    alloc: Global,
-    old: Option<&History>,
-    input: &Input,
-    always: &[bool],
-) -> Result<Vec<bool>, OutOfMemory>
-    requires { AreArgsMarked (option_map (λ k. k.now) old) input.now always.now }
-    ensures { IfOk result (λ marks. AreFirstMarked (option_map (λ k. k.now) old.entry) input.now marks.items) }
-{
-    let mut marks = Vec::with_capacity(alloc, always.len())?;
-    for p in 0..always.len() {
-        let mark = always[p] || has_other_memory(old, input, p);
-        marks.push(mark)?;
-    }
-    Ok(marks)
+    let mut args = marks_of(alloc, input.mems.len(), false)?;
+    mark_args(&mut args, old, input, edits);
+    let mut first = marks_of(alloc, input.mems.len(), false)?;
+    mark_args(&mut first, old, input, edits);
+    mark_words(&mut first, old, input, edits);
+    Ok(Marks { args, first })
 }

@@ -8,13 +8,13 @@ ghost use Rattle.bsp_run.specs.Law.{IsBspRun};
 ghost use Rattle.bsp_run.specs.Condition.{is_ended};
 ghost use Rattle.bsp_incr.specs.Inside.Changes.{update_of};
 ghost use Rattle.bsp_incr.specs.Edits.{refusal_of, edited};
-ghost use Rattle.bsp_incr.specs.Inside.Before.{IsBefore};
+ghost use Rattle.bsp_incr.specs.Inside.Before.{IsBefore, IsEdited, AreArgsMarked, AreFirstMarked};
 
 use crate::counts::Counts;
 use crate::editing::make_edits;
 use crate::former::restore;
 use crate::given::Given;
-use crate::marks::{args_marks, first_marks};
+use crate::marks::{Marks, marks_of_edits};
 use crate::opening::opened;
 use crate::places::processes_where;
 use crate::superstep::advance;
@@ -35,16 +35,21 @@ pub fn rerun<P: Program, G: Gate, R: Threads + Sync>(
     program: &P,
     old: Option<&History>,
     input: &Input,
+    marks: Marks,
     counts: &mut Counts,
 ) -> Result<(History, Update), OutOfMemory>
     requires lawful { input_fault input.now ≡ None }
+    requires args { AreArgsMarked (option_map (λ k. k.now) old) input.now marks.args.items }
+    requires first { AreFirstMarked (option_map (λ k. k.now) old) input.now marks.first.items }
     requires before { IsBefore (turn_of (P.acts program.now) (P.ending program.now)) input.now (option_map (λ k. k.now) old) }
     ensures run { IfOk result (λ r. r.0 ≡ run (turn_of (P.acts program.now) (P.ending program.now)) input.now) }
     ensures update { IfOk result (λ r. r.1 ≡ update_of (P.looks program.now) (option_map (λ k. k.now) old.entry) r.0) }
 {
-    let always = args_marks(alloc, old, input)?;
+    let Marks {
+        args: always,
+        first: mut marks,
+    } = marks;
     let other_args = processes_where(alloc, always.as_slice())?;
-    let mut marks = first_marks(alloc, old, input, always.as_slice())?;
     let mut tape = opened(alloc, old, input, marks.as_slice())?;
     let mut update = Update {
         executed: Seq::new(alloc),
@@ -77,6 +82,26 @@ fn finished(old: Option<&History>, tape: Tape) -> Result<History, OutOfMemory>
     }
 }
 
+/// The run of an edited input, made against the run of the input as it was.
+fn rerun_from_edits<P: Program, G: Gate, R: Threads + Sync>(
+    workers: &Workers<'_, R, G>,
+    alloc: Global,
+    program: &P,
+    old: &History,
+    input: &Input,
+    edits: &[Edit],
+    counts: &mut Counts,
+) -> Result<(History, Update), OutOfMemory>
+    requires lawful { input_fault input.now ≡ None }
+    requires before { IsBefore (turn_of (P.acts program.now) (P.ending program.now)) input.now (Some old.now) }
+    requires edited { IsEdited old.now edits.now input.now }
+    ensures run { IfOk result (λ r. r.0 ≡ run (turn_of (P.acts program.now) (P.ending program.now)) input.now) }
+    ensures update { IfOk result (λ r. r.1 ≡ update_of (P.looks program.now) (Some old.now) r.0) }
+{
+    let marks = marks_of_edits(alloc, old, input, edits)?;
+    rerun(workers, alloc, program, Some(old), input, marks, counts)
+}
+
 /// Edits an input and makes its run again, against the run of the input as it was. After `OutOfMemory` the input is as before.
 pub fn rerun_edited<P: Program, G: Gate, R: Threads + Sync>(
     workers: &Workers<'_, R, G>,
@@ -96,7 +121,7 @@ pub fn rerun_edited<P: Program, G: Gate, R: Threads + Sync>(
     ensures err { OnErr result (input.new ≡ input.old) }
 {
     let formers = make_edits(alloc, input, edits)?;
-    match rerun(workers, alloc, program, Some(old), input, counts) {
+    match rerun_from_edits(workers, alloc, program, old, input, edits, counts) {
         Ok(done) => Ok(done),
         Err(error) => {
             restore(input, formers);

@@ -2,6 +2,7 @@
 
 use crate::counts::Counts;
 use crate::editing::{are_there, refusal_of};
+use crate::marks::all_marks;
 use crate::rerun::{rerun, rerun_edited};
 use crate::workers::Workers;
 use crate::{Edit, EditError, Update};
@@ -73,7 +74,8 @@ impl<P: Program + Drop> Session<P> {
             gate,
         };
         let mut counts = Counts::new();
-        let (history, update) = rerun(&workers, alloc, &program, None, &input, &mut counts)?;
+        let marks = all_marks(alloc, &input)?;
+        let (history, update) = rerun(&workers, alloc, &program, None, &input, marks, &mut counts)?;
         let session = Session {
             program,
             input,

@@ -12,7 +12,7 @@ use std::alloc::Global;
 use std::thread::Threads;
 
 /// The word of a memory; 0 where there is none.
-fn word_of(input: &Input, pid: u64, addr: u64) -> u64
+pub(crate) fn word_of(input: &Input, pid: u64, addr: u64) -> u64
     ensures { result ≡ slice_index (slice_index_or input.now.mems pid []) addr }
 {
     let Some(memory) = input.mems.as_slice().get(pid as usize) else {
@@ -25,7 +25,7 @@ fn word_of(input: &Input, pid: u64, addr: u64) -> u64
 }
 
 /// An argument; 0 where there is none.
-fn arg_of(input: &Input, pid: u64, index: u64) -> u64
+pub(crate) fn arg_of(input: &Input, pid: u64, index: u64) -> u64
     ensures { result ≡ slice_index (slice_index_or input.now.args pid []) index }
 {
     let Some(args) = input.args.as_slice().get(pid as usize) else {

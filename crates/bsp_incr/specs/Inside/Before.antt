@@ -1,5 +1,5 @@
 -- What is known of the run before, and of a run while it is made again: what the private functions of this crate ask and promise.
-use Rattle.std.specs.Prelude.{◌≡◌, ◌<◌, ℕ, ◌+◌, Bool, true, false, List, [], Option, None, Some, length, nat_lt, if◌then◌else◌, slice_index_or}
+use Rattle.std.specs.Prelude.{◌≡◌, ◌<◌, ◌⊎◌, ℕ, ◌+◌, Bool, true, false, List, [], Option, None, Some, length, nat_lt, if◌then◌else◌, slice_index_or}
 use Rattle.std.specs.Option.{ForSome}
 use Rattle.bsp_model.specs.declared.input.Input.{Input}
 use Rattle.bsp_step.specs.ViewParts.{ViewParts}
@@ -8,6 +8,8 @@ use Rattle.bsp_run.specs.Run.{Run, start, open_views}
 use Rattle.bsp_run.specs.Supersteps.{superstep_at, views_at}
 use Rattle.bsp_run.specs.Condition.{is_open, no_view}
 use Rattle.bsp_incr.specs.declared.reply.Update.{Update}
+use Rattle.bsp_incr.specs.declared.edit.Edit.{Edit}
+use Rattle.bsp_incr.specs.Edits.{edited}
 use Rattle.bsp_run.specs.Inside.Record.{IsRecord}
 use Rattle.bsp_incr.specs.Inside.Marks.{AreMarked, AreAlikeButForTable}
 use Rattle.bsp_incr.specs.Inside.Next.{next_view}
@@ -42,10 +44,15 @@ IsBefore turn input (Some r) = IsRecordBefore turn input r
 abbrev pub HasSameArgs : Option Run → Input → ℕ → Type 0
 HasSameArgs old input p = ForSome old (λ r. (slice_index_or (views_at r 0) p no_view).args ≡ slice_index_or input.args p [])
 
--- a process whose arguments are not marked has those of the run before
+-- a process has other arguments than in the run before, if there was one
+abbrev pub HasOtherArgs : Option Run → Input → ℕ → Type 0
+HasOtherArgs old input p = ForSome old (λ r. (slice_index_or (views_at r 0) p no_view).args ≡ slice_index_or input.args p [] → ⊥)
+
+-- A process whose arguments are not marked has those of the run before, and one whose arguments are marked has others.
 pub record AreArgsMarked (old : Option Run) (input : Input) (marks : List Bool) : Type 0 where
   pub count : length marks ≡ length input.mems
   pub clean : (p : ℕ) → p < length input.mems → slice_index_or marks p true ≡ false → HasSameArgs old input p
+  pub other : (p : ℕ) → p < length input.mems → slice_index_or marks p false ≡ true → HasOtherArgs old input p
 
 -- Once the turns of a superstep are taken, a process to which the delivery stays, and whose arguments are not marked, sees next what it saw in the run
 -- before, the table and the tag size aside.
@@ -63,14 +70,26 @@ pub record IsUnderWay (turn : ViewParts → OutcomeParts) (looks : ViewParts →
 abbrev pub HasSameMemory : Option Run → Input → ℕ → Type 0
 HasSameMemory old input p = ForSome old (λ r. (slice_index_or (views_at r 0) p no_view).memory ≡ slice_index_or input.mems p [])
 
--- a process that is not marked for superstep 0 has the memory and the arguments of the run before
+-- a process has another memory than in the run before, if there was one
+abbrev pub HasOtherMemory : Option Run → Input → ℕ → Type 0
+HasOtherMemory old input p = ForSome old (λ r. (slice_index_or (views_at r 0) p no_view).memory ≡ slice_index_or input.mems p [] → ⊥)
+
+-- A process that is not marked for superstep 0 has the memory and the arguments of the run before, and one that is marked has another memory or other
+-- arguments.
 pub record AreFirstMarked (old : Option Run) (input : Input) (marks : List Bool) : Type 0 where
   pub count : length marks ≡ length input.mems
   pub memory : (p : ℕ) → p < length input.mems → slice_index_or marks p true ≡ false → HasSameMemory old input p
   pub args : (p : ℕ) → p < length input.mems → slice_index_or marks p true ≡ false → HasSameArgs old input p
+  pub other : (p : ℕ) → p < length input.mems → slice_index_or marks p false ≡ true → HasOtherMemory old input p ⊎ HasOtherArgs old input p
 
 -- the run before began with what the processes see first of an input which has as many processes as the new one
 pub record HasFirstViews (input : Input) (r : Run) : Type 0 where
   pub input_before : Input
   pub views : views_at r 0 ≡ open_views (start input_before)
   pub count : length input_before.mems ≡ length input.mems
+
+-- the run before began with what the processes see first of an input of which these edits make the new one
+pub record IsEdited (r : Run) (edits : List Edit) (input : Input) : Type 0 where
+  pub input_before : Input
+  pub views : views_at r 0 ≡ open_views (start input_before)
+  pub edited : input ≡ edited input_before edits

@@ -23,7 +23,7 @@ loop-step-init g c =
     record {
       rest = ap (λ n. times n f c.in_ok-tape.tape) all ∙ ap (times input.limit f) opened;
       between = subst (IsBetween (input.limit - 0)) (sym opened) (subst (λ n. IsBetween n (start input)) (sym all) (start-between input (lawful_input input c.requires.lawful).some_superstep));
-      under_way = under_way_start turn (g.P.Program.looks c.args.program.now) old input c.in_ok-tape.tape c.in_ok-marks.marks.items record { executed = c.new.result; redelivered = c.new-2.result } opened (lawful_input input c.requires.lawful).some_superstep c.requires.before c.in_ok-marks.ensures c.new.ensures c.new-2.ensures;
+      under_way = under_way_start turn (g.P.Program.looks c.args.program.now) old input c.in_ok-tape.tape c.args.marks.first.items record { executed = c.new.result; redelivered = c.new-2.result } opened (lawful_input input c.requires.lawful).some_superstep c.requires.before c.requires.first c.new.ensures c.new-2.ensures;
     }
 
 pub loop-step-preserved : goal.loop-step-preserved
@@ -60,7 +60,7 @@ opened-requires-clause-first g c =
 pub invariant_of-given : goal.invariant_of-given
 invariant_of-given g c =
     record {
-      marked = subst (AreArgsMarked (option_map (λ k. k.now) c.args.old) c.args.input.now) (sym c.as_slice-4.ensures.value) c.in_ok-always.ensures;
+      marked = subst (AreArgsMarked (option_map (λ k. k.now) c.args.old) c.args.input.now) (sym c.as_slice-3.ensures.value) c.requires.args;
       lawful = c.requires.lawful;
-      listed = c.as_slice-5.ensures.value ∙ c.in_ok-other_args.ensures ∙ ap (λ (bs : List Bool). processes_where (length bs) (λ p. get_or bs p false)) (c.as_slice.ensures.value ∙ sym c.as_slice-4.ensures.value);
+      listed = c.as_slice-4.ensures.value ∙ c.in_ok-other_args.ensures ∙ ap (λ (bs : List Bool). processes_where (length bs) (λ p. get_or bs p false)) (c.as_slice.ensures.value ∙ sym c.as_slice-3.ensures.value);
     }
