@@ -12,7 +12,8 @@ use Rattle.bsp_run.specs.Result.{status_of, memories_of, lines_of, costs_of, tot
 use Rattle.bsp_incr.specs.declared.edit.Edit.{Edit}
 use Rattle.bsp_incr.specs.declared.reply.Update.{Update}
 use Rattle.bsp_engine.specs.Inside.Given.{IsResultIn}
-use Rattle.bsp_engine.specs.Inside.Touched.{AreRunsAround, IsResultBefore}
+use Rattle.bsp_engine.specs.Inside.Touched.{IsResultBefore}
+use Rattle.bsp_engine.specs.Untouched.{AreRunsAround}
 use Rattle.bsp_engine.specs.Changes.{changes_lines, changes_of, count_line, other_lines, other_number, others, piece_if, same_lines, same_row, same_words}
 use Rattle.bsp_engine.specs.Lines.{line, numbered}
 use Rattle.bsp_engine.specs.Text.{cost_line, memory_line, status_lines}

@@ -40,7 +40,7 @@ use Rattle.bsp_incr.specs.Inside.Changes.{is_touched}
 use Rattle.bsp_incr.proofs.Lawful.{edited_count}
 use Rattle.bsp_incr.proofs.Propagation.{view-in, memory-in, first_memory, Decides-untouched, untouched_is}
 use Rattle.bsp_incr.proofs.Serving.{Decides-serves}
-use Rattle.bsp_engine.specs.Inside.Touched.{word_pids, touched, at_limit, end_alike, AreRunsAround, UntouchedProcessesStay}
+use Rattle.bsp_engine.specs.Untouched.{word_pids, touched, at_limit, end_alike, AreRunsAround, UntouchedProcessesStay}
 
 -- a process of which no edit changes a word begins with the memory that it had
 

@@ -25,3 +25,4 @@ pub mod Tree
 pub mod Values
 pub mod Whole
 pub mod Inside
+pub mod Untouched

@@ -1,7 +1,7 @@
 //! What is known of the changes that are told.
 
 ghost use Rattle.bsp_engine.specs.Whole.{ChangesTellTheRest};
-ghost use Rattle.bsp_engine.specs.Inside.Touched.{UntouchedProcessesStay};
+ghost use Rattle.bsp_engine.specs.Untouched.{UntouchedProcessesStay};
 
 /// A result and what of the next one is another give the next one whole.
 pub fn changes_tell_the_rest()

@@ -2,7 +2,8 @@
 
 ghost use Rattle.std.specs.Prelude.{◌≡◌, ◌++◌, map, slice_set, true};
 ghost use Rattle.std.specs.List.{flat_map};
-ghost use Rattle.bsp_engine.specs.Inside.Touched.{flagged, touched, word_pids};
+ghost use Rattle.bsp_engine.specs.Inside.Touched.{flagged};
+ghost use Rattle.bsp_engine.specs.Untouched.{touched, word_pids};
 
 use bsp_incr::{Edit, Place, Update};
 

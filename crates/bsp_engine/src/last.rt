@@ -5,7 +5,8 @@ ghost use Rattle.bsp_run.specs.Result.{lines_of, memories_of, result_of};
 ghost use Rattle.bsp_engine.specs.Changes.{changes_lines, changes_of, other_lines, others, piece_if, same_lines, same_words};
 ghost use Rattle.bsp_engine.specs.Lines.{numbered};
 ghost use Rattle.bsp_engine.specs.Text.{memory_line};
-ghost use Rattle.bsp_engine.specs.Inside.Touched.{AreSameUnflagged, IsResultBefore, at_limit, end_alike, flags_of, piece_there, put_there};
+ghost use Rattle.bsp_engine.specs.Inside.Touched.{AreSameUnflagged, IsResultBefore, flags_of, piece_there, put_there};
+ghost use Rattle.bsp_engine.specs.Untouched.{at_limit, end_alike};
 
 use crate::change_lines::{
     item_at, push_other_costs, push_other_count, push_other_lines, push_other_memory,

@@ -1,6 +1,7 @@
 use Rattle.std.proofs.Common.{◌≡◌, drop}
 use Rattle.std.specs.List.{flat_map}
-use Rattle.bsp_engine.specs.Inside.Touched.{flagged, word_pids}
+use Rattle.bsp_engine.specs.Inside.Touched.{flagged}
+use Rattle.bsp_engine.specs.Untouched.{word_pids}
 use Rattle.bsp_engine.proofs.flags.flag_edits.Given as goal
 
 -- the edits that are left

@@ -1,7 +1,8 @@
 use Rattle.std.proofs.Common.{◌≡◌, ◌∙◌, ◌++◌, map, ap, sym, List, ℕ, Bool}
 use Rattle.std.specs.List.{flat_map}
 use Rattle.bsp_incr.specs.declared.reply.Place.{Place}
-use Rattle.bsp_engine.specs.Inside.Touched.{flagged, word_pids}
+use Rattle.bsp_engine.specs.Inside.Touched.{flagged}
+use Rattle.bsp_engine.specs.Untouched.{word_pids}
 use Rattle.bsp_engine.proofs.Flagging.{flagged-append}
 use Rattle.bsp_engine.proofs.flags.flag_touched.Goals as goal
 

@@ -15,7 +15,8 @@ use Rattle.bsp_incr.specs.Inside.Replies.{reply_to}
 use Rattle.bsp_incr.proofs.Replying.{replied_is}
 use Rattle.bsp_engine.specs.Blocks.{lines_after, reply_lines}
 use Rattle.bsp_engine.specs.Text.{update_lines}
-use Rattle.bsp_engine.specs.Inside.Touched.{AreRunsAround, IsResultBefore}
+use Rattle.bsp_engine.specs.Inside.Touched.{IsResultBefore}
+use Rattle.bsp_engine.specs.Untouched.{AreRunsAround}
 use Rattle.bsp_engine.proofs.Made.{kept_is}
 use Rattle.bsp_engine.proofs.Numbering.{two_pieces}
 use Rattle.bsp_engine.proofs.Telling.{kept_before}

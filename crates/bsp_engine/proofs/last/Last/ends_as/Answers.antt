@@ -2,7 +2,7 @@ use Rattle.std.proofs.Common.{◌∙◌, List, length, ap, sym}
 use Rattle.bsp_model.specs.declared.cost.CostRow.{CostRow}
 use Rattle.bsp_run.specs.declared.result.RunResult.{RunResult}
 use Rattle.bsp_run.specs.Result.{result_of}
-use Rattle.bsp_engine.specs.Inside.Touched.{at_limit}
+use Rattle.bsp_engine.specs.Untouched.{at_limit}
 use Rattle.bsp_engine.proofs.Flagging.{end_otherwise, end_by}
 use Rattle.bsp_engine.proofs.Untouched.{parts}
 use Rattle.bsp_engine.proofs.last.Last.ends_as.Goals as goal
