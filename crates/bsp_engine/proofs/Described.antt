@@ -14,12 +14,12 @@ use Rattle.bsp_engine.specs.Sizes.{is_short, count_of_args, is_between, describe
 use Rattle.bsp_engine.specs.Values.{word_of, row_of, args_of, input_of}
 
 -- the first fault, by the seven tests in their order
-abbrev verdict : Bool → Bool → Bool → Bool → Bool → Bool → Bool → Option InputFault
+abbrev pub verdict : Bool → Bool → Bool → Bool → Bool → Bool → Bool → Option InputFault
 verdict a b c d e f g =
     cond a (Some NoProcess) (cond b (Some TooMany) (cond (not c) (Some LengthsDiffer) (cond (not d) (Some MemoryTooLong)
     (cond (not e) (Some ArgsTooLong) (cond (not f) (Some BadLimit) (cond (not g) (Some BadPrice) None))))))
 
-faultless : (a b c d e f g a1 b1 c1 d1 e1 f1 g1 : Bool) → a ≡ a1 → b ≡ b1 → c ≡ c1 → d ≡ d1 → e ≡ e1 → (f ≡ true → f1 ≡ true) → (g ≡ true → g1 ≡ true) → verdict a b c d e f g ≡ None → verdict a1 b1 c1 d1 e1 f1 g1 ≡ None
+pub faultless : (a b c d e f g a1 b1 c1 d1 e1 f1 g1 : Bool) → a ≡ a1 → b ≡ b1 → c ≡ c1 → d ≡ d1 → e ≡ e1 → (f ≡ true → f1 ≡ true) → (g ≡ true → g1 ≡ true) → verdict a b c d e f g ≡ None → verdict a1 b1 c1 d1 e1 f1 g1 ≡ None
 faultless true b c d e f g a1 b1 c1 d1 e1 f1 g1 ea eb ec ed ee p q none = let no : ⊥ = cc in absurd no
 faultless false true c d e f g a1 b1 c1 d1 e1 f1 g1 ea eb ec ed ee p q none = let no : ⊥ = cc in absurd no
 faultless false false false d e f g a1 b1 c1 d1 e1 f1 g1 ea eb ec ed ee p q none = let no : ⊥ = cc in absurd no
@@ -29,6 +29,17 @@ faultless false false true true true false g a1 b1 c1 d1 e1 f1 g1 ea eb ec ed ee
 faultless false false true true true true false a1 b1 c1 d1 e1 f1 g1 ea eb ec ed ee p q none = let no : ⊥ = cc in absurd no
 faultless false false true true true true true a1 b1 c1 d1 e1 f1 g1 ea eb ec ed ee p q none =
     rw (← ea, ← eb, ← ec, ← ed, ← ee, p refl, q refl) refl
+
+-- the last two tests passed
+pub last_two : (a b c d e f g : Bool) → verdict a b c d e f g ≡ None → (f ≡ true) × (g ≡ true)
+last_two true b c d e f g none = let no : ⊥ = cc in absurd no
+last_two false true c d e f g none = let no : ⊥ = cc in absurd no
+last_two false false false d e f g none = let no : ⊥ = cc in absurd no
+last_two false false true false e f g none = let no : ⊥ = cc in absurd no
+last_two false false true true false f g none = let no : ⊥ = cc in absurd no
+last_two false false true true true false g none = let no : ⊥ = cc in absurd no
+last_two false false true true true true false none = let no : ⊥ = cc in absurd no
+last_two false false true true true true true none = (refl, refl)
 
 short_rows : (n : ℕ) (ds : List Data) → list_all (is_short n) ds ≡ list_all (λ m. nat_le (length m) n) (map row_of ds)
 short_rows n [] = refl

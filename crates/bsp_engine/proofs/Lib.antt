@@ -1,5 +1,6 @@
 pub mod Answering
 pub mod Beginning
+pub mod Beside
 pub mod Changed
 pub mod Conversations
 pub mod Described
@@ -10,6 +11,9 @@ pub mod Logs
 pub mod Made
 pub mod Numbering
 pub mod OwnKeys
+pub mod ReadAgain
+pub mod SameDocument
+pub mod SameJob
 pub mod Optional
 pub mod Telling
 pub mod TooLong

@@ -16,7 +16,7 @@ use Rattle.bsp_engine.specs.Catalogue.{Meaning}
 use Rattle.bsp_engine.specs.Tree.{list_of, elements, begins_with, tree_of}
 use Rattle.bsp_engine.specs.Keys.{is_integer, is_array_of, is_form, is_known_key, has_known_keys}
 
-list_of-items_of : (ds : List Data) → list_of (items_of ds) ≡ ds
+pub list_of-items_of : (ds : List Data) → list_of (items_of ds) ≡ ds
 list_of-items_of [] = refl
 list_of-items_of (d ∷ ds) = ap (λ l. d ∷ l) (list_of-items_of ds)
 

@@ -15,6 +15,7 @@ pub mod Live
 pub mod Naming
 pub mod Options
 pub mod Places
+pub mod ReadsBack
 pub mod Refusal
 pub mod Reported
 pub mod Signs

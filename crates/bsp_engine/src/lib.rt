@@ -25,6 +25,7 @@ mod options;
 mod places;
 mod reading;
 mod reporting;
+mod rereading;
 mod running;
 mod talking;
 mod terminal;
@@ -44,6 +45,7 @@ pub use following::follow;
 pub use jobs::{Job, read_job};
 pub use naming::{ByName, Named};
 pub use options::{Detail, Options, Tool, VERSION, read_options, words_status};
+pub use rereading::documents_read_back;
 pub use terminal::{Console, Terminal};
 pub use tool::run_tool;
 
