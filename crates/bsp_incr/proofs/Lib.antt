@@ -20,5 +20,6 @@ pub mod EditParts
 pub mod EditSequences
 pub mod TakingBack
 pub mod Marking
+pub mod Likeness
 pub mod LawOfReuse
 pub mod Replying

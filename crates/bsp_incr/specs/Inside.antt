@@ -8,3 +8,4 @@ pub mod Replaced
 pub mod Before
 pub mod Replies
 pub mod Marking
+pub mod Alike

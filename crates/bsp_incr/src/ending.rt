@@ -4,29 +4,56 @@ ghost use Rattle.std.specs.Prelude.{◌≡◌, ◌<◌, ◌++◌, ◌||◌, IfOk
 ghost use Rattle.bsp_deliver.specs.Requests.{each_below};
 ghost use Rattle.bsp_run.specs.Run.{after_delivery};
 ghost use Rattle.bsp_run.specs.Condition.{no_view};
+ghost use Rattle.bsp_run.specs.Result.{cost_of_delivery};
 ghost use Rattle.bsp_run.specs.Shares.{deliveries_to};
+ghost use Rattle.bsp_run.specs.Inside.Tape.{IsSmall};
 ghost use Rattle.bsp_incr.specs.Inside.Changes.{touched_in, is_touched, processes_where};
 ghost use Rattle.bsp_incr.specs.Inside.Marks.{AreDelivered, AreComparable, OutcomesDifferAtMost, HaveOneTable};
 ghost use Rattle.bsp_incr.specs.Inside.Before.{delivered_outcomes, views_after, AreAlikeAfter};
 
 use crate::Place;
+use crate::alike::all_cost_alike;
 use crate::before::{delivered_outcomes, views_after};
 use crate::counts::Counts;
 use crate::deliveries::{next_cells, next_marks, next_views, touched};
 use crate::given::Given;
 use crate::looking::see;
 use crate::places::{add_places, processes_where};
-use bsp_model::{Memory, OutOfMemory, Same, Seq, Shared, SharedSeq};
+use bsp_model::{CostRow, Memory, OutOfMemory, Same, Seq, Shared, SharedSeq};
 use bsp_pool::Gate;
 use bsp_run::{Phase, Tape, wide_deliveries};
 use bsp_step::{Program, Queue, View};
 use bsp_table::Table;
 use std::thread::Threads;
 
+/// The cost of the superstep whose turns are taken: that of the run before, at the prices in force, where no turn that may be another one charged other
+/// work or issued other requests.
+fn cost<P: Program, G: Gate, R: Threads + Sync>(
+    given: &Given<'_, P, R, G>,
+    tape: &Tape,
+    doubtful: &[usize],
+) -> CostRow
+    requires turned { tape.now.phase ≡ Phase.Turned }
+    requires comparable { AreComparable (delivered_outcomes (option_map (λ k. k.now) given.now.old) (length tape.now.past)) tape.now.outcomes }
+    requires doubtful { OutcomesDifferAtMost (delivered_outcomes (option_map (λ k. k.now) given.now.old) (length tape.now.past)) tape.now.outcomes doubtful.now }
+    ensures value { result ≡ cost_of_delivery tape.now.g tape.now.l tape.now.outcomes }
+    ensures small { IsSmall result }
+{
+    let old_outcomes = delivered_outcomes(given.old, tape.step());
+    let Some(history) = given.old else {
+        return tape.cost();
+    };
+    if old_outcomes.is_empty() || !all_cost_alike(old_outcomes, tape.outcomes(), doubtful) {
+        return tape.cost();
+    }
+    tape.cost_like(history)
+}
+
 /// Opens the next superstep, after the deliveries that were made to the processes in `touched`.
 fn open_next<P: Program, G: Gate, R: Threads + Sync>(
     given: &Given<'_, P, R, G>,
     tape: &mut Tape,
+    doubtful: &[usize],
     touched: &[usize],
     made: Vec<(Memory, Queue)>,
 ) -> Result<(), OutOfMemory>
@@ -36,6 +63,7 @@ fn open_next<P: Program, G: Gate, R: Threads + Sync>(
     requires old_table { HaveOneTable (views_after (option_map (λ k. k.now) given.now.old) (length tape.old.past)) }
     requires touched { touched.now ≡ processes_where (length tape.old.outcomes) (is_touched (delivered_outcomes (option_map (λ k. k.now) given.now.old) (length tape.old.past)) tape.old.outcomes) }
     requires made { made.items ≡ deliveries_to tape.old.outcomes touched.now }
+    requires doubtful { OutcomesDifferAtMost (delivered_outcomes (option_map (λ k. k.now) given.now.old) (length tape.old.past)) tape.old.outcomes doubtful.now }
     requires always { length given.now.always.now ≡ length tape.old.outcomes }
     requires alike { AreAlikeAfter (option_map (λ k. k.now) given.now.old) tape.old given.now.always.now }
     ensures { OnOk result (tape.new ≡ after_delivery tape.old) }
@@ -55,7 +83,7 @@ fn open_next<P: Program, G: Gate, R: Threads + Sync>(
             given.always,
             given.other_args,
         )?;
-        let row = tape.cost();
+        let row = cost(given, tape, doubtful);
         let _ = tape.delivered_as(SharedSeq::from_vec(views)?, row)?;
     } else {
         let cells = next_cells(
@@ -108,7 +136,7 @@ pub fn make_deliveries<P: Program, G: Gate, R: Threads + Sync>(
         given.workers.count,
         given.workers.gate,
     )?;
-    open_next(given, tape, processes.as_slice(), made)?;
+    open_next(given, tape, doubtful, processes.as_slice(), made)?;
     let marks = next_marks(given.alloc, touched.as_slice(), given.always)?;
     Ok(marks)
 }

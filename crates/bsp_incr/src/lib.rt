@@ -1,6 +1,7 @@
 //! Sessions: a program, its input, and the run that stays ready for edits of the input.
 #![tactic(auto)]
 
+mod alike;
 mod before;
 mod counts;
 mod deliveries;
