@@ -3,6 +3,7 @@ pub mod Beginning
 pub mod Changed
 pub mod Conversations
 pub mod Described
+pub mod Endings
 pub mod Flagging
 pub mod Flowing
 pub mod LiveLaws
