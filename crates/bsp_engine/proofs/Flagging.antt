@@ -14,7 +14,8 @@ use Rattle.bsp_incr.proofs.Lawful.{edited_count}
 use Rattle.bsp_incr.proofs.PlacesGathered.{in_cons, none_in_nil}
 use Rattle.bsp_engine.specs.Inside.Touched.{flagged, flags_of, IsResultBefore, HaveSameUnflagged}
 use Rattle.bsp_engine.specs.Untouched.{touched, at_limit, end_alike, HasTheSame}
-use Rattle.bsp_engine.proofs.Untouched.{count_result_lines, count_result_memories, untouched_stay}
+use Rattle.bsp_engine.proofs.Endings.{count_result_lines, count_result_memories}
+use Rattle.bsp_engine.proofs.Untouched.{untouched_stay}
 
 -- how runs end
 

@@ -4,6 +4,7 @@ pub mod Beside
 pub mod Changed
 pub mod Conversations
 pub mod Described
+pub mod Endings
 pub mod Flagging
 pub mod Flowing
 pub mod LiveLaws

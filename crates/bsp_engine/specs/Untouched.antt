@@ -24,9 +24,10 @@ word_pids (Arg pid index value) = []
 word_pids (LimitEdit n) = []
 word_pids (Prices g l) = []
 
--- The processes of which the batch changes a word, whose turn was taken again, or to which something was delivered again.
+-- The processes of which the batch changes a word, that took a turn again, or to which something was delivered again.
 abbrev pub touched : List Edit → Update → List ℕ
-touched batch update = flat_map word_pids batch ++ map (λ q. q.pid) update.executed ++ map (λ q. q.pid) update.redelivered
+touched batch update =
+    flat_map word_pids batch ++ map (λ q. q.pid) update.executed ++ map (λ q. q.pid) update.redelivered
 
 abbrev pub at_limit : Status → Bool
 at_limit Halted = false
@@ -36,7 +37,9 @@ at_limit (SyncFaulted step fault) = false
 
 -- The runs have as many supersteps, and both or neither ended at the limit.
 abbrev pub end_alike : RunResult → RunResult → Bool
-end_alike old new = (length old.costs == length new.costs) && (if at_limit old.status then at_limit new.status else not (at_limit new.status))
+end_alike old new =
+    (length old.costs == length new.costs)
+    && (if at_limit old.status then at_limit new.status else not (at_limit new.status))
 
 -- What process p has at the end, and what it printed.
 pub record HasTheSame (old new : RunResult) (p : ℕ) : Type 0 where

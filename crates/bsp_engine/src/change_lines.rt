@@ -25,7 +25,8 @@ pub fn push_other_memory(
     old: Option<&Memory>,
     new: &Memory,
 ) -> Result<bool, OutOfMemory>
-    ensures text { OnOk result (text.new.items ≡ text.old.items ++ piece_if memory_line pid (other same_words (option_map (λ m. m.now) old.entry) new.now)) }
+    ensures text { OnOk result (text.new.items ≡ text.old.items ++
+        piece_if memory_line pid (other same_words (option_map (λ m. m.now) old.entry) new.now)) }
     ensures same { IfOk result (λ another. another ≡ false → option_map (λ m. m.now) old.entry ≡ Some new.now) }
 {
     if let Some(old) = old {
@@ -42,7 +43,8 @@ fn push_other_memories(
     olds: &[Memory],
     news: &[Memory],
 ) -> Result<(), OutOfMemory>
-    ensures { OnOk result (text.new.items ≡ text.old.items ++ numbered (piece_if memory_line) 0 (others same_words olds.now news.now)) }
+    ensures { OnOk result (text.new.items ≡ text.old.items ++
+        numbered (piece_if memory_line) 0 (others same_words olds.now news.now)) }
 {
     for (pid, new) in news.iter().enumerate() {
         push_other_memory(text, pid as u64, item_at(olds, pid), new)?;
@@ -67,7 +69,8 @@ pub fn push_other_lines(
     old: Option<&Shared<Lines>>,
     new: &Lines,
 ) -> Result<bool, OutOfMemory>
-    ensures text { OnOk result (text.new.items ≡ text.old.items ++ piece_if other_lines pid (other same_lines (option_map (λ l. l.now) old.entry) new.now)) }
+    ensures text { OnOk result (text.new.items ≡ text.old.items ++
+        piece_if other_lines pid (other same_lines (option_map (λ l. l.now) old.entry) new.now)) }
     ensures same { IfOk result (λ another. another ≡ false → option_map (λ l. l.now) old.entry ≡ Some new.now) }
 {
     if let Some(old) = old {
@@ -84,7 +87,8 @@ fn push_all_other_lines(
     olds: &[Shared<Lines>],
     news: &[Shared<Lines>],
 ) -> Result<(), OutOfMemory>
-    ensures { OnOk result (text.new.items ≡ text.old.items ++ numbered (piece_if other_lines) 0 (others same_lines olds.now news.now)) }
+    ensures { OnOk result (text.new.items ≡ text.old.items ++
+        numbered (piece_if other_lines) 0 (others same_lines olds.now news.now)) }
 {
     for (pid, new) in news.iter().enumerate() {
         push_other_lines(text, pid as u64, item_at(olds, pid), new)?;
@@ -109,7 +113,8 @@ fn push_other_cost(
     old: Option<&CostRow>,
     new: &CostRow,
 ) -> Result<(), OutOfMemory>
-    ensures { OnOk result (text.new.items ≡ text.old.items ++ piece_if cost_line step (other same_row (option_map (λ r. r.now) old.entry) new.now)) }
+    ensures { OnOk result (text.new.items ≡ text.old.items ++
+        piece_if cost_line step (other same_row (option_map (λ r. r.now) old.entry) new.now)) }
 {
     match other_row(old, new) {
         Some(row) => push_cost(text, step, &row),
@@ -123,7 +128,8 @@ pub fn push_other_costs(
     olds: &[CostRow],
     news: &[CostRow],
 ) -> Result<(), OutOfMemory>
-    ensures { OnOk result (text.new.items ≡ text.old.items ++ numbered (piece_if cost_line) 0 (others same_row olds.now news.now)) }
+    ensures { OnOk result (text.new.items ≡ text.old.items ++
+        numbered (piece_if cost_line) 0 (others same_row olds.now news.now)) }
 {
     for (step, new) in news.iter().enumerate() {
         push_other_cost(text, step as u64, item_at(olds, step), new)?;

@@ -67,7 +67,8 @@ fn tell_memory(
     flag: bool,
 ) -> Result<(), OutOfMemory>
     requires { flag ≡ false → slice_get olds.old pid ≡ slice_get (memories_of history.now) pid }
-    ensures text { OnOk result (text.new.items ≡ text.old.items ++ piece_there memory_line same_words olds.old (memories_of history.now) pid) }
+    ensures text { OnOk result (text.new.items ≡ text.old.items ++
+        piece_there memory_line same_words olds.old (memories_of history.now) pid) }
     ensures olds { OnOk result (olds.new ≡ put_there olds.old (memories_of history.now) pid) }
 {
     if !flag {
@@ -89,7 +90,8 @@ fn tell_memories(
     flags: &[bool],
 ) -> Result<(), OutOfMemory>
     requires { AreSameUnflagged flags.now olds.old (memories_of history.now) }
-    ensures text { OnOk result (text.new.items ≡ text.old.items ++ numbered (piece_if memory_line) 0 (others same_words olds.old (memories_of history.now))) }
+    ensures text { OnOk result (text.new.items ≡ text.old.items ++
+        numbered (piece_if memory_line) 0 (others same_words olds.old (memories_of history.now))) }
     ensures olds { OnOk result (olds.new ≡ memories_of history.now) }
 {
     for (pid, flag) in flags.iter().enumerate() {
@@ -107,7 +109,8 @@ fn tell_lines(
     flag: bool,
 ) -> Result<(), OutOfMemory>
     requires { flag ≡ false → slice_get olds.old pid ≡ slice_get (lines_of history.now) pid }
-    ensures text { OnOk result (text.new.items ≡ text.old.items ++ piece_there other_lines same_lines olds.old (lines_of history.now) pid) }
+    ensures text { OnOk result (text.new.items ≡ text.old.items ++
+        piece_there other_lines same_lines olds.old (lines_of history.now) pid) }
     ensures olds { OnOk result (olds.new ≡ put_there olds.old (lines_of history.now) pid) }
 {
     if !flag {
@@ -130,7 +133,8 @@ fn tell_all_lines(
     flags: &[bool],
 ) -> Result<(), OutOfMemory>
     requires { AreSameUnflagged flags.now olds.old (lines_of history.now) }
-    ensures text { OnOk result (text.new.items ≡ text.old.items ++ numbered (piece_if other_lines) 0 (others same_lines olds.old (lines_of history.now))) }
+    ensures text { OnOk result (text.new.items ≡ text.old.items ++
+        numbered (piece_if other_lines) 0 (others same_lines olds.old (lines_of history.now))) }
     ensures olds { OnOk result (olds.new ≡ lines_of history.now) }
 {
     for (pid, flag) in flags.iter().enumerate() {
@@ -198,7 +202,8 @@ impl Last {
         update: &Update,
     ) -> Result<(), OutOfMemory>
         requires { IsResultBefore self.old batch.now update.now history.now }
-        ensures text { OnOk result (text.new.items ≡ text.old.items ++ changes_lines (changes_of self.old (result_of history.now))) }
+        ensures text { OnOk result (text.new.items ≡ text.old.items ++
+            changes_lines (changes_of self.old (result_of history.now))) }
         ensures last { OnOk result (self.new ≡ result_of history.now) }
     {
         let alloc = *text.allocator();

@@ -9,7 +9,6 @@ ghost use Rattle.bsp_run.specs.Shown.{views_shown, outcomes_shown};
 ghost use Rattle.bsp_run.specs.State.{next_state, view_of, views_of};
 ghost use Rattle.bsp_run.specs.Condition.{AreOutcomesOf, deliveries_of, is_turned, is_open};
 ghost use Rattle.bsp_run.specs.RunErrors.{input_fault_of};
-ghost use Rattle.bsp_run.specs.Ending.{end_of};
 ghost use Rattle.bsp_run.specs.Result.{cost_of_delivery};
 ghost use Rattle.bsp_run.specs.Inside.Tape.{IsSmall};
 
@@ -151,21 +150,6 @@ impl Tape {
         self.outcomes = outcomes;
         self.phase = phase_after(end);
         Ok(goes_on)
-    }
-
-    /// Takes the outcomes of the open superstep, one for each view, of which it is known that the superstep ends by delivery. After `OutOfMemory`
-    /// nothing has changed.
-    pub fn turned_on(&mut self, outcomes: Vec<Shared<Outcome>>) -> Result<(), OutOfMemory>
-        requires open { self.old.phase ≡ Phase.Open }
-        requires turns { AreOutcomesOf (open_views self.old) outcomes.items }
-        requires delivers { end_of (length self.old.past) self.old.state.table outcomes.items ≡ None }
-        ensures ok { OnOk result (self.new ≡ after_turns self.old outcomes.items) }
-        ensures err { OnErr result (self.new ≡ self.old) }
-    {
-        let outcomes = SharedSeq::from_vec(outcomes)?;
-        self.outcomes = outcomes;
-        self.phase = Phase::Turned;
-        Ok(())
     }
 
     /// The table of the next superstep.

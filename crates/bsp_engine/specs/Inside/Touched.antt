@@ -28,7 +28,8 @@ flagged flags (p ∷ later) = flagged (slice_set flags p true) later
 -- A flag for each process: up for those that are touched, or for all where the runs do not end alike.
 abbrev pub flags_of : RunResult → RunResult → List Edit → Update → List Bool
 flags_of old new batch update =
-    if end_alike old new then flagged (replicate (length old.memories) false) (touched batch update) else replicate (length old.memories) true
+    if end_alike old new then flagged (replicate (length old.memories) false) (touched batch update)
+    else replicate (length old.memories) true
 
 -- As many items, and the same but where a flag is up.
 pub record AreSameUnflagged {A : Type 0} (flags : List Bool) (olds news : List A) : Type 0 where

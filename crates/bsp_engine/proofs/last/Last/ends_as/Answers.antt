@@ -4,7 +4,7 @@ use Rattle.bsp_run.specs.declared.result.RunResult.{RunResult}
 use Rattle.bsp_run.specs.Result.{result_of}
 use Rattle.bsp_engine.specs.Untouched.{at_limit}
 use Rattle.bsp_engine.proofs.Flagging.{end_otherwise, end_by}
-use Rattle.bsp_engine.proofs.Untouched.{parts}
+use Rattle.bsp_engine.proofs.Endings.{parts}
 use Rattle.bsp_engine.proofs.last.Last.ends_as.Goals as goal
 
 pub returns-then-len-costs : goal.returns-then-len-costs

@@ -4,7 +4,7 @@ use Rattle.bsp_run.specs.Result.{lines_of, memories_of}
 use Rattle.bsp_engine.specs.Inside.Touched.{AreSameUnflagged}
 use Rattle.bsp_engine.proofs.Flagging.{flags_are_enough}
 use Rattle.bsp_engine.proofs.Telling.{told_text, kept_whole}
-use Rattle.bsp_engine.proofs.Untouched.{parts}
+use Rattle.bsp_engine.proofs.Endings.{parts}
 use Rattle.bsp_engine.proofs.last.Last.tell.Goals as goal
 
 pub tell_memories-requires : goal.tell_memories-requires
