@@ -1,13 +1,13 @@
 -- What the lines of some keys do to nodes that have other keys already: they leave those as they are, and do to theirs what they do alone.
 use Rattle.std.proofs.Common.{◌≡◌, ℕ, Ordering, Less, Equal, Greater, nat_cmp, is_eq, Bool, true, false, cond, List, [], ◌∷◌, Option, Some, None, option_map, option_and_then, refl, sym, ap, subst, ◌∙◌, inl, inr, ◌⊎◌}
 use Rattle.std.specs.Cmp.Lexicographic.{slice_cmp, same_text}
-use Rattle.std.proofs.lemmas.Bool.{cases_Bool, false≢true}
+use Rattle.std.proofs.lemmas.Bool.{cases_Bool}
 use Rattle.std.proofs.lemmas.Option.{none-some, same_Some}
 use Rattle.std.proofs.lemmas.Map.Text.{is_eq-slice_cmp}
 use Rattle.toml.specs.Data.{Data, string, integer, float, boolean, datetime, table, array, Items, item, no_items, Members, member, no_members, same_key}
-use Rattle.toml.specs.Tables.{Node, Nodes, no_nodes, node, value, open_table, open_array, implicit, get_node, insert, replace, Edit, redefine, at_found, at_key, key_value, std_table, array_table, Definition, header_node, by_header, along_header, along_dots, put, new_node}
+use Rattle.toml.specs.Tables.{Node, Nodes, no_nodes, node, open_table, implicit, get_node, insert, replace, Edit, redefine, at_found, at_key, key_value, std_table, array_table, Definition, header_node, by_header, along_header, along_dots, put, new_node}
 use Rattle.toml.specs.Text.{is_section, needs_header}
-use Rattle.toml.proofs.NodeLaws.{seq, keep, get_node-insert, get_node-replace, same_key-self}
+use Rattle.toml.proofs.NodeLaws.{seq, keep, get_node-insert, get_node-replace}
 use Rattle.toml.proofs.Fill.{fill, fill_pairs, fill_section, fill_sections, fill_elements}
 
 pub text_of : (k l : List ℕ) → same_key k l ≡ true → k ≡ l

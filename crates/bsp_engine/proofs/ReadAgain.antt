@@ -1,8 +1,6 @@
 -- The document of a session is read again as the table that it was printed for.
-use Rattle.std.proofs.Common.{◌≡◌, ℕ, suc, pos, ◌+◌, ◌-◌, ◌<◌, ◌≤◌, ◌^◌, Bool, true, false, cond, ◌&&◌, ◌==◌, List, [], ◌∷◌, ◌++◌, map, length, codes, decimal, Option, Some, None, option_map, option_and_then, nat_lt, refl, sym, ap, ◌∙◌, inl, inr, arith, append_assoc, append-nil, length-append}
+use Rattle.std.proofs.Common.{◌≡◌, ℕ, suc, ◌+◌, ◌-◌, ◌<◌, ◌≤◌, Bool, true, false, ◌==◌, List, [], ◌∷◌, ◌++◌, map, length, codes, Option, Some, None, option_map, option_and_then, refl, sym, ap, ◌∙◌, inl, inr, arith, append_assoc, length-append}
 use Rattle.std.specs.List.{list_all}
-use Rattle.std.specs.Int.{w64}
-use Rattle.std.specs.Prelude.{FitsSigned}
 use Rattle.std.proofs.lemmas.Bool.{cases_Bool, and_parts}
 use Rattle.std.proofs.lemmas.Bool.Decides.{nat_tests}
 use Rattle.std.proofs.lemmas.Option.{none-some, same_Some}
@@ -10,13 +8,13 @@ use Rattle.toml_parser.specs.Lexical.{skip_blank}
 use Rattle.toml_writer.specs.Text.{key_text}
 use Rattle.toml.specs.Data.{Data, string, integer, float, boolean, datetime, array, table, Items, no_items, item, Members, no_members, member, depth, items_depth, members_depth, has_valid_dates, items_have_valid_dates, members_have_valid_dates}
 use Rattle.toml.specs.View.{items_of}
-use Rattle.toml.specs.Tables.{Definition, Document, Expression, Nodes, no_nodes, close, define, key_value, std_table, array_table}
+use Rattle.toml.specs.Tables.{Document, Expression, no_nodes, close, define, key_value}
 use Rattle.toml.specs.Parse.{lines, line, parse_document, skip_bom}
 use Rattle.toml.specs.Text.{IsValueText, IsItemsText, IsLineText, IsLinesText, IsDocumentText, breaks_lines, expressions, is_section, are_tables, needs_header, pairs, sections, section, elements}
-use Rattle.toml.proofs.Turns.{document_some, lines_more, lines_refused}
+use Rattle.toml.proofs.Turns.{lines_more, lines_refused}
 use Rattle.toml.proofs.Blanks.{skip_newline, skip_within}
 use Rattle.toml.proofs.ReadLines.{run, AllPrinted, line_turn, read_lines}
-use Rattle.bsp_engine.specs.Document.{comma, entry, array_text}
+use Rattle.bsp_engine.specs.Document.{entry, array_text}
 use Rattle.bsp_engine.specs.Lines.{numbered}
 
 -- ---- which lines are printed for a table

@@ -1,10 +1,9 @@
 -- The document of a session is read again as a job of its program, with its input.
-use Rattle.std.proofs.Common.{◌≡◌, ℕ, suc, pos, ◌+◌, ◌<◌, ◌≤◌, ◌^◌, Bool, true, false, cond, ◌&&◌, ◌==◌, List, [], ◌∷◌, ◌++◌, map, length, codes, decimal, Option, Some, None, option_map, option_and_then, Result, Ok, nat_le, nat_lt, refl, sym, ap, ◌∙◌, inl, inr, arith, append_assoc, append-nil}
-use Rattle.std.specs.Prelude.{IsSomeAnd, FitsSigned}
-use Rattle.std.specs.Int.{w64}
+use Rattle.std.proofs.Common.{◌≡◌, ℕ, suc, pos, ◌+◌, ◌<◌, ◌≤◌, ◌^◌, Bool, true, false, cond, ◌==◌, List, [], ◌∷◌, ◌++◌, length, codes, decimal, Option, Some, None, option_map, option_and_then, Ok, nat_le, nat_lt, refl, sym, ap, ◌∙◌, inl, inr, arith, append_assoc, append-nil}
+use Rattle.std.specs.Prelude.{IsSomeAnd}
 use Rattle.std.specs.List.{list_all, list_any}
 use Rattle.std.specs.Str.{IsUtf8, bytes_eq}
-use Rattle.std.proofs.lemmas.Bool.{cases_Bool, and_parts, or_parts, false≢true}
+use Rattle.std.proofs.lemmas.Bool.{cases_Bool, and_parts, or_parts}
 use Rattle.std.proofs.lemmas.Bool.Decides.{nat_tests}
 use Rattle.std.proofs.lemmas.Option.{none-some, same_Some}
 use Rattle.std.proofs.lemmas.Str.{IsUtf8-append, IsUtf8-from_ascii, IsUtf8-nil}
@@ -13,8 +12,7 @@ use Rattle.std.proofs.lemmas.Str.Ascii.{IsAscii-cons, IsAscii-nil}
 use Rattle.std.specs.Str.{IsAscii}
 use Rattle.toml_parser.specs.Lexical.{skip_blank}
 use Rattle.toml_writer.specs.Text.{key_text}
-use Rattle.toml.specs.Data.{Data, integer, Members, depth, has_valid_dates, members_depth, get_member}
-use Rattle.toml.specs.View.{items_of}
+use Rattle.toml.specs.Data.{integer, Members, depth, has_valid_dates, members_depth, get_member}
 use Rattle.toml.specs.Tables.{Document, Expression, Node, Nodes, no_nodes, node, value, get_node, close, close_node, at_key, along_dots, along_header, define, key_value}
 use Rattle.toml.specs.Parse.{lines, parse_document, skip_bom}
 use Rattle.toml.specs.Text.{IsValueText, IsLinesText, expressions}
@@ -27,7 +25,7 @@ use Rattle.bsp_engine.specs.declared.jobs.Job.{Job}
 use Rattle.bsp_engine.specs.Catalogue.{Meaning, AgreeOnKeys, ReadsOwnKeys}
 use Rattle.bsp_engine.specs.Document.{IsPrinted, array_text, comma, document_text, entry, own_members, rows_line, words_text}
 use Rattle.bsp_engine.specs.JobOf.{job_of, job_of_tree}
-use Rattle.bsp_engine.specs.Keys.{common_keys, is_known_key, has_known_keys}
+use Rattle.bsp_engine.specs.Keys.{common_keys, has_known_keys}
 use Rattle.bsp_engine.specs.Lines.{field, fields, line, numbered}
 use Rattle.bsp_engine.specs.ReadsBack.{DocumentsReadBack, HasKeysApart, can_be_written}
 use Rattle.bsp_engine.specs.Tree.{tree_of}

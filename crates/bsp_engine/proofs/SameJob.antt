@@ -1,5 +1,5 @@
 -- The table of a session's document says the same program, and its input.
-use Rattle.std.proofs.Common.{◌≡◌, ℕ, pos, Ordering, Less, Equal, Greater, nat_cmp, is_eq, Bool, true, false, not, cond, ◌&&◌, ◌||◌, ◌==◌, List, [], ◌∷◌, ◌++◌, map, length, codes, Option, Some, None, option_map, is_some, Result, Ok, Err, nat_le, nat_lt, refl, sym, ap, subst, ◌∙◌, inl, inr, arith}
+use Rattle.std.proofs.Common.{◌≡◌, ℕ, pos, Ordering, Less, Equal, Greater, nat_cmp, is_eq, Bool, true, false, not, cond, ◌&&◌, ◌||◌, ◌==◌, List, [], ◌∷◌, map, length, codes, Option, Some, None, option_map, Ok, Err, nat_le, nat_lt, refl, sym, ap, subst, ◌∙◌, inl, inr, arith}
 use Rattle.std.specs.List.{list_all, list_any}
 use Rattle.std.specs.Str.{bytes_eq}
 use Rattle.std.specs.Ordering.{match_ordering}
@@ -7,11 +7,11 @@ use Rattle.std.specs.Cmp.Lexicographic.{slice_cmp}
 use Rattle.std.proofs.lemmas.Bool.{cases_Bool, and_parts, or_parts, false≢true}
 use Rattle.std.proofs.lemmas.Bool.Decides.{nat_tests}
 use Rattle.std.proofs.lemmas.List.{length-map}
-use Rattle.std.proofs.lemmas.Option.{none-some, same_Some}
+use Rattle.std.proofs.lemmas.Option.{none-some}
 use Rattle.std.proofs.lemmas.Map.Text.{is_eq-slice_cmp}
 use Rattle.toml.specs.Data.{Data, integer, array, Members, no_members, member, get_member, same_key}
 use Rattle.toml.specs.View.{items_of}
-use Rattle.toml.specs.Tables.{Node, Nodes, no_nodes, node, value, get_node, close, close_node}
+use Rattle.toml.specs.Tables.{Node, Nodes, no_nodes, node, get_node, close, close_node}
 use Rattle.toml.proofs.NodeLaws.{same_key-self}
 use Rattle.bsp_model.specs.declared.input.Input.{Input}
 use Rattle.bsp_model.specs.declared.fault.InputFault.{InputFault}
@@ -25,7 +25,7 @@ use Rattle.bsp_engine.specs.JobOf.{job_of_tree, job_unless, job_named, job_with}
 use Rattle.bsp_engine.specs.Keys.{common_keys, is_integer, is_row, is_rows, is_known_key, has_known_keys, has_required_keys, has_right_shapes, key_fault}
 use Rattle.bsp_engine.specs.Signs.{has_negative, has_negative_word}
 use Rattle.bsp_engine.specs.Sizes.{is_short, described_fault}
-use Rattle.bsp_engine.specs.Tree.{elements, list_of, is_negative}
+use Rattle.bsp_engine.specs.Tree.{elements, is_negative}
 use Rattle.bsp_engine.specs.Values.{word_of, row_of, input_of, batches_of}
 use Rattle.bsp_engine.proofs.Beside.{AllOwn, text_of}
 use Rattle.bsp_engine.proofs.Described.{faultless}
