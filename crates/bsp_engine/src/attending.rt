@@ -7,10 +7,11 @@ ghost use Rattle.bsp_engine.specs.Live.{after, answer_block, answer_to, last_res
 ghost use Rattle.bsp_engine.specs.Inside.LiveReplies.{live_replying};
 
 use crate::asking::{asked_of, is_document};
+use crate::crew::Crew;
 use crate::document::document_block;
 use crate::errors::EngineError;
 use crate::lines::push_line;
-use crate::live::{Crew, Live, push_answer};
+use crate::live::{Live, push_answer};
 use bsp_model::OutOfMemory;
 use bsp_pool::Gate;
 use bsp_step::Program;

@@ -10,10 +10,11 @@ ghost use Rattle.bsp_engine.specs.Talk.{Breaks, Talks};
 
 use crate::attending::Attendant;
 use crate::catalogue::Catalogue;
+use crate::crew::Crew;
 use crate::errors::{EngineError, JobFault};
 use crate::flow::Source;
 use crate::jobs::{Job, read_job_and_keys};
-use crate::live::{Crew, begin};
+use crate::live::begin;
 use crate::options::{Detail, Options};
 use crate::reading::read_all;
 use crate::talking::talk;

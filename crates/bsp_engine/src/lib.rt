@@ -8,6 +8,7 @@ mod catalogue;
 mod change_lines;
 mod changes;
 mod counting;
+mod crew;
 mod document;
 mod documents;
 mod errors;

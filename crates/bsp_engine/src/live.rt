@@ -1,6 +1,6 @@
 //! Sessions that stay open, with what takes their batches back.
 
-ghost use Rattle.std.specs.Prelude.{◌≡◌, ◌<◌, ◌≤◌, ◌++◌, IfOk, IfSome, OnOk, None, Some, length, is_some};
+ghost use Rattle.std.specs.Prelude.{◌≡◌, ◌++◌, IfOk, IfSome, OnOk, None, Some, length, is_some};
 ghost use Rattle.bsp_model.specs.Input.{input_fault};
 ghost use Rattle.bsp_step.specs.Turn.{turn_of};
 ghost use Rattle.bsp_run.specs.Result.{result_of};
@@ -17,6 +17,7 @@ ghost use Rattle.bsp_engine.specs.Inside.Touched.{IsResultBefore};
 
 use crate::asking::{Asked, Unread};
 use crate::blocks::push_block;
+use crate::crew::Crew;
 use crate::jobs::Job;
 use crate::last::Last;
 use crate::lines::push_line;
@@ -32,18 +33,6 @@ use std::alloc::{AllocError, Global};
 use std::collections::VecDeque;
 use std::marker::Model;
 use std::thread::Threads;
-
-/// Who shares the work of a session.
-#[derive(Drop)]
-pub struct Crew<'a, R, G> {
-    pub rt: &'a R,
-    pub alloc: Global,
-    /// 1 to 16.
-    pub workers: usize,
-    pub gate: &'a G,
-    pub ghost some: { 0 < workers },
-    pub ghost few: { workers ≤ 16 },
-}
 
 /// An open session.
 #[derive(Drop)]

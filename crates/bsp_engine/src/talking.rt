@@ -6,10 +6,10 @@ ghost use Rattle.bsp_engine.specs.Talk.{Breaks, Talks, kept};
 ghost use Rattle.bsp_engine.specs.Inside.Talk.{Answered, Attended, Says, SaysPart, Stopped, Unattended};
 
 use crate::attending::{Attendant, respond};
+use crate::crew::Crew;
 use crate::errors::EngineError;
 use crate::flow::Failed;
 use crate::limits::MOST_DOCUMENT_BYTES;
-use crate::live::Crew;
 use crate::terminal::Terminal;
 use bsp_model::OutOfMemory;
 use bsp_pool::Gate;
