@@ -1,6 +1,6 @@
 //! The text of what of a result is another than in the result before.
 
-ghost use Rattle.std.specs.Prelude.{◌≡◌, ◌↔◌, ◌++◌, Some, IsTrue, false, OnOk, IfOk, option_map, slice_get};
+ghost use Rattle.std.specs.Prelude.{◌≡◌, ◌++◌, Some, false, OnOk, IfOk, option_map, slice_get};
 ghost use Rattle.bsp_engine.specs.Changes.{changes_lines, changes_of, count_line, other, other_lines, other_number, others, piece_if, same_lines, same_row, same_words};
 ghost use Rattle.bsp_engine.specs.Lines.{numbered};
 ghost use Rattle.bsp_engine.specs.Text.{cost_line, memory_line};

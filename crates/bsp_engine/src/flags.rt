@@ -1,6 +1,6 @@
 //! Flags for the processes that an update touches.
 
-ghost use Rattle.std.specs.Prelude.{◌≡◌, ◌++◌, map, slice_set, true};
+ghost use Rattle.std.specs.Prelude.{◌≡◌, map, slice_set, true};
 ghost use Rattle.std.specs.List.{flat_map};
 ghost use Rattle.bsp_engine.specs.Inside.Touched.{flagged};
 ghost use Rattle.bsp_engine.specs.Untouched.{touched, word_pids};
