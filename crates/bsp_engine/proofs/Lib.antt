@@ -6,6 +6,7 @@ pub mod Conversations
 pub mod Described
 pub mod Flowing
 pub mod LiveLaws
+pub mod LookUps
 pub mod Logs
 pub mod Made
 pub mod Numbering
