@@ -8,6 +8,7 @@ pub mod Endings
 pub mod Flagging
 pub mod Flowing
 pub mod LiveLaws
+pub mod LookUps
 pub mod Logs
 pub mod Made
 pub mod Numbering

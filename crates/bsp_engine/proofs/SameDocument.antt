@@ -32,7 +32,8 @@ use Rattle.bsp_engine.specs.Tree.{tree_of}
 use Rattle.bsp_engine.proofs.Beside.{AllOwn, IsBeside, keeps_fill}
 use Rattle.bsp_engine.proofs.Described.{last_two}
 use Rattle.bsp_engine.proofs.ReadAgain.{array_printed, document_printed, five_joined, five_lines, items_dated, items_shallow, own_run, pair_line, read_both}
-use Rattle.bsp_engine.proofs.SameJob.{HasInput, accepted, apart_keys, get-close, get-own, known_from, own_keys, rows_data, same_job, unknown_none, word_data, words_data}
+use Rattle.bsp_engine.proofs.LookUps.{apart_keys, get-close, get-own, own_keys}
+use Rattle.bsp_engine.proofs.SameJob.{HasInput, accepted, known_from, rows_data, same_job, unknown_none, word_data, words_data}
 use Rattle.bsp_engine.proofs.Trees.{tree_of-text}
 
 abbrev is_common : List ℕ → Bool

@@ -27,7 +27,8 @@ words_text words = array_text decimal words
 abbrev pub rows_line : List ℕ → List (List ℕ) → List ℕ
 rows_line key rows = key ++ codes " = " ++ array_text words_text rows ++ 10 ∷ []
 
--- The document of an input. The keys of the catalogue's own come last, as their text is given: there may be tables among them.
+-- The document of an input. The keys of the catalogue's own come last, as their text is given: there may be tables
+-- among them.
 unfoldable pub document_text : List ℕ → Input → List ℕ
 document_text own input =
     line (codes "limit =") (input.limit ∷ []) ++ line (codes "g =") (input.g ∷ []) ++ line (codes "l =") (input.l ∷ [])
@@ -55,7 +56,8 @@ own_members ms = without_all common_keys ms
 abbrev pub most_depth : ℕ
 most_depth = 80
 
--- The text is printed for these members: a document of them alone, which is read as them, unless they nest deeper than a document may.
+-- The text is printed for these members: a document of them alone, which is read as them, unless they nest deeper than
+-- a document may.
 pub record IsPrinted (ms : Members) (text : List ℕ) : Type 0 where
   pub is : IsDocumentText false ms text
   pub utf8 : IsUtf8 text

@@ -20,8 +20,8 @@ HasKeysApart meaning = (key : List ℕ) → meaning.is_key key ≡ true → list
 abbrev pub can_be_written : List (List ℕ) → Bool
 can_be_written rows = list_all (list_all (λ w. nat_lt w (2 ^ 63))) rows
 
--- Where these bytes are a job, the document of an input, with the text that is printed for the own keys of these bytes, is the job of the same program, with this
--- input and no batches.
+-- Where these bytes are a job, the document of an input, with the text that is printed for the own keys of these bytes,
+-- is the job of the same program, with this input and no batches.
 abbrev pub DocumentsReadBack : {P : Type 0} → Meaning P → Type 0
 DocumentsReadBack {P} meaning =
     (bytes own : List ℕ) (job : Job P) (input : Input) → HasKeysApart meaning → job_of meaning bytes ≡ Ok job

@@ -6,7 +6,8 @@ ghost use Rattle.bsp_engine.specs.ReadsBack.{DocumentsReadBack, HasKeysApart};
 use crate::catalogue::Catalogue;
 use crate::naming::ByName;
 
-/// What a session writes for a line `document` is a document of the same program, with the input as it is and no batches.
+/// What a session writes for a line `document` is a document of the same program, with the input as it is and no
+/// batches.
 pub fn documents_read_back<C: Catalogue>()
     ensures { DocumentsReadBack C.meaning }
 {}
