@@ -1,4 +1,7 @@
 pub mod Inputs
+pub mod MadeAgain
 pub mod Pages
+pub mod Ranges
 pub mod Rests
+pub mod SameRanges
 pub mod Writes

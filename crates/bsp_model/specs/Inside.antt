@@ -1,3 +1,4 @@
 pub mod LawfulInput
 pub mod Pages
+pub mod Ranges
 pub mod Shared

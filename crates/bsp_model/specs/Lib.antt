@@ -1,4 +1,5 @@
 pub mod Input
 pub mod Limits
 pub mod Memory
+pub mod Stores
 pub mod Inside

@@ -1,0 +1,39 @@
+//! A range of stored words.
+
+ghost use Rattle.std.specs.Prelude.{◌≡◌, ◌+◌, ◌<◌, ◌^◌, vec_len, vec_capacity};
+ghost use Rattle.bsp_model.specs.Inside.Ranges.{longer, last_len};
+
+use crate::Same;
+
+/// Words that were stored one behind the other.
+#[derive(Clone, Copy, Debug, PartialEq, Eq)]
+pub struct Range {
+    /// The address of the first.
+    pub start: u64,
+    /// How many they are.
+    pub len: usize,
+}
+
+impl Same for Range {
+    fn same(&self, other: &Range) -> bool {
+        *self == *other
+    }
+}
+
+/// Adds so many words, stored from `start` on, to the last range where they go on behind it, else as a range of their own.
+#[inline]
+pub fn add_words(ranges: &mut Vec<Range>, start: u64, len: usize)
+    requires room { vec_len ranges.old < vec_capacity ranges.old }
+    requires fits { last_len ranges.old.items + len < 2 ^ 64 }
+    ensures { ranges.new.items ≡ longer ranges.old.items start len }
+{
+    let count = ranges.len();
+    if count > 0 {
+        let last = &mut ranges[count - 1];
+        if start >= last.start && start - last.start == last.len as u64 {
+            last.len += len;
+            return;
+        }
+    }
+    ranges.push_reserved(Range { start, len });
+}
