@@ -12,15 +12,12 @@ use Rattle.bsp_step.specs.Act.{Act, store, charge, put, get, send, move_into, pu
 use Rattle.bsp_step.specs.Perform.{perform, performed, perform_all, refusal, done, first_fault, fault_unless, area_fault, target_area, request_fault}
 use Rattle.bsp_step.specs.Turn.{turn_of, closed}
 use Rattle.bsp_step.specs.Footprint.{IsFootprint, AreAlike, AreAlikeButForWords}
-use Rattle.bsp_incr.specs.Reused.{made_again, reused}
+use Rattle.bsp_model.specs.Stores.{made_again}
+use Rattle.bsp_model.proofs.MadeAgain.{length-made_again, made_again-append}
+use Rattle.bsp_incr.specs.Reused.{reused}
 
-pub length-made_again : (m : List ℕ) (stores : List Store) → length (made_again m stores) ≡ length m
-length-made_again m [] = refl
-length-made_again m (s ∷ later) = length-made_again (slice_set m s.addr s.value) later ∙ length-set m s.addr s.value
-
-pub made_again-push : (m : List ℕ) (stores : List Store) (s : Store) → made_again m (stores ++ s ∷ []) ≡ slice_set (made_again m stores) s.addr s.value
-made_again-push m [] s = refl
-made_again-push m (t ∷ later) s = made_again-push (slice_set m t.addr t.value) later s
+made_again-push : (m : List ℕ) (stores : List Store) (s : Store) → made_again m (stores ++ s ∷ []) ≡ slice_set (made_again m stores) s.addr s.value
+made_again-push m stores s = made_again-append m stores (s ∷ [])
 
 -- the state of a turn, over another memory of the view
 abbrev over : List ℕ → Context → Context

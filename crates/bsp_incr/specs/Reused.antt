@@ -1,6 +1,6 @@
 -- What is left where no turn is taken again (this profile).
-use Rattle.std.specs.Prelude.{◌≡◌, ℕ, Bool, List, [], ◌∷◌, Option, slice_set}
-use Rattle.bsp_model.specs.declared.request.Store.{Store}
+use Rattle.std.specs.Prelude.{◌≡◌, ℕ, Bool, List, Option}
+use Rattle.bsp_model.specs.Stores.{made_again}
 use Rattle.bsp_step.specs.ViewParts.{ViewParts}
 use Rattle.bsp_step.specs.OutcomeParts.{OutcomeParts}
 use Rattle.bsp_deliver.specs.Requests.{outcome_of}
@@ -9,11 +9,6 @@ use Rattle.bsp_run.specs.Run.{Run}
 use Rattle.bsp_run.specs.Supersteps.{supersteps_of, superstep_at}
 use Rattle.bsp_incr.specs.declared.reply.Place.{Place}
 use Rattle.bsp_incr.specs.Exact.{supersteps_before, HasTurn, view_there, IsServed}
-
--- The memory on which these stores are made again, in order (this profile).
-abbrev pub made_again : List ℕ → List Store → List ℕ
-made_again memory [] = memory
-made_again memory (s ∷ later) = made_again (slice_set memory s.addr s.value) later
 
 -- A recorded outcome over a new memory: all of it stays but the memory, on which its stores are made again.
 abbrev pub reused : OutcomeParts → List ℕ → OutcomeParts

@@ -1,22 +1,11 @@
 //! What a recorded turn leaves over a new memory.
 
-ghost use Rattle.std.specs.Prelude.{◌≡◌, IfOk, OnOk, true};
+ghost use Rattle.std.specs.Prelude.{◌≡◌, IfOk, true};
 ghost use Rattle.bsp_step.specs.Turn.{turn_of};
-ghost use Rattle.bsp_incr.specs.Reused.{made_again, reused};
 ghost use Rattle.bsp_incr.specs.Inside.Reuse.{serves};
 
-use bsp_model::{Memory, OutOfMemory, Store, TryCopy};
+use bsp_model::{OutOfMemory, TryCopy};
 use bsp_step::{Outcome, Program, View};
-
-/// Makes stores again, in order.
-fn make_again(memory: &mut Memory, stores: &[Store]) -> Result<(), OutOfMemory>
-    ensures { OnOk result (memory.new ≡ made_again memory.old stores.now) }
-{
-    for store in stores {
-        let _ = memory.store(store.addr, store.value)?;
-    }
-    Ok(())
-}
 
 /// The turn at a view for which the recorded turn of another view serves: no call is made.
 pub fn reuse<P: Program>(
@@ -32,7 +21,7 @@ pub fn reuse<P: Program>(
     // That a view keeps its limits is known where a field of it is read.
     let _step = recorded.step;
     let mut memory = view.memory.copy()?;
-    make_again(&mut memory, outcome.stores.as_slice())?;
+    outcome.stores.make_again(&mut memory)?;
     let mut reused = outcome.copy()?;
     reused.memory = memory;
     Ok(reused)

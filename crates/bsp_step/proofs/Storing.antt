@@ -9,7 +9,8 @@ use Rattle.bsp_model.specs.declared.fault.Fault.TheVariants.{BadLocal}
 use Rattle.bsp_step.specs.Context.{Context}
 use Rattle.bsp_step.specs.Act.{store}
 use Rattle.bsp_step.specs.Perform.{perform, perform_all, done}
-use Rattle.bsp_step.specs.Blocks.{stores, stored, records, with_stored}
+use Rattle.bsp_model.specs.Stores.{records}
+use Rattle.bsp_step.specs.Blocks.{stores, stored, with_stored}
 use Rattle.bsp_step.proofs.Performing.{perform_all-kept, perform_all-append}
 
 perform-store : (c : Context) (a value : ℕ) → c.fault ≡ None → a < length c.memory → perform c (store a value) ≡ done c (store a value)

@@ -1,6 +1,6 @@
 -- Blocks of words: what is loaded of a memory at once, and the stores for which one call stands.
 use Rattle.std.specs.Prelude.{ℕ, List, [], ◌∷◌, ◌++◌, Option, None, Some, ◌+◌, length, nat_le, if◌then◌else◌, slice_set, take, drop}
-use Rattle.bsp_model.specs.declared.request.Store.{Store}
+use Rattle.bsp_model.specs.Stores.{records}
 use Rattle.bsp_step.specs.Context.{Context}
 use Rattle.bsp_step.specs.Act.{Act, store}
 
@@ -17,11 +17,6 @@ stores start (word ∷ words) = store start word ∷ stores (start + 1) words
 abbrev pub stored : List ℕ → ℕ → List ℕ → List ℕ
 stored memory start [] = memory
 stored memory start (word ∷ words) = stored (slice_set memory start word) (start + 1) words
-
--- what is kept of these stores
-abbrev pub records : ℕ → List ℕ → List Store
-records start [] = []
-records start (word ∷ words) = record { addr = start; value = word } ∷ records (start + 1) words
 
 -- the context after these stores, where none of them is refused
 abbrev pub with_stored : Context → ℕ → List ℕ → Context

@@ -17,7 +17,7 @@ mod remote;
 use crate::{Ended, Outcome, Stop, View};
 use bsp_model::limits::MOST_REQUESTS;
 use bsp_model::{
-    End, Fault, Get, Memory, Message, OutOfMemory, Put, Send, Seq, Store, TryCopy, Words,
+    End, Fault, Get, Memory, Message, OutOfMemory, Put, Send, Seq, Stores, TryCopy, Words,
 };
 use bsp_table::Area;
 use std::alloc::Global;
@@ -30,7 +30,7 @@ pub struct Ctx<'v> {
     alloc: Global,
     memory: Memory,
     left: &'v [Message],
-    stores: Seq<Store>,
+    stores: Stores,
     puts: Seq<Put>,
     gets: Seq<Get>,
     sends: Seq<Send>,
@@ -65,7 +65,7 @@ impl<'v> Ctx<'v> {
             alloc,
             memory,
             left: view.queue.as_slice(),
-            stores: Seq::new(alloc),
+            stores: Stores::new(alloc),
             puts: Seq::new(alloc),
             gets: Seq::new(alloc),
             sends: Seq::new(alloc),

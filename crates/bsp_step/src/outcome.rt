@@ -2,7 +2,7 @@
 
 ghost use Rattle.std.specs.Prelude.{◌≡◌, IsTrue, ◌↔◌};
 
-use bsp_model::{Fault, Get, Memory, OutOfMemory, Put, Same, Send, Seq, Store, TryCopy, Words};
+use bsp_model::{Fault, Get, Memory, OutOfMemory, Put, Same, Send, Seq, Stores, TryCopy, Words};
 use bsp_table::{Area, Registers};
 use std::marker::Model;
 
@@ -25,7 +25,7 @@ pub struct Outcome {
     /// The memory after computing.
     pub memory: Memory,
     /// The stores that were made, in order.
-    pub stores: Seq<Store>,
+    pub stores: Stores,
     /// The puts, in issue order, resolved to process and start word.
     pub puts: Seq<Put>,
     /// The gets, in issue order, resolved to process and start word.

@@ -3,7 +3,7 @@
 ghost use Rattle.std.specs.Prelude.{IsTrue, IfOk, All, ◌<◌, ◌≤◌, ◌+◌, length, slice_index};
 ghost use Rattle.bsp_deliver.specs.Condition.{AreDeliverable, AreRequestsInside, IsGetInside, IsPutInside, sizes_of};
 
-use bsp_model::{Get, Memory, OutOfMemory, Put, Seq, Shared, Words};
+use bsp_model::{Get, Memory, OutOfMemory, Put, Seq, Shared, Stores, Words};
 use bsp_step::{Ended, Outcome};
 use std::alloc::Global;
 use std::process::Abort;
@@ -101,7 +101,7 @@ fn outcome_of(
         fault: None,
         ended: Ended::Sync,
         memory: Memory::from_words(alloc, memory)?,
-        stores: Seq::new(alloc),
+        stores: Stores::new(alloc),
         puts,
         gets,
         sends: Seq::new(alloc),

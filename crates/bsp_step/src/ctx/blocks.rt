@@ -1,49 +1,15 @@
 //! Calls for blocks of words, each the acts that it stands for.
 
-ghost use Rattle.std.specs.Prelude.{◌≡◌, ◌≤◌, ◌<◌, ◌+◌, ◌-◌, ◌^◌, ◌++◌, ◌↔◌, length, IsSome, IfNone, IfOk, IfSome, OnOk, OnErr, option_map};
+ghost use Rattle.std.specs.Prelude.{◌≡◌, ◌≤◌, ◌+◌, ◌↔◌, length, IsSome, IfNone, IfOk, IfSome, OnOk, option_map};
 ghost use Rattle.bsp_step.specs.Act as act;
-ghost use Rattle.bsp_step.specs.Blocks.{words_at, stores, records, with_stored};
+ghost use Rattle.bsp_step.specs.Blocks.{words_at, stores, with_stored};
 ghost use Rattle.bsp_step.specs.Calls.{PerformsAll, PutsWords};
 
 use crate::{Ctx, Stop};
 use bsp_model::limits::MOST_MEMORY_WORDS;
-use bsp_model::{Fault, OutOfMemory, Put, Seq, Store, Words};
-
-/// Keeps stores of the words from `start` on. After `OutOfMemory` the list is as it was.
-fn keep_stores(kept: &mut Seq<Store>, start: u64, words: &[u64]) -> Result<(), OutOfMemory>
-    requires { start + length words.now < 2 ^ 64 }
-    ensures ok { OnOk result (kept.new ≡ kept.old ++ records start words.now) }
-    ensures err { OnErr result (kept.new ≡ kept.old) }
-{
-    let before = kept.len();
-    let mut addr = start;
-    for word in words {
-        let store = Store { addr, value: *word };
-        if let Err(error) = kept.push(store) {
-            kept.truncate(before);
-            return Err(error);
-        }
-        addr += 1;
-    }
-    Ok(())
-}
+use bsp_model::{Fault, OutOfMemory, Put, Words};
 
 impl<'v> Ctx<'v> {
-    /// Stores words that lie inside the own memory, or no words. After `OutOfMemory` nothing has changed.
-    fn store_inside(&mut self, address: u64, words: &[u64]) -> Result<(), OutOfMemory>
-        requires { length words.now ≤ length self.old.memory - address }
-        ensures ok { OnOk result (self.new ≡ with_stored self.old address words.now) }
-        ensures err { OnErr result (self.new ≡ self.old) }
-    {
-        let before = self.stores.len();
-        keep_stores(&mut self.stores, address, words)?;
-        if let Err(error) = self.memory.write(address, words) {
-            self.stores.truncate(before);
-            return Err(error);
-        }
-        Ok(())
-    }
-
     /// Copies the words of the own memory from `address` on to `words`, as they are now. `None`, and nothing is copied, where they pass the end of
     /// the memory. It takes no memory.
     pub fn load_words(&self, address: u64, words: &mut [u64]) -> Option<()>
@@ -81,7 +47,7 @@ impl<'v> Ctx<'v> {
         }
         let room = (self.memory.len() as u64).saturating_sub(address);
         let (inside, past) = words.split_at(words.len().min(room as usize));
-        self.store_inside(address, inside)?;
+        self.stores.make_words(&mut self.memory, address, inside)?;
         if !past.is_empty() {
             return self.refuse(Fault::BadLocal);
         }

@@ -21,14 +21,11 @@ impl<'v> Ctx<'v> {
         if address >= self.memory.len() as u64 {
             return self.refuse(Fault::BadLocal);
         }
-        self.stores.push(Store {
+        let store = Store {
             addr: address,
             value,
-        })?;
-        if let Err(error) = self.memory.store(address, value) {
-            let _ = self.stores.pop();
-            return Err(Stop::from(error));
-        }
+        };
+        self.stores.make(&mut self.memory, store)?;
         Ok(())
     }
 

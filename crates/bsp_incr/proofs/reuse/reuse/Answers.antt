@@ -1,9 +1,10 @@
 use Rattle.std.proofs.Common.{◌∙◌, ap, sym, subst, List, ℕ}
+use Rattle.bsp_model.specs.declared.request.Store.{Store}
+use Rattle.bsp_model.specs.Stores.{made_again}
 use Rattle.bsp_step.specs.ViewParts.{ViewParts, IsView}
 use Rattle.bsp_step.specs.OutcomeParts.{OutcomeParts, IsOutcome}
 use Rattle.bsp_step.specs.Turn.{turn_of}
 use Rattle.bsp_step.proofs.Limits.{turn_of-limits}
-use Rattle.bsp_incr.specs.Reused.{made_again}
 use Rattle.bsp_incr.proofs.Reusing.{turn_of-alike}
 use Rattle.bsp_incr.proofs.Serving.{Decides-serves}
 use Rattle.bsp_incr.proofs.reuse.reuse.Goals as goal
@@ -17,9 +18,9 @@ returns g c =
     let v : ViewParts = c.args.recorded.now in
     let w : ViewParts = c.args.view.now in
     let o = c.reused.view_is ∙ c.in_ok-reused.ensures ∙ c.requires.outcome in
-    let stores = c.as_slice.ensures ∙ ap (λ (x : OutcomeParts). x.stores) (c.outcome.view_is ∙ c.requires.outcome) in
+    let stores = ap (λ (x : OutcomeParts). x.stores) (c.outcome.view_is ∙ c.requires.outcome) in
     let start = c.in_ok-memory.ensures ∙ ap (λ (x : ViewParts). x.memory) c.view.view_is in
-    let memory = c.in_ok-make_again.ensures ∙ ap (λ (m : List ℕ). made_again m c.as_slice.result.now) start ∙ ap (made_again w.memory) stores in
+    let memory = c.in_ok-make_again.ensures ∙ ap (λ (m : List ℕ). made_again m c.outcome.inside.stores) start ∙ ap (made_again w.memory) stores in
     ap (λ (x : OutcomeParts). record x { memory = c.make_again.new.memory }) o
     ∙ ap (λ (m : List ℕ). record (turn_of acts ending v) { memory = m }) memory
     ∙ sym (turn_of-alike acts ending looks v w (laws.footprint c.args.program.now) (subst IsView c.recorded.view_is c.recorded.invariant) (subst IsView c.view.view_is c.view.invariant) ((Decides-serves looks v w).0 c.requires.serves))
