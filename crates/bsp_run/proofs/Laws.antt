@@ -1,68 +1,65 @@
 -- A run that has ended is a run in the words of BSP.
-use Rattle.std.proofs.Common.{◌≡◌, ◌≤◌, ◌<◌, ◌+◌, ◌-◌, ℕ, zero, suc, Bool, true, false, cond, List, [], ◌∷◌, ◌++◌, Option, None, Some, All, map, length, unwrap_or, arith, refl, sym, ap, ◌∙◌, subst, length-append, inl, inr}
-use Rattle.std.specs.Prelude.{IfSome, option_map, slice_get}
+use Rattle.std.proofs.Common.{◌≡◌, ◌≤◌, ◌<◌, ◌+◌, ◌-◌, ℕ, zero, suc, Bool, true, false, cond, List, [], ◌∷◌, ◌++◌, Option, None, Some, All, map, length, unwrap_or, not, arith, refl, sym, ap, ◌∙◌, subst, length-append, inl, inr}
+use Rattle.std.specs.Prelude.{IfSome, option_map, option_to_list, slice_get}
 use Rattle.std.proofs.lemmas.Option.{slice_get_past}
-use Rattle.std.proofs.lemmas.Bool.{cases_lt}
+use Rattle.std.proofs.lemmas.Bool.{cases_lt, false≢true}
 use Rattle.std.proofs.lemmas.Grind.{common_steps}
-use Rattle.std.proofs.lemmas.List.{append-nil, length-map}
+use Rattle.std.proofs.lemmas.List.{append-nil, length-map, map-append}
 use Rattle.bsp_model.specs.declared.input.Input.{Input}
 use Rattle.bsp_model.specs.Input.{input_fault}
 use Rattle.bsp_model.proofs.Inputs.{lawful_input}
 use Rattle.bsp_step.specs.ViewParts.{ViewParts}
 use Rattle.bsp_step.specs.OutcomeParts.{OutcomeParts}
-use Rattle.bsp_run.specs.declared.result.Status.{Status}
 use Rattle.bsp_run.specs.declared.result.Status.TheVariants.{Halted, Limit, Faulted, SyncFaulted}
 use Rattle.bsp_run.specs.declared.phase.Phase.{Phase}
 use Rattle.bsp_run.specs.declared.phase.Phase.TheVariants.{Open, Turned, Ended}
 use Rattle.bsp_run.specs.declared.superstep.Superstep.{Superstep}
 use Rattle.bsp_run.specs.Run.{Run, start, open_views, advance, times, run, is_limit}
-use Rattle.bsp_run.specs.Result.{status_of, status_in, all_turns, delivered_turns, last_turn, last_turns, turns_in}
-use Rattle.bsp_run.specs.Shown.{no_superstep}
-use Rattle.bsp_run.specs.Supersteps.{last_superstep, supersteps_of, superstep_at, views_at}
+use Rattle.bsp_run.specs.Supersteps.{no_superstep, superstep_at, outcomes_of, open_superstep, has_turns, last_superstep, supersteps_of, supersteps_opened}
 use Rattle.bsp_run.specs.Law.{views_in, outcomes_in, end_in, IsBspRun}
 use Rattle.bsp_run.specs.Inside.Record.{IsRecord, IsEndIn}
 use Rattle.bsp_run.specs.Condition.{is_ended, IsRun, IsInPhase, AreOutcomesOf}
 use Rattle.bsp_deliver.specs.Condition.{AreDeliverable}
 use Rattle.bsp_run.proofs.Conditions.{AreDeliverable-from_turns}
 use Rattle.bsp_run.proofs.Runs.{IsBetween, start-between, advance-between, ended-between}
-use Rattle.bsp_run.proofs.Records.{superstep, views_at-past, views_at-open, IsRecord-run}
+use Rattle.bsp_run.proofs.Records.{IsRecord-run}
 
 -- a place past the last of these supersteps
 pub superstep_at-past_end : (ss : List Superstep) (s : ℕ) → length ss ≤ s → superstep_at ss s ≡ no_superstep
 superstep_at-past_end ss s l = grind (arith, common_steps)
 
--- the supersteps of a run: those that ended by delivery, and at most one more, whose views are those of the open superstep
-pub record IsLast (p : Phase) (x : Superstep) : Type 0 where
-  pub at_limit : is_limit p ≡ true → last_superstep p x ≡ []
-  pub before : is_limit p ≡ false → last_superstep p x ≡ x ∷ []
+-- the run ended at the limit
+pub limit_phase : (p : Phase) → is_limit p ≡ true → p ≡ Ended Limit
+limit_phase Open h = cc
+limit_phase Turned h = cc
+limit_phase (Ended Limit) h = refl
+limit_phase (Ended Halted) h = cc
+limit_phase (Ended (Faulted step faults)) h = cc
+limit_phase (Ended (SyncFaulted step fault)) h = cc
 
-pub last_superstep-ended : (p : Phase) (x : Superstep) → is_ended p ≡ true → IsLast p x
-last_superstep-ended Open x h = cc
-last_superstep-ended Turned x h = cc
-last_superstep-ended (Ended Limit) x h = record { at_limit = λ _. refl; before = λ k. cc }
-last_superstep-ended (Ended Halted) x h = record { at_limit = λ k. cc; before = λ _. refl }
-last_superstep-ended (Ended (Faulted step faults)) x h = record { at_limit = λ k. cc; before = λ _. refl }
-last_superstep-ended (Ended (SyncFaulted step fault)) x h = record { at_limit = λ k. cc; before = λ _. refl }
+has_turns-ended : (p : Phase) → is_ended p ≡ true → has_turns p ≡ not (is_limit p)
+has_turns-ended Open h = cc
+has_turns-ended Turned h = cc
+has_turns-ended (Ended status) h = refl
 
--- the views of superstep s, if its turns were taken
-last_views : (p : Phase) (past : List Superstep) (x : Superstep) (s : ℕ) → length past ≤ s → s < length (past ++ last_superstep p x) → (s ≡ length past) × ((superstep_at (past ++ last_superstep p x) s).views ≡ x.views)
-last_views Open past x s l h = absurd (omega (arith, length-append {A = Superstep}))
-last_views Turned past x s l h = let long = length-append past (x ∷ []) in let at : s ≡ length past = omega arith in (at, ap (λ (y : Superstep). y.views) (let is : superstep_at (past ++ x ∷ []) s ≡ x = grind (arith, common_steps) in is))
-last_views (Ended Limit) past x s l h = absurd (omega (arith, length-append {A = Superstep}))
-last_views (Ended Halted) past x s l h = let long = length-append past (x ∷ []) in let at : s ≡ length past = omega arith in (at, ap (λ (y : Superstep). y.views) (let is : superstep_at (past ++ x ∷ []) s ≡ x = grind (arith, common_steps) in is))
-last_views (Ended (Faulted step faults)) past x s l h = let long = length-append past (x ∷ []) in let at : s ≡ length past = omega arith in (at, ap (λ (y : Superstep). y.views) (let is : superstep_at (past ++ x ∷ []) s ≡ x = grind (arith, common_steps) in is))
-last_views (Ended (SyncFaulted step fault)) past x s l h = let long = length-append past (x ∷ []) in let at : s ≡ length past = omega arith in (at, ap (λ (y : Superstep). y.views) (let is : superstep_at (past ++ x ∷ []) s ≡ x = grind (arith, common_steps) in is))
+-- at the limit all supersteps ended by delivery
+pub supersteps-limit : (r : Run) → is_ended r.phase ≡ true → is_limit r.phase ≡ true → supersteps_of r ≡ r.past
+supersteps-limit r e b = ap (λ t. r.past ++ cond t (open_superstep r ∷ []) []) (has_turns-ended r.phase e ∙ ap not b) ∙ append-nil r.past
 
-pub taken_views : (r : Run) (s : ℕ) → s < length (supersteps_of r) → (s ≤ length r.past) × ((superstep_at (supersteps_of r) s).views ≡ views_at r s)
-taken_views r s l =
-    elim (cases_lt s (length r.past)) [
-      | inl w ↦
-          let front : superstep_at (supersteps_of r) s ≡ superstep_at r.past s = grind (arith, common_steps) in
-          (omega arith, ap (λ (y : Superstep). y.views) front ∙ sym (views_at-past r s w))
-      | inr w ↦
-          let last = last_views r.phase r.past (superstep (open_views r) r.outcomes) s w l in
-          (omega (arith, last.0), last.1 ∙ sym (views_at-open r) ∙ ap (views_at r) (sym last.0))
-    ]
+-- else the turns of all that were opened were taken
+pub supersteps-ended : (r : Run) → is_ended r.phase ≡ true → is_limit r.phase ≡ false → supersteps_of r ≡ supersteps_opened r
+supersteps-ended r e b = ap (λ t. r.past ++ cond t (open_superstep r ∷ []) []) (has_turns-ended r.phase e ∙ ap not b)
+
+taken_if : (b : Bool) (past : List Superstep) (x : Superstep) (s : ℕ) → s < length (past ++ cond b (x ∷ []) []) → (s ≤ length past) × (superstep_at (past ++ cond b (x ∷ []) []) s ≡ superstep_at (past ++ x ∷ []) s)
+taken_if true past x s l = (omega (arith, l, length-append past (x ∷ [])), refl)
+taken_if false past x s l =
+    let before : s < length past = omega (arith, l, ap (λ (xs : List Superstep). length xs) (append-nil past)) in
+    let front : superstep_at past s ≡ superstep_at (past ++ x ∷ []) s = grind (arith, common_steps) in
+    (omega (arith, before), ap (λ (xs : List Superstep). superstep_at xs s) (append-nil past) ∙ front)
+
+-- a superstep whose turns were taken was opened
+pub taken-opened : (r : Run) (s : ℕ) → s < length (supersteps_of r) → (s ≤ length r.past) × (superstep_at (supersteps_of r) s ≡ superstep_at (supersteps_opened r) s)
+taken-opened r s l = taken_if (has_turns r.phase) r.past (open_superstep r) s l
 
 -- the outcomes of a superstep are the turns of its views
 pub taken_outcomes : (turn : ViewParts → OutcomeParts) (ss : List Superstep) (s : ℕ) → All (λ x. x.outcomes ≡ map turn x.views) ss → (superstep_at ss s).outcomes ≡ map turn (superstep_at ss s).views
@@ -74,16 +71,16 @@ taken_outcomes turn ss s h =
 
 -- how the last superstep ended the run
 record IsLastEnd (turn : ViewParts → OutcomeParts) (input : Input) (past : ℕ) (p : Phase) : Type 0 where
-  pub cut : is_limit p ≡ true → (status_in p ≡ Limit) × (past ≡ input.limit)
-  pub ends : is_limit p ≡ false → (end_in turn input past ≡ Some (status_in p)) × (status_in p ≡ Limit → ⊥)
+  pub cut : is_limit p ≡ true → past ≡ input.limit
+  pub ends : is_limit p ≡ false → p ≡ Ended (unwrap_or (end_in turn input past) Limit)
 
 last_end : (turn : ViewParts → OutcomeParts) (input : Input) (past : ℕ) (p : Phase) → is_ended p ≡ true → IsEndIn turn input past p → IsLastEnd turn input past p
 last_end turn input past Open h e = cc
 last_end turn input past Turned h e = cc
-last_end turn input past (Ended Limit) h e = record { cut = λ _. (refl, e); ends = λ k. cc }
-last_end turn input past (Ended Halted) h e = record { cut = λ k. cc; ends = λ _. (e, λ k. cc) }
-last_end turn input past (Ended (Faulted step faults)) h e = record { cut = λ k. cc; ends = λ _. (e, λ k. cc) }
-last_end turn input past (Ended (SyncFaulted step fault)) h e = record { cut = λ k. cc; ends = λ _. (e, λ k. cc) }
+last_end turn input past (Ended Limit) h e = record { cut = λ _. e; ends = λ k. cc }
+last_end turn input past (Ended Halted) h e = record { cut = λ k. cc; ends = λ _. ap (λ o. Ended (unwrap_or o Limit)) (sym e) }
+last_end turn input past (Ended (Faulted step faults)) h e = record { cut = λ k. cc; ends = λ _. ap (λ o. Ended (unwrap_or o Limit)) (sym e) }
+last_end turn input past (Ended (SyncFaulted step fault)) h e = record { cut = λ k. cc; ends = λ _. ap (λ o. Ended (unwrap_or o Limit)) (sym e) }
 
 -- the views and outcomes of the superstep s that was taken
 record IsTaken (turn : ViewParts → OutcomeParts) (input : Input) (x : Superstep) (s : ℕ) : Type 0 where
@@ -92,43 +89,36 @@ record IsTaken (turn : ViewParts → OutcomeParts) (input : Input) (x : Superste
 
 taken : (turn : ViewParts → OutcomeParts) (input : Input) (r : Run) → IsRecord turn input r → (s : ℕ) → s < length (supersteps_of r) → IsTaken turn input (superstep_at (supersteps_of r) s) s
 taken turn input r h s l =
-    let at = taken_views r s l in
-    let views = at.1 ∙ h.views s at.0 in
+    let at = taken-opened r s l in
+    let views = ap (λ (x : Superstep). x.views) at.1 ∙ h.views s at.0 in
     record { views = views; outcomes = taken_outcomes turn (supersteps_of r) s h.turns ∙ ap (map turn) views }
 
 law_cut : (turn : ViewParts → OutcomeParts) (input : Input) (r : Run) → 1 ≤ input.limit → IsRecord turn input r → is_ended r.phase ≡ true → is_limit r.phase ≡ true → IsBspRun turn input r
 law_cut turn input r some h e b =
-    let x = superstep (open_views r) r.outcomes in
-    let all : supersteps_of r ≡ r.past = ap (λ xs. r.past ++ xs) ((last_superstep-ended r.phase x e).at_limit b) ∙ append-nil r.past in
-    let count : length (supersteps_of r) ≡ length r.past = ap (λ (xs : List Superstep). length xs) all in
-    let end = (last_end turn input (length r.past) r.phase e h.end).cut b in
-    let last : end_in turn input (length (supersteps_of r) - 1) ≡ None = h.goes_on (length (supersteps_of r) - 1) (omega (arith, end.1)) in
+    let count : length (supersteps_of r) ≡ length r.past = ap (λ (xs : List Superstep). length xs) (supersteps-limit r e b) in
+    let full = (last_end turn input (length r.past) r.phase e h.end).cut b in
+    let last : end_in turn input (length (supersteps_of r) - 1) ≡ None = h.goes_on (length (supersteps_of r) - 1) (omega (arith, full)) in
     record {
       args = h.args;
       limit = h.limit;
       g = h.g;
       l = h.l;
-      some = omega (arith, end.1);
-      few = omega (arith, end.1);
+      some = omega (arith, full);
+      few = omega (arith, full);
       views = λ s l. (taken turn input r h s l).views;
       outcomes = λ s l. (taken turn input r h s l).outcomes;
       goes_on = λ s l. h.goes_on s (omega arith);
-      status = end.0 ∙ ap (λ (o : Option Status). unwrap_or o Limit) (sym last);
-      ended = e;
-      delivered = (λ _. last, λ _. end.0);
-      cut = λ _. count ∙ end.1;
+      phase = limit_phase r.phase b ∙ ap (λ o. Ended (unwrap_or o Limit)) (sym last);
+      cut = λ _. count ∙ full;
       state = h.state;
       untaken = λ _. h.untaken b;
     }
 
 law_ended : (turn : ViewParts → OutcomeParts) (input : Input) (r : Run) → IsRecord turn input r → is_ended r.phase ≡ true → is_limit r.phase ≡ false → IsBspRun turn input r
 law_ended turn input r h e b =
-    let x = superstep (open_views r) r.outcomes in
-    let all : supersteps_of r ≡ r.past ++ x ∷ [] = ap (λ xs. r.past ++ xs) ((last_superstep-ended r.phase x e).before b) in
-    let count : length (supersteps_of r) ≡ length r.past + 1 = ap (λ (xs : List Superstep). length xs) all ∙ length-append r.past (x ∷ []) in
+    let count : length (supersteps_of r) ≡ length r.past + 1 = ap (λ (xs : List Superstep). length xs) (supersteps-ended r e b) ∙ length-append r.past (open_superstep r ∷ []) in
     let end = (last_end turn input (length r.past) r.phase e h.end).ends b in
     let at : length (supersteps_of r) - 1 ≡ length r.past = omega arith in
-    let last : end_in turn input (length (supersteps_of r) - 1) ≡ Some (status_of r) = ap (end_in turn input) at ∙ end.0 in
     record {
       args = h.args;
       limit = h.limit;
@@ -139,12 +129,10 @@ law_ended turn input r h e b =
       views = λ s l. (taken turn input r h s l).views;
       outcomes = λ s l. (taken turn input r h s l).outcomes;
       goes_on = λ s l. h.goes_on s (omega arith);
-      status = ap (λ (o : Option Status). unwrap_or o Limit) (sym last);
-      ended = e;
-      delivered = (λ k. absurd (end.1 k), λ k. cc);
-      cut = λ k. absurd (end.1 k);
+      phase = end ∙ ap (λ n. Ended (unwrap_or (end_in turn input n) Limit)) (sym at);
+      cut = λ k. absurd (false≢true (sym b ∙ ap is_limit k));
       state = h.state;
-      untaken = λ k. absurd (end.1 k);
+      untaken = λ k. absurd (false≢true (sym b ∙ ap is_limit k));
     }
 
 law_by : (b : Bool) (turn : ViewParts → OutcomeParts) (input : Input) (r : Run) → 1 ≤ input.limit → IsRecord turn input r → is_ended r.phase ≡ true → is_limit r.phase ≡ b → IsBspRun turn input r
@@ -189,14 +177,25 @@ pub IfSome-map : {X Y : Type 0} (f : X → Y) (P : Y → Type 0) (o : Option X) 
 IfSome-map f P None h = tt
 IfSome-map f P (Some x) h = h
 
-few_last : (o : Option (List OutcomeParts)) → length (turns_in o) ≤ 1
-few_last None = omega arith
-few_last (Some os) = omega arith
+few_if : (b : Bool) (past : List Superstep) (x : Superstep) → length (past ++ cond b (x ∷ []) []) ≤ length past + 1
+few_if true past x = omega (arith, length-append past (x ∷ []))
+few_if false past x = omega (arith, length-append past [])
 
 -- no turns were taken past the last superstep
-pub no_turns : (r : Run) (s : ℕ) → length r.past < s → None ≡ slice_get (all_turns r) s
+pub no_turns : (r : Run) (s : ℕ) → length r.past < s → None ≡ slice_get (outcomes_of (supersteps_of r)) s
 no_turns r s l =
-    let few = few_last (last_turn r) in
-    let delivered : length (delivered_turns r) ≡ length r.past = length-map r.past (λ (x : Superstep). x.outcomes) in
-    let all : length (all_turns r) ≡ length (delivered_turns r) + length (last_turns r) = length-append (delivered_turns r) (last_turns r) in
-    sym (slice_get_past (all_turns r) s (omega arith))
+    let few = few_if (has_turns r.phase) r.past (open_superstep r) in
+    let all : length (outcomes_of (supersteps_of r)) ≡ length (supersteps_of r) = length-map (supersteps_of r) (λ (x : Superstep). x.outcomes) in
+    sym (slice_get_past (outcomes_of (supersteps_of r)) s (omega (arith, l, few, all)))
+
+last_if : (b : Bool) (x : Superstep) → outcomes_of (cond (not b) (x ∷ []) []) ≡ option_to_list (cond b None (Some x.outcomes))
+last_if true x = refl
+last_if false x = refl
+
+-- the outcomes of the superstep that ended the run; at the limit there is none such
+pub outcomes-last : (r : Run) → is_ended r.phase ≡ true → outcomes_of (last_superstep r) ≡ option_to_list (cond (is_limit r.phase) None (Some r.outcomes))
+outcomes-last r e = ap (λ b. outcomes_of (cond b (open_superstep r ∷ []) [])) (has_turns-ended r.phase e) ∙ last_if (is_limit r.phase) (open_superstep r)
+
+-- the outcomes of all supersteps
+pub outcomes-ended : (r : Run) → is_ended r.phase ≡ true → outcomes_of (supersteps_of r) ≡ outcomes_of r.past ++ option_to_list (cond (is_limit r.phase) None (Some r.outcomes))
+outcomes-ended r e = map-append (λ (x : Superstep). x.outcomes) r.past (last_superstep r) ∙ ap (λ os. outcomes_of r.past ++ os) (outcomes-last r e)

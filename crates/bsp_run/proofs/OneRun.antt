@@ -1,29 +1,26 @@
 -- There is one run of a lawful input.
-use Rattle.std.proofs.Common.{◌≡◌, ◌<◌, ◌+◌, ◌-◌, ℕ, Bool, true, false, cond, List, [], ◌∷◌, ◌++◌, None, length, unwrap_or, arith, refl, sym, ap, ◌∙◌, subst, length-append, inl, inr}
+use Rattle.std.proofs.Common.{◌≡◌, ◌<◌, ◌+◌, ◌-◌, ℕ, Bool, true, false, cond, List, [], ◌∷◌, None, length, unwrap_or, arith, refl, sym, ap, ◌∙◌, subst, length-append, inl, inr}
 use Rattle.std.proofs.lemmas.Bool.{cases_lt}
 use Rattle.std.proofs.lemmas.Grind.{common_steps}
-use Rattle.std.proofs.lemmas.List.{append-nil, ext_get_or}
+use Rattle.std.proofs.lemmas.List.{ext_get_or}
 use Rattle.bsp_model.specs.declared.input.Input.{Input}
 use Rattle.bsp_step.specs.ViewParts.{ViewParts}
 use Rattle.bsp_step.specs.OutcomeParts.{OutcomeParts}
-use Rattle.bsp_run.specs.declared.result.Status.TheVariants.{Halted, Limit, Faulted, SyncFaulted}
-use Rattle.bsp_run.specs.declared.phase.Phase.{Phase}
-use Rattle.bsp_run.specs.declared.phase.Phase.TheVariants.{Open, Turned, Ended}
+use Rattle.bsp_run.specs.declared.result.Status.TheVariants.{Limit}
+use Rattle.bsp_run.specs.declared.phase.Phase.TheVariants.{Ended}
 use Rattle.bsp_run.specs.declared.superstep.Superstep.{Superstep}
-use Rattle.bsp_run.specs.Run.{Run, open_views, run, is_limit}
-use Rattle.bsp_run.specs.Result.{status_of, status_in}
-use Rattle.bsp_run.specs.Shown.{no_superstep}
-use Rattle.bsp_run.specs.Supersteps.{last_superstep, supersteps_of, superstep_at}
+use Rattle.bsp_run.specs.Run.{Run, run, is_limit}
+use Rattle.bsp_run.specs.Supersteps.{no_superstep, superstep_at, open_superstep, last_superstep, supersteps_of}
 use Rattle.bsp_run.specs.Law.{state_at, end_in, IsBspRun, OneRun}
 use Rattle.bsp_run.specs.Condition.{is_ended}
-use Rattle.bsp_run.proofs.Records.{superstep}
-use Rattle.bsp_run.proofs.Laws.{last_superstep-ended, IsBspRun-run}
+use Rattle.bsp_run.proofs.Records.{opened-last}
+use Rattle.bsp_run.proofs.Laws.{limit_phase, supersteps-limit, supersteps-ended, IsBspRun-run}
 
 -- neither of two runs has fewer supersteps
 not_shorter : (turn : ViewParts → OutcomeParts) (input : Input) (r q : Run) → IsBspRun turn input r → IsBspRun turn input q → length (supersteps_of r) < length (supersteps_of q) → ⊥
 not_shorter turn input r q h k less =
     let none : end_in turn input (length (supersteps_of r) - 1) ≡ None = k.goes_on (length (supersteps_of r) - 1) (omega (arith, h.some, less)) in
-    let full : length (supersteps_of r) ≡ input.limit = h.cut (h.delivered.1 none) in
+    let full : length (supersteps_of r) ≡ input.limit = h.cut (h.phase ∙ ap (λ o. Ended (unwrap_or o Limit)) none) in
     omega (arith, full, k.few, less)
 
 same_count : (turn : ViewParts → OutcomeParts) (input : Input) (r q : Run) → IsBspRun turn input r → IsBspRun turn input q → length (supersteps_of r) ≡ length (supersteps_of q)
@@ -38,44 +35,19 @@ same_count turn input r q h k =
     ]
 
 -- how it ended
-
-phase_is : (p : Phase) → is_ended p ≡ true → p ≡ Ended (status_in p)
-phase_is Open h = cc
-phase_is Turned h = cc
-phase_is (Ended status) h = refl
-
 same_phase : (turn : ViewParts → OutcomeParts) (input : Input) (r q : Run) → IsBspRun turn input r → IsBspRun turn input q → r.phase ≡ q.phase
-same_phase turn input r q h k =
-    let status : status_of r ≡ status_of q =
-    h.status ∙ ap (λ n. unwrap_or (end_in turn input (n - 1)) Limit) (same_count turn input r q h k) ∙ sym k.status in
-    phase_is r.phase h.ended ∙ ap Ended status ∙ sym (phase_is q.phase k.ended)
+same_phase turn input r q h k = h.phase ∙ ap (λ n. Ended (unwrap_or (end_in turn input (n - 1)) Limit)) (same_count turn input r q h k) ∙ sym k.phase
 
-pub limit_status : (p : Phase) → is_limit p ≡ true → status_in p ≡ Limit
-limit_status Open h = cc
-limit_status Turned h = cc
-limit_status (Ended Limit) h = refl
-limit_status (Ended Halted) h = cc
-limit_status (Ended (Faulted step faults)) h = cc
-limit_status (Ended (SyncFaulted step fault)) h = cc
-
--- the supersteps, but for the last one where that did not end by delivery
-
-all_delivered : (r : Run) → is_ended r.phase ≡ true → is_limit r.phase ≡ true → supersteps_of r ≡ r.past
-all_delivered r e b = ap (λ xs. r.past ++ xs) ((last_superstep-ended r.phase (superstep (open_views r) r.outcomes) e).at_limit b) ∙ append-nil r.past
-
-all_but_one : (r : Run) → is_ended r.phase ≡ true → is_limit r.phase ≡ false → supersteps_of r ≡ r.past ++ superstep (open_views r) r.outcomes ∷ []
-all_but_one r e b = ap (λ xs. r.past ++ xs) ((last_superstep-ended r.phase (superstep (open_views r) r.outcomes) e).before b)
-
+-- how many of its supersteps ended by delivery
 pub count_past : (b : Bool) (r : Run) → is_ended r.phase ≡ true → is_limit r.phase ≡ b → length r.past + cond b 0 1 ≡ length (supersteps_of r)
-count_past true r e h = omega (arith, ap (λ (xs : List Superstep). length xs) (all_delivered r e h))
-count_past false r e h =
-    sym (ap (λ (xs : List Superstep). length xs) (all_but_one r e h) ∙ length-append r.past (superstep (open_views r) r.outcomes ∷ []))
+count_past true r e h = omega (arith, ap (λ (xs : List Superstep). length xs) (supersteps-limit r e h))
+count_past false r e h = sym (ap (λ (xs : List Superstep). length xs) (supersteps-ended r e h) ∙ length-append r.past (open_superstep r ∷ []))
 
 same_past_count : (turn : ViewParts → OutcomeParts) (input : Input) (r q : Run) → IsBspRun turn input r → IsBspRun turn input q → length r.past ≡ length q.past
 same_past_count turn input r q h k =
     let b = is_limit q.phase in
-    let one = count_past b r h.ended (ap is_limit (same_phase turn input r q h k)) in
-    let other = count_past b q k.ended refl in
+    let one = count_past b r (ap is_ended h.phase) (ap is_limit (same_phase turn input r q h k)) in
+    let other = count_past b q (ap is_ended k.phase) refl in
     omega (arith, one, other, same_count turn input r q h k)
 
 same_superstep : (x y : Superstep) → x.views ≡ y.views → x.outcomes ≡ y.outcomes → x ≡ y
@@ -88,7 +60,7 @@ same_at turn input r q h k s l =
 
 pub front : (r : Run) (s : ℕ) → s < length r.past → (s < length (supersteps_of r)) × (superstep_at (supersteps_of r) s ≡ superstep_at r.past s)
 front r s l =
-    let long = length-append r.past (last_superstep r.phase (superstep (open_views r) r.outcomes)) in
+    let long = length-append r.past (last_superstep r) in
     (omega (arith, l, long), grind (arith, common_steps))
 
 same_past : (turn : ViewParts → OutcomeParts) (input : Input) (r q : Run) → IsBspRun turn input r → IsBspRun turn input q → r.past ≡ q.past
@@ -101,19 +73,17 @@ same_past turn input r q h k =
 
 -- the outcomes of the superstep that ended it
 
-last_one : (r : Run) → is_ended r.phase ≡ true → is_limit r.phase ≡ false → (length r.past < length (supersteps_of r)) × ((superstep_at (supersteps_of r) (length r.past)).outcomes ≡ r.outcomes)
+pub last_one : (r : Run) → is_ended r.phase ≡ true → is_limit r.phase ≡ false → (length r.past < length (supersteps_of r)) × ((superstep_at (supersteps_of r) (length r.past)).outcomes ≡ r.outcomes)
 last_one r e b =
-    let x = superstep (open_views r) r.outcomes in
-    let all = all_but_one r e b in
     let count = count_past false r e b in
-    let at : superstep_at (r.past ++ x ∷ []) (length r.past) ≡ x = grind (arith, common_steps) in
-    (omega (arith, count), ap (λ (ss : List Superstep). (superstep_at ss (length r.past)).outcomes) all ∙ ap (λ (y : Superstep). y.outcomes) at)
+    let last = ap (λ (ss : List Superstep). superstep_at ss (length r.past)) (supersteps-ended r e b) ∙ opened-last r in
+    (omega (arith, count), ap (λ (x : Superstep). x.outcomes) last)
 
 same_outcomes_if : (b : Bool) (turn : ViewParts → OutcomeParts) (input : Input) (r q : Run) → IsBspRun turn input r → IsBspRun turn input q → is_limit r.phase ≡ b → is_limit q.phase ≡ b → r.outcomes ≡ q.outcomes
-same_outcomes_if true turn input r q h k b c = h.untaken (limit_status r.phase b) ∙ sym (k.untaken (limit_status q.phase c))
+same_outcomes_if true turn input r q h k b c = h.untaken (limit_phase r.phase b) ∙ sym (k.untaken (limit_phase q.phase c))
 same_outcomes_if false turn input r q h k b c =
-    let one = last_one r h.ended b in
-    let other = last_one q k.ended c in
+    let one = last_one r (ap is_ended h.phase) b in
+    let other = last_one q (ap is_ended k.phase) c in
     sym one.1 ∙ ap (λ (x : Superstep). x.outcomes) (same_at turn input r q h k (length r.past) one.0)
     ∙ ap (λ n. (superstep_at (supersteps_of q) n).outcomes) (same_past_count turn input r q h k) ∙ other.1
 

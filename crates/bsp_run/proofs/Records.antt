@@ -1,8 +1,8 @@
 -- Runs have their records.
-use Rattle.std.proofs.Common.{◌≡◌, ◌≤◌, ◌<◌, ◌+◌, ◌==◌, ℕ, zero, suc, Bool, true, false, cond, List, [], ◌∷◌, ◌++◌, Option, None, Some, All, map, length, get_or, arith, refl, sym, ap, ◌∙◌, subst, length-append, inl, inr, add-one}
+use Rattle.std.proofs.Common.{◌≡◌, ◌≤◌, ◌<◌, ◌+◌, ◌==◌, ℕ, zero, suc, Bool, true, false, cond, List, [], ◌∷◌, ◌++◌, Option, None, Some, All, map, length, arith, refl, sym, ap, ◌∙◌, subst, length-append, inl, inr, add-one}
 use Rattle.std.proofs.lemmas.Bool.{cases_lt}
 use Rattle.std.proofs.lemmas.Bool.Decides.{nat_tests}
-use Rattle.std.proofs.lemmas.List.{get_or-map, length-map, append-nil}
+use Rattle.std.proofs.lemmas.List.{length-map, append-nil}
 use Rattle.std.proofs.lemmas.List.FromFn.{length-map-range_with_len}
 use Rattle.std.proofs.lemmas.List.Elements.{All-push, All-nil}
 use Rattle.std.proofs.lemmas.Grind.{common_steps}
@@ -18,8 +18,7 @@ use Rattle.bsp_run.specs.declared.superstep.Superstep.{Superstep}
 use Rattle.bsp_run.specs.State.{State, first_state, next_state, views_of}
 use Rattle.bsp_run.specs.Ending.{end_of}
 use Rattle.bsp_run.specs.Run.{Run, start, open_views, after_turns, after_delivery, phase_after, advance, times, run, is_limit}
-use Rattle.bsp_run.specs.Shown.{no_superstep}
-use Rattle.bsp_run.specs.Supersteps.{last_superstep, supersteps_of, superstep_at, views_at}
+use Rattle.bsp_run.specs.Supersteps.{superstep_at, open_superstep, has_turns, supersteps_of, supersteps_opened}
 use Rattle.bsp_run.specs.Law.{state_at, views_in, outcomes_in, end_in}
 use Rattle.bsp_run.specs.Inside.Record.{IsRecord, IsEndIn}
 use Rattle.bsp_run.specs.Condition.{is_open, is_turned}
@@ -31,51 +30,49 @@ use Rattle.bsp_run.proofs.Runs.{open_phase, advance-delivers, advance-ends, adva
 abbrev pub superstep : List ViewParts → List OutcomeParts → Superstep
 superstep vs os = record { views = vs; outcomes = os }
 
--- the views of a superstep that ended by delivery, and those of the one after
-pub views_at-past : (r : Run) (s : ℕ) → s < length r.past → views_at r s ≡ (superstep_at r.past s).views
-views_at-past r s l =
-    let views : Superstep → List ViewParts = λ x. x.views in
-    let long : length (map views r.past) ≡ length r.past = length-map r.past views in
-    let front : get_or (map views r.past ++ open_views r ∷ []) s [] ≡ get_or (map views r.past) s [] = grind (arith, common_steps) in
-    front ∙ get_or-map views r.past s no_superstep [] l
+-- a superstep that ended by delivery
+pub opened-past : (r : Run) (s : ℕ) → s < length r.past → superstep_at (supersteps_opened r) s ≡ superstep_at r.past s
+opened-past r s l = grind (arith, common_steps)
 
-pub views_at-open : (r : Run) → views_at r (length r.past) ≡ open_views r
-views_at-open r =
-    let views : Superstep → List ViewParts = λ x. x.views in
-    let long : length (map views r.past) ≡ length r.past = length-map r.past views in
-    grind (arith, common_steps)
+-- the one after these
+pub opened-last : (r : Run) → superstep_at (supersteps_opened r) (length r.past) ≡ open_superstep r
+opened-last r = grind (arith, common_steps)
 
-last_is : (status : Status) (x : Superstep) → (Some status ≡ Some Limit → ⊥) → last_superstep (Ended status) x ≡ x ∷ []
-last_is Halted x h = refl
-last_is Limit x h = absurd (h refl)
-last_is (Faulted step faults) x h = refl
-last_is (SyncFaulted step fault) x h = refl
+-- the views of supersteps of which the last one has other outcomes
+views_beside : (past : List Superstep) (x y : Superstep) (s : ℕ) → x.views ≡ y.views → (superstep_at (past ++ x ∷ []) s).views ≡ (superstep_at (past ++ y ∷ []) s).views
+views_beside [] x y zero e = e
+views_beside [] x y (suc s) e = refl
+views_beside (p ∷ past) x y zero e = refl
+views_beside (p ∷ past) x y (suc s) e = views_beside past x y s e
 
-last_after : (e : Option Status) (x : Superstep) → (e ≡ Some Limit → ⊥) → last_superstep (phase_after e) x ≡ x ∷ []
-last_after None x h = refl
-last_after (Some status) x h = last_is status x h
+has_turns-after : (e : Option Status) → (e ≡ Some Limit → ⊥) → has_turns (phase_after e) ≡ true
+has_turns-after None h = refl
+has_turns-after (Some Halted) h = refl
+has_turns-after (Some Limit) h = absurd (h refl)
+has_turns-after (Some (Faulted step faults)) h = refl
+has_turns-after (Some (SyncFaulted step fault)) h = refl
 
 -- the supersteps of a run whose turns are taken
 pub supersteps-turned : (r : Run) (os : List OutcomeParts) → supersteps_of (after_turns r os) ≡ r.past ++ superstep (open_views r) os ∷ []
 unfolding after_turns
 supersteps-turned r os =
-    ap (λ xs. r.past ++ xs) (last_after (end_of (length r.past) r.state.table os) (superstep (open_views r) os) (end_of-limit (length r.past) r.state.table os))
+    ap (λ b. r.past ++ cond b (superstep (open_views r) os ∷ []) []) (has_turns-after (end_of (length r.past) r.state.table os) (end_of-limit (length r.past) r.state.table os))
 
-last_opened : (b : Bool) (x : Superstep) → last_superstep (cond b (Ended Limit) Open) x ≡ []
-last_opened true x = refl
-last_opened false x = refl
+has_turns-opened : (b : Bool) → has_turns (cond b (Ended Limit) Open) ≡ false
+has_turns-opened true = refl
+has_turns-opened false = refl
 
 -- the same after its delivery
 pub supersteps-delivered : (r : Run) (os : List OutcomeParts) → supersteps_of (after_delivery (after_turns r os)) ≡ r.past ++ superstep (open_views r) os ∷ []
 unfolding after_turns after_delivery
 supersteps-delivered r os =
     let next : Run = after_delivery (after_turns r os) in
-    ap (λ xs. (r.past ++ superstep (open_views r) os ∷ []) ++ xs) (last_opened ((length r.past + 1) == r.limit) (superstep (open_views next) next.outcomes))
-    ∙ append-nil (r.past ++ superstep (open_views r) os ∷ [])
+    let all : List Superstep = r.past ++ superstep (open_views r) os ∷ [] in
+    ap (λ b. all ++ cond b (open_superstep next ∷ []) []) (has_turns-opened ((length r.past + 1) == r.limit)) ∙ append-nil all
 
 -- an open run has those that ended by delivery
 pub supersteps-open : (r : Run) → r.phase ≡ Open → supersteps_of r ≡ r.past
-supersteps-open r e = ap (λ p. r.past ++ last_superstep p (superstep (open_views r) r.outcomes)) e ∙ append-nil r.past
+supersteps-open r e = ap (λ p. r.past ++ cond (has_turns p) (open_superstep r ∷ []) []) e ∙ append-nil r.past
 
 pub past-turned : (r : Run) (os : List OutcomeParts) → (after_turns r os).past ≡ r.past
 unfolding after_turns
@@ -121,7 +118,7 @@ count-outcomes_in turn input s = length-map (views_in turn input s) turn ∙ cou
 
 -- the open superstep sees its state
 pub open_views-in : (turn : ViewParts → OutcomeParts) (input : Input) (r : Run) → IsRecord turn input r → open_views r ≡ views_in turn input (length r.past)
-open_views-in turn input r h = sym (views_at-open r) ∙ h.views (length r.past) (omega arith)
+open_views-in turn input r h = sym (ap (λ (y : Superstep). y.views) (opened-last r)) ∙ h.views (length r.past) (omega arith)
 
 -- how its turns end it
 end-in : (turn : ViewParts → OutcomeParts) (input : Input) (r : Run) → IsRecord turn input r → end_of (length r.past) r.state.table (map turn (open_views r)) ≡ end_in turn input (length r.past)
@@ -129,8 +126,8 @@ end-in turn input r h =
     ap (λ (s : State). end_of (length r.past) s.table (map turn (open_views r))) h.state
     ∙ ap (λ (vs : List ViewParts). end_of (length r.past) (state_at turn input (length r.past)).table (map turn vs)) (open_views-in turn input r h)
 
-all_turns_push : (turn : ViewParts → OutcomeParts) (r : Run) (all : List Superstep) → All (λ s. s.outcomes ≡ map turn s.views) (supersteps_of r) → r.phase ≡ Open → all ≡ r.past ++ superstep (open_views r) (map turn (open_views r)) ∷ [] → All (λ s. s.outcomes ≡ map turn s.views) all
-all_turns_push turn r all h e is =
+turns_push : (turn : ViewParts → OutcomeParts) (r : Run) (all : List Superstep) → All (λ s. s.outcomes ≡ map turn s.views) (supersteps_of r) → r.phase ≡ Open → all ≡ r.past ++ superstep (open_views r) (map turn (open_views r)) ∷ [] → All (λ s. s.outcomes ≡ map turn s.views) all
+turns_push turn r all h e is =
     subst (All (λ (s : Superstep). s.outcomes ≡ map turn s.views)) (sym is)
     (All-push (λ (s : Superstep). s.outcomes ≡ map turn s.views) r.past (superstep (open_views r) (map turn (open_views r))) (subst (All (λ (s : Superstep). s.outcomes ≡ map turn s.views)) (supersteps-open r e) h) refl)
 
@@ -165,8 +162,8 @@ IsRecord-turned turn input r h e =
       g = h.g;
       l = h.l;
       state = h.state;
-      views = h.views;
-      turns = all_turns_push turn r (supersteps_of (after_turns r (map turn (open_views r)))) h.turns e (supersteps-turned r (map turn (open_views r)));
+      views = λ s l. views_beside r.past (superstep (open_views r) (map turn (open_views r))) (open_superstep r) s refl ∙ h.views s l;
+      turns = turns_push turn r (supersteps_of (after_turns r (map turn (open_views r)))) h.turns e (supersteps-turned r (map turn (open_views r)));
       goes_on = h.goes_on;
       room = λ _. before;
       end = ended_in turn input (length r.past) end (end_of-limit (length r.past) r.state.table (map turn (open_views r))) (end-in turn input r h);
@@ -174,29 +171,20 @@ IsRecord-turned turn input r h e =
     }
 
 -- the views that there were stay after a delivery
-views_at-delivered : (r : Run) (os : List OutcomeParts) (s : ℕ) → s ≤ length r.past → views_at (after_delivery (after_turns r os)) s ≡ views_at r s
-views_at-delivered r os s l =
+views-delivered : (r : Run) (os : List OutcomeParts) (s : ℕ) → s ≤ length r.past → (superstep_at (supersteps_opened (after_delivery (after_turns r os))) s).views ≡ (superstep_at (supersteps_opened r) s).views
+views-delivered r os s l =
     let x = superstep (open_views r) os in
     let next : Run = after_delivery (after_turns r os) in
     let past : next.past ≡ r.past ++ x ∷ [] = past-delivered r os in
     let long : length next.past ≡ length r.past + 1 = ap (λ (xs : List Superstep). length xs) past ∙ length-append r.past (x ∷ []) in
-    let now : views_at next s ≡ (superstep_at (r.past ++ x ∷ []) s).views = views_at-past next s (omega arith) ∙ ap (λ (xs : List Superstep). (superstep_at xs s).views) past in
-    elim (cases_lt s (length r.past)) [
-      | inl w ↦
-          let old : superstep_at (r.past ++ x ∷ []) s ≡ superstep_at r.past s = grind (arith, common_steps) in
-          now ∙ ap (λ (y : Superstep). y.views) old ∙ sym (views_at-past r s w)
-      | inr w ↦
-          let at : s ≡ length r.past = omega arith in
-          let last : superstep_at (r.past ++ x ∷ []) s ≡ x = grind (arith, common_steps) in
-          now ∙ ap (λ (y : Superstep). y.views) last ∙ sym (views_at-open r) ∙ ap (views_at r) (sym at)
-    ]
+    ap (λ (y : Superstep). y.views) (opened-past next s (omega arith) ∙ ap (λ (xs : List Superstep). superstep_at xs s) past) ∙ views_beside r.past x (open_superstep r) s refl
 
 -- the views that are new
-views_at-new : (r : Run) (os : List OutcomeParts) → views_at (after_delivery (after_turns r os)) (length r.past + 1) ≡ views_of r.args (length r.past + 1) (next_state r.state os)
-views_at-new r os =
+views-new : (r : Run) (os : List OutcomeParts) → (superstep_at (supersteps_opened (after_delivery (after_turns r os))) (length r.past + 1)).views ≡ views_of r.args (length r.past + 1) (next_state r.state os)
+views-new r os =
     let next : Run = after_delivery (after_turns r os) in
     let long : length next.past ≡ length r.past + 1 = ap (λ (xs : List Superstep). length xs) (past-delivered r os) ∙ length-append r.past (superstep (open_views r) os ∷ []) in
-    ap (views_at next) (sym long) ∙ views_at-open next ∙ open_views-delivered r os
+    ap (λ k. (superstep_at (supersteps_opened next) k).views) (sym long) ∙ ap (λ (y : Superstep). y.views) (opened-last next) ∙ open_views-delivered r os
 
 parts-delivered : (r : Run) (os : List OutcomeParts) → ((after_delivery (after_turns r os)).args ≡ r.args) × ((after_delivery (after_turns r os)).limit ≡ r.limit) × ((after_delivery (after_turns r os)).state ≡ next_state r.state os)
 unfolding after_turns after_delivery
@@ -235,8 +223,8 @@ IsRecord-delivered turn input r h e none =
     let state : next_state r.state os ≡ state_at turn input (length r.past + 1) =
     ap (λ (s : State). next_state s os) h.state ∙ ap (next_state (state_at turn input (length r.past))) turns ∙ sym (state_at-next turn input (length r.past)) in
     let before : length r.past < r.limit = omega (arith, h.room (not_at_limit r.phase e), h.limit) in
-    let new : views_at next (length r.past + 1) ≡ views_in turn input (length r.past + 1) =
-    views_at-new r os ∙ ap (λ (xs : List (List ℕ)). views_of xs (length r.past + 1) (next_state r.state os)) h.args ∙ ap (views_of input.args (length r.past + 1)) state in
+    let new : (superstep_at (supersteps_opened next) (length r.past + 1)).views ≡ views_in turn input (length r.past + 1) =
+    views-new r os ∙ ap (λ (xs : List (List ℕ)). views_of xs (length r.past + 1) (next_state r.state os)) h.args ∙ ap (views_of input.args (length r.past + 1)) state in
     record {
       args = parts.0 ∙ h.args;
       limit = parts.1 ∙ h.limit;
@@ -244,10 +232,10 @@ IsRecord-delivered turn input r h e none =
       l = rest.1 ∙ h.l;
       state = parts.2 ∙ state ∙ ap (state_at turn input) (sym long);
       views = λ s l. elim (cases_lt s (length r.past + 1)) [
-        | inl w ↦ views_at-delivered r os s (omega arith) ∙ h.views s (omega arith)
-        | inr w ↦ let at : s ≡ length r.past + 1 = omega arith in ap (views_at next) at ∙ new ∙ ap (views_in turn input) (sym at)
+        | inl w ↦ views-delivered r os s (omega arith) ∙ h.views s (omega arith)
+        | inr w ↦ let at : s ≡ length r.past + 1 = omega arith in ap (λ k. (superstep_at (supersteps_opened next) k).views) at ∙ new ∙ ap (views_in turn input) (sym at)
       ];
-      turns = all_turns_push turn r (supersteps_of next) h.turns e (supersteps-delivered r os);
+      turns = turns_push turn r (supersteps_of next) h.turns e (supersteps-delivered r os);
       goes_on = λ s l. elim (cases_lt s (length r.past)) [
         | inl w ↦ h.goes_on s w
         | inr w ↦ let at : s ≡ length r.past = omega arith in ap (end_in turn input) at ∙ none
@@ -283,11 +271,11 @@ by_open false turn input r h o = subst (IsRecord turn input) (sym (advance-close
 IsRecord-advance : (turn : ViewParts → OutcomeParts) (input : Input) (r : Run) → IsRecord turn input r → IsRecord turn input (advance turn r)
 IsRecord-advance turn input r h = by_open (is_open r.phase) turn input r h refl
 
-first_views : (turn : ViewParts → OutcomeParts) (input : Input) (s : ℕ) → s ≤ length (start input).past → views_at (start input) s ≡ views_in turn input s
+first_views : (turn : ViewParts → OutcomeParts) (input : Input) (s : ℕ) → s ≤ length (start input).past → (superstep_at (supersteps_opened (start input)) s).views ≡ views_in turn input s
 unfolding start state_at
 first_views turn input s l =
     let at : s ≡ 0 = omega arith in
-    ap (views_at (start input)) at ∙ ap (views_in turn input) (sym at)
+    ap (λ k. (superstep_at (supersteps_opened (start input)) k).views) at ∙ ap (views_in turn input) (sym at)
 
 -- a run with its first superstep open
 pub IsRecord-start : (turn : ViewParts → OutcomeParts) (input : Input) → 1 ≤ input.limit → IsRecord turn input (start input)

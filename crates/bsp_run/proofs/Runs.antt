@@ -1,5 +1,5 @@
 -- Laws of runs, superstep by superstep.
-use Rattle.std.proofs.Common.{◌≡◌, ◌≤◌, ◌<◌, ◌+◌, ◌==◌, ℕ, zero, suc, Bool, true, false, cond, List, [], ◌∷◌, ◌++◌, map, length, refl, sym, ap, ◌∙◌, subst, arith, Option, Some, None, length-append}
+use Rattle.std.proofs.Common.{◌≡◌, ◌≤◌, ◌<◌, ◌+◌, ◌-◌, ◌==◌, ℕ, zero, suc, Bool, true, false, cond, List, [], ◌∷◌, ◌++◌, map, length, refl, sym, ap, ◌∙◌, subst, arith, Option, Some, None, length-append}
 use Rattle.std.proofs.lemmas.Bool.{false≢true}
 use Rattle.std.proofs.lemmas.Bool.Decides.{nat_tests}
 use Rattle.bsp_model.specs.declared.input.Input.{Input}
@@ -12,7 +12,7 @@ use Rattle.bsp_run.specs.declared.phase.Phase.TheVariants.{Open, Turned, Ended}
 use Rattle.bsp_run.specs.declared.superstep.Superstep.{Superstep}
 use Rattle.bsp_run.specs.Ending.{end_of}
 use Rattle.bsp_run.specs.Run.{Run, start, open_views, after_turns, after_delivery, phase_after, delivered_if, advanced_if, advance, times, is_limit}
-use Rattle.bsp_run.specs.Shown.{views_shown, outcomes_shown, last_of_past}
+use Rattle.bsp_run.specs.Supersteps.{superstep_at, open_superstep, superstep_shown}
 use Rattle.bsp_run.specs.Condition.{is_turned, is_open, is_ended}
 
 -- an open run goes on by its turns
@@ -115,20 +115,22 @@ pub start-between : (input : Input) → 1 ≤ input.limit → IsBetween input.li
 unfolding start
 start-between input h = record { between = refl; left = λ k. (h, omega arith) }
 
-shown_if : (p : Phase) (vs ws : List ViewParts) → is_open p ≡ true → cond (is_limit p) vs ws ≡ ws
-shown_if Open vs ws h = refl
-shown_if Turned vs ws h = cc
-shown_if (Ended status) vs ws h = cc
+shown_if : (p : Phase) (x y : Superstep) → is_ended p ≡ false → cond (is_limit p) x y ≡ y
+shown_if Open x y h = refl
+shown_if Turned x y h = refl
+shown_if (Ended status) x y h = cc
+
+open_goes_on : (p : Phase) → is_open p ≡ true → is_ended p ≡ false
+open_goes_on Open h = refl
+open_goes_on Turned h = cc
+open_goes_on (Ended status) h = cc
 
 -- an open run shows the views of its open superstep
-pub views_shown-open : (r : Run) → is_open r.phase ≡ true → views_shown r ≡ open_views r
-views_shown-open r h = shown_if r.phase (last_of_past r.past).views (open_views r) h
+pub views_shown-open : (r : Run) → is_open r.phase ≡ true → (superstep_shown r).views ≡ open_views r
+views_shown-open r h = ap (λ (x : Superstep). x.views) (shown_if r.phase (superstep_at r.past (length r.past - 1)) (open_superstep r) (open_goes_on r.phase h))
 
-turned_if : (p : Phase) (os us : List OutcomeParts) → p ≡ Turned → cond (is_limit p) os us ≡ us
-turned_if p os us h = ap (λ q. cond (is_limit q) os us) h
-
-pub outcomes_shown-turned : (r : Run) → r.phase ≡ Turned → outcomes_shown r ≡ r.outcomes
-outcomes_shown-turned r h = turned_if r.phase (last_of_past r.past).outcomes r.outcomes h
+pub outcomes_shown-turned : (r : Run) → r.phase ≡ Turned → (superstep_shown r).outcomes ≡ r.outcomes
+outcomes_shown-turned r h = ap (λ (x : Superstep). x.outcomes) (shown_if r.phase (superstep_at r.past (length r.past - 1)) (open_superstep r) (ap is_ended h))
 
 pub times_more : (turn : ViewParts → OutcomeParts) (m n : ℕ) (r : Run) → m ≡ suc n → times m (advance turn) r ≡ times n (advance turn) (advance turn r)
 times_more turn m n r e = ap (λ k. times k (advance turn) r) e

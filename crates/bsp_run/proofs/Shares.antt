@@ -12,7 +12,7 @@ use Rattle.bsp_step.specs.Turn.{turn_of}
 use Rattle.bsp_deliver.specs.Requests.{no_outcome}
 use Rattle.bsp_run.specs.Run.{Run, open_views, after_turns}
 use Rattle.bsp_run.specs.Condition.{AreOutcomesOf, no_view, is_open, is_turned, deliveries_of}
-use Rattle.bsp_run.specs.Shown.{views_shown, outcomes_shown}
+use Rattle.bsp_run.specs.Supersteps.{superstep_shown}
 use Rattle.bsp_run.specs.Shares.{turns_of, deliveries_to}
 use Rattle.bsp_run.proofs.Runs.{views_shown-open, outcomes_shown-turned, turned_phase_is}
 use Rattle.bsp_run.proofs.Turns.{AreOutcomesOf-turns}
@@ -33,7 +33,7 @@ pub record AreTurnsOf (turn : ViewParts → OutcomeParts) (r : Run) (vs : List V
   pub outcomes : AreOutcomesOf (open_views r) os
   pub count : length os ≡ length vs
 
-pub turns_made : (acts : ViewParts → List Act) (ending : ViewParts → End) (r : Run) (vs : List ViewParts) (ps : List ℕ) (os : List OutcomeParts) → is_open r.phase ≡ true → vs ≡ views_shown r → All IsView vs → ps ≡ range_with_len 0 (length vs) → os ≡ turns_of (turn_of acts ending) vs ps → AreTurnsOf (turn_of acts ending) r vs os
+pub turns_made : (acts : ViewParts → List Act) (ending : ViewParts → End) (r : Run) (vs : List ViewParts) (ps : List ℕ) (os : List OutcomeParts) → is_open r.phase ≡ true → vs ≡ (superstep_shown r).views → All IsView vs → ps ≡ range_with_len 0 (length vs) → os ≡ turns_of (turn_of acts ending) vs ps → AreTurnsOf (turn_of acts ending) r vs os
 turns_made acts ending r vs ps os h shown limits all made =
     let turn = turn_of acts ending in
     let views : vs ≡ open_views r = shown ∙ views_shown-open r h in
@@ -49,7 +49,7 @@ unfolding after_turns
 after_turns-outcomes r os = refl
 
 -- the outcomes that a run shows once its turns are taken are those of the turns
-pub outcomes_made : (r t : Run) (os us : List OutcomeParts) → t ≡ after_turns r os → is_turned t.phase ≡ true → us ≡ outcomes_shown t → (us ≡ t.outcomes) × (us ≡ os)
+pub outcomes_made : (r t : Run) (os us : List OutcomeParts) → t ≡ after_turns r os → is_turned t.phase ≡ true → us ≡ (superstep_shown t).outcomes → (us ≡ t.outcomes) × (us ≡ os)
 outcomes_made r t os us turned h shown =
     let kept : us ≡ t.outcomes = shown ∙ outcomes_shown-turned t (turned_phase_is t.phase h) in
     (kept, kept ∙ ap (λ (x : Run). x.outcomes) turned ∙ after_turns-outcomes r os)

@@ -13,8 +13,7 @@ use Rattle.bsp_run.specs.declared.result.Status.TheVariants.{Limit}
 use Rattle.bsp_run.specs.State.{State, next_state, view_of, views_of}
 use Rattle.bsp_deliver.specs.Cost.{h_relation}
 use Rattle.bsp_run.specs.Result.{largest_work, cost_of_delivery}
-use Rattle.bsp_run.specs.Shown.{no_superstep}
-use Rattle.bsp_run.specs.Supersteps.{superstep_at}
+use Rattle.bsp_run.specs.Supersteps.{no_superstep, superstep_at, outcomes_of}
 use Rattle.bsp_run.specs.Inside.Opening.{state_of}
 use Rattle.bsp_run.specs.Ending.{end_of}
 use Rattle.bsp_run.specs.Run.{Run, open_views, after_turns, after_delivery, phase_after}
@@ -93,7 +92,7 @@ pub superstep_is : (past other : List Superstep) (s n : ℕ) (x : Superstep) →
 superstep_is past other s n x e m l is = is ∙ ap (λ (xs : List Superstep). get_or xs s x) e ∙ ap (λ k. get_or other k x) m ∙ get_or_default other n x no_superstep l
 
 -- its cost at other prices
-pub row_is : (past : List Superstep) (rows : List CostRow) (g l h m s : ℕ) (row : CostRow) → rows ≡ map (cost_of_delivery h m) (map (λ (x : Superstep). x.outcomes) past) → s < length past → row ≡ get_or rows s row
+pub row_is : (past : List Superstep) (rows : List CostRow) (g l h m s : ℕ) (row : CostRow) → rows ≡ map (cost_of_delivery h m) (outcomes_of past) → s < length past → row ≡ get_or rows s row
     → record { work = row.work; h = row.h; cost = row.work + row.h * g + l } ≡ cost_of_delivery g l (superstep_at past s).outcomes
 row_is past rows g l h m s row is small at =
     let of : Superstep → List OutcomeParts = λ x. x.outcomes in
@@ -102,7 +101,7 @@ row_is past rows g l h m s row is small at =
     at ∙ ap (λ (xs : List CostRow). get_or xs s row) is ∙ get_or-map price (map of past) s [] row (omega (arith, small, length-map past of)) ∙ ap price (get_or-map of past s no_superstep [] small) in
     ap (λ (x : CostRow). record { work = x.work; h = x.h; cost = x.work + x.h * g + l }) same
 
-pub row_for_each : (past : List Superstep) (rows : List CostRow) (g l : ℕ) → rows ≡ map (cost_of_delivery g l) (map (λ (x : Superstep). x.outcomes) past) → length rows ≡ length past
+pub row_for_each : (past : List Superstep) (rows : List CostRow) (g l : ℕ) → rows ≡ map (cost_of_delivery g l) (outcomes_of past) → length rows ≡ length past
 row_for_each past rows g l is =
     let of : Superstep → List OutcomeParts = λ x. x.outcomes in
     ap (λ (xs : List CostRow). length xs) is ∙ length-map (map of past) (cost_of_delivery g l) ∙ length-map past of

@@ -1,5 +1,6 @@
 -- Runs of which no record is kept.
 use Rattle.std.proofs.Common.{◌≡◌, ◌≢◌, ◌≤◌, ◌<◌, ◌+◌, ◌-◌, ◌==◌, ◌++◌, ◌∷◌, ℕ, zero, suc, Bool, true, false, cond, List, [], map, length, All, Option, None, Some, get_or, refl, sym, ap, ◌∙◌, subst, arith, length-append}
+use Rattle.std.specs.Prelude.{option_to_list}
 use Rattle.std.proofs.lemmas.Grind.{flat_map-append}
 use Rattle.std.proofs.lemmas.List.{map-append, append-nil, length-map}
 use Rattle.std.proofs.lemmas.List.Concat.{flat_map-cons}
@@ -24,15 +25,16 @@ use Rattle.bsp_run.specs.declared.superstep.Superstep.{Superstep}
 use Rattle.bsp_run.specs.declared.unrecorded.Unrecorded.{Unrecorded}
 use Rattle.bsp_run.specs.State.{State, first_state, next_state, views_of}
 use Rattle.bsp_run.specs.Ending.{end_of}
+use Rattle.bsp_run.specs.Supersteps.{outcomes_of, last_superstep, supersteps_of}
 use Rattle.bsp_run.specs.Run.{Run, start, open_views, after_turns, after_delivery, phase_after, is_limit, advance, times, run}
 use Rattle.bsp_run.specs.Inside.Opening.{CanOpen}
-use Rattle.bsp_run.specs.Condition.{IsInPhase, IsAtLimit, IsRun, AreOutcomesOf, is_open, is_turned}
+use Rattle.bsp_run.specs.Condition.{IsInPhase, IsAtLimit, IsRun, AreOutcomesOf, is_open, is_turned, is_ended}
 use Rattle.bsp_run.specs.Inside.Condition.{CanSync}
-use Rattle.bsp_run.specs.Result.{status_in, status_of, memories_of, lines_of, lines_of_process, delivered_turns, turns_in, costs_of, cost_of_delivery, cost_of_end, total_of, result_of}
-use Rattle.bsp_run.specs.Inside.Tape.{IsSmall}
+use Rattle.bsp_run.specs.Result.{status_in, status_of, memories_of, lines_of, lines_of_process, costs_of, cost_of_delivery, cost_of_end, total_of, result_of, IsSmall}
 use Rattle.bsp_run.specs.Inside.Unrecorded.{lines_and, state_after}
 use Rattle.bsp_run.specs.Inside.IsUnrecorded.{IsUnrecorded}
 use Rattle.bsp_run.proofs.Conditions.{count_of_outcomes, AreDeliverable-from_turns, pops_are_slots}
+use Rattle.bsp_run.proofs.Laws.{supersteps-limit, outcomes-last, outcomes-ended}
 use Rattle.bsp_run.proofs.Opens.{start_is_run, state_seen-views_of}
 use Rattle.std.proofs.lemmas.Bool.Decides.{nat_tests}
 use Rattle.bsp_run.proofs.Phases.{turned_is_run, is_turned_run, next_is_run, can_sync, can_open_next, count-next_state, state_of-deliveries, end_of-limit}
@@ -146,7 +148,7 @@ lines_more n turns os lines e =
     ∙ ap (λ (xs : List (List ℕ)). lines_of_process turns k ++ xs) (sym (one_turn os k))
     ∙ sym (flat_map-append (λ (us : List OutcomeParts). (outcome_of us k).lines) turns (os ∷ [])))
 
-costs_more : (price : List OutcomeParts → CostRow) (past : List Superstep) (vs : List ViewParts) (os : List OutcomeParts) → map price (map (λ (s : Superstep). s.outcomes) past) ++ price os ∷ [] ≡ map price (map (λ (s : Superstep). s.outcomes) (past ++ record { views = vs; outcomes = os } ∷ []))
+costs_more : (price : List OutcomeParts → CostRow) (past : List Superstep) (vs : List ViewParts) (os : List OutcomeParts) → map price (outcomes_of past) ++ price os ∷ [] ≡ map price (outcomes_of (past ++ record { views = vs; outcomes = os } ∷ []))
 costs_more price past vs os =
     let of : Superstep → List OutcomeParts = λ s. s.outcomes in
     sym (ap (map price) (map-append of past (record { views = vs; outcomes = os } ∷ [])) ∙ map-append price (map of past) (os ∷ []))
@@ -169,37 +171,40 @@ unrecorded_delivered input r os old new step h turns next es ea ev et eg el ec s
       views = ev ∙ ap (λ (a : List (List ℕ)). views_of a step (state_after old.table old.tag_size os)) h.args ∙ ap (views_of r.args step) state ∙ ap (λ n. views_of r.args n (next_state r.state os)) (es ∙ sym (length-append r.past one));
       table = et ∙ ap (λ (s : State). s.table) state;
       tag_size = eg ∙ ap (λ (s : State). s.tag_size) state;
-      lines = el ∙ lines_more (length r.state.memories) (delivered_turns r) os old.lines.items h.lines
-          ∙ ap (λ n. each_below n (lines_of_process (delivered_turns r ++ os ∷ []))) (sym (count-next_state r.args (length r.past) r.state os turns))
+      lines = el ∙ lines_more (length r.state.memories) (outcomes_of r.past) os old.lines.items h.lines
+          ∙ ap (λ n. each_below n (lines_of_process (outcomes_of r.past ++ os ∷ []))) (sym (count-next_state r.args (length r.past) r.state os turns))
           ∙ ap (λ (us : List (List OutcomeParts)). each_below (length (next_state r.state os).memories) (lines_of_process us)) (sym (map-append of r.past one));
       costs = ec ∙ ap (λ (rows : List CostRow). rows ++ cost_of_delivery input.g input.l os ∷ []) h.costs
-          ∙ ap (λ g. map (cost_of_delivery r.g r.l) (delivered_turns r) ++ cost_of_delivery g input.l os ∷ []) (sym h.g)
-          ∙ ap (λ l. map (cost_of_delivery r.g r.l) (delivered_turns r) ++ cost_of_delivery r.g l os ∷ []) (sym h.l)
+          ∙ ap (λ g. map (cost_of_delivery r.g r.l) (outcomes_of r.past) ++ cost_of_delivery g input.l os ∷ []) (sym h.g)
+          ∙ ap (λ l. map (cost_of_delivery r.g r.l) (outcomes_of r.past) ++ cost_of_delivery r.g l os ∷ []) (sym h.l)
           ∙ costs_more (cost_of_delivery r.g r.l) r.past (open_views r) os;
       small = small;
     }
 
-pub result_is : (r : Run) (status : Status) (lines : List (List (List ℕ))) (costs : List CostRow) → r.phase ≡ Ended status → is_limit (Ended status) ≡ false → lines ≡ each_below (length r.state.memories) (lines_of_process (delivered_turns r ++ r.outcomes ∷ []))
-    → costs ≡ map (cost_of_delivery r.g r.l) (delivered_turns r) ++ cost_of_end r.outcomes ∷ [] → record { status = status; memories = map (λ (o : OutcomeParts). o.memory) r.outcomes; lines = lines; costs = costs; total = total_of costs } ≡ result_of r
+pub result_is : (r : Run) (status : Status) (lines : List (List (List ℕ))) (costs : List CostRow) → r.phase ≡ Ended status → is_limit (Ended status) ≡ false → lines ≡ each_below (length r.state.memories) (lines_of_process (outcomes_of r.past ++ r.outcomes ∷ []))
+    → costs ≡ map (cost_of_delivery r.g r.l) (outcomes_of r.past) ++ cost_of_end r.outcomes ∷ [] → record { status = status; memories = map (λ (o : OutcomeParts). o.memory) r.outcomes; lines = lines; costs = costs; total = total_of costs } ≡ result_of r
 unfolding result_of lines_of costs_of
 result_is r status lines costs e n el ec =
     let off : is_limit r.phase ≡ false = ap is_limit e ∙ n in
     let st : status ≡ status_of r = sym (ap status_in e) in
     let ms : map (λ (o : OutcomeParts). o.memory) r.outcomes ≡ memories_of r = ap (λ b. cond b r.state.memories (map (λ (o : OutcomeParts). o.memory) r.outcomes)) (sym off) in
-    let ls = el ∙ ap (λ b. each_below (length r.state.memories) (lines_of_process (delivered_turns r ++ turns_in (cond b None (Some r.outcomes))))) (sym off) in
-    let cs = ec ∙ ap (λ b. map (cost_of_delivery r.g r.l) (delivered_turns r) ++ map cost_of_end (turns_in (cond b None (Some r.outcomes)))) (sym off) in
+    let turns : outcomes_of r.past ++ r.outcomes ∷ [] ≡ outcomes_of (supersteps_of r) = sym (outcomes-ended r (ap is_ended e) ∙ ap (λ b. outcomes_of r.past ++ option_to_list (cond b None (Some r.outcomes))) off) in
+    let last : r.outcomes ∷ [] ≡ outcomes_of (last_superstep r) = sym (outcomes-last r (ap is_ended e) ∙ ap (λ b. option_to_list (cond b None (Some r.outcomes))) off) in
+    let ls = el ∙ ap (λ (os : List (List OutcomeParts)). each_below (length r.state.memories) (lines_of_process os)) turns in
+    let cs = ec ∙ ap (λ (os : List (List OutcomeParts)). map (cost_of_delivery r.g r.l) (outcomes_of r.past) ++ map cost_of_end os) last in
     λ i. record { status = st i; memories = ms i; lines = ls i; costs = cs i; total = total_of (cs i) }
 
-pub limit_result_is : (r : Run) (memories : List (List ℕ)) (lines : List (List (List ℕ))) (costs : List CostRow) → r.phase ≡ Ended Limit → memories ≡ r.state.memories → lines ≡ each_below (length r.state.memories) (lines_of_process (delivered_turns r))
-    → costs ≡ map (cost_of_delivery r.g r.l) (delivered_turns r) → record { status = Limit; memories = memories; lines = lines; costs = costs; total = total_of costs } ≡ result_of r
+pub limit_result_is : (r : Run) (memories : List (List ℕ)) (lines : List (List (List ℕ))) (costs : List CostRow) → r.phase ≡ Ended Limit → memories ≡ r.state.memories → lines ≡ each_below (length r.state.memories) (lines_of_process (outcomes_of r.past))
+    → costs ≡ map (cost_of_delivery r.g r.l) (outcomes_of r.past) → record { status = Limit; memories = memories; lines = lines; costs = costs; total = total_of costs } ≡ result_of r
 unfolding result_of lines_of costs_of
 limit_result_is r memories lines costs e em el ec =
     let on : is_limit r.phase ≡ true = ap is_limit e in
     let st : Limit ≡ status_of r = sym (ap status_in e) in
     let ms : memories ≡ memories_of r = em ∙ ap (λ b. cond b r.state.memories (map (λ (o : OutcomeParts). o.memory) r.outcomes)) (sym on) in
-    let ls = el ∙ ap (λ turns. each_below (length r.state.memories) (lines_of_process turns)) (sym (append-nil (delivered_turns r)))
-    ∙ ap (λ b. each_below (length r.state.memories) (lines_of_process (delivered_turns r ++ turns_in (cond b None (Some r.outcomes))))) (sym on) in
-    let cs = ec ∙ sym (append-nil (map (cost_of_delivery r.g r.l) (delivered_turns r))) ∙ ap (λ b. map (cost_of_delivery r.g r.l) (delivered_turns r) ++ map cost_of_end (turns_in (cond b None (Some r.outcomes)))) (sym on) in
+    let turns : outcomes_of r.past ≡ outcomes_of (supersteps_of r) = sym (ap outcomes_of (supersteps-limit r (ap is_ended e) on)) in
+    let last : [] ≡ outcomes_of (last_superstep r) = sym (outcomes-last r (ap is_ended e) ∙ ap (λ b. option_to_list (cond b None (Some r.outcomes))) on) in
+    let ls = el ∙ ap (λ (os : List (List OutcomeParts)). each_below (length r.state.memories) (lines_of_process os)) turns in
+    let cs = ec ∙ sym (append-nil (map (cost_of_delivery r.g r.l) (outcomes_of r.past))) ∙ ap (λ (os : List (List OutcomeParts)). map (cost_of_delivery r.g r.l) (outcomes_of r.past) ++ map cost_of_end os) last in
     λ i. record { status = st i; memories = ms i; lines = ls i; costs = cs i; total = total_of (cs i) }
 
 no_limit : (status : Status) (step : ℕ) (slots : List (List Area)) (os : List OutcomeParts) → end_of step slots os ≡ Some status → is_limit (Ended status) ≡ false
@@ -239,7 +244,7 @@ ended_parts : (r : Run) (os : List OutcomeParts) (status : Status) (kept : Unrec
     → record { status = status; memories = map (λ (o : OutcomeParts). o.memory) os; lines = lines_and kept.lines.items os; costs = kept.costs ++ cost_of_end os ∷ []; total = total_of (kept.costs ++ cost_of_end os ∷ []) } ≡ result_of (after_turns r os)
 unfolding after_turns
 ended_parts r os status kept input h e n =
-    result_is (after_turns r os) status (lines_and kept.lines.items os) (kept.costs ++ cost_of_end os ∷ []) e n (lines_more (length r.state.memories) (delivered_turns r) os kept.lines.items h.lines) (ap (λ (rows : List CostRow). rows ++ cost_of_end os ∷ []) h.costs)
+    result_is (after_turns r os) status (lines_and kept.lines.items os) (kept.costs ++ cost_of_end os ∷ []) e n (lines_more (length r.state.memories) (outcomes_of r.past) os kept.lines.items h.lines) (ap (λ (rows : List CostRow). rows ++ cost_of_end os ∷ []) h.costs)
 
 -- The next superstep has opened, or the limit is reached.
 pub underway_next : (turn : ViewParts → OutcomeParts) (input : Input) (m n : ℕ) (old new : Unrecorded) (os : List OutcomeParts) (u : IsUnderway turn input m old) → m ≡ suc n → os ≡ map turn (open_views u.so_far) → end_of (length (u.so_far).past) (u.so_far).state.table os ≡ None
@@ -286,7 +291,7 @@ result_at_limit turn input n kept u z =
 pub few_rows : (turn : ViewParts → OutcomeParts) (input : Input) (n : ℕ) (kept : Unrecorded) (u : IsUnderway turn input n kept) → length kept.costs ≡ length (u.so_far).past
 few_rows turn input n kept u =
     let r : Run = u.so_far in
-    ap (λ (rows : List CostRow). length rows) u.same.costs ∙ length-map (delivered_turns r) (cost_of_delivery r.g r.l) ∙ length-map r.past (λ (s : Superstep). s.outcomes)
+    ap (λ (rows : List CostRow). length rows) u.same.costs ∙ length-map (outcomes_of r.past) (cost_of_delivery r.g r.l) ∙ length-map r.past (λ (s : Superstep). s.outcomes)
 
 pub rows_at_limit : (turn : ViewParts → OutcomeParts) (input : Input) (n : ℕ) (kept : Unrecorded) (u : IsUnderway turn input n kept) → n ≡ 0 → length (u.so_far).past ≡ (u.so_far).limit
 rows_at_limit turn input n kept u z =

@@ -1,5 +1,5 @@
 -- What a whole run is, in the words of BSP: its states, one superstep after the other (Valiant 1990; Hill et al. 1998).
-use Rattle.std.specs.Prelude.{◌≡◌, ◌<◌, ◌≤◌, ◌↔◌, ℕ, ◌+◌, ◌-◌, zero, suc, List, [], map, length, Option, None, true, unwrap_or}
+use Rattle.std.specs.Prelude.{◌≡◌, ◌<◌, ◌≤◌, ◌↔◌, ℕ, ◌+◌, ◌-◌, zero, suc, List, [], map, length, Option, None, unwrap_or}
 use Rattle.bsp_model.specs.declared.input.Input.{Input}
 use Rattle.bsp_model.specs.Input.{input_fault}
 use Rattle.bsp_step.specs.ViewParts.{ViewParts}
@@ -7,11 +7,11 @@ use Rattle.bsp_step.specs.OutcomeParts.{OutcomeParts}
 use Rattle.bsp_run.specs.declared.result.Status.{Status}
 use Rattle.bsp_run.specs.declared.result.Status.TheVariants.{Limit}
 use Rattle.bsp_run.specs.declared.result.RunResult.{RunResult}
+use Rattle.bsp_run.specs.declared.phase.Phase.TheVariants.{Ended}
 use Rattle.bsp_run.specs.State.{State, first_state, next_state, views_of}
 use Rattle.bsp_run.specs.Ending.{end_of}
 use Rattle.bsp_run.specs.Run.{Run, run}
-use Rattle.bsp_run.specs.Condition.{is_ended}
-use Rattle.bsp_run.specs.Result.{status_of, result_of}
+use Rattle.bsp_run.specs.Result.{result_of}
 use Rattle.bsp_run.specs.Supersteps.{supersteps_of, superstep_at}
 
 -- The state of superstep s: that of the input, and then what each delivery makes of the turns before it.
@@ -46,14 +46,12 @@ pub record IsBspRun (turn : ViewParts → OutcomeParts) (input : Input) (r : Run
   pub outcomes : (s : ℕ) → s < length (supersteps_of r) → (superstep_at (supersteps_of r) s).outcomes ≡ outcomes_in turn input s
   -- no superstep but the last ends the run
   pub goes_on : (s : ℕ) → s + 1 < length (supersteps_of r) → end_in turn input s ≡ None
-  -- a last one that ends by fault, sync fault or halt gives that status; the status is Limit exactly where it ends by delivery, and then there are as many as the limit
-  pub ended : is_ended r.phase ≡ true
-  pub status : status_of r ≡ unwrap_or (end_in turn input (length (supersteps_of r) - 1)) Limit
-  pub delivered : (status_of r ≡ Limit) ↔ (end_in turn input (length (supersteps_of r) - 1) ≡ None)
-  pub cut : status_of r ≡ Limit → length (supersteps_of r) ≡ input.limit
+  -- the run has ended as the last one ends it, by fault, sync fault or halt; where that one ends by delivery, at the limit, and then there are as many as the limit
+  pub phase : r.phase ≡ Ended (unwrap_or (end_in turn input (length (supersteps_of r) - 1)) Limit)
+  pub cut : r.phase ≡ Ended Limit → length (supersteps_of r) ≡ input.limit
   -- the state at the end is that of the last superstep, or at the limit that of the one after it, of which no turn is taken
   pub state : r.state ≡ state_at turn input (length r.past)
-  pub untaken : status_of r ≡ Limit → r.outcomes ≡ []
+  pub untaken : r.phase ≡ Ended Limit → r.outcomes ≡ []
 
 -- What is given to the user of such a run.
 pub record IsBspResult (turn : ViewParts → OutcomeParts) (input : Input) (result : RunResult) : Type 0 where

@@ -3,7 +3,6 @@ pub mod Ending
 pub mod Run
 pub mod Result
 pub mod Condition
-pub mod Shown
 pub mod RunErrors
 pub mod Supersteps
 pub mod Law

@@ -1,31 +1,45 @@
 -- The record of a run, superstep by superstep.
-use Rattle.std.specs.Prelude.{ℕ, List, [], ◌∷◌, ◌++◌, slice_index_or}
-use Rattle.bsp_step.specs.ViewParts.{ViewParts}
-use Rattle.bsp_run.specs.declared.result.Status.TheVariants.{Halted, Limit, Faulted, SyncFaulted}
+use Rattle.std.specs.Prelude.{Bool, true, false, ℕ, ◌-◌, not, if◌then◌else◌, List, [], ◌∷◌, ◌++◌, map, length, slice_index_or}
+use Rattle.bsp_step.specs.OutcomeParts.{OutcomeParts}
 use Rattle.bsp_run.specs.declared.phase.Phase.{Phase}
 use Rattle.bsp_run.specs.declared.phase.Phase.TheVariants.{Open, Turned, Ended}
 use Rattle.bsp_run.specs.declared.superstep.Superstep.{Superstep}
-use Rattle.bsp_run.specs.Run.{Run, open_views}
-use Rattle.bsp_run.specs.Result.{all_views}
-use Rattle.bsp_run.specs.Shown.{no_superstep}
+use Rattle.bsp_run.specs.Run.{Run, open_views, is_limit}
 
--- the superstep that did not end by delivery, if its turns were taken
-abbrev pub last_superstep : Phase → Superstep → List Superstep
-last_superstep Open s = []
-last_superstep Turned s = s ∷ []
-last_superstep (Ended Limit) s = []
-last_superstep (Ended Halted) s = s ∷ []
-last_superstep (Ended (Faulted step faults)) s = s ∷ []
-last_superstep (Ended (SyncFaulted step fault)) s = s ∷ []
-
--- The supersteps of a run whose turns were taken, from superstep 0 on.
-abbrev pub supersteps_of : Run → List Superstep
-supersteps_of r = r.past ++ last_superstep r.phase record { views = open_views r; outcomes = r.outcomes }
+-- a superstep that there is not
+abbrev pub no_superstep : Superstep
+no_superstep = record { views = []; outcomes = [] }
 
 -- superstep s of these; one without views and outcomes, where there is none
 abbrev pub superstep_at : List Superstep → ℕ → Superstep
 superstep_at supersteps s = slice_index_or supersteps s no_superstep
 
--- the views of superstep s; none where there is no such superstep
-abbrev pub views_at : Run → ℕ → List ViewParts
-views_at r s = slice_index_or (all_views r) s []
+-- the outcomes of these supersteps, by superstep
+abbrev pub outcomes_of : List Superstep → List (List OutcomeParts)
+outcomes_of supersteps = map (λ s. s.outcomes) supersteps
+
+-- The superstep that is open, or that ended the run; at the limit the one after the last.
+abbrev pub open_superstep : Run → Superstep
+open_superstep r = record { views = open_views r; outcomes = r.outcomes }
+
+-- the turns of this superstep were taken
+abbrev pub has_turns : Phase → Bool
+has_turns Open = false
+has_turns Turned = true
+has_turns (Ended status) = not (is_limit (Ended status))
+
+-- The superstep whose turns were taken and that did not end by delivery, if there is one.
+abbrev pub last_superstep : Run → List Superstep
+last_superstep r = if has_turns r.phase then open_superstep r ∷ [] else []
+
+-- The supersteps whose turns were taken, from superstep 0 on.
+abbrev pub supersteps_of : Run → List Superstep
+supersteps_of r = r.past ++ last_superstep r
+
+-- The supersteps that were opened: also one whose turns were not taken.
+abbrev pub supersteps_opened : Run → List Superstep
+supersteps_opened r = r.past ++ open_superstep r ∷ []
+
+-- The superstep that a reader sees while the run is recorded: the open one; once the run has ended, the last one, which at the limit ended by delivery.
+abbrev pub superstep_shown : Run → Superstep
+superstep_shown r = if is_limit r.phase then superstep_at r.past (length r.past - 1) else open_superstep r

@@ -6,7 +6,7 @@ use Rattle.bsp_run.specs.State.{next_state, views_of}
 use Rattle.bsp_run.specs.Ending.{end_of}
 use Rattle.bsp_run.specs.Run.{Run, open_views}
 use Rattle.bsp_run.specs.Condition.{AreOutcomesOf}
-use Rattle.bsp_run.specs.Supersteps.{superstep_at, views_at}
+use Rattle.bsp_run.specs.Supersteps.{superstep_at, supersteps_opened}
 
 -- the outcomes of the other run in the open superstep of this one
 abbrev pub outcomes_there : Run → Run → List OutcomeParts
@@ -19,4 +19,5 @@ pub record CanTakeOver (other r : Run) : Type 0 where
   pub past : length r.past < length other.past
   pub turns : AreOutcomesOf (open_views r) (outcomes_there other r)
   pub delivers : end_of (length r.past) r.state.table (outcomes_there other r) ≡ None
-  pub next : views_at other (length r.past + 1) ≡ views_of r.args (length r.past + 1) (next_state r.state (outcomes_there other r))
+  pub next : (superstep_at (supersteps_opened other) (length r.past + 1)).views
+      ≡ views_of r.args (length r.past + 1) (next_state r.state (outcomes_there other r))

@@ -1,9 +1,8 @@
 //! The cost of a run.
 
-ghost use Rattle.std.specs.Prelude.{◌≡◌, ◌+◌, ◌*◌, ◌<◌, ◌≤◌, ◌^◌, ◌++◌, All, IfOk, length, map, option_map};
+ghost use Rattle.std.specs.Prelude.{◌≡◌, ◌+◌, ◌*◌, ◌<◌, ◌≤◌, ◌^◌, ◌++◌, All, IfOk, length, map, option_map, option_to_list};
 ghost use Rattle.bsp_deliver.specs.Condition.{AreDeliverable};
-ghost use Rattle.bsp_run.specs.Result.{largest_work, cost_of_delivery, cost_of_end, total_of, turns_in};
-ghost use Rattle.bsp_run.specs.Inside.Tape.{IsSmall};
+ghost use Rattle.bsp_run.specs.Result.{largest_work, cost_of_delivery, cost_of_end, total_of, IsSmall};
 
 use bsp_deliver::h_of;
 use bsp_model::limits::{HIGHEST_PRICE, MOST_SUPERSTEPS};
@@ -81,7 +80,7 @@ pub fn all_costs(
     last: Option<&[Shared<Outcome>]>,
 ) -> Result<SharedSeq<CostRow>, OutOfMemory>
     requires { All (λ row. row.cost < 2 ^ 50) past.now }
-    ensures rows { IfOk result (λ rows. rows ≡ past.now ++ map cost_of_end (turns_in (option_map (λ o. o.now) last.entry))) }
+    ensures rows { IfOk result (λ rows. rows ≡ past.now ++ map cost_of_end (option_to_list (option_map (λ o. o.now) last.entry))) }
     ensures small { IfOk result (λ rows. All (λ row. row.cost < 2 ^ 50) rows) }
 {
     let mut rows = past.to_vec(alloc)?;

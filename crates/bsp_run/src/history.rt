@@ -1,10 +1,10 @@
 //! A run that has ended.
 
-ghost use Rattle.std.specs.Prelude.{◌≡◌, IfOk, IfSome, map, slice_get, option_map, true, All};
+ghost use Rattle.std.specs.Prelude.{◌≡◌, IfOk, IfSome, length, map, slice_get, option_map, true, All};
 ghost use Rattle.bsp_deliver.specs.Condition.{AreDeliverable};
-ghost use Rattle.bsp_run.specs.Supersteps.{supersteps_of, superstep_at};
+ghost use Rattle.bsp_run.specs.Supersteps.{supersteps_of, supersteps_opened, outcomes_of};
 ghost use Rattle.bsp_run.specs.Condition.{is_ended};
-ghost use Rattle.bsp_run.specs.Result.{status_of, steps_of, memories_of, lines_of, costs_of, total_of, result_of, all_turns, all_views};
+ghost use Rattle.bsp_run.specs.Result.{status_of, memories_of, lines_of, costs_of, total_of, result_of};
 
 use crate::costs::{all_costs, total_of};
 use crate::keeping::{is_limit, last_turn};
@@ -124,7 +124,7 @@ impl History {
 
     /// The number of supersteps.
     pub fn steps(&self) -> usize
-        ensures { result ≡ steps_of self.now }
+        ensures { result ≡ length (supersteps_of self.now) }
     {
         let run = &self.run;
         if is_limit(&run.phase) {
@@ -166,17 +166,17 @@ pub(crate) fn memories_of_outcomes(
 impl History {
     /// The views of a superstep, by process; at `Limit` also of the superstep after the last.
     pub fn views(&self, step: u64) -> Option<&[Shared<View>]>
-        ensures { option_map (λ v. v.now) result ≡ slice_get (all_views self.now) step }
+        ensures { option_map (λ v. v.now) result ≡ slice_get (map (λ s. s.views) (supersteps_opened self.now)) step }
     {
-        match self.all_views(step) {
+        match self.kept_views(step) {
             Some(views) => Some(views.as_slice()),
             None => None,
         }
     }
 
     /// The same, as the list that is kept.
-    pub(crate) fn all_views(&self, step: u64) -> Option<&Views>
-        ensures { option_map (λ v. v.now) result ≡ slice_get (all_views self.now) step }
+    pub(crate) fn kept_views(&self, step: u64) -> Option<&Views>
+        ensures { option_map (λ v. v.now) result ≡ slice_get (map (λ s. s.views) (supersteps_opened self.now)) step }
     {
         let run = &self.run;
         match run.past.as_slice().get(step as usize) {
@@ -188,7 +188,7 @@ impl History {
 
     /// The outcomes of a superstep, by process.
     pub fn outcomes(&self, step: u64) -> Option<&[Shared<Outcome>]>
-        ensures outcomes { option_map (λ o. o.now) result ≡ slice_get (all_turns self.now) step }
+        ensures outcomes { option_map (λ o. o.now) result ≡ slice_get (outcomes_of (supersteps_of self.now)) step }
         ensures deliverable { IfSome result (λ o. AreDeliverable o.now) }
     {
         let run = &self.run;
@@ -208,30 +208,6 @@ impl History {
     {
         let run = &self.run;
         run.past.as_slice()
-    }
-
-    /// The views of superstep `step`; none where the run took no turns of such a superstep.
-    pub fn superstep_views(&self, step: usize) -> &[Shared<View>]
-        ensures { result.now ≡ (superstep_at (supersteps_of self.now) step).views }
-    {
-        let run = &self.run;
-        match run.past.as_slice().get(step) {
-            Some(superstep) => superstep.views.as_slice(),
-            None if step == run.past.len() && !is_limit(&run.phase) => run.views.as_slice(),
-            None => &[],
-        }
-    }
-
-    /// The outcomes of superstep `step`; none where the run took no turns of such a superstep.
-    pub fn superstep_outcomes(&self, step: usize) -> &[Shared<Outcome>]
-        ensures { result.now ≡ (superstep_at (supersteps_of self.now) step).outcomes }
-    {
-        let run = &self.run;
-        match run.past.as_slice().get(step) {
-            Some(superstep) => superstep.outcomes.as_slice(),
-            None if step == run.past.len() && !is_limit(&run.phase) => run.outcomes.as_slice(),
-            None => &[],
-        }
     }
 
     /// The memories of all processes.

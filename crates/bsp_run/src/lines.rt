@@ -1,8 +1,9 @@
 //! The lines of a run.
 
-ghost use Rattle.std.specs.Prelude.{◌≡◌, [], ◌+◌, ◌≤◌, ◌++◌, length, map, option_map, take, true, IfOk, OnOk};
+ghost use Rattle.std.specs.Prelude.{◌≡◌, [], ◌+◌, ◌≤◌, ◌++◌, length, option_map, option_to_list, take, true, IfOk, OnOk};
 ghost use Rattle.bsp_deliver.specs.Requests.{each_below, outcome_of};
-ghost use Rattle.bsp_run.specs.Result.{lines_of_process, turns_in};
+ghost use Rattle.bsp_run.specs.Supersteps.{outcomes_of};
+ghost use Rattle.bsp_run.specs.Result.{lines_of_process};
 ghost use Rattle.bsp_run.specs.Inside.Unrecorded.{lines_and};
 
 use crate::{Lines, Superstep};
@@ -68,7 +69,7 @@ pub fn no_lines(alloc: Global, nprocs: usize) -> Result<Vec<Lines>, OutOfMemory>
 
 /// The lines of a process in these supersteps.
 fn lines_of_past(alloc: Global, past: &[Superstep], pid: usize) -> Result<Lines, OutOfMemory>
-    ensures { IfOk result (λ lines. lines ≡ lines_of_process (map (λ s. s.outcomes) past.now) pid) }
+    ensures { IfOk result (λ lines. lines ≡ lines_of_process (outcomes_of past.now) pid) }
 {
     let mut lines = Seq::new(alloc);
     for superstep in past {
@@ -84,7 +85,7 @@ fn lines_of_run(
     last: Option<&[Shared<Outcome>]>,
     pid: usize,
 ) -> Result<Lines, OutOfMemory>
-    ensures { IfOk result (λ lines. lines ≡ lines_of_process (map (λ s. s.outcomes) past.now ++ turns_in (option_map (λ o. o.now) last.entry)) pid) }
+    ensures { IfOk result (λ lines. lines ≡ lines_of_process (outcomes_of past.now ++ option_to_list (option_map (λ o. o.now) last.entry)) pid) }
 {
     let mut lines = lines_of_past(alloc, past, pid)?;
     if let Some(outcomes) = last {
@@ -117,7 +118,7 @@ fn are_lines_of(
     last: Option<&[Shared<Outcome>]>,
     pid: usize,
 ) -> bool
-    ensures { result ≡ true → lines.now ≡ lines_of_process (map (λ s. s.outcomes) past.now ++ turns_in (option_map (λ o. o.now) last.entry)) pid }
+    ensures { result ≡ true → lines.now ≡ lines_of_process (outcomes_of past.now ++ option_to_list (option_map (λ o. o.now) last.entry)) pid }
 {
     let mut at = 0;
     for superstep in past {
@@ -144,7 +145,7 @@ fn shared_lines(
     last: Option<&[Shared<Outcome>]>,
     pid: usize,
 ) -> Result<Shared<Lines>, OutOfMemory>
-    ensures { IfOk result (λ lines. lines ≡ lines_of_process (map (λ s. s.outcomes) past.now ++ turns_in (option_map (λ o. o.now) last.entry)) pid) }
+    ensures { IfOk result (λ lines. lines ≡ lines_of_process (outcomes_of past.now ++ option_to_list (option_map (λ o. o.now) last.entry)) pid) }
 {
     if let Some(lines) = before {
         if are_lines_of(lines.as_slice(), past, last, pid) {
@@ -163,7 +164,7 @@ pub fn all_lines(
     last: Option<&[Shared<Outcome>]>,
     nprocs: usize,
 ) -> Result<SharedSeq<Shared<Lines>>, OutOfMemory>
-    ensures { IfOk result (λ all. all ≡ each_below nprocs (lines_of_process (map (λ s. s.outcomes) past.now ++ turns_in (option_map (λ o. o.now) last.entry)))) }
+    ensures { IfOk result (λ all. all ≡ each_below nprocs (lines_of_process (outcomes_of past.now ++ option_to_list (option_map (λ o. o.now) last.entry)))) }
 {
     let mut all = Vec::with_capacity(alloc, nprocs)?;
     for pid in 0..nprocs {

@@ -3,9 +3,8 @@
 ghost use Rattle.std.specs.Prelude.{◌≡◌, ◌≤◌, ◌<◌, IfOk, OnOk, OnErr, length};
 ghost use Rattle.bsp_deliver.specs.Cost.{h_relation};
 ghost use Rattle.bsp_run.specs.Run.{after_turns, after_delivery};
-ghost use Rattle.bsp_run.specs.Supersteps.{views_at};
-ghost use Rattle.bsp_run.specs.Result.{largest_work, cost_of_delivery};
-ghost use Rattle.bsp_run.specs.Inside.Tape.{IsSmall};
+ghost use Rattle.bsp_run.specs.Supersteps.{superstep_at, supersteps_opened};
+ghost use Rattle.bsp_run.specs.Result.{largest_work, cost_of_delivery, IsSmall};
 ghost use Rattle.bsp_run.specs.TakingOver.{CanTakeOver, outcomes_there};
 
 use crate::costs::cost_at;
@@ -17,9 +16,9 @@ use bsp_step::View;
 /// The list of what the processes see in a superstep.
 fn views_in(history: &History, step: usize) -> Result<Views, OutOfMemory>
     requires { step ≤ length history.now.past }
-    ensures { IfOk result (λ views. views ≡ views_at history.now step) }
+    ensures { IfOk result (λ views. views ≡ (superstep_at (supersteps_opened history.now) step).views) }
 {
-    match history.all_views(step as u64) {
+    match history.kept_views(step as u64) {
         Some(views) => views.copy(),
         None => unreachable!(),
     }

@@ -5,12 +5,11 @@ ghost use Rattle.bsp_model.specs.Input.{input_fault};
 ghost use Rattle.bsp_step.specs.ViewParts.{IsView};
 ghost use Rattle.bsp_deliver.specs.Condition.{AreDeliverable};
 ghost use Rattle.bsp_run.specs.Run.{start, after_turns, after_delivery, open_views};
-ghost use Rattle.bsp_run.specs.Shown.{views_shown, outcomes_shown};
+ghost use Rattle.bsp_run.specs.Supersteps.{superstep_shown};
 ghost use Rattle.bsp_run.specs.State.{next_state, view_of, views_of};
 ghost use Rattle.bsp_run.specs.Condition.{AreOutcomesOf, deliveries_of, is_turned, is_open};
 ghost use Rattle.bsp_run.specs.RunErrors.{input_fault_of};
-ghost use Rattle.bsp_run.specs.Result.{cost_of_delivery};
-ghost use Rattle.bsp_run.specs.Inside.Tape.{IsSmall};
+ghost use Rattle.bsp_run.specs.Result.{cost_of_delivery, IsSmall};
 
 use crate::costs::cost_of_delivery;
 use crate::ending::end_of;
@@ -102,7 +101,7 @@ impl Tape {
 
     /// The views of the open superstep, by process; once the run has ended, those of its last superstep. It takes no memory.
     pub fn views(&self) -> &[Shared<View>]
-        ensures views { result.now ≡ views_shown self.now }
+        ensures views { result.now ≡ (superstep_shown self.now).views }
         ensures limits { self.now.phase ≡ Phase.Open → All IsView result.now }
     {
         match &self.phase {
@@ -117,7 +116,7 @@ impl Tape {
     /// The outcomes of the open superstep, by process, once they are there; once the run has ended, those of its last superstep.
     /// It takes no memory.
     pub fn outcomes(&self) -> &[Shared<Outcome>]
-        ensures outcomes { result.now ≡ outcomes_shown self.now }
+        ensures outcomes { result.now ≡ (superstep_shown self.now).outcomes }
         ensures deliverable { self.now.phase ≡ Phase.Turned → AreDeliverable result.now }
     {
         match &self.phase {

@@ -7,7 +7,7 @@ use Rattle.bsp_run.specs.declared.result.Status.TheVariants.{Halted, Limit, Faul
 use Rattle.bsp_run.specs.declared.phase.Phase.{Phase}
 use Rattle.bsp_run.specs.declared.phase.Phase.TheVariants.{Open, Turned, Ended}
 use Rattle.bsp_run.specs.Run.{Run, is_limit}
-use Rattle.bsp_run.specs.Supersteps.{supersteps_of, views_at}
+use Rattle.bsp_run.specs.Supersteps.{supersteps_of, supersteps_opened, superstep_at}
 use Rattle.bsp_run.specs.Law.{state_at, views_in, end_in}
 
 -- how superstep s ended the run that is in this phase
@@ -26,7 +26,7 @@ pub record IsRecord (turn : ViewParts → OutcomeParts) (input : Input) (r : Run
   pub g : r.g ≡ input.g
   pub l : r.l ≡ input.l
   pub state : r.state ≡ state_at turn input (length r.past)
-  pub views : (s : ℕ) → s ≤ length r.past → views_at r s ≡ views_in turn input s
+  pub views : (s : ℕ) → s ≤ length r.past → (superstep_at (supersteps_opened r) s).views ≡ views_in turn input s
   pub turns : All (λ s. s.outcomes ≡ map turn s.views) (supersteps_of r)
   pub goes_on : (s : ℕ) → s < length r.past → end_in turn input s ≡ None
   pub room : is_limit r.phase ≡ false → length r.past < input.limit

@@ -1,10 +1,10 @@
 -- A run so far, from the fields of its tape.
-use Rattle.std.specs.Prelude.{◌≡◌, ◌<◌, ◌^◌, map, All}
-use Rattle.bsp_model.specs.declared.cost.CostRow.{CostRow}
+use Rattle.std.specs.Prelude.{◌≡◌, map, All}
 use Rattle.bsp_run.specs.declared.tape.Tape.TheInside.{Inside}
 use Rattle.bsp_run.specs.Run.{Run, open_views}
 use Rattle.bsp_run.specs.Condition.{IsRun}
-use Rattle.bsp_run.specs.Result.{delivered_turns, cost_of_delivery}
+use Rattle.bsp_run.specs.Supersteps.{outcomes_of}
+use Rattle.bsp_run.specs.Result.{cost_of_delivery, IsSmall}
 
 abbrev pub run_of : Inside → Run
 run_of t =
@@ -19,15 +19,9 @@ run_of t =
       phase = t.phase;
     }
 
--- a cost that can be added up
-pub record IsSmall (row : CostRow) : Type 0 where
-  pub work : row.work < 2 ^ 32
-  pub h : row.h < 2 ^ 29
-  pub cost : row.cost < 2 ^ 50
-
 -- the kept views are those of the state, and the kept costs those of the supersteps that ended by delivery
 pub record IsLawful (t : Inside) : Type 0 where
   pub views : t.views ≡ open_views (run_of t)
   pub run : IsRun (run_of t)
-  pub costs : t.costs.items ≡ map (cost_of_delivery t.g t.l) (delivered_turns (run_of t))
+  pub costs : t.costs.items ≡ map (cost_of_delivery t.g t.l) (outcomes_of t.past.items)
   pub small : All IsSmall t.costs.items

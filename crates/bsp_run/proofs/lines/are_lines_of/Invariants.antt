@@ -1,4 +1,5 @@
-use Rattle.std.proofs.Common.{◌≡◌, ◌≤◌, take, map, length}
+use Rattle.std.proofs.Common.{◌≡◌, ◌≤◌, take, length}
+use Rattle.bsp_run.specs.Supersteps.{outcomes_of}
 use Rattle.bsp_run.specs.Result.{lines_of_process}
 use Rattle.bsp_run.proofs.lines.are_lines_of.Given as goal
 
@@ -6,5 +7,5 @@ use Rattle.bsp_run.proofs.lines.are_lines_of.Given as goal
 abbrev pub invariant-loop-superstep : goal.invariant-loop-superstep
 invariant-loop-superstep l = record {
   inside : l.at ≤ length l.lines;
-  same : take l.at l.lines ≡ lines_of_process (map (λ s. s.outcomes) (take l.superstep-index l.past)) l.pid;
+  same : take l.at l.lines ≡ lines_of_process (outcomes_of (take l.superstep-index l.past)) l.pid;
 }

@@ -1,4 +1,4 @@
-use Rattle.std.proofs.Common.{◌≡◌, ◌∙◌, ap, sym, subst, length}
+use Rattle.std.proofs.Common.{◌∙◌, ap, sym, subst, length}
 use Rattle.bsp_run.specs.Run.{Run}
 use Rattle.bsp_run.specs.Result.{cost_of_delivery}
 use Rattle.bsp_run.specs.Inside.Tape.{run_of}

@@ -1,14 +1,11 @@
-use Rattle.std.proofs.Common.{◌≡◌, ◌<◌, ◌+◌, ◌*◌, ◌∙◌, ℕ, List, ap, sym, subst, length, arith}
-use Rattle.bsp_model.specs.declared.cost.CostRow.{CostRow}
-use Rattle.bsp_step.specs.OutcomeParts.{OutcomeParts}
-use Rattle.bsp_deliver.specs.Cost.{h_relation}
+use Rattle.std.proofs.Common.{◌≡◌, ◌<◌, ◌∙◌, List, ap, sym, subst, length, arith}
 use Rattle.bsp_run.specs.declared.superstep.Superstep.{Superstep}
 use Rattle.bsp_run.specs.Run.{Run}
-use Rattle.bsp_run.specs.Result.{largest_work, cost_of_delivery}
+use Rattle.bsp_run.specs.Result.{cost_of_delivery}
 use Rattle.bsp_run.specs.Supersteps.{superstep_at}
 use Rattle.bsp_run.specs.TakingOver.{outcomes_there}
-use Rattle.bsp_run.specs.Inside.Tape.{run_of, IsSmall}
-use Rattle.bsp_run.proofs.TakingOver.{row_is, row_for_each, same_cost}
+use Rattle.bsp_run.specs.Inside.Tape.{run_of}
+use Rattle.bsp_run.proofs.TakingOver.{row_is, same_cost}
 use Rattle.bsp_run.proofs.tape.Tape.cost_like.Goals as goal
 
 pub returns-clause-value : goal.returns-clause-value

@@ -4,8 +4,8 @@ use Rattle.bsp_step.specs.ViewParts.{ViewParts}
 use Rattle.bsp_run.specs.State.{State, views_of, next_state}
 use Rattle.bsp_run.specs.Inside.Opening.{state_of}
 use Rattle.bsp_run.specs.Run.{Run, after_delivery}
-use Rattle.bsp_run.specs.Inside.Tape.{run_of, IsSmall}
-use Rattle.bsp_run.specs.Result.{cost_of_delivery}
+use Rattle.bsp_run.specs.Inside.Tape.{run_of}
+use Rattle.bsp_run.specs.Result.{cost_of_delivery, IsSmall}
 use Rattle.bsp_run.proofs.KeptCosts.{costs_kept}
 use Rattle.bsp_run.specs.Condition.{IsRun, IsTurned, deliveries_of}
 use Rattle.bsp_run.specs.declared.phase.Phase.TheVariants.{Turned}

@@ -3,8 +3,7 @@ use Rattle.std.proofs.lemmas.List.Elements.{All-nil}
 use Rattle.bsp_model.proofs.Inputs.{lawful_input}
 use Rattle.bsp_step.specs.ViewParts.{ViewParts}
 use Rattle.bsp_run.specs.declared.superstep.Superstep.{Superstep}
-use Rattle.bsp_run.specs.Inside.Tape.{IsSmall}
-use Rattle.bsp_run.specs.Result.{cost_of_delivery}
+use Rattle.bsp_run.specs.Result.{cost_of_delivery, IsSmall}
 use Rattle.bsp_run.specs.Run.{open_views}
 use Rattle.bsp_run.specs.Condition.{IsRun}
 use Rattle.bsp_run.proofs.Opens.{opened_as, start_is_run}

@@ -5,22 +5,22 @@ use Rattle.bsp_run.specs.declared.superstep.Superstep.{Superstep}
 use Rattle.bsp_run.specs.Ending.{end_of}
 use Rattle.bsp_run.specs.State.{next_state, views_of}
 use Rattle.bsp_run.specs.Run.{Run, open_views, after_turns, after_delivery}
-use Rattle.bsp_run.specs.Result.{cost_of_delivery}
+use Rattle.bsp_run.specs.Result.{cost_of_delivery, IsSmall}
 use Rattle.bsp_run.specs.Condition.{IsRun, AreOutcomesOf}
-use Rattle.bsp_run.specs.Supersteps.{superstep_at, views_at}
+use Rattle.bsp_run.specs.Supersteps.{superstep_at, supersteps_opened}
 use Rattle.bsp_run.specs.TakingOver.{outcomes_there}
-use Rattle.bsp_run.specs.Inside.Tape.{run_of, IsSmall}
+use Rattle.bsp_run.specs.Inside.Tape.{run_of}
 use Rattle.bsp_run.proofs.KeptCosts.{costs_kept}
 use Rattle.bsp_run.proofs.TakingOver.{AreTaken, taken_is_run, taken_over, taken_views, first_taken, first_view, no_outcomes, superstep_is, row_is, row_for_each}
 use Rattle.bsp_run.proofs.Opens.{state_seen}
 use Rattle.bsp_run.proofs.tape.Tape.take_over.Goals as goal
 
 -- the list of the next views, in the words of the fields
-next_is : (r now other : Run) (step : ℕ) (views : List ViewParts) → r ≡ now → step ≡ length r.past → views ≡ views_at other (step + 1)
-    → views_at other (length now.past + 1) ≡ views_of now.args (length now.past + 1) (next_state now.state (outcomes_there other now)) → views ≡ views_of r.args (step + 1) (next_state r.state (outcomes_there other r))
+next_is : (r now other : Run) (step : ℕ) (views : List ViewParts) → r ≡ now → step ≡ length r.past → views ≡ (superstep_at (supersteps_opened other) (step + 1)).views
+    → (superstep_at (supersteps_opened other) (length now.past + 1)).views ≡ views_of now.args (length now.past + 1) (next_state now.state (outcomes_there other now)) → views ≡ views_of r.args (step + 1) (next_state r.state (outcomes_there other r))
 next_is r now other step views same steps is next =
-    is ∙ ap (λ n. views_at other (n + 1)) steps
-    ∙ subst (λ (x : Run). views_at other (length x.past + 1) ≡ views_of x.args (length x.past + 1) (next_state x.state (outcomes_there other x))) (sym same) next
+    is ∙ ap (λ n. (superstep_at (supersteps_opened other) (n + 1)).views) steps
+    ∙ subst (λ (x : Run). (superstep_at (supersteps_opened other) (length x.past + 1)).views ≡ views_of x.args (length x.past + 1) (next_state x.state (outcomes_there other x))) (sym same) next
     ∙ ap (λ n. views_of r.args (n + 1) (next_state r.state (outcomes_there other r))) (sym steps)
 
 pub bounds-as_slice-0 : goal.bounds-as_slice-0
