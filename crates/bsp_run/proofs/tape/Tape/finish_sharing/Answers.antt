@@ -1,4 +1,4 @@
-use Rattle.std.proofs.Common.{◌≡◌, ◌∙◌, ap, sym, length, map, List, ◌++◌, cond, Option, None, Some}
+use Rattle.std.proofs.Common.{◌≡◌, ◌∙◌, ap, sym, length, map, subst, List, ◌++◌, cond, Option, None, Some}
 use Rattle.std.specs.Prelude.{option_map}
 use Rattle.std.proofs.lemmas.List.{length-map}
 use Rattle.bsp_model.specs.declared.cost.CostRow.{CostRow}
@@ -8,7 +8,8 @@ use Rattle.bsp_deliver.specs.Requests.{each_below}
 use Rattle.bsp_run.specs.declared.superstep.Superstep.{Superstep}
 use Rattle.bsp_run.specs.Run.{Run, is_limit}
 use Rattle.bsp_run.specs.Inside.Tape.{run_of}
-use Rattle.bsp_run.specs.Result.{lines_of, lines_of_process, delivered_turns, costs_of, cost_of_delivery, cost_of_end, total_of, turns_in, last_turn}
+use Rattle.bsp_run.specs.Result.{lines_of, lines_of_process, delivered_turns, costs_of, cost_of_delivery, cost_of_end, total_of, turns_in, last_turn, all_turns}
+use Rattle.bsp_run.specs.Inside.Lines.{AreLinesUnlessMarked}
 use Rattle.bsp_run.proofs.tape.Tape.finish_sharing.Goals as goal
 
 last_is : (c : goal.After-total_of-total) → option_map (λ o. o.now) c.last_turn-last.result ≡ last_turn (run_of c.self.inside)
@@ -35,8 +36,19 @@ costs_are c =
 
 pub invariant_of-result : goal.invariant_of-result
 invariant_of-result c = record {
-  ended = c.requires;
+  ended = c.requires.ended;
   lines = lines_are c ∙ ap lines_of c.self.view_is;
   costs = costs_are c ∙ ap costs_of c.self.view_is;
   total = c.total_of-total.ensures ∙ ap total_of c.as_slice-3.ensures ∙ ap total_of (costs_are c ∙ ap costs_of c.self.view_is);
 }
+
+pub all_lines-requires : goal.all_lines-requires
+all_lines-requires c =
+    let r : Run = run_of c.self.inside in
+    let turns : List Superstep → Option (List OutcomeParts) → List (List OutcomeParts) = λ past last. map (λ (s : Superstep). s.outcomes) past ++ turns_in last in
+    let last : option_map (λ o. o.now) c.last_turn-last.result ≡ last_turn r = c.last_turn-last.ensures ∙ ap (λ (os : List OutcomeParts). cond (is_limit c.self.inside.phase) None (Some os)) c.as_slice.ensures in
+    subst (AreLinesUnlessMarked c.args.lines.now c.args.marks.now)
+    (sym
+    (ap (λ (past : List Superstep). turns past (option_map (λ o. o.now) c.last_turn-last.result)) c.as_slice-past.ensures.value
+    ∙ ap (turns r.past) last ∙ ap all_turns c.self.view_is))
+    c.requires.marks
