@@ -15,3 +15,4 @@ pub mod KeptCosts
 pub mod TakingOver
 pub mod UnrecordedRuns
 pub mod ViewsWithin
+pub mod SameLines

@@ -11,7 +11,7 @@ use Rattle.bsp_run.specs.declared.phase.Phase.{Phase}
 use Rattle.bsp_run.specs.declared.phase.Phase.TheVariants.{Open, Turned, Ended}
 use Rattle.bsp_run.specs.declared.superstep.Superstep.{Superstep}
 use Rattle.bsp_run.specs.Ending.{end_of}
-use Rattle.bsp_run.specs.Run.{Run, start, open_views, after_turns, after_delivery, phase_after, delivered_if, advanced_if, advance, times, is_limit}
+use Rattle.bsp_run.specs.Run.{Run, start, run, open_views, after_turns, after_delivery, phase_after, delivered_if, advanced_if, advance, times, is_limit}
 use Rattle.bsp_run.specs.Supersteps.{superstep_at, open_superstep, superstep_shown}
 use Rattle.bsp_run.specs.Condition.{is_turned, is_open, is_ended}
 
@@ -134,3 +134,54 @@ outcomes_shown-turned r h = ap (λ (x : Superstep). x.outcomes) (shown_if r.phas
 
 pub times_more : (turn : ViewParts → OutcomeParts) (m n : ℕ) (r : Run) → m ≡ suc n → times m (advance turn) r ≡ times n (advance turn) (advance turn r)
 times_more turn m n r e = ap (λ k. times k (advance turn) r) e
+
+-- a run that is not open stays as it is, however many supersteps are left
+pub times-closed : (turn : ViewParts → OutcomeParts) (n : ℕ) (r : Run) → is_open r.phase ≡ false → times n (advance turn) r ≡ r
+times-closed turn zero r h = refl
+times-closed turn (suc n) r h = ap (times n (advance turn)) (advance-closed turn r h) ∙ times-closed turn n r h
+
+-- Between supersteps: those that are left make the run that is whole.
+pub record LeadsTo (turn : ViewParts → OutcomeParts) (r whole : Run) : Type 0 where
+  pub left : ℕ
+  pub between : IsBetween left r
+  pub rest : times left (advance turn) r ≡ whole
+
+pub start-leads : (turn : ViewParts → OutcomeParts) (input : Input) → 1 ≤ input.limit → LeadsTo turn (start input) (run turn input)
+unfolding run
+start-leads turn input h = record { left = input.limit; between = start-between input h; rest = refl }
+
+-- one less is left of an open run
+one_less : (r : Run) (n : ℕ) → IsBetween n r → is_open r.phase ≡ true → n ≡ suc (n - 1)
+one_less r n h e = let w = h.left e in omega (arith, w.0)
+
+one_step : (turn : ViewParts → OutcomeParts) (r : Run) (n : ℕ) → IsBetween n r → is_open r.phase ≡ true → IsBetween (n - 1) (advance turn r)
+one_step turn r n h e = advance-between turn (n - 1) r (subst (λ m. IsBetween m r) (one_less r n h e) h)
+
+pub advance-leads : (turn : ViewParts → OutcomeParts) (r whole : Run) → LeadsTo turn r whole → is_open r.phase ≡ true → LeadsTo turn (advance turn r) whole
+advance-leads turn r whole h e =
+    let less : h.left ≡ suc (h.left - 1) = one_less r h.left h.between e in
+    record {
+      left = h.left - 1;
+      between = one_step turn r h.left h.between e;
+      rest = sym (times_more turn h.left (h.left - 1) r less) ∙ h.rest;
+    }
+
+-- how many supersteps are left to the limit; none where the run is not open
+abbrev pub supersteps_left : Run → ℕ
+supersteps_left r = cond (is_open r.phase) (r.limit - length r.past) 0
+
+left_by : (b : Bool) (n : ℕ) (r : Run) → IsBetween n r → is_open r.phase ≡ b → supersteps_left r ≤ n
+left_by true n r h e = let w = h.left e in let is : supersteps_left r ≡ r.limit - length r.past = ap (λ b. cond b (r.limit - length r.past) 0) e in omega (arith, w.1, is)
+left_by false n r h e = let is : supersteps_left r ≡ 0 = ap (λ b. cond b (r.limit - length r.past) 0) e in omega (arith, is)
+
+pub fewer_left : (turn : ViewParts → OutcomeParts) (r whole : Run) → LeadsTo turn r whole → is_open r.phase ≡ true → supersteps_left (advance turn r) < supersteps_left r
+fewer_left turn r whole h e =
+    let next = one_step turn r h.left h.between e in
+    let later : supersteps_left (advance turn r) ≤ h.left - 1 = left_by (is_open (advance turn r).phase) (h.left - 1) (advance turn r) next refl in
+    let w = h.between.left e in
+    let is : supersteps_left r ≡ r.limit - length r.past = ap (λ b. cond b (r.limit - length r.past) 0) e in
+    omega (arith, later, w.0, w.1, is)
+
+-- A run that leads to another, and is not open, has ended, and is the other.
+pub closed-leads : (turn : ViewParts → OutcomeParts) (r whole : Run) → LeadsTo turn r whole → is_open r.phase ≡ false → (is_ended r.phase ≡ true) × (r ≡ whole)
+closed-leads turn r whole h e = (ended_otherwise r.phase e h.between.between, sym (times-closed turn h.left r e) ∙ h.rest)

@@ -5,3 +5,4 @@ pub mod Record
 pub mod Unrecorded
 pub mod IsUnrecorded
 pub mod Condition
+pub mod Lines

@@ -9,3 +9,4 @@ pub mod Law
 pub mod Inside
 pub mod Shares
 pub mod TakingOver
+pub mod SameLines

@@ -4,6 +4,8 @@ ghost use Rattle.std.specs.Prelude.{◌≡◌, IfOk, IfSome, length, map, slice_
 ghost use Rattle.bsp_deliver.specs.Condition.{AreDeliverable};
 ghost use Rattle.bsp_run.specs.Supersteps.{supersteps_of, supersteps_opened, outcomes_of};
 ghost use Rattle.bsp_run.specs.Condition.{is_ended};
+ghost use Rattle.bsp_run.specs.SameLines.{LinesDifferAtMost};
+ghost use Rattle.bsp_run.specs.Inside.Lines.{AreLinesUnlessMarked};
 ghost use Rattle.bsp_run.specs.Result.{status_of, memories_of, lines_of, costs_of, total_of, result_of};
 
 use crate::costs::{all_costs, total_of};
@@ -36,33 +38,53 @@ impl Model for History {
     ghost invariant = { IsLawful };
 }
 
+/// Whether two runs that have ended have as many supersteps.
+fn have_as_many(run: &Tape, other: &Tape) -> bool
+    requires ended { is_ended run.now.phase ≡ true }
+    requires other { is_ended other.now.phase ≡ true }
+    ensures { result ≡ true → length (supersteps_of other.now) ≡ length (supersteps_of run.now) }
+{
+    run.past.len() == other.past.len() && is_limit(&run.phase) == is_limit(&other.phase)
+}
+
 impl Tape {
     /// The history of a run that has ended, or `OutOfMemory`.
     pub fn finish(self) -> Result<History, OutOfMemory>
         requires { is_ended self.phase ≡ true }
         ensures { IfOk result (λ history. history ≡ self) }
     {
-        Ok(self.finish_sharing(&[])?)
+        Ok(self.finish_sharing(&SharedSeq::new(), &[])?)
     }
 
-    /// The history of a run that has ended, or `OutOfMemory`. It shares the lines of each process that are the same in another history.
-    pub fn finish_like(self, history: &History) -> Result<History, OutOfMemory>
-        requires { is_ended self.phase ≡ true }
+    /// The history of a run that has ended, or `OutOfMemory`. It shares the lines of each process that are the same in another history. Those of a
+    /// process that is not marked are not looked at, where both runs have as many supersteps.
+    pub fn finish_like(self, other: &History, marks: &[bool]) -> Result<History, OutOfMemory>
+        requires ended { is_ended self.phase ≡ true }
+        requires marks { LinesDifferAtMost other.now self marks.now }
         ensures { IfOk result (λ history. history ≡ self) }
     {
-        let lines = &history.lines;
-        Ok(self.finish_sharing(lines.as_slice())?)
+        let marks = if have_as_many(&self, &other.run) {
+            marks
+        } else {
+            &[]
+        };
+        Ok(self.finish_sharing(&other.lines, marks)?)
     }
 
-    /// The history of a run that has ended. It shares those of these lines that are the same.
-    fn finish_sharing(self, lines: &[Shared<Lines>]) -> Result<History, OutOfMemory>
-        requires { is_ended self.phase ≡ true }
+    /// The history of a run that has ended. It shares those of these lines that are the same, as those of a process that is not marked are.
+    fn finish_sharing(
+        self,
+        lines: &SharedSeq<Shared<Lines>>,
+        marks: &[bool],
+    ) -> Result<History, OutOfMemory>
+        requires ended { is_ended self.phase ≡ true }
+        requires marks { AreLinesUnlessMarked lines.now marks.now (outcomes_of (supersteps_of self)) }
         ensures { IfOk result (λ history. history ≡ self) }
     {
         let alloc = *self.past.allocator();
         let past = self.past.as_slice();
         let last = last_turn(&self.phase, self.outcomes.as_slice());
-        let lines = all_lines(alloc, lines, past, last, self.views.len())?;
+        let lines = all_lines(alloc, lines, marks, past, last, self.views.len())?;
         let costs = all_costs(alloc, self.costs.as_slice(), last)?;
         let total = total_of(costs.as_slice());
         Ok(History {

@@ -1,10 +1,11 @@
 //! The lines of a run.
 
-ghost use Rattle.std.specs.Prelude.{◌≡◌, [], ◌+◌, ◌≤◌, ◌++◌, length, option_map, option_to_list, take, true, IfOk, OnOk};
+ghost use Rattle.std.specs.Prelude.{◌≡◌, ℕ, [], ◌+◌, ◌≤◌, ◌<◌, ◌++◌, length, option_map, option_to_list, slice_index_or, take, true, false, IfOk, OnOk};
 ghost use Rattle.bsp_deliver.specs.Requests.{each_below, outcome_of};
 ghost use Rattle.bsp_run.specs.Supersteps.{outcomes_of};
 ghost use Rattle.bsp_run.specs.Result.{lines_of_process};
 ghost use Rattle.bsp_run.specs.Inside.Unrecorded.{lines_and};
+ghost use Rattle.bsp_run.specs.Inside.Lines.{AreLinesUnlessMarked};
 
 use crate::{Lines, Superstep};
 use bsp_model::{OutOfMemory, Same, Seq, Shared, SharedSeq, TryCopy, Words};
@@ -137,38 +138,68 @@ fn are_lines_of(
     }
 }
 
-/// The lines of a process: those of another run, which it shares, if they are the same.
+/// Whether a process is marked; one that has no mark is.
+fn is_marked(marks: &[bool], pid: usize) -> bool
+    ensures { result ≡ slice_index_or marks.now pid true }
+{
+    match marks.get(pid) {
+        Some(mark) => *mark,
+        None => true,
+    }
+}
+
+/// Whether none of so many processes is marked.
+fn is_none_marked(marks: &[bool], nprocs: usize) -> bool
+    ensures { result ≡ true → (p : ℕ) → p < nprocs → slice_index_or marks.now p true ≡ false }
+{
+    for pid in 0..nprocs {
+        if is_marked(marks, pid) {
+            return false;
+        }
+    }
+    true
+}
+
+/// The lines of a process: those of another run, which it shares, if they are the same. They are not looked at where it is not marked.
 fn shared_lines(
     alloc: Global,
-    before: Option<&Shared<Lines>>,
+    before: &[Shared<Lines>],
+    marks: &[bool],
     past: &[Superstep],
     last: Option<&[Shared<Outcome>]>,
     pid: usize,
 ) -> Result<Shared<Lines>, OutOfMemory>
+    requires { AreLinesUnlessMarked before.now marks.now (outcomes_of past.now ++ option_to_list (option_map (λ o. o.now) last)) }
     ensures { IfOk result (λ lines. lines ≡ lines_of_process (outcomes_of past.now ++ option_to_list (option_map (λ o. o.now) last.entry)) pid) }
 {
-    if let Some(lines) = before {
-        if are_lines_of(lines.as_slice(), past, last, pid) {
+    if let Some(lines) = before.get(pid) {
+        if !is_marked(marks, pid) || are_lines_of(lines.as_slice(), past, last, pid) {
             return lines.copy();
         }
     }
     Ok(Shared::new(alloc, lines_of_run(alloc, past, last, pid)?)?)
 }
 
-/// The lines of each process. Those that are the same as in `before` are shared.
+/// The lines of each process. Those that are the same as in `before` are shared, as those of a process that is not marked are.
 #[tactic(auto, using(crate::proofs::Lists::each_below_more))]
 pub fn all_lines(
     alloc: Global,
-    before: &[Shared<Lines>],
+    before: &SharedSeq<Shared<Lines>>,
+    marks: &[bool],
     past: &[Superstep],
     last: Option<&[Shared<Outcome>]>,
     nprocs: usize,
 ) -> Result<SharedSeq<Shared<Lines>>, OutOfMemory>
+    requires { AreLinesUnlessMarked before.now marks.now (outcomes_of past.now ++ option_to_list (option_map (λ o. o.now) last)) }
     ensures { IfOk result (λ all. all ≡ each_below nprocs (lines_of_process (outcomes_of past.now ++ option_to_list (option_map (λ o. o.now) last.entry)))) }
 {
+    if before.len() == nprocs && is_none_marked(marks, nprocs) {
+        return before.copy();
+    }
+    let before = before.as_slice();
     let mut all = Vec::with_capacity(alloc, nprocs)?;
     for pid in 0..nprocs {
-        all.push(shared_lines(alloc, before.get(pid), past, last, pid)?)?;
+        all.push(shared_lines(alloc, before, marks, past, last, pid)?)?;
     }
     Ok(SharedSeq::from_vec(all)?)
 }

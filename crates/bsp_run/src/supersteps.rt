@@ -1,12 +1,12 @@
 //! A run, superstep by superstep, whoever takes its turns and makes its deliveries.
 
-ghost use Rattle.std.specs.Prelude.{◌≡◌, ◌<◌, All, None, IfOk, IfErr, OnOk, length, false};
+ghost use Rattle.std.specs.Prelude.{◌≡◌, ◌<◌, All, None, IfOk, IfErr, OnOk, length, true};
 ghost use Rattle.std.specs.List.{range_with_len};
 ghost use Rattle.bsp_model.specs.Input.{input_fault};
 ghost use Rattle.bsp_step.specs.Turn.{turn_of};
 ghost use Rattle.bsp_deliver.specs.Condition.{AreDeliverable, IsAscending};
 ghost use Rattle.bsp_run.specs.Run.{advance, run};
-ghost use Rattle.bsp_run.specs.Condition.{is_turned};
+ghost use Rattle.bsp_run.specs.Condition.{is_open};
 ghost use Rattle.bsp_run.specs.Shares.{turns_of, deliveries_to};
 ghost use Rattle.bsp_run.specs.Law.{IsBspRun};
 ghost use Rattle.bsp_run.specs.RunErrors.{input_fault_of};
@@ -28,13 +28,13 @@ pub fn numbers(alloc: Global, count: usize) -> Result<Vec<usize>, OutOfMemory>
     Ok(numbers)
 }
 
-/// One superstep more, if the run has not ended: its turns and, where it ends by delivery, its deliveries.
+/// One superstep more of a run that has not ended: its turns and, where it ends by delivery, its deliveries.
 fn advance<
     P: Program,
     T: Fn(&P, &[Shared<View>], &[usize]) -> Result<Vec<Shared<Outcome>>, OutOfMemory>,
     D: Fn(&[Shared<Outcome>], &[usize]) -> Result<Vec<(Memory, Queue)>, OutOfMemory>,
 >(alloc: Global, program: &P, turns: &T, deliveries: &D, tape: &mut Tape) -> Result<(), OutOfMemory>
-    requires between { is_turned tape.old.phase ≡ false }
+    requires open { is_open tape.old.phase ≡ true }
     requires turn { (p : _) (views : _) (ps : _) → All (λ k. k < length views.now) ps.now → T.pre turns.now p views ps }
     requires turns { (p : _) (views : _) (ps : _) (r : _) → T.post turns.now p views ps r
         → IfOk r (λ all. all.items ≡ turns_of (turn_of (P.acts p.now) (P.ending p.now)) views.now ps.now) }
@@ -43,9 +43,6 @@ fn advance<
         → IfOk r (λ all. all.items ≡ deliveries_to os.now ds.now) }
     ensures { OnOk result (tape.new ≡ advance (turn_of (P.acts program.now) (P.ending program.now)) tape.old) }
 {
-    if !tape.is_open() {
-        return Ok(());
-    }
     let views = tape.views();
     let processes = numbers(alloc, views.len())?;
     let outcomes = turns(program, views, processes.as_slice())?;
@@ -76,8 +73,7 @@ pub(crate) fn run_by<
     ensures input { IfErr result (λ e. input_fault input.now ≡ input_fault_of e) }
 {
     let mut tape = Tape::open(alloc, input)?;
-    // Once the run has ended, `advance` leaves it as it is.
-    for _step in 0..input.limit {
+    while tape.is_open() {
         advance(alloc, program, turns, deliveries, &mut tape)?;
     }
     Ok(tape.finish()?)

@@ -6,14 +6,10 @@ use Rattle.bsp_run.specs.Run.{Run, after_turns, after_delivery}
 use Rattle.bsp_run.specs.Condition.{is_turned, deliveries_of}
 use Rattle.bsp_deliver.specs.Condition.{IsAscending}
 use Rattle.bsp_run.proofs.Lists.{range_ascending, range_below}
-use Rattle.bsp_run.proofs.Runs.{open_phase, turned_phase_is, advance-closed, advance-delivers, advance-ends}
+use Rattle.bsp_run.proofs.Runs.{open_phase, turned_phase_is, advance-delivers, advance-ends}
 use Rattle.bsp_run.proofs.Shares.{turns_made, outcomes_made, deliveries_made}
 use Rattle.bsp_run.proofs.supersteps.advance.Goals as goal
 use Rattle.bsp_run.proofs.supersteps.advance.Goals.{then-delivers+in_ok-cells+in_ok-delivered, else-delivers}
-
-pub returns-then-not-is_open : goal.returns-then-not-is_open
-returns-then-not-is_open g c =
-    sym (advance-closed (turn_of (g.P.Program.acts c.args.program.now) (g.P.Program.ending c.args.program.now)) c.args.tape.now (sym c.if-not-is_open.ensures))
 
 pub turns-requires : goal.turns-requires
 turns-requires g c =
@@ -22,14 +18,14 @@ turns-requires g c =
 
 pub turned-requires-clause-turns : goal.turned-requires-clause-turns
 turned-requires-clause-turns g c =
-    let h = sym c.if-not-is_open.ensures in
+    let h = c.requires.open in
     (turns_made (g.P.Program.acts c.args.program.now) (g.P.Program.ending c.args.program.now) c.args.tape.now c.views-views.result.now c.as_slice.result.now c.in_ok-outcomes.outcomes.items h c.views-views.ensures.views
     (c.views-views.ensures.limits (open_phase c.args.tape.now.phase h)) (c.as_slice.ensures.value ∙ c.in_ok-processes.ensures) (c.requires.turns c.args.program c.views-views.result c.as_slice.result _ c.in_ok-outcomes.ensures)).outcomes
 
 pub deliveries-requires : goal.deliveries-requires
 deliveries-requires g c =
     let delivers : is_turned c.turned.new.self.phase ≡ true = sym c.in_ok-delivers.ensures.answer ∙ c.if-delivers.true in
-    let h = sym c.if-not-is_open.ensures in
+    let h = c.requires.open in
     let made = turns_made (g.P.Program.acts c.args.program.now) (g.P.Program.ending c.args.program.now) c.args.tape.now c.views-views.result.now c.as_slice.result.now c.in_ok-outcomes.outcomes.items h c.views-views.ensures.views
     (c.views-views.ensures.limits (open_phase c.args.tape.now.phase h)) (c.as_slice.ensures.value ∙ c.in_ok-processes.ensures) (c.requires.turns c.args.program c.views-views.result c.as_slice.result _ c.in_ok-outcomes.ensures) in
     let shown = outcomes_made c.args.tape.now c.turned.new.self c.in_ok-outcomes.outcomes.items c.outcomes.result.now c.in_ok-delivers.ensures.ok delivers c.outcomes.ensures.outcomes in
@@ -41,7 +37,7 @@ deliveries-requires g c =
 pub delivered-requires-clause-cells : goal.delivered-requires-clause-cells
 delivered-requires-clause-cells g c =
     let delivers : is_turned c.turned.new.self.phase ≡ true = sym c.in_ok-delivers.ensures.answer ∙ c.if-delivers.true in
-    let h = sym c.if-not-is_open.ensures in
+    let h = c.requires.open in
     let made = turns_made (g.P.Program.acts c.args.program.now) (g.P.Program.ending c.args.program.now) c.args.tape.now c.views-views.result.now c.as_slice.result.now c.in_ok-outcomes.outcomes.items h c.views-views.ensures.views
     (c.views-views.ensures.limits (open_phase c.args.tape.now.phase h)) (c.as_slice.ensures.value ∙ c.in_ok-processes.ensures) (c.requires.turns c.args.program c.views-views.result c.as_slice.result _ c.in_ok-outcomes.ensures) in
     let shown = outcomes_made c.args.tape.now c.turned.new.self c.in_ok-outcomes.outcomes.items c.outcomes.result.now c.in_ok-delivers.ensures.ok delivers c.outcomes.ensures.outcomes in
@@ -53,7 +49,7 @@ pub returns : goal.returns
 returns g c =
     let turn = turn_of (g.P.Program.acts c.args.program.now) (g.P.Program.ending c.args.program.now) in
     let r : Run = c.args.tape.now in
-    let h = sym c.if-not-is_open.ensures in
+    let h = c.requires.open in
     let made = turns_made (g.P.Program.acts c.args.program.now) (g.P.Program.ending c.args.program.now) r c.views-views.result.now c.as_slice.result.now c.in_ok-outcomes.outcomes.items h c.views-views.ensures.views
     (c.views-views.ensures.limits (open_phase r.phase h)) (c.as_slice.ensures.value ∙ c.in_ok-processes.ensures) (c.requires.turns c.args.program c.views-views.result c.as_slice.result _ c.in_ok-outcomes.ensures) in
     let turned = c.in_ok-delivers.ensures.ok ∙ ap (after_turns r) made.turns in

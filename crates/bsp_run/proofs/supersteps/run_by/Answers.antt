@@ -1,49 +1,48 @@
-use Rattle.std.proofs.Common.{◌≡◌, ◌+◌, ◌-◌, ◌∙◌, ℕ, suc, ap, sym, subst, arith}
+use Rattle.std.proofs.Common.{◌≡◌, ◌<◌, ◌∙◌, sym, subst, true, false}
 use Rattle.bsp_model.specs.declared.input.Input.{Input}
 use Rattle.bsp_model.proofs.Inputs.{lawful_input}
 use Rattle.bsp_step.specs.Turn.{turn_of}
-use Rattle.bsp_run.specs.Run.{Run, start, advance, times, run}
+use Rattle.bsp_run.specs.Run.{Run, run}
+use Rattle.bsp_run.specs.Condition.{is_open}
 use Rattle.bsp_run.specs.Law.{IsBspRun}
-use Rattle.bsp_run.proofs.Runs.{IsBetween, start-between, advance-between, ended-between, times_more}
+use Rattle.bsp_run.proofs.Runs.{LeadsTo, supersteps_left, start-leads, advance-leads, fewer_left, closed-leads}
 use Rattle.bsp_run.proofs.Laws.{IsBspRun-run}
 use Rattle.bsp_run.proofs.supersteps.run_by.Goals as goal
 
-pub loop-step-init : goal.loop-step-init
-unfolding run
-loop-step-init g c =
-    let f = advance (turn_of (g.P.Program.acts c.args.program.now) (g.P.Program.ending c.args.program.now)) in
-    let input : Input = c.args.input.now in
-    let all : input.limit - 0 ≡ input.limit = omega arith in
-    let opened = c.in_ok-tape.ensures.ok.1 in
-    record {
-      rest = ap (λ n. times n f c.in_ok-tape.tape) all ∙ ap (times input.limit f) opened;
-      between = subst (IsBetween (input.limit - 0)) (sym opened) (subst (λ n. IsBetween n (start input)) (sym all) (start-between input (lawful_input input c.in_ok-tape.ensures.ok.0).some_superstep));
-    }
-
-pub advance-requires-clause-between : goal.advance-requires-clause-between
-advance-requires-clause-between g c = λ _ _. c.loop-step.invariant.between.between
-
-pub loop-step-preserved : goal.loop-step-preserved
-loop-step-preserved g c =
+pub loop-alloc-init : goal.loop-alloc-init
+loop-alloc-init g c =
     let turn = turn_of (g.P.Program.acts c.args.program.now) (g.P.Program.ending c.args.program.now) in
-    let limit : ℕ = c.args.input.now.limit in
-    let left : limit - c.loop-step._step ≡ suc (limit - (c.loop-step._step + 1)) = omega (arith, c.loop-step-test.true) in
-    let next : c.advance.new.tape ≡ advance turn c.loop-step.tape = c.in_ok-advance.ensures in
-    record {
-      rest = ap (times (limit - (c.loop-step._step + 1)) (advance turn)) next ∙ sym (times_more turn (limit - c.loop-step._step) (limit - (c.loop-step._step + 1)) c.loop-step.tape left) ∙ c.loop-step.invariant.rest;
-      between = subst (IsBetween (limit - (c.loop-step._step + 1))) (sym next) (advance-between turn (limit - (c.loop-step._step + 1)) c.loop-step.tape (subst (λ n. IsBetween n c.loop-step.tape) left c.loop-step.invariant.between));
-    }
+    let input : Input = c.args.input.now in
+    subst (λ (r : Run). LeadsTo turn r (run turn input)) (sym c.in_ok-tape.ensures.ok.1) (start-leads turn input (lawful_input input c.in_ok-tape.ensures.ok.0).some_superstep)
+
+pub advance-requires-clause-open : goal.advance-requires-clause-open
+advance-requires-clause-open g c = λ _ _. sym c.is_open.ensures ∙ c.loop-alloc-test.true
+
+pub loop-alloc-preserved : goal.loop-alloc-preserved
+loop-alloc-preserved g c =
+    let turn = turn_of (g.P.Program.acts c.args.program.now) (g.P.Program.ending c.args.program.now) in
+    let whole : Run = run turn c.args.input.now in
+    let open_now : is_open c.loop-alloc.tape.phase ≡ true = sym c.is_open.ensures ∙ c.loop-alloc-test.true in
+    subst (λ (r : Run). LeadsTo turn r whole) (sym c.in_ok-advance.ensures) (advance-leads turn c.loop-alloc.tape whole c.loop-alloc.invariant open_now)
+
+pub loop-alloc-smaller : goal.loop-alloc-smaller
+loop-alloc-smaller g c =
+    let turn = turn_of (g.P.Program.acts c.args.program.now) (g.P.Program.ending c.args.program.now) in
+    let whole : Run = run turn c.args.input.now in
+    let open_now : is_open c.loop-alloc.tape.phase ≡ true = sym c.is_open.ensures ∙ c.loop-alloc-test.true in
+    subst (λ (r : Run). supersteps_left r < supersteps_left c.loop-alloc.tape) (sym c.in_ok-advance.ensures) (fewer_left turn c.loop-alloc.tape whole c.loop-alloc.invariant open_now)
 
 pub finish-requires : goal.finish-requires
 finish-requires g c =
-    let none : c.args.input.now.limit - c.loop-step._step ≡ 0 = omega (arith, c.loop-step-test.false) in
-    ended-between c.loop-step.tape (subst (λ n. IsBetween n c.loop-step.tape) none c.loop-step.invariant.between)
+    let turn = turn_of (g.P.Program.acts c.args.program.now) (g.P.Program.ending c.args.program.now) in
+    let closed : is_open c.loop-alloc.tape.phase ≡ false = sym c.is_open.ensures ∙ c.loop-alloc-test.false in
+    (closed-leads turn c.loop-alloc.tape (run turn c.args.input.now) c.loop-alloc.invariant closed).0
 
 pub returns-clause-run : goal.returns-clause-run
 returns-clause-run g c =
-    let f = advance (turn_of (g.P.Program.acts c.args.program.now) (g.P.Program.ending c.args.program.now)) in
-    let none : c.args.input.now.limit - c.loop-step._step ≡ 0 = omega (arith, c.loop-step-test.false) in
-    c.in_ok-finish.ensures ∙ sym (ap (λ n. times n f c.loop-step.tape) none) ∙ c.loop-step.invariant.rest
+    let turn = turn_of (g.P.Program.acts c.args.program.now) (g.P.Program.ending c.args.program.now) in
+    let closed : is_open c.loop-alloc.tape.phase ≡ false = sym c.is_open.ensures ∙ c.loop-alloc-test.false in
+    c.in_ok-finish.ensures ∙ (closed-leads turn c.loop-alloc.tape (run turn c.args.input.now) c.loop-alloc.invariant closed).1
 
 pub returns-clause-law : goal.returns-clause-law
 returns-clause-law g c =

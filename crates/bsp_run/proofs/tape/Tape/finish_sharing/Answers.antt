@@ -1,4 +1,4 @@
-use Rattle.std.proofs.Common.{◌≡◌, ◌∙◌, ap, sym, length, map, List, ◌++◌, cond, Option, None, Some, true}
+use Rattle.std.proofs.Common.{◌≡◌, ◌∙◌, ap, sym, length, map, subst, List, ◌++◌, cond, Option, None, Some, true}
 use Rattle.std.specs.Prelude.{option_map, option_to_list}
 use Rattle.std.proofs.lemmas.List.{length-map}
 use Rattle.bsp_model.specs.declared.cost.CostRow.{CostRow}
@@ -7,10 +7,11 @@ use Rattle.bsp_step.specs.OutcomeParts.{OutcomeParts}
 use Rattle.bsp_deliver.specs.Requests.{each_below}
 use Rattle.bsp_run.specs.declared.superstep.Superstep.{Superstep}
 use Rattle.bsp_run.specs.Run.{Run, is_limit}
-use Rattle.bsp_run.specs.Supersteps.{outcomes_of}
+use Rattle.bsp_run.specs.Supersteps.{outcomes_of, supersteps_of}
 use Rattle.bsp_run.specs.Inside.Tape.{run_of}
 use Rattle.bsp_run.specs.Condition.{is_ended}
 use Rattle.bsp_run.specs.Result.{lines_of, lines_of_process, costs_of, cost_of_delivery, cost_of_end, total_of}
+use Rattle.bsp_run.specs.Inside.Lines.{AreLinesUnlessMarked}
 use Rattle.bsp_run.proofs.Laws.{outcomes-last, outcomes-ended}
 use Rattle.bsp_run.proofs.tape.Tape.finish_sharing.Goals as goal
 
@@ -18,7 +19,7 @@ last_is : (c : goal.After-total_of-total) → option_map (λ o. o.now) c.last_tu
 last_is c = c.last_turn-last.ensures ∙ ap (λ (os : List OutcomeParts). cond (is_limit c.self.inside.phase) None (Some os)) c.as_slice.ensures
 
 has_ended : (c : goal.After-total_of-total) → is_ended c.self.inside.phase ≡ true
-has_ended c = ap (λ (x : Run). is_ended x.phase) c.self.view_is ∙ c.requires
+has_ended c = ap (λ (x : Run). is_ended x.phase) c.self.view_is ∙ c.requires.ended
 
 lines_are : (c : goal.After-total_of-total) → c.in_ok-lines.lines ≡ lines_of (run_of c.self.inside)
 unfolding lines_of
@@ -42,8 +43,21 @@ costs_are c =
 
 pub invariant_of-result : goal.invariant_of-result
 invariant_of-result c = record {
-  ended = c.requires;
+  ended = c.requires.ended;
   lines = lines_are c ∙ ap lines_of c.self.view_is;
   costs = costs_are c ∙ ap costs_of c.self.view_is;
   total = c.total_of-total.ensures ∙ ap total_of c.as_slice-3.ensures ∙ ap total_of (costs_are c ∙ ap costs_of c.self.view_is);
 }
+
+pub all_lines-requires : goal.all_lines-requires
+all_lines-requires c =
+    let r : Run = run_of c.self.inside in
+    let turns : List Superstep → Option (List OutcomeParts) → List (List OutcomeParts) = λ past last. outcomes_of past ++ option_to_list last in
+    let last : option_map (λ o. o.now) c.last_turn-last.result ≡ cond (is_limit c.self.inside.phase) None (Some r.outcomes) =
+    c.last_turn-last.ensures ∙ ap (λ (os : List OutcomeParts). cond (is_limit c.self.inside.phase) None (Some os)) c.as_slice.ensures in
+    let ended : is_ended r.phase ≡ true = ap (λ (x : Run). is_ended x.phase) c.self.view_is ∙ c.requires.ended in
+    subst (AreLinesUnlessMarked c.args.lines.now c.args.marks.now)
+    (sym
+    (ap (λ (past : List Superstep). turns past (option_map (λ o. o.now) c.last_turn-last.result)) c.as_slice-past.ensures.value
+    ∙ ap (turns r.past) last ∙ sym (outcomes-ended r ended) ∙ ap (λ (x : Run). outcomes_of (supersteps_of x)) c.self.view_is))
+    c.requires.marks
