@@ -1,4 +1,4 @@
--- A superstep that is taken over from another run.
+-- What is taken over from another run: a superstep whole, how one ends, or what it cost.
 use Rattle.std.proofs.Common.{◌≡◌, ◌<◌, ◌+◌, ◌*◌, ◌∙◌, ℕ, List, [], ◌∷◌, ◌++◌, None, length, map, cond, ◌==◌, arith, get_or, refl, sym, ap, subst}
 use Rattle.std.proofs.lemmas.List.{get_or_default, get_or-map, length-map}
 use Rattle.std.proofs.lemmas.List.FromFn.{get_or-map-range_with_len}
@@ -109,3 +109,8 @@ row_for_each past rows g l is =
 -- as much was computed and moved
 pub same_cost : (g l : ℕ) (os us : List OutcomeParts) → largest_work os ≡ largest_work us → h_relation os ≡ h_relation us → cost_of_delivery g l os ≡ cost_of_delivery g l us
 same_cost g l os us w h = λ i. record { work = w i; h = h i; cost = w i + h i * g + l }
+
+-- the fields make the run after turns that are known to end their superstep by delivery
+pub turned_on : (r : Run) (os : List OutcomeParts) → end_of (length r.past) r.state.table os ≡ None → record r { outcomes = os; phase = Turned } ≡ after_turns r os
+unfolding after_turns
+turned_on r os e = let phase = ap phase_after (sym e) in λ i. record r { outcomes = os; phase = phase i }

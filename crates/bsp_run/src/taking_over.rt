@@ -1,8 +1,10 @@
-//! A superstep of another run, taken over whole.
+//! What is taken over from another run: a superstep whole, how one ends, or what it cost.
 
-ghost use Rattle.std.specs.Prelude.{◌≡◌, ◌≤◌, ◌<◌, IfOk, OnOk, OnErr, length};
+ghost use Rattle.std.specs.Prelude.{◌≡◌, ◌≤◌, ◌<◌, IfOk, None, OnOk, OnErr, length};
 ghost use Rattle.bsp_deliver.specs.Cost.{h_relation};
-ghost use Rattle.bsp_run.specs.Run.{after_turns, after_delivery};
+ghost use Rattle.bsp_run.specs.Ending.{end_of};
+ghost use Rattle.bsp_run.specs.Run.{after_turns, after_delivery, open_views};
+ghost use Rattle.bsp_run.specs.Condition.{AreOutcomesOf};
 ghost use Rattle.bsp_run.specs.Supersteps.{superstep_at, supersteps_opened};
 ghost use Rattle.bsp_run.specs.Result.{largest_work, cost_of_delivery, IsSmall};
 ghost use Rattle.bsp_run.specs.TakingOver.{CanTakeOver, outcomes_there};
@@ -10,8 +12,8 @@ ghost use Rattle.bsp_run.specs.TakingOver.{CanTakeOver, outcomes_there};
 use crate::costs::cost_at;
 use crate::keeping::{keep_superstep, phase_at};
 use crate::{History, Phase, Tape, Views};
-use bsp_model::{CostRow, OutOfMemory, TryCopy};
-use bsp_step::View;
+use bsp_model::{CostRow, OutOfMemory, Shared, SharedSeq, TryCopy};
+use bsp_step::{Outcome, View};
 
 /// The list of what the processes see in a superstep.
 fn views_in(history: &History, step: usize) -> Result<Views, OutOfMemory>
@@ -51,6 +53,21 @@ impl Tape {
         self.table = table;
         self.tag_size = tag_size;
         self.phase = phase_at(step as u64 + 1, self.limit);
+        Ok(())
+    }
+
+    /// Takes the outcomes of the open superstep, one for each view, which are known to end it by delivery: how it ends is not asked again. After
+    /// `OutOfMemory` nothing has changed.
+    pub fn turned_to_deliver(&mut self, outcomes: Vec<Shared<Outcome>>) -> Result<(), OutOfMemory>
+        requires open { self.old.phase ≡ Phase.Open }
+        requires turns { AreOutcomesOf (open_views self.old) outcomes.items }
+        requires delivers { end_of (length self.old.past) self.old.state.table outcomes.items ≡ None }
+        ensures ok { OnOk result (self.new ≡ after_turns self.old outcomes.items) }
+        ensures err { OnErr result (self.new ≡ self.old) }
+    {
+        let outcomes = SharedSeq::from_vec(outcomes)?;
+        self.outcomes = outcomes;
+        self.phase = Phase::Turned;
         Ok(())
     }
 
