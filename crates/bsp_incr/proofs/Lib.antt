@@ -22,4 +22,6 @@ pub mod TakingBack
 pub mod Marking
 pub mod Likeness
 pub mod LawOfReuse
+pub mod Lasting
+pub mod MarkedToo
 pub mod Replying

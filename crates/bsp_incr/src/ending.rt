@@ -15,9 +15,10 @@ use crate::Place;
 use crate::alike::all_cost_alike;
 use crate::before::{delivered_outcomes, views_after};
 use crate::counts::Counts;
-use crate::deliveries::{next_cells, next_marks, next_views, touched};
+use crate::deliveries::{next_cells, next_views, touched};
 use crate::given::Given;
 use crate::looking::see;
+use crate::marks::mark_too;
 use crate::places::{add_places, processes_where};
 use bsp_model::{CostRow, Memory, OutOfMemory, Same, Seq, Shared, SharedSeq};
 use bsp_pool::Gate;
@@ -119,7 +120,7 @@ pub fn make_deliveries<P: Program, G: Gate, R: Threads + Sync>(
     ensures redelivered { OnOk result (redelivered.new ≡ redelivered.old ++ touched_in (length tape.old.past) (delivered_outcomes (option_map (λ k. k.now) given.now.old) (length tape.old.past)) tape.old.outcomes) }
 {
     let step = tape.step();
-    let touched = touched(
+    let mut touched = touched(
         given.alloc,
         delivered_outcomes(given.old, step),
         tape.outcomes(),
@@ -137,6 +138,6 @@ pub fn make_deliveries<P: Program, G: Gate, R: Threads + Sync>(
         given.workers.gate,
     )?;
     open_next(given, tape, doubtful, processes.as_slice(), made)?;
-    let marks = next_marks(given.alloc, touched.as_slice(), given.always)?;
-    Ok(marks)
+    mark_too(&mut touched, given.other_args);
+    Ok(touched)
 }

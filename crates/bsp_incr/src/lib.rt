@@ -9,6 +9,7 @@ mod edit;
 mod editing;
 mod ending;
 mod error;
+mod finishing;
 mod former;
 mod given;
 mod looking;

@@ -1,9 +1,10 @@
 //! Which processes have another memory or other arguments than in the run before.
 
-ghost use Rattle.std.specs.Prelude.{◌≡◌, IfOk, None, Some, replicate};
+ghost use Rattle.std.specs.Prelude.{◌≡◌, ◌<◌, All, IfOk, None, Some, length, map, replicate, true};
 ghost use Rattle.bsp_incr.specs.Inside.Before.{IsEdited, AreArgsMarked, AreFirstMarked};
 ghost use Rattle.bsp_incr.specs.Inside.Marking.{word_before, word_now, arg_before, arg_now, word_place, arg_place};
 ghost use Rattle.bsp_incr.specs.Inside.Marking.{marked_if, marked_at, all_marked};
+ghost use Rattle.bsp_incr.specs.Inside.Replaced.{replaced};
 
 use crate::Edit;
 use crate::before::first_views_before;
@@ -71,6 +72,16 @@ fn mark_if(marks: &mut Vec<bool>, pid: u64, is_other: bool)
 {
     if is_other && (pid as usize) < marks.len() {
         marks[pid as usize] = true;
+    }
+}
+
+/// Marks these processes too.
+pub fn mark_too(marks: &mut Vec<bool>, processes: &[usize])
+    requires { All (λ p. p < length marks.old.items) processes.now }
+    ensures { marks.new.items ≡ replaced marks.old.items processes.now (map (λ _. true) processes.now) }
+{
+    for process in processes {
+        marks[*process] = true;
     }
 }
 

@@ -1,17 +1,19 @@
 //! A run that is made again, against the record of the run before.
 
-ghost use Rattle.std.specs.Prelude.{◌≡◌, IfOk, OnOk, OnErr, None, Some, option_map, true};
+ghost use Rattle.std.specs.Prelude.{◌≡◌, IfOk, OnOk, OnErr, None, Some, option_map};
+ghost use Rattle.std.specs.Option.{ForSome};
 ghost use Rattle.bsp_model.specs.Input.{input_fault};
 ghost use Rattle.bsp_step.specs.Turn.{turn_of};
 ghost use Rattle.bsp_run.specs.Run.{run};
 ghost use Rattle.bsp_run.specs.Law.{IsBspRun};
-ghost use Rattle.bsp_run.specs.Condition.{is_ended};
 ghost use Rattle.bsp_incr.specs.Inside.Changes.{update_of};
 ghost use Rattle.bsp_incr.specs.Edits.{refusal_of, edited};
 ghost use Rattle.bsp_incr.specs.Inside.Before.{IsBefore, IsEdited, AreArgsMarked, AreFirstMarked};
+ghost use Rattle.bsp_incr.specs.Inside.Stays.{IsLawfulBefore};
 
 use crate::counts::Counts;
 use crate::editing::make_edits;
+use crate::finishing::finished;
 use crate::former::restore;
 use crate::given::Given;
 use crate::marks::{Marks, marks_of_edits};
@@ -22,7 +24,7 @@ use crate::workers::Workers;
 use crate::{Edit, Update};
 use bsp_model::{Input, OutOfMemory, Seq};
 use bsp_pool::Gate;
-use bsp_run::{History, Tape};
+use bsp_run::History;
 use bsp_step::Program;
 use std::alloc::Global;
 use std::thread::Threads;
@@ -42,6 +44,7 @@ pub fn rerun<P: Program, G: Gate, R: Threads + Sync>(
     requires args { AreArgsMarked (option_map (λ k. k.now) old) input.now marks.args.items }
     requires first { AreFirstMarked (option_map (λ k. k.now) old) input.now marks.first.items }
     requires before { IsBefore (turn_of (P.acts program.now) (P.ending program.now)) input.now (option_map (λ k. k.now) old) }
+    requires law { ForSome (option_map (λ k. k.now) old) (IsLawfulBefore (turn_of (P.acts program.now) (P.ending program.now)) input.now) }
     ensures run { IfOk result (λ r. r.0 ≡ run (turn_of (P.acts program.now) (P.ending program.now)) input.now) }
     ensures update { IfOk result (λ r. r.1 ≡ update_of (P.looks program.now) (option_map (λ k. k.now) old.entry) r.0) }
 {
@@ -64,22 +67,12 @@ pub fn rerun<P: Program, G: Gate, R: Threads + Sync>(
         always: always.as_slice(),
         other_args: other_args.as_slice(),
     };
-    for _step in 0..input.limit {
+    while tape.is_open() {
         advance(&given, &mut tape, &mut marks, &mut update, counts)?;
     }
-    let history = finished(old, tape)?;
+    let executed = update.executed.as_slice();
+    let history = finished(alloc, old, tape, input.mems.len(), executed)?;
     Ok((history, update))
-}
-
-/// The history of a run that has ended. It shares lines with the run before.
-fn finished(old: Option<&History>, tape: Tape) -> Result<History, OutOfMemory>
-    requires { is_ended tape.phase ≡ true }
-    ensures { IfOk result (λ history. history ≡ tape) }
-{
-    match old {
-        Some(history) => Ok(tape.finish_like(history)?),
-        None => Ok(tape.finish()?),
-    }
 }
 
 /// The run of an edited input, made against the run of the input as it was.
@@ -94,6 +87,7 @@ fn rerun_from_edits<P: Program, G: Gate, R: Threads + Sync>(
 ) -> Result<(History, Update), OutOfMemory>
     requires lawful { input_fault input.now ≡ None }
     requires before { IsBefore (turn_of (P.acts program.now) (P.ending program.now)) input.now (Some old.now) }
+    requires law { IsLawfulBefore (turn_of (P.acts program.now) (P.ending program.now)) input.now old.now }
     requires edited { IsEdited old.now edits.now input.now }
     ensures run { IfOk result (λ r. r.0 ≡ run (turn_of (P.acts program.now) (P.ending program.now)) input.now) }
     ensures update { IfOk result (λ r. r.1 ≡ update_of (P.looks program.now) (Some old.now) r.0) }

@@ -21,6 +21,16 @@ rerun_from_edits-requires-clause-before g c κs within =
       count = sym (edited_count c.args.input.now c.args.edits.now) ∙ ap (λ (i : Input). length i.mems) (sym c.in_ok-formers.ensures.made);
     }
 
+pub rerun_from_edits-requires-clause-law : goal.rerun_from_edits-requires-clause-law
+rerun_from_edits-requires-clause-law g c κs within =
+    let input : Input = c.args.input.now in
+    record {
+      input_before = input;
+      lawful = c.requires.lawful;
+      law = c.requires.before;
+      count = sym (edited_count c.args.input.now c.args.edits.now) ∙ ap (λ (i : Input). length i.mems) (sym c.in_ok-formers.ensures.made);
+    }
+
 pub rerun_from_edits-requires-clause-edited : goal.rerun_from_edits-requires-clause-edited
 rerun_from_edits-requires-clause-edited g c κs within =
     let turn = turn_of (g.P.Program.acts c.args.program.now) (g.P.Program.ending c.args.program.now) in
