@@ -13,6 +13,7 @@ mod request;
 mod seq;
 mod shared;
 mod shared_seq;
+mod words;
 
 pub use copying::{Same, TryCopy};
 pub use cost::CostRow;
@@ -24,6 +25,7 @@ pub use seq::Seq;
 pub use shared::Shared;
 pub use shared_seq::SharedSeq;
 pub use std::alloc::AllocError as OutOfMemory;
+pub use words::are_same_words;
 
 /// A list of 64-bit words.
 pub type Words = Seq<u64>;
