@@ -5,3 +5,4 @@ pub mod Ranges
 pub mod Rests
 pub mod SameRanges
 pub mod Writes
+pub mod SameWords
