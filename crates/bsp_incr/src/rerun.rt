@@ -8,7 +8,7 @@ ghost use Rattle.bsp_run.specs.Law.{IsBspRun};
 ghost use Rattle.bsp_run.specs.Condition.{is_ended};
 ghost use Rattle.bsp_incr.specs.Inside.Changes.{update_of};
 ghost use Rattle.bsp_incr.specs.Edits.{refusal_of, edited};
-ghost use Rattle.bsp_incr.specs.Inside.Before.{IsBefore, IsEdited, AreArgsMarked, AreFirstMarked};
+ghost use Rattle.bsp_incr.specs.Inside.Before.{IsBefore, IsBeforeEdits, AreArgsMarked, AreFirstMarked};
 
 use crate::counts::Counts;
 use crate::editing::make_edits;
@@ -93,8 +93,7 @@ fn rerun_from_edits<P: Program, G: Gate, R: Threads + Sync>(
     counts: &mut Counts,
 ) -> Result<(History, Update), OutOfMemory>
     requires lawful { input_fault input.now ≡ None }
-    requires before { IsBefore (turn_of (P.acts program.now) (P.ending program.now)) input.now (Some old.now) }
-    requires edited { IsEdited old.now edits.now input.now }
+    requires before { IsBeforeEdits (turn_of (P.acts program.now) (P.ending program.now)) edits.now input.now old.now }
     ensures run { IfOk result (λ r. r.0 ≡ run (turn_of (P.acts program.now) (P.ending program.now)) input.now) }
     ensures update { IfOk result (λ r. r.1 ≡ update_of (P.looks program.now) (Some old.now) r.0) }
 {

@@ -7,7 +7,6 @@ use Rattle.bsp_run.specs.Run.{Run, start, advance, times, run}
 use Rattle.bsp_run.proofs.Runs.{IsBetween, start-between, advance-between, ended-between, times_more}
 use Rattle.bsp_incr.specs.Inside.Before.{AreArgsMarked}
 use Rattle.bsp_incr.specs.Inside.Changes.{update_of, processes_where}
-use Rattle.bsp_incr.proofs.FirstViews.{had_first_views}
 use Rattle.bsp_incr.proofs.Remaking.{under_way_start}
 use Rattle.bsp_incr.proofs.rerun.rerun.Goals as goal
 
@@ -53,9 +52,8 @@ pub returns-clause-update : goal.returns-clause-update
 returns-clause-update g c =
     subst (λ (r : Run). c.loop-step.update ≡ update_of (g.P.Program.looks c.args.program.now) (option_map (λ k. k.now) c.args.old) r) (sym c.in_ok-history.ensures) c.loop-step.invariant.under_way.updated
 
-pub opened-requires-clause-first : goal.opened-requires-clause-first
-opened-requires-clause-first g c =
-    had_first_views (turn_of (g.P.Program.acts c.args.program.now) (g.P.Program.ending c.args.program.now)) c.args.input.now (option_map (λ k. k.now) c.args.old) c.requires.before
+pub opened-requires-clause-before : goal.opened-requires-clause-before
+opened-requires-clause-before g c = (turn_of (g.P.Program.acts c.args.program.now) (g.P.Program.ending c.args.program.now), c.requires.before)
 
 pub invariant_of-given : goal.invariant_of-given
 invariant_of-given g c =
