@@ -1,10 +1,10 @@
 -- Equal parts of the outcomes give equal answers about a superstep.
-use Rattle.std.proofs.Common.{◌≡◌, ◌<◌, ◌+◌, ℕ, List, [], ◌∷◌, ◌++◌, map, length, arith, refl, sym, ap, ◌∙◌}
+use Rattle.std.proofs.Common.{◌≡◌, ◌<◌, ◌+◌, ℕ, List, [], ◌∷◌, ◌++◌, map, length, get_or, arith, refl, sym, ap, ◌∙◌}
 use Rattle.std.specs.Prelude.{max}
 use Rattle.std.proofs.lemmas.List.{ext_get_or, get_or-map, length-map}
 use Rattle.bsp_step.specs.OutcomeParts.{OutcomeParts}
 use Rattle.bsp_deliver.specs.Requests.{each_below, no_outcome, outcome_of, requests_from, all_puts, all_gets, all_sends}
-use Rattle.bsp_deliver.specs.Cost.{transfers, put_transfer, get_transfer, send_transfer, count_sent, count_received, largest, h_relation}
+use Rattle.bsp_deliver.specs.Cost.{Transfer, transfers, put_transfer, get_transfer, send_transfer, count_sent, count_received, largest, h_relation}
 use Rattle.bsp_run.specs.Result.{largest_work}
 use Rattle.bsp_run.proofs.Lists.{map_twice}
 use Rattle.bsp_incr.specs.Inside.Alike.{CostsAlike}
