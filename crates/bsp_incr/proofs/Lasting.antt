@@ -21,7 +21,8 @@ use Rattle.bsp_incr.specs.declared.reply.Update.{Update}
 use Rattle.bsp_incr.specs.Exact.{HasTurn, IsServed}
 use Rattle.bsp_incr.specs.Reused.{outcome_there}
 use Rattle.bsp_incr.specs.Inside.Changes.{update_of}
-use Rattle.bsp_incr.specs.Inside.Stays.{IsLawfulBefore, LinesStayBut, AreProcessesMarked}
+use Rattle.bsp_incr.specs.Inside.Before.{IsBefore}
+use Rattle.bsp_incr.specs.Inside.Stays.{LinesStayBut, AreProcessesMarked}
 use Rattle.bsp_incr.proofs.Exactness.{served_at}
 use Rattle.bsp_incr.proofs.LawOfReuse.{law_reused}
 
@@ -38,7 +39,7 @@ turn_there turn input r place law l below =
 
 -- At each place where no turn was taken again, the lines are those of the run before.
 pub lines_stay : (acts : ViewParts → List Act) (ending : ViewParts → End) (looks : ViewParts → ℕ → Bool) (input : Input) (old new : Run) (update : Update) → IsFootprint acts ending looks → input_fault input ≡ None
-    → IsLawfulBefore (turn_of acts ending) input old → IsBspRun (turn_of acts ending) input new → update ≡ update_of looks (Some old) new → LinesStayBut old new update.executed
+    → IsBefore (turn_of acts ending) input (Some old) → IsBspRun (turn_of acts ending) input new → update ≡ update_of looks (Some old) new → LinesStayBut old new update.executed
 lines_stay acts ending looks input old new update footprint lawful before law is = record {
   same = λ place l m free.
       let turn = turn_of acts ending in
@@ -49,7 +50,7 @@ lines_stay acts ending looks input old new update footprint lawful before law is
             ap (λ (o : OutcomeParts). o.lines) (law_reused acts ending looks before.input_before input old new footprint before.lawful lawful before.law law place there served)
         | inr past ↦
             ap (λ (o : OutcomeParts). o.lines)
-            (nothing_there turn input new place law m past ∙ sym (nothing_there turn before.input_before old place before.law l (omega (arith, past, before.count))))
+            (nothing_there turn input new place law m past ∙ sym (nothing_there turn before.input_before old place before.law l (omega (arith, past, before.stands))))
       ];
 }
 

@@ -6,7 +6,7 @@ ghost use Rattle.bsp_run.specs.Run.{after_delivery};
 ghost use Rattle.bsp_run.specs.Condition.{no_view};
 ghost use Rattle.bsp_run.specs.Result.{cost_of_delivery};
 ghost use Rattle.bsp_run.specs.Shares.{deliveries_to};
-ghost use Rattle.bsp_run.specs.Inside.Tape.{IsSmall};
+ghost use Rattle.bsp_run.specs.Result.{IsSmall};
 ghost use Rattle.bsp_incr.specs.Inside.Changes.{touched_in, is_touched, processes_where};
 ghost use Rattle.bsp_incr.specs.Inside.Marks.{AreDelivered, AreComparable, OutcomesDifferAtMost, HaveOneTable};
 ghost use Rattle.bsp_incr.specs.Inside.Before.{delivered_outcomes, views_after, AreAlikeAfter};

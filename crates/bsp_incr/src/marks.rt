@@ -1,7 +1,7 @@
 //! Which processes have another memory or other arguments than in the run before.
 
 ghost use Rattle.std.specs.Prelude.{◌≡◌, ◌<◌, All, IfOk, None, Some, length, map, replicate, true};
-ghost use Rattle.bsp_incr.specs.Inside.Before.{IsEdited, AreArgsMarked, AreFirstMarked};
+ghost use Rattle.bsp_incr.specs.Inside.Before.{IsBeforeEdits, AreArgsMarked, AreFirstMarked};
 ghost use Rattle.bsp_incr.specs.Inside.Marking.{word_before, word_now, arg_before, arg_now, word_place, arg_place};
 ghost use Rattle.bsp_incr.specs.Inside.Marking.{marked_if, marked_at, all_marked};
 ghost use Rattle.bsp_incr.specs.Inside.Replaced.{replaced};
@@ -140,7 +140,7 @@ pub fn marks_of_edits(
     input: &Input,
     edits: &[Edit],
 ) -> Result<Marks, OutOfMemory>
-    requires edited { IsEdited old.now edits.now input.now }
+    requires before { (turn : _) × IsBeforeEdits turn edits.now input.now old.now }
     ensures args { IfOk result (λ marks. AreArgsMarked (Some old.now) input.now marks.args.items) }
     ensures first { IfOk result (λ marks. AreFirstMarked (Some old.now) input.now marks.first.items) }
 {

@@ -1,15 +1,13 @@
 //! A run that is made again, against the record of the run before.
 
 ghost use Rattle.std.specs.Prelude.{◌≡◌, IfOk, OnOk, OnErr, None, Some, option_map};
-ghost use Rattle.std.specs.Option.{ForSome};
 ghost use Rattle.bsp_model.specs.Input.{input_fault};
 ghost use Rattle.bsp_step.specs.Turn.{turn_of};
 ghost use Rattle.bsp_run.specs.Run.{run};
 ghost use Rattle.bsp_run.specs.Law.{IsBspRun};
 ghost use Rattle.bsp_incr.specs.Inside.Changes.{update_of};
 ghost use Rattle.bsp_incr.specs.Edits.{refusal_of, edited};
-ghost use Rattle.bsp_incr.specs.Inside.Before.{IsBefore, IsEdited, AreArgsMarked, AreFirstMarked};
-ghost use Rattle.bsp_incr.specs.Inside.Stays.{IsLawfulBefore};
+ghost use Rattle.bsp_incr.specs.Inside.Before.{IsBefore, IsBeforeEdits, AreArgsMarked, AreFirstMarked};
 
 use crate::counts::Counts;
 use crate::editing::make_edits;
@@ -44,7 +42,6 @@ pub fn rerun<P: Program, G: Gate, R: Threads + Sync>(
     requires args { AreArgsMarked (option_map (λ k. k.now) old) input.now marks.args.items }
     requires first { AreFirstMarked (option_map (λ k. k.now) old) input.now marks.first.items }
     requires before { IsBefore (turn_of (P.acts program.now) (P.ending program.now)) input.now (option_map (λ k. k.now) old) }
-    requires law { ForSome (option_map (λ k. k.now) old) (IsLawfulBefore (turn_of (P.acts program.now) (P.ending program.now)) input.now) }
     ensures run { IfOk result (λ r. r.0 ≡ run (turn_of (P.acts program.now) (P.ending program.now)) input.now) }
     ensures update { IfOk result (λ r. r.1 ≡ update_of (P.looks program.now) (option_map (λ k. k.now) old.entry) r.0) }
 {
@@ -86,9 +83,7 @@ fn rerun_from_edits<P: Program, G: Gate, R: Threads + Sync>(
     counts: &mut Counts,
 ) -> Result<(History, Update), OutOfMemory>
     requires lawful { input_fault input.now ≡ None }
-    requires before { IsBefore (turn_of (P.acts program.now) (P.ending program.now)) input.now (Some old.now) }
-    requires law { IsLawfulBefore (turn_of (P.acts program.now) (P.ending program.now)) input.now old.now }
-    requires edited { IsEdited old.now edits.now input.now }
+    requires before { IsBeforeEdits (turn_of (P.acts program.now) (P.ending program.now)) edits.now input.now old.now }
     ensures run { IfOk result (λ r. r.0 ≡ run (turn_of (P.acts program.now) (P.ending program.now)) input.now) }
     ensures update { IfOk result (λ r. r.1 ≡ update_of (P.looks program.now) (Some old.now) r.0) }
 {

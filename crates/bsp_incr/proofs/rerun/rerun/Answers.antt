@@ -8,12 +8,11 @@ use Rattle.bsp_run.specs.Condition.{is_open}
 use Rattle.bsp_run.specs.Law.{IsBspRun}
 use Rattle.bsp_run.proofs.Laws.{IsBspRun-run}
 use Rattle.bsp_run.proofs.Runs.{LeadsTo, supersteps_left, start-leads, advance-leads, fewer_left, closed-leads}
-use Rattle.bsp_incr.specs.Inside.Before.{AreArgsMarked}
 use Rattle.bsp_incr.specs.declared.reply.Update.{Update}
 use Rattle.bsp_incr.specs.Inside.Changes.{update_of, processes_where}
+use Rattle.bsp_incr.specs.Inside.Before.{IsBefore, AreArgsMarked}
 use Rattle.bsp_incr.specs.Inside.Stays.{LinesStayBut}
 use Rattle.bsp_incr.proofs.Lasting.{lines_stay}
-use Rattle.bsp_incr.proofs.FirstViews.{had_first_views}
 use Rattle.bsp_incr.proofs.Remaking.{under_way_start}
 use Rattle.bsp_incr.proofs.rerun.rerun.Goals as goal
 
@@ -67,7 +66,7 @@ finished-requires-clause-executed g c = λ r e.
     let law : IsBspRun turn input tape = subst (IsBspRun turn input) (sym is) (IsBspRun-run turn input c.requires.lawful) in
     let updated : update ≡ update_of looks (Some r) tape = subst (λ (o : Option Run). update ≡ update_of looks o tape) e c.loop-given.invariant.under_way.updated in
     subst (LinesStayBut r tape) (sym c.as_slice-executed.ensures)
-    (lines_stay acts ending looks input r tape update (laws.footprint c.args.program.now) c.requires.lawful (c.requires.law r e) law updated)
+    (lines_stay acts ending looks input r tape update (laws.footprint c.args.program.now) c.requires.lawful (subst (IsBefore turn input) e c.requires.before) law updated)
 
 pub returns-clause-run : goal.returns-clause-run
 returns-clause-run g c =
@@ -79,9 +78,8 @@ pub returns-clause-update : goal.returns-clause-update
 returns-clause-update g c =
     subst (λ (r : Run). c.loop-given.update ≡ update_of (g.P.Program.looks c.args.program.now) (option_map (λ k. k.now) c.args.old) r) (sym c.in_ok-history.ensures) c.loop-given.invariant.under_way.updated
 
-pub opened-requires-clause-first : goal.opened-requires-clause-first
-opened-requires-clause-first g c =
-    had_first_views (turn_of (g.P.Program.acts c.args.program.now) (g.P.Program.ending c.args.program.now)) c.args.input.now (option_map (λ k. k.now) c.args.old) c.requires.before
+pub opened-requires-clause-before : goal.opened-requires-clause-before
+opened-requires-clause-before g c = (turn_of (g.P.Program.acts c.args.program.now) (g.P.Program.ending c.args.program.now), c.requires.before)
 
 pub invariant_of-given : goal.invariant_of-given
 invariant_of-given g c =

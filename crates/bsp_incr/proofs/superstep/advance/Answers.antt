@@ -70,7 +70,7 @@ take_over-requires g c =
     let stays = staying_whole turn j (option_map (λ k. k.now) c.args.given.now.old) old r c.step-step.result c.taken_before-old_views.result.now c.views.result.now c.in_ok-doubtful.doubtful.items c.as_slice-2.result.now c.requires.under_way.before c.in-Some.ensures c.requires.under_way.made started (lawful_input c.args.given.now.input.now c.args.given.now.lawful).some_process
     c.step-step.ensures c.taken_before-old_views.ensures now c.as_slice-2.ensures.value c.in_ok-doubtful.ensures in
     let within = subst (All IsView) now (c.views.ensures.limits (open_phase r.phase started)) in
-    can_take_over acts ending stays.0.input_before j old r stays.0.made c.requires.under_way.made (open_phase r.phase started) (lawful_input c.args.given.now.input.now c.args.given.now.lawful).some_process stays.0.count within stays.1.past stays.1.seen
+    can_take_over acts ending stays.0.input_before j old r stays.1.before c.requires.under_way.made (open_phase r.phase started) (lawful_input c.args.given.now.input.now c.args.given.now.lawful).some_process stays.0.stands within stays.1.past stays.1.seen
 
 pub returns-in-Some-clause-tape : goal.returns-in-Some-clause-tape
 returns-in-Some-clause-tape g c =
