@@ -23,3 +23,5 @@ pub mod Marking
 pub mod Likeness
 pub mod LawOfReuse
 pub mod Replying
+pub mod EndLikeness
+pub mod KnownTables

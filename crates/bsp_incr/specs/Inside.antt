@@ -9,3 +9,4 @@ pub mod Before
 pub mod Replies
 pub mod Marking
 pub mod Alike
+pub mod Known

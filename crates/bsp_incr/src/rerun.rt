@@ -14,6 +14,7 @@ use crate::counts::Counts;
 use crate::editing::make_edits;
 use crate::former::restore;
 use crate::given::Given;
+use crate::known_table::KnownTable;
 use crate::marks::{Marks, marks_of_edits};
 use crate::opening::opened;
 use crate::places::processes_where;
@@ -64,8 +65,16 @@ pub fn rerun<P: Program, G: Gate, R: Threads + Sync>(
         always: always.as_slice(),
         other_args: other_args.as_slice(),
     };
+    let mut table = KnownTable::Unknown;
     for _step in 0..input.limit {
-        advance(&given, &mut tape, &mut marks, &mut update, counts)?;
+        advance(
+            &given,
+            &mut tape,
+            &mut marks,
+            &mut table,
+            &mut update,
+            counts,
+        )?;
     }
     let history = finished(old, tape)?;
     Ok((history, update))

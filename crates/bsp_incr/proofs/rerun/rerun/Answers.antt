@@ -24,6 +24,7 @@ loop-step-init g c =
       rest = ap (λ n. times n f c.in_ok-tape.tape) all ∙ ap (times input.limit f) opened;
       between = subst (IsBetween (input.limit - 0)) (sym opened) (subst (λ n. IsBetween n (start input)) (sym all) (start-between input (lawful_input input c.requires.lawful).some_superstep));
       under_way = under_way_start turn (g.P.Program.looks c.args.program.now) old input c.in_ok-tape.tape c.args.marks.first.items record { executed = c.new.result; redelivered = c.new-2.result } opened (lawful_input input c.requires.lawful).some_superstep c.requires.before c.requires.first c.new.ensures c.new-2.ensures;
+      table = λ _. tt;
     }
 
 pub loop-step-preserved : goal.loop-step-preserved
@@ -36,6 +37,7 @@ loop-step-preserved g c =
       rest = ap (times (limit - (c.loop-step._step + 1)) (advance turn)) next ∙ sym (times_more turn (limit - c.loop-step._step) (limit - (c.loop-step._step + 1)) c.loop-step.tape left) ∙ c.loop-step.invariant.rest;
       between = subst (IsBetween (limit - (c.loop-step._step + 1))) (sym next) (advance-between turn (limit - (c.loop-step._step + 1)) c.loop-step.tape (subst (λ n. IsBetween n c.loop-step.tape) left c.loop-step.invariant.between));
       under_way = c.in_ok-advance.ensures.under_way;
+      table = c.in_ok-advance.ensures.table;
     }
 
 pub finished-requires : goal.finished-requires
