@@ -25,3 +25,5 @@ pub mod LawOfReuse
 pub mod Lasting
 pub mod MarkedToo
 pub mod Replying
+pub mod EndLikeness
+pub mod KnownTables

@@ -10,3 +10,4 @@ pub mod Replies
 pub mod Marking
 pub mod Alike
 pub mod Stays
+pub mod Known

@@ -14,6 +14,7 @@ use crate::editing::make_edits;
 use crate::finishing::finished;
 use crate::former::restore;
 use crate::given::Given;
+use crate::known_table::KnownTable;
 use crate::marks::{Marks, marks_of_edits};
 use crate::opening::opened;
 use crate::places::processes_where;
@@ -64,8 +65,16 @@ pub fn rerun<P: Program, G: Gate, R: Threads + Sync>(
         always: always.as_slice(),
         other_args: other_args.as_slice(),
     };
+    let mut table = KnownTable::Unknown;
     while tape.is_open() {
-        advance(&given, &mut tape, &mut marks, &mut update, counts)?;
+        advance(
+            &given,
+            &mut tape,
+            &mut marks,
+            &mut table,
+            &mut update,
+            counts,
+        )?;
     }
     let executed = update.executed.as_slice();
     let history = finished(alloc, old, tape, input.mems.len(), executed)?;

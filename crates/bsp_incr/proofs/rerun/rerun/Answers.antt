@@ -26,6 +26,7 @@ loop-given-init g c =
     record {
       leads = subst (λ (r : Run). LeadsTo turn r (run turn input)) (sym opened) (start-leads turn input some);
       under_way = under_way_start turn (g.P.Program.looks c.args.program.now) old input c.in_ok-tape.tape c.args.marks.first.items record { executed = c.new.result; redelivered = c.new-2.result } opened some c.requires.before c.requires.first c.new.ensures c.new-2.ensures;
+      table = λ _. tt;
     }
 
 pub loop-given-preserved : goal.loop-given-preserved
@@ -36,6 +37,7 @@ loop-given-preserved g c =
     record {
       leads = subst (λ (r : Run). LeadsTo turn r whole) (sym c.in_ok-advance.ensures.tape) (advance-leads turn c.loop-given.tape whole c.loop-given.invariant.leads open_now);
       under_way = c.in_ok-advance.ensures.under_way;
+      table = c.in_ok-advance.ensures.table;
     }
 
 pub loop-given-smaller : goal.loop-given-smaller
