@@ -18,7 +18,7 @@ use Rattle.bsp_run.specs.Inside.Record.{IsRecord}
 use Rattle.bsp_run.proofs.Conditions.{view-views_of}
 use Rattle.bsp_run.proofs.Runs.{turns_closed}
 use Rattle.bsp_run.proofs.Records.{superstep, state_at-next, count-next, count-views_in, open_views-in, past-delivered}
-use Rattle.bsp_run.proofs.Laws.{taken_views}
+use Rattle.bsp_run.proofs.Laws.{taken-opened}
 use Rattle.bsp_incr.specs.declared.known_table.KnownTable.{KnownTable}
 use Rattle.bsp_incr.specs.declared.known_table.KnownTable.TheVariants.{AsBefore, Unknown}
 use Rattle.bsp_incr.specs.Inside.Alike.{AllEndAlike}
@@ -180,7 +180,7 @@ taken_after : (turn : ViewParts → OutcomeParts) (input : Input) (old : Option 
 taken_after turn input None s h l = absurd (nothing_taken (s + 1) 0 l)
 taken_after turn input (Some k) s h l =
     let taken = some_taken k (s + 1) 0 l in
-    let past : s < length k.past = let room = taken_views k (s + 1) taken in omega (arith, room.0) in
+    let past : s < length k.past = let room = taken-opened k (s + 1) taken in omega (arith, room.0) in
     next-in turn input k s h past ∙ sym (taken-in turn input k (s + 1) h taken)
 
 -- What is known of the next table is known of it once it is open.
