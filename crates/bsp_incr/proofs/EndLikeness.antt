@@ -1,5 +1,5 @@
 -- Turns that end alike end a superstep alike, and leave the same table and tag size.
-use Rattle.std.proofs.Common.{◌≡◌, ◌<◌, ◌+◌, ℕ, suc, Bool, cond, not, Option, None, Some, List, [], ◌∷◌, ◌++◌, map, length, arith, refl, ap, ◌∙◌}
+use Rattle.std.proofs.Common.{◌≡◌, ◌<◌, ◌+◌, ℕ, suc, Bool, cond, not, Option, None, Some, List, [], ◌∷◌, ◌++◌, length, arith, refl, ap, ◌∙◌}
 use Rattle.std.specs.Prelude.{◌&&◌, ◌||◌, is_some, unwrap_or}
 use Rattle.std.specs.List.{list_any}
 use Rattle.bsp_model.specs.declared.fault.SyncFault.{SyncFault}
@@ -9,7 +9,6 @@ use Rattle.bsp_table.specs.NextTable.{are_alike, next_table, table_fault}
 use Rattle.bsp_step.specs.OutcomeParts.{OutcomeParts}
 use Rattle.bsp_deliver.specs.Requests.{outcome_of}
 use Rattle.bsp_deliver.specs.SyncFault.{is_sync, next_tag_size, same_tag, sync_fault}
-use Rattle.bsp_run.specs.declared.result.ProcessFault.{ProcessFault}
 use Rattle.bsp_run.specs.declared.result.Status.TheVariants.{Faulted, Halted}
 use Rattle.bsp_run.specs.State.{pops_of, pushes_of}
 use Rattle.bsp_run.specs.Ending.{end_of, end_without_fault, fault_at, faults_from}

@@ -1,5 +1,5 @@
 -- What is known of the tables of a run that is made again.
-use Rattle.std.proofs.Common.{◌≡◌, ◌≤◌, ◌<◌, ◌+◌, ℕ, true, false, List, [], ◌∷◌, ◌++◌, Option, None, Some, map, length, get_or, arith, refl, sym, ap, ◌∙◌, subst, length-append}
+use Rattle.std.proofs.Common.{◌≡◌, ◌≤◌, ◌<◌, ◌+◌, ℕ, true, List, [], ◌∷◌, Option, None, Some, map, length, get_or, arith, refl, sym, ap, ◌∙◌, subst, length-append}
 use Rattle.std.proofs.lemmas.Bool.{false≢true}
 use Rattle.bsp_model.specs.declared.input.Input.{Input}
 use Rattle.bsp_table.specs.declared.area.Area.{Area}
@@ -12,7 +12,7 @@ use Rattle.bsp_run.specs.declared.phase.Phase.TheVariants.{Turned}
 use Rattle.bsp_run.specs.State.{State, next_state, pops_of, pushes_of, view_of}
 use Rattle.bsp_run.specs.Ending.{end_of}
 use Rattle.bsp_run.specs.Run.{Run, open_views, after_turns, after_delivery, phase_after}
-use Rattle.bsp_run.specs.Law.{state_at, views_in, outcomes_in}
+use Rattle.bsp_run.specs.Law.{state_at, views_in}
 use Rattle.bsp_run.specs.Condition.{no_view, is_open, is_turned}
 use Rattle.bsp_run.specs.Inside.Record.{IsRecord}
 use Rattle.bsp_run.proofs.Conditions.{view-views_of}
@@ -28,7 +28,7 @@ use Rattle.bsp_incr.specs.Inside.Next.{IsNextOf}
 use Rattle.bsp_incr.proofs.EndLikeness.{same_end, same_next_table, same_next_tag_size}
 use Rattle.bsp_incr.proofs.Propagation.{view-in}
 use Rattle.bsp_incr.proofs.RunBefore.{record_of_law, taken-in, some_taken, nothing_taken, delivered-in, some_delivered, nothing_delivered, views_after-some}
-use Rattle.bsp_incr.proofs.Staying.{IsStaying, same_after, some_before}
+use Rattle.bsp_incr.proofs.Staying.{IsStaying, same_after}
 
 -- The state of a superstep has the table and the tag size of another state.
 record SharesTable (s t : State) : Type 0 where

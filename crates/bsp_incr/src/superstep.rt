@@ -33,10 +33,14 @@ fn end_turns<P: Program, G: Gate, R: Threads + Sync>(
     outcomes: Vec<Shared<Outcome>>,
 ) -> Result<Option<KnownTable>, OutOfMemory>
     requires open { is_open tape.old.phase ≡ true }
-    requires before { IsBefore (turn_of (P.acts given.now.program.now) (P.ending given.now.program.now)) given.now.input.now (option_map (λ k. k.now) given.now.old) }
-    requires made { IsRecord (turn_of (P.acts given.now.program.now) (P.ending given.now.program.now)) given.now.input.now tape.old }
-    requires doubtful { AreDoubtful (taken_before (option_map (λ k. k.now) given.now.old) (length tape.old.past)) (open_views tape.old) doubtful.now }
-    requires turns { outcomes.items ≡ map (turn_of (P.acts given.now.program.now) (P.ending given.now.program.now)) (open_views tape.old) }
+    requires before { IsBefore (turn_of (P.acts given.now.program.now) (P.ending given.now.program.now)) given.now.input.now
+        (option_map (λ k. k.now) given.now.old) }
+    requires made { IsRecord (turn_of (P.acts given.now.program.now) (P.ending given.now.program.now)) given.now.input.now
+        tape.old }
+    requires doubtful { AreDoubtful (taken_before (option_map (λ k. k.now) given.now.old) (length tape.old.past))
+        (open_views tape.old) doubtful.now }
+    requires turns { outcomes.items ≡ map (turn_of (P.acts given.now.program.now) (P.ending given.now.program.now))
+        (open_views tape.old) }
     requires within { AreOutcomesOf (open_views tape.old) outcomes.items }
     ensures turned { OnOk result (tape.new ≡ after_turns tape.old outcomes.items) }
     ensures answer { IfOk result (λ next. is_some next ≡ is_turned tape.new.phase) }
@@ -63,9 +67,12 @@ fn take_turns<P: Program, G: Gate, R: Threads + Sync>(
     counts: &mut Counts,
 ) -> Result<Option<KnownTable>, OutOfMemory>
     requires open { is_open tape.old.phase ≡ true }
-    requires before { IsBefore (turn_of (P.acts given.now.program.now) (P.ending given.now.program.now)) given.now.input.now (option_map (λ k. k.now) given.now.old) }
-    requires made { IsRecord (turn_of (P.acts given.now.program.now) (P.ending given.now.program.now)) given.now.input.now tape.old }
-    requires doubtful { AreDoubtful (taken_before (option_map (λ k. k.now) given.now.old) (length tape.old.past)) (open_views tape.old) doubtful.now }
+    requires before { IsBefore (turn_of (P.acts given.now.program.now) (P.ending given.now.program.now)) given.now.input.now
+        (option_map (λ k. k.now) given.now.old) }
+    requires made { IsRecord (turn_of (P.acts given.now.program.now) (P.ending given.now.program.now)) given.now.input.now
+        tape.old }
+    requires doubtful { AreDoubtful (taken_before (option_map (λ k. k.now) given.now.old) (length tape.old.past))
+        (open_views tape.old) doubtful.now }
     ensures turned { OnOk result (tape.new ≡ after_turns tape.old (map (turn_of (P.acts given.now.program.now) (P.ending given.now.program.now)) (open_views tape.old))) }
     ensures answer { IfOk result (λ next. is_some next ≡ is_turned tape.new.phase) }
     ensures known { IfOk result (λ next. IfSome next (KnowsNextTable (option_map (λ k. k.now) given.now.old) tape.new)) }
@@ -100,7 +107,8 @@ fn make_again<P: Program, G: Gate, R: Threads + Sync>(
     counts: &mut Counts,
 ) -> Result<(), OutOfMemory>
     requires open { is_open tape.old.phase ≡ true }
-    requires doubtful { AreDoubtful (taken_before (option_map (λ k. k.now) given.now.old) (length tape.old.past)) (open_views tape.old) doubtful.now }
+    requires doubtful { AreDoubtful (taken_before (option_map (λ k. k.now) given.now.old) (length tape.old.past))
+        (open_views tape.old) doubtful.now }
     requires under_way { IsUnderWay (turn_of (P.acts given.now.program.now) (P.ending given.now.program.now)) (P.looks given.now.program.now) (option_map (λ k. k.now) given.now.old) given.now.input.now tape.old marks.old.items update.old }
     ensures tape { OnOk result (tape.new ≡ advance (turn_of (P.acts given.now.program.now) (P.ending given.now.program.now)) tape.old) }
     ensures under_way { OnOk result (IsUnderWay (turn_of (P.acts given.now.program.now) (P.ending given.now.program.now)) (P.looks given.now.program.now) (option_map (λ k. k.now) given.now.old) given.now.input.now tape.new marks.new.items update.new) }

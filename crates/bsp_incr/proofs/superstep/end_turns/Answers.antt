@@ -1,4 +1,4 @@
-use Rattle.std.proofs.Common.{◌≡◌, ◌<◌, ◌∙◌, ℕ, List, Option, map, ap, sym, subst, length}
+use Rattle.std.proofs.Common.{◌<◌, ◌∙◌, List, Option, ap, sym, subst, length}
 use Rattle.std.specs.Prelude.{option_map}
 use Rattle.bsp_step.specs.OutcomeParts.{OutcomeParts}
 use Rattle.bsp_step.specs.Turn.{turn_of}
@@ -6,7 +6,7 @@ use Rattle.bsp_run.specs.Run.{Run, open_views}
 use Rattle.bsp_run.proofs.Records.{open_views-in}
 use Rattle.bsp_incr.specs.Inside.Before.{delivered_outcomes}
 use Rattle.bsp_incr.specs.Inside.Marks.{OutcomesDifferAtMost}
-use Rattle.bsp_incr.proofs.KnownTables.{EndAsBefore, end_as_before, delivers_as_before, turned_as_before, knows_next_as_before}
+use Rattle.bsp_incr.proofs.KnownTables.{end_as_before, delivers_as_before, turned_as_before, knows_next_as_before}
 use Rattle.bsp_incr.proofs.Remaking.{turns-in, unchanged_among}
 use Rattle.bsp_incr.proofs.RunBefore.{count_before}
 use Rattle.bsp_incr.proofs.superstep.end_turns.Goals as goal

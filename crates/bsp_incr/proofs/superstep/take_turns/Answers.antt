@@ -2,7 +2,7 @@ use Rattle.std.proofs.Common.{◌≡◌, ◌<◌, ◌∙◌, List, Option, ap, s
 use Rattle.std.specs.Prelude.{option_map}
 use Rattle.bsp_step.specs.ViewParts.{ViewParts}
 use Rattle.bsp_step.specs.Turn.{turn_of}
-use Rattle.bsp_run.specs.Run.{Run, open_views}
+use Rattle.bsp_run.specs.Run.{Run}
 use Rattle.bsp_run.specs.Condition.{AreOutcomesOf}
 use Rattle.bsp_run.proofs.Records.{open_views-in}
 use Rattle.bsp_run.proofs.Runs.{views_shown-open, open_phase}
