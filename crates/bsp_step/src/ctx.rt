@@ -17,7 +17,7 @@ mod remote;
 use crate::{Ended, Outcome, Stop, View};
 use bsp_model::limits::MOST_REQUESTS;
 use bsp_model::{
-    End, Fault, Get, Memory, Message, OutOfMemory, Put, Send, Seq, Stores, TryCopy, Words,
+    End, Fault, Get, Memory, Message, OutOfMemory, Put, Rows, Send, Seq, Stores, TryCopy,
 };
 use bsp_table::Area;
 use std::alloc::Global;
@@ -37,7 +37,7 @@ pub struct Ctx<'v> {
     pops: Seq<usize>,
     pushes: Seq<Area>,
     tag: Option<u64>,
-    lines: Seq<Words>,
+    lines: Rows<u64>,
     work: u64,
     fault: Option<Fault>,
 }
@@ -72,7 +72,7 @@ impl<'v> Ctx<'v> {
             pops: Seq::new(alloc),
             pushes: Seq::new(alloc),
             tag: None,
-            lines: Seq::new(alloc),
+            lines: Rows::new(alloc),
             work: 0,
             fault: None,
         })

@@ -2,7 +2,7 @@
 
 ghost use Rattle.std.specs.Prelude.{◌≡◌, IsTrue, ◌↔◌};
 
-use bsp_model::{Fault, Get, Memory, OutOfMemory, Put, Same, Send, Seq, Stores, TryCopy, Words};
+use bsp_model::{Fault, Get, Memory, OutOfMemory, Put, Rows, Same, Send, Seq, Stores, TryCopy};
 use bsp_table::{Area, Registers};
 use std::marker::Model;
 
@@ -39,7 +39,7 @@ pub struct Outcome {
     /// The choice of the next tag size, if one was made.
     pub tag: Option<u64>,
     /// The printed lines, in order.
-    pub lines: Seq<Words>,
+    pub lines: Rows<u64>,
     /// The work that was charged.
     pub work: u64,
 }

@@ -3,7 +3,7 @@
 ghost use Rattle.std.specs.Prelude.{IsTrue, IfOk, All, ◌<◌, ◌≤◌, ◌+◌, length, slice_index};
 ghost use Rattle.bsp_deliver.specs.Condition.{AreDeliverable, AreRequestsInside, IsGetInside, IsPutInside, sizes_of};
 
-use bsp_model::{Get, Memory, OutOfMemory, Put, Seq, Shared, Stores, Words};
+use bsp_model::{Get, Memory, OutOfMemory, Put, Rows, Seq, Shared, Stores, Words};
 use bsp_step::{Ended, Outcome};
 use std::alloc::Global;
 use std::process::Abort;
@@ -108,7 +108,7 @@ fn outcome_of(
         pops: Seq::new(alloc),
         pushes: Seq::new(alloc),
         tag: None,
-        lines: Seq::new(alloc),
+        lines: Rows::new(alloc),
         work: 0,
     })
 }

@@ -6,7 +6,7 @@ ghost use Rattle.bsp_step.specs.Calls.{Performs, PerformsAlways};
 
 use crate::{Ctx, Stop};
 use bsp_model::limits::{MOST_LINE_WORDS, MOST_LINES, MOST_WORK};
-use bsp_model::{Fault, Store, Words};
+use bsp_model::{Fault, Store};
 
 impl<'v> Ctx<'v> {
     /// Makes `value` the word at `address` of the own memory.
@@ -60,8 +60,7 @@ impl<'v> Ctx<'v> {
         if words.len() > MOST_LINE_WORDS {
             return self.refuse(Fault::TooLong);
         }
-        let line = Words::from_slice(self.alloc, words)?;
-        self.lines.push(line)?;
+        self.lines.push(words)?;
         Ok(())
     }
 }

@@ -1,0 +1,138 @@
+//! A list of rows, kept in two lists.
+
+ghost use Rattle.std.specs.Prelude.{◌≡◌, ◌<◌, ◌≤◌, ◌+◌, ◌^◌, ◌++◌, ◌∷◌, [], length, map, nat_eq, option_map, slice_get, slice_index, slice_index_or, EachIndex, OnErr, OnOk, vec_capacity, vec_len};
+ghost use Rattle.bsp_model.specs.Inside.Rows.{AreEnds};
+
+use crate::seq::are_same;
+use crate::{OutOfMemory, Same, TryCopy};
+use std::alloc::Global;
+use std::marker::Model;
+
+/// A list of rows, such as printed lines. The items of all rows lie one behind the other in one list, and a second list says where each row ends.
+#[derive(Debug, Drop)]
+pub struct Rows<T> {
+    items: Vec<T>,
+    ends: Vec<usize>,
+}
+
+impl<T> Model for Rows<T> {
+    ghost use Rattle.std.specs.Prelude.{List, length};
+    ghost use Rattle.bsp_model.specs.Inside.Rows.{rows_of, AreEnds};
+
+    ghost Value = { List (List T) };
+
+    ghost view = { λ r. rows_of 0 r.items.items r.ends.items };
+
+    ghost invariant = { λ r. AreEnds 0 r.ends.items (length r.items.items) };
+}
+
+/// Where a row begins, and where it ends.
+fn bounds_of(ends: &[usize], count: usize, number: usize) -> (usize, usize)
+    requires ends { AreEnds 0 ends.now count }
+    requires row { number < length ends.now }
+    ensures start { result.0 ≡ slice_index_or (0 ∷ ends.now) number 0 }
+    ensures end { result.1 ≡ slice_index_or ends.now number 0 }
+    ensures order { result.0 ≤ result.1 }
+    ensures inside { result.1 ≤ count }
+{
+    let start = if number == 0 { 0 } else { ends[number - 1] };
+    (start, ends[number])
+}
+
+/// Adds the ends of rows whose items lie behind so many others. There is room for them.
+fn add_ends(ends: &mut Vec<usize>, before: usize, more: &[usize])
+    requires room { vec_len ends.old + length more.now ≤ vec_capacity ends.old }
+    requires fits { EachIndex more.now (λ k. before + slice_index more.now k < 2 ^ 64) }
+    ensures { ends.new.items ≡ ends.old.items ++ map (λ end. before + end) more.now }
+{
+    for end in more {
+        ends.push_reserved(before + *end);
+    }
+}
+
+impl<T> Rows<T> {
+    /// No rows, which take no memory.
+    pub fn new(alloc: Global) -> Rows<T>
+        ensures { result ≡ [] }
+    {
+        Rows {
+            items: Vec::new(alloc),
+            ends: Vec::new(alloc),
+        }
+    }
+
+    /// The number of rows.
+    pub fn len(&self) -> usize
+        ensures { result ≡ length self.now }
+    {
+        self.ends.len()
+    }
+
+    /// Whether there is no row.
+    pub fn is_empty(&self) -> bool
+        ensures { result ≡ nat_eq (length self.now) 0 }
+    {
+        self.ends.is_empty()
+    }
+
+    /// The items of the row at a place.
+    pub fn row(&self, number: usize) -> &[T]
+        requires { number < length self.now }
+        ensures { result.now ≡ slice_index_or self.now number [] }
+    {
+        let (start, end) = bounds_of(self.ends.as_slice(), self.items.len(), number);
+        &self.items[start..end]
+    }
+
+    /// The items of the row at a place, if there is one.
+    pub fn get(&self, number: usize) -> Option<&[T]>
+        ensures { option_map (λ row. row.now) result ≡ slice_get self.now number }
+    {
+        if number >= self.len() {
+            return None;
+        }
+        Some(self.row(number))
+    }
+}
+
+impl<T: Copy> Rows<T> {
+    /// Puts a row of these items at the end. After `OutOfMemory` nothing has changed.
+    pub fn push(&mut self, row: &[T]) -> Result<(), OutOfMemory>
+        ensures ok { OnOk result (self.new ≡ self.old ++ row.now ∷ []) }
+        ensures err { OnErr result (self.new ≡ self.old) }
+    {
+        self.ends.reserve(1)?;
+        self.items.extend_from_slice(row)?;
+        self.ends.push_reserved(self.items.len());
+        Ok(())
+    }
+
+    /// Puts the rows of another list at the end. After `OutOfMemory` nothing has changed.
+    pub fn append(&mut self, more: &Rows<T>) -> Result<(), OutOfMemory>
+        ensures ok { OnOk result (self.new ≡ self.old ++ more.now) }
+        ensures err { OnErr result (self.new ≡ self.old) }
+    {
+        self.ends.reserve(more.ends.len())?;
+        let before = self.items.len();
+        self.items.extend_from_slice(more.items.as_slice())?;
+        add_ends(&mut self.ends, before, more.ends.as_slice());
+        Ok(())
+    }
+}
+
+impl<T: Copy> TryCopy for Rows<T> {
+    fn copy(&self) -> Result<Rows<T>, OutOfMemory> {
+        let alloc = *self.items.allocator();
+        let mut items = Vec::with_capacity(alloc, self.items.len())?;
+        items.extend_from_slice(self.items.as_slice())?;
+        let ends = self.ends.clone()?;
+        Ok(Rows { items, ends })
+    }
+}
+
+impl<T: Same> Same for Rows<T> {
+    fn same(&self, other: &Rows<T>) -> bool {
+        are_same(self.ends.as_slice(), other.ends.as_slice())
+            && are_same(self.items.as_slice(), other.items.as_slice())
+    }
+}
