@@ -1,7 +1,9 @@
 pub mod Inputs
+pub mod IssuedRows
 pub mod MadeAgain
 pub mod Pages
 pub mod Ranges
 pub mod Rests
+pub mod RowRanges
 pub mod SameRanges
 pub mod Writes
