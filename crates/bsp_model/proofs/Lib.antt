@@ -1,9 +1,11 @@
 pub mod Inputs
+pub mod IssuedRows
 pub mod MadeAgain
 pub mod Pages
 pub mod Ranges
 pub mod Rests
 pub mod RowsOf
+pub mod RowRanges
 pub mod SameRanges
 pub mod Writes
 pub mod SameWords

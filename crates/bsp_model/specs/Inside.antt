@@ -1,3 +1,5 @@
+pub mod HeadedRows
+pub mod Issued
 pub mod LawfulInput
 pub mod Pages
 pub mod Ranges

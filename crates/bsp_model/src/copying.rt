@@ -41,3 +41,9 @@ impl Same for usize {
         *self == *other
     }
 }
+
+impl<A: Same, B: Same> Same for (A, B) {
+    fn same(&self, other: &(A, B)) -> bool {
+        self.0.same(&other.0) && self.1.same(&other.1)
+    }
+}

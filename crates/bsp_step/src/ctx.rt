@@ -17,7 +17,7 @@ mod remote;
 use crate::{Ended, Outcome, Stop, View};
 use bsp_model::limits::MOST_REQUESTS;
 use bsp_model::{
-    End, Fault, Get, Memory, Message, OutOfMemory, Put, Rows, Send, Seq, Stores, TryCopy,
+    End, Fault, Get, Memory, Message, OutOfMemory, Puts, Rows, Sends, Seq, Stores, TryCopy,
 };
 use bsp_table::Area;
 use std::alloc::Global;
@@ -31,9 +31,9 @@ pub struct Ctx<'v> {
     memory: Memory,
     left: &'v [Message],
     stores: Stores,
-    puts: Seq<Put>,
+    puts: Puts,
     gets: Seq<Get>,
-    sends: Seq<Send>,
+    sends: Sends,
     pops: Seq<usize>,
     pushes: Seq<Area>,
     tag: Option<u64>,
@@ -66,9 +66,9 @@ impl<'v> Ctx<'v> {
             memory,
             left: view.queue.as_slice(),
             stores: Stores::new(alloc),
-            puts: Seq::new(alloc),
+            puts: Puts::new(alloc),
             gets: Seq::new(alloc),
-            sends: Seq::new(alloc),
+            sends: Sends::new(alloc),
             pops: Seq::new(alloc),
             pushes: Seq::new(alloc),
             tag: None,

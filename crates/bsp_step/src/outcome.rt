@@ -2,7 +2,7 @@
 
 ghost use Rattle.std.specs.Prelude.{◌≡◌, IsTrue, ◌↔◌};
 
-use bsp_model::{Fault, Get, Memory, OutOfMemory, Put, Rows, Same, Send, Seq, Stores, TryCopy};
+use bsp_model::{Fault, Get, Memory, OutOfMemory, Puts, Rows, Same, Sends, Seq, Stores, TryCopy};
 use bsp_table::{Area, Registers};
 use std::marker::Model;
 
@@ -27,11 +27,11 @@ pub struct Outcome {
     /// The stores that were made, in order.
     pub stores: Stores,
     /// The puts, in issue order, resolved to process and start word.
-    pub puts: Seq<Put>,
+    pub puts: Puts,
     /// The gets, in issue order, resolved to process and start word.
     pub gets: Seq<Get>,
     /// The sends, in issue order.
-    pub sends: Seq<Send>,
+    pub sends: Sends,
     /// The popped slots, in issue order.
     pub pops: Seq<usize>,
     /// The pushed areas, in issue order.

@@ -7,7 +7,7 @@ ghost use Rattle.bsp_step.specs.Calls.{PerformsAll, PutsWords};
 
 use crate::{Ctx, Stop};
 use bsp_model::limits::MOST_MEMORY_WORDS;
-use bsp_model::{Fault, OutOfMemory, Put, Words};
+use bsp_model::{Fault, OutOfMemory, Words};
 
 impl<'v> Ctx<'v> {
     /// Copies the words of the own memory from `address` on to `words`, as they are now. `None`, and nothing is copied, where they pass the end of
@@ -75,11 +75,7 @@ impl<'v> Ctx<'v> {
         let start = self.resolve(pid, area, offset, len)?;
         let mut words = vec![in self.alloc; 0; len as usize]?;
         self.memory.read(from, words.as_mut_slice());
-        self.puts.push(Put {
-            target: pid,
-            start,
-            words: Words::from_vec(words),
-        })?;
+        self.puts.push(pid, start, words.as_slice())?;
         Ok(Some(()))
     }
 }

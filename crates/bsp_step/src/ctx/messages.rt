@@ -8,7 +8,7 @@ ghost use Rattle.bsp_step.specs.Calls.{Performs, PerformsAlways};
 
 use crate::{Ctx, Stop};
 use bsp_model::limits::{MOST_MESSAGES, MOST_PAYLOAD_WORDS, MOST_TAG_WORDS};
-use bsp_model::{Fault, Message, Send, Words};
+use bsp_model::{Fault, Message};
 
 /// The words of all payloads together.
 fn count_of_words(messages: &[Message]) -> usize
@@ -61,13 +61,7 @@ impl<'v> Ctx<'v> {
         if words.len() > MOST_PAYLOAD_WORDS {
             return self.refuse(Fault::TooLong);
         }
-        let tag = Words::from_slice(self.alloc, tag)?;
-        let words = Words::from_slice(self.alloc, words)?;
-        self.sends.push(Send {
-            target: pid,
-            tag,
-            words,
-        })?;
+        self.sends.push(pid, tag, words)?;
         Ok(())
     }
 

@@ -8,7 +8,7 @@ ghost use Rattle.bsp_step.specs.Calls.{Performs};
 
 use crate::{Ctx, Stop};
 use bsp_model::limits::MOST_MEMORY_WORDS;
-use bsp_model::{Fault, Get, Put, Words};
+use bsp_model::{Fault, Get};
 use bsp_table::Area;
 
 impl<'v> Ctx<'v> {
@@ -56,12 +56,7 @@ impl<'v> Ctx<'v> {
         ensures { Performs self.old (act.put pid words.now area offset) self.new result }
     {
         let start = self.resolve(pid, area, offset, words.len() as u64)?;
-        let words = Words::from_slice(self.alloc, words)?;
-        self.puts.push(Put {
-            target: pid,
-            start,
-            words,
-        })?;
+        self.puts.push(pid, start, words)?;
         Ok(())
     }
 

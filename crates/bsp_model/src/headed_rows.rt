@@ -1,0 +1,118 @@
+//! Rows of words in one list, each with a head.
+
+ghost use Rattle.std.specs.Prelude.{◌≡◌, ◌<◌, ◌≤◌, ◌++◌, ◌∷◌, [], length, OnErr, OnOk, nat_eq, slice_get, slice_index_or};
+ghost use Rattle.bsp_model.specs.Inside.HeadedRows.{AreEnds, start_at};
+
+use crate::seq::are_same;
+use crate::{OutOfMemory, Same, TryCopy};
+use std::alloc::Global;
+use std::marker::Model;
+
+/// A list of rows, each a head with words. The words of all rows lie in one list.
+#[derive(Debug, Drop)]
+pub struct HeadedRows<H> {
+    /// The heads, each with the place where the words of its row end.
+    heads: Vec<(H, usize)>,
+    /// The words of the first row, then those of the second, and so on.
+    words: Vec<u64>,
+}
+
+impl<H> Model for HeadedRows<H> {
+    ghost use Rattle.std.specs.Prelude.{List, ℕ, length};
+    ghost use Rattle.bsp_model.specs.Inside.HeadedRows.{rows_from, AreEnds};
+
+    ghost Value = { List (H × (List ℕ)) };
+
+    ghost view = { λ r. rows_from 0 r.heads.items r.words.items };
+
+    ghost invariant = { λ r. AreEnds 0 r.heads.items (length r.words.items) };
+}
+
+/// Where the words of a row start, and where they end, among so many words.
+fn bounds<H>(heads: &[(H, usize)], count: usize, place: usize) -> (usize, usize)
+    requires ends { AreEnds 0 heads.now count }
+    requires known { place < length heads.now }
+    ensures start { result.0 ≡ start_at place 0 heads.now }
+    ensures end { (head : _) → result.1 ≡ (slice_index_or heads.now place head).1 }
+    ensures order { result.0 ≤ result.1 }
+    ensures inside { result.1 ≤ count }
+{
+    let start = if place == 0 { 0 } else { heads[place - 1].1 };
+    (start, heads[place].1)
+}
+
+impl<H> HeadedRows<H> {
+    /// No rows, which take no memory.
+    pub fn new(alloc: Global) -> HeadedRows<H>
+        ensures { result ≡ [] }
+    {
+        HeadedRows {
+            heads: Vec::new(alloc),
+            words: Vec::new(alloc),
+        }
+    }
+
+    /// The number of rows.
+    pub fn len(&self) -> usize
+        ensures { result ≡ length self.now }
+    {
+        self.heads.len()
+    }
+
+    /// Whether there is no row.
+    pub fn is_empty(&self) -> bool
+        ensures { result ≡ nat_eq (length self.now) 0 }
+    {
+        self.heads.is_empty()
+    }
+
+    /// The allocator that the list keeps.
+    pub fn allocator(&self) -> Global {
+        *self.words.allocator()
+    }
+
+    /// The head and the words of a row.
+    pub fn at(&self, place: usize) -> (&H, &[u64])
+        requires { place < length self.now }
+        ensures { slice_get self.now place ≡ Some (result.0.now, result.1.now) }
+    {
+        let (start, end) = bounds(self.heads.as_slice(), self.words.len(), place);
+        (&self.heads[place].0, &self.words[start..end])
+    }
+}
+
+impl<H: Copy> HeadedRows<H> {
+    /// Adds a row of the words of `front` and then those of `back`. After `OutOfMemory` nothing has changed.
+    pub fn push(&mut self, head: H, front: &[u64], back: &[u64]) -> Result<(), OutOfMemory>
+        ensures ok { OnOk result (self.new ≡ self.old ++ (head, front.now ++ back.now) ∷ []) }
+        ensures err { OnErr result (self.new ≡ self.old) }
+    {
+        self.heads.reserve(1)?;
+        let before = self.words.len();
+        self.words.extend_from_slice(front)?;
+        if let Err(error) = self.words.extend_from_slice(back) {
+            self.words.truncate(before);
+            return Err(error);
+        }
+        self.heads.push_reserved((head, self.words.len()));
+        Ok(())
+    }
+}
+
+impl<H: Copy> TryCopy for HeadedRows<H> {
+    fn copy(&self) -> Result<HeadedRows<H>, OutOfMemory> {
+        let alloc = *self.words.allocator();
+        let mut heads = Vec::new(alloc);
+        heads.extend_from_slice(self.heads.as_slice())?;
+        let mut words = Vec::new(alloc);
+        words.extend_from_slice(self.words.as_slice())?;
+        Ok(HeadedRows { heads, words })
+    }
+}
+
+impl<H: Same> Same for HeadedRows<H> {
+    fn same(&self, other: &HeadedRows<H>) -> bool {
+        are_same(self.heads.as_slice(), other.heads.as_slice())
+            && are_same(self.words.as_slice(), other.words.as_slice())
+    }
+}

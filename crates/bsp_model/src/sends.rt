@@ -1,0 +1,137 @@
+//! The messages that a turn sends, kept in few lists.
+
+ghost use Rattle.std.specs.Prelude.{◌≡◌, ◌<◌, ◌++◌, ◌∷◌, [], length, OnErr, OnOk, IfOk, IsTrue, ◌↔◌, nat_eq, slice_get};
+
+use crate::headed_rows::HeadedRows;
+use crate::{OutOfMemory, Same, Send, TryCopy, Words};
+use std::alloc::Global;
+use std::marker::Model;
+
+/// What a message has beside its words.
+#[derive(Clone, Copy, Debug, PartialEq, Eq)]
+struct SendHead {
+    target: u64,
+    tag_len: usize,
+}
+
+impl Same for SendHead {
+    fn same(&self, other: &SendHead) -> bool {
+        *self == *other
+    }
+}
+
+/// A message that stands in a list of messages.
+#[derive(Clone, Copy, Debug)]
+pub struct SendView<'a> {
+    /// The process that gets it.
+    pub target: u64,
+    /// The tag.
+    pub tag: &'a [u64],
+    /// The payload.
+    pub words: &'a [u64],
+}
+
+/// Messages in the order in which they were issued. The words of all lie in one list, the tag of each before its payload.
+#[derive(Debug, Drop)]
+pub struct Sends {
+    rows: HeadedRows<SendHead>,
+}
+
+impl Model for Sends {
+    ghost use Rattle.std.specs.Prelude.{List, map, All};
+    ghost use Rattle.bsp_model.specs.declared.request.Send.{Send};
+    ghost use Rattle.bsp_model.specs.Inside.Issued.{send_of, HasTag};
+
+    ghost Value = { List Send };
+
+    ghost view = { λ m. map send_of m.rows };
+
+    ghost invariant = { λ m. All HasTag m.rows };
+}
+
+impl Sends {
+    /// No messages, which take no memory.
+    pub fn new(alloc: Global) -> Sends
+        ensures { result ≡ [] }
+    {
+        Sends {
+            rows: HeadedRows::new(alloc),
+        }
+    }
+
+    /// The number of messages.
+    pub fn len(&self) -> usize
+        ensures { result ≡ length self.now }
+    {
+        self.rows.len()
+    }
+
+    /// Whether there is no message.
+    pub fn is_empty(&self) -> bool
+        ensures { result ≡ nat_eq (length self.now) 0 }
+    {
+        self.rows.is_empty()
+    }
+
+    /// The message at a place.
+    pub fn at(&self, place: usize) -> SendView<'_>
+        requires { place < length self.now }
+        ensures { slice_get self.now place ≡ Some (record { target = result.target; tag = result.tag.now; words = result.words.now }) }
+    {
+        let (head, words) = self.rows.at(place);
+        let (tag, words) = words.split_at(head.tag_len);
+        SendView {
+            target: head.target,
+            tag,
+            words,
+        }
+    }
+
+    /// A copy of the message at a place, with words of its own.
+    pub fn copy_at(&self, place: usize) -> Result<Send, OutOfMemory>
+        requires { place < length self.now }
+        ensures { IfOk result (λ send. slice_get self.now place ≡ Some send) }
+    {
+        let send = self.at(place);
+        Ok(Send {
+            target: send.target,
+            tag: Words::from_slice(self.rows.allocator(), send.tag)?,
+            words: Words::from_slice(self.rows.allocator(), send.words)?,
+        })
+    }
+
+    /// Whether the message at a place is that of other messages at another.
+    pub fn same_at(&self, place: usize, others: &Sends, other: usize) -> bool
+        requires known { place < length self.now }
+        requires known_other { other < length others.now }
+        ensures { IsTrue result ↔ (slice_get self.now place ≡ slice_get others.now other) }
+    {
+        let one = self.at(place);
+        let another = others.at(other);
+        one.target == another.target && one.tag == another.tag && one.words == another.words
+    }
+
+    /// Adds a message. After `OutOfMemory` nothing has changed.
+    pub fn push(&mut self, target: u64, tag: &[u64], words: &[u64]) -> Result<(), OutOfMemory>
+        ensures ok { OnOk result (self.new ≡ self.old ++ record { target = target; tag = tag.now; words = words.now } ∷ []) }
+        ensures err { OnErr result (self.new ≡ self.old) }
+    {
+        let tag_len = tag.len();
+        self.rows.push(SendHead { target, tag_len }, tag, words)?;
+        Ok(())
+    }
+}
+
+impl TryCopy for Sends {
+    fn copy(&self) -> Result<Sends, OutOfMemory> {
+        Ok(Sends {
+            rows: self.rows.copy()?,
+        })
+    }
+}
+
+impl Same for Sends {
+    fn same(&self, other: &Sends) -> bool {
+        self.rows.same(&other.rows)
+    }
+}
