@@ -44,7 +44,8 @@ pub fn rerun<P: Program, G: Gate, R: Threads + Sync>(
     requires args { AreArgsMarked (option_map (λ k. k.now) old) input.now marks.args.items }
     requires first { AreFirstMarked (option_map (λ k. k.now) old) input.now marks.first.items }
     requires before { IsBefore (turn_of (P.acts program.now) (P.ending program.now)) input.now (option_map (λ k. k.now) old) }
-    requires law { ForSome (option_map (λ k. k.now) old) (IsLawfulBefore (turn_of (P.acts program.now) (P.ending program.now)) input.now) }
+    requires law { ForSome (option_map (λ k. k.now) old)
+        (IsLawfulBefore (turn_of (P.acts program.now) (P.ending program.now)) input.now) }
     ensures run { IfOk result (λ r. r.0 ≡ run (turn_of (P.acts program.now) (P.ending program.now)) input.now) }
     ensures update { IfOk result (λ r. r.1 ≡ update_of (P.looks program.now) (option_map (λ k. k.now) old.entry) r.0) }
 {
