@@ -6,3 +6,4 @@ pub mod Rests
 pub mod RowsOf
 pub mod SameRanges
 pub mod Writes
+pub mod SameWords

@@ -15,6 +15,7 @@ mod seq;
 mod shared;
 mod shared_seq;
 mod stores;
+mod words;
 
 pub use copying::{Same, TryCopy};
 pub use cost::CostRow;
@@ -28,6 +29,7 @@ pub use shared::Shared;
 pub use shared_seq::SharedSeq;
 pub use std::alloc::AllocError as OutOfMemory;
 pub use stores::Stores;
+pub use words::are_same_words;
 
 /// A list of 64-bit words.
 pub type Words = Seq<u64>;
