@@ -183,7 +183,8 @@ fn deliver_together(
     requires deliverable { AreDeliverable outcomes.now }
     requires known { All (λ d. d < length outcomes.now) processes.now }
     requires ascending { IsAscending processes.now }
-    ensures { IfOk result (λ all. all.items ≡ map (λ d. (next_memory (delivery_parts outcomes.now d), next_queue (delivery_parts outcomes.now d))) processes.now) }
+    ensures { IfOk result (λ all. all.items
+        ≡ map (λ d. (next_memory (delivery_parts outcomes.now d), next_queue (delivery_parts outcomes.now d))) processes.now) }
 {
     let places = places_of(alloc, outcomes.len(), processes)?;
     let memories = memories_after(alloc, outcomes, processes, places.as_slice())?;

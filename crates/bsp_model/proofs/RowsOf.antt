@@ -2,7 +2,7 @@
 use Rattle.std.proofs.Common.{◌≡◌, ◌≤◌, ◌<◌, ℕ, zero, suc, ◌+◌, ◌-◌, List, [], ◌∷◌, ◌++◌, length, get_or, take, drop, map, refl, sym, ap, ◌∙◌, arith, rules, add-zero, take-append-drop}
 use Rattle.std.specs.Prelude.{slice_range}
 use Rattle.std.proofs.Math.Seq.{drop-append-add}
-use Rattle.std.proofs.lemmas.List.{same_lists, places, take_all, drop_all, drop-drop, append_assoc}
+use Rattle.std.proofs.lemmas.List.{same_lists, places, take_all, drop_all, drop-drop}
 use Rattle.std.proofs.lemmas.List.Edits.{length-between}
 use Rattle.bsp_model.specs.Inside.Rows.{rows_of, AreEnds}
 

@@ -1,6 +1,6 @@
 //! The lines of a run.
 
-ghost use Rattle.std.specs.Prelude.{◌≡◌, ℕ, [], ◌+◌, ◌≤◌, ◌<◌, ◌++◌, length, option_map, option_to_list, slice_index_or, take, true, false, IfOk, OnOk};
+ghost use Rattle.std.specs.Prelude.{◌≡◌, ℕ, [], ◌+◌, ◌≤◌, ◌<◌, ◌++◌, length, option_map, option_to_list, slice_index_or, take, true, false, IfOk, IfSome, OnOk};
 ghost use Rattle.bsp_deliver.specs.Requests.{each_below, outcome_of};
 ghost use Rattle.bsp_run.specs.Supersteps.{outcomes_of};
 ghost use Rattle.bsp_run.specs.Result.{lines_of_process};
@@ -8,29 +8,19 @@ ghost use Rattle.bsp_run.specs.Inside.Unrecorded.{lines_and};
 ghost use Rattle.bsp_run.specs.Inside.Lines.{AreLinesUnlessMarked};
 
 use crate::{Lines, Superstep};
-use bsp_model::{OutOfMemory, Same, Seq, Shared, SharedSeq, TryCopy, Words};
+use bsp_model::{OutOfMemory, Rows, Shared, SharedSeq, TryCopy};
 use bsp_step::Outcome;
 use std::alloc::Global;
 
-/// The lines of a process in one superstep.
-fn lines_in<'a>(outcomes: &'a [Shared<Outcome>], pid: usize) -> &'a [Words]
-    ensures { result.now ≡ (outcome_of outcomes.now pid).lines }
-{
-    match outcomes.get(pid) {
-        Some(outcome) => outcome.lines.as_slice(),
-        None => &[],
-    }
-}
-
-/// The lines of a process in one superstep, at the end of the others.
+/// Puts the lines of a process in one superstep behind the others.
 #[inline]
 fn add_lines(lines: &mut Lines, outcomes: &[Shared<Outcome>], pid: usize) -> Result<(), OutOfMemory>
     ensures { OnOk result (lines.new ≡ lines.old ++ (outcome_of outcomes.now pid).lines) }
 {
-    for line in lines_in(outcomes, pid) {
-        lines.push(line.copy()?)?;
+    match outcomes.get(pid) {
+        Some(outcome) => lines.append(&outcome.lines),
+        None => Ok(()),
     }
-    Ok(())
 }
 
 /// Adds the lines of each process in one superstep to those that it printed before.
@@ -63,7 +53,7 @@ pub fn no_lines(alloc: Global, nprocs: usize) -> Result<Vec<Lines>, OutOfMemory>
 {
     let mut all = Vec::with_capacity(alloc, nprocs)?;
     for _pid in 0..nprocs {
-        all.push(Seq::new(alloc))?;
+        all.push(Rows::new(alloc))?;
     }
     Ok(all)
 }
@@ -72,7 +62,7 @@ pub fn no_lines(alloc: Global, nprocs: usize) -> Result<Vec<Lines>, OutOfMemory>
 fn lines_of_past(alloc: Global, past: &[Superstep], pid: usize) -> Result<Lines, OutOfMemory>
     ensures { IfOk result (λ lines. lines ≡ lines_of_process (outcomes_of past.now) pid) }
 {
-    let mut lines = Seq::new(alloc);
+    let mut lines = Rows::new(alloc);
     for superstep in past {
         add_lines(&mut lines, superstep.outcomes.as_slice(), pid)?;
     }
@@ -95,26 +85,43 @@ fn lines_of_run(
     Ok(lines)
 }
 
-/// Whether more lines stand in a list from a place on.
-fn stand_at(lines: &[Words], at: usize, more: &[Words]) -> bool
+/// The place behind more lines in a list, if they stand there from a place on.
+fn place_behind(lines: &Lines, at: usize, more: &Lines) -> Option<usize>
     requires { at ≤ length lines.now }
-    ensures inside { result ≡ true → at + length more.now ≤ length lines.now }
-    ensures same { result ≡ true → take (at + length more.now) lines.now ≡ take at lines.now ++ more.now }
+    ensures inside { IfSome result (λ behind. behind ≤ length lines.now) }
+    ensures same { IfSome result (λ behind. take behind lines.now ≡ take at lines.now ++ more.now) }
 {
     if more.len() > lines.len() - at {
-        return false;
+        return None;
     }
     for place in 0..more.len() {
-        if !lines[at + place].same(&more[place]) {
-            return false;
+        if lines.row(at + place) != more.row(place) {
+            return None;
         }
     }
-    true
+    Some(at + more.len())
+}
+
+/// The same for the lines of a process in one superstep.
+fn place_behind_printed(
+    lines: &Lines,
+    at: usize,
+    outcomes: &[Shared<Outcome>],
+    pid: usize,
+) -> Option<usize>
+    requires { at ≤ length lines.now }
+    ensures inside { IfSome result (λ behind. behind ≤ length lines.now) }
+    ensures same { IfSome result (λ behind. take behind lines.now ≡ take at lines.now ++ (outcome_of outcomes.now pid).lines) }
+{
+    match outcomes.get(pid) {
+        Some(outcome) => place_behind(lines, at, &outcome.lines),
+        None => Some(at),
+    }
 }
 
 /// Whether these are the lines of a process. It takes no memory.
 fn are_lines_of(
-    lines: &[Words],
+    lines: &Lines,
     past: &[Superstep],
     last: Option<&[Shared<Outcome>]>,
     pid: usize,
@@ -123,17 +130,13 @@ fn are_lines_of(
 {
     let mut at = 0;
     for superstep in past {
-        let printed = lines_in(superstep.outcomes.as_slice(), pid);
-        if !stand_at(lines, at, printed) {
-            return false;
+        match place_behind_printed(lines, at, superstep.outcomes.as_slice(), pid) {
+            Some(behind) => at = behind,
+            None => return false,
         }
-        at += printed.len();
     }
     match last {
-        Some(outcomes) => {
-            let printed = lines_in(outcomes, pid);
-            stand_at(lines, at, printed) && at + printed.len() == lines.len()
-        }
+        Some(outcomes) => place_behind_printed(lines, at, outcomes, pid) == Some(lines.len()),
         None => at == lines.len(),
     }
 }
@@ -169,11 +172,12 @@ fn shared_lines(
     last: Option<&[Shared<Outcome>]>,
     pid: usize,
 ) -> Result<Shared<Lines>, OutOfMemory>
-    requires { AreLinesUnlessMarked before.now marks.now (outcomes_of past.now ++ option_to_list (option_map (λ o. o.now) last)) }
+    requires { AreLinesUnlessMarked before.now marks.now
+        (outcomes_of past.now ++ option_to_list (option_map (λ o. o.now) last)) }
     ensures { IfOk result (λ lines. lines ≡ lines_of_process (outcomes_of past.now ++ option_to_list (option_map (λ o. o.now) last.entry)) pid) }
 {
     if let Some(lines) = before.get(pid) {
-        if !is_marked(marks, pid) || are_lines_of(lines.as_slice(), past, last, pid) {
+        if !is_marked(marks, pid) || are_lines_of(lines, past, last, pid) {
             return lines.copy();
         }
     }
@@ -190,7 +194,8 @@ pub fn all_lines(
     last: Option<&[Shared<Outcome>]>,
     nprocs: usize,
 ) -> Result<SharedSeq<Shared<Lines>>, OutOfMemory>
-    requires { AreLinesUnlessMarked before.now marks.now (outcomes_of past.now ++ option_to_list (option_map (λ o. o.now) last)) }
+    requires { AreLinesUnlessMarked before.now marks.now
+        (outcomes_of past.now ++ option_to_list (option_map (λ o. o.now) last)) }
     ensures { IfOk result (λ all. all ≡ each_below nprocs (lines_of_process (outcomes_of past.now ++ option_to_list (option_map (λ o. o.now) last.entry)))) }
 {
     if before.len() == nprocs && is_none_marked(marks, nprocs) {

@@ -4,13 +4,13 @@ ghost use Rattle.std.specs.Prelude.{◌≡◌};
 ghost use Rattle.bsp_run.specs.declared.result.RunError.TheVariants.{OutOfMemory};
 
 use bsp_model::{
-    CostRow, Fault, InputFault, Memory, OutOfMemory, Seq, Shared, SharedSeq, SyncFault, TryCopy,
-    Words,
+    CostRow, Fault, InputFault, Memory, OutOfMemory, Rows, Seq, Shared, SharedSeq, SyncFault,
+    TryCopy,
 };
 use std::alloc::AllocError;
 
 /// The lines that a process printed, in order.
-pub type Lines = Seq<Words>;
+pub type Lines = Rows<u64>;
 
 /// A fault of a process.
 #[derive(Clone, Copy, Debug, PartialEq, Eq)]

@@ -1,4 +1,4 @@
--- What stays of the run before at the places where no turn is taken again: what the private functions of this crate ask and promise.
+-- What stays of the run before where no turn is taken again: what the private functions of this crate ask and promise.
 use Rattle.std.specs.Prelude.{◌≡◌, ◌<◌, Bool, true, List, Contains, length, slice_index_or}
 use Rattle.bsp_run.specs.Run.{Run}
 use Rattle.bsp_run.specs.Supersteps.{supersteps_of}
@@ -7,7 +7,8 @@ use Rattle.bsp_incr.specs.Reused.{outcome_there}
 
 -- At each place of both runs that is not among these, what was printed before is printed again.
 pub record LinesStayBut (old r : Run) (places : List Place) : Type 0 where
-  pub same : (place : Place) → place.step < length (supersteps_of old) → place.step < length (supersteps_of r) → (Contains places place → ⊥)
+  pub same : (place : Place) → place.step < length (supersteps_of old) → place.step < length (supersteps_of r)
+      → (Contains places place → ⊥)
       → (outcome_there (supersteps_of r) place).lines ≡ (outcome_there (supersteps_of old) place).lines
 
 -- each process of these places is marked; one that has no mark is

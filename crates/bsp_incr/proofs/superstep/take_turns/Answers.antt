@@ -1,4 +1,4 @@
-use Rattle.std.proofs.Common.{◌≡◌, ◌<◌, ◌∙◌, List, Option, ap, sym, subst, length}
+use Rattle.std.proofs.Common.{◌≡◌, ◌<◌, ◌∙◌, List, Option, ap, sym, subst, length, map}
 use Rattle.std.specs.Prelude.{option_map}
 use Rattle.bsp_step.specs.ViewParts.{ViewParts}
 use Rattle.bsp_step.specs.Turn.{turn_of}
@@ -11,7 +11,7 @@ use Rattle.bsp_incr.specs.Inside.Before.{taken_before}
 use Rattle.bsp_incr.specs.Inside.Marks.{HaveOneTable}
 use Rattle.bsp_incr.specs.Inside.Known.{AreDoubtful}
 use Rattle.bsp_incr.proofs.Remaking.{count_taken}
-use Rattle.bsp_incr.proofs.RunBefore.{table_before, open_table}
+use Rattle.bsp_incr.proofs.RunBefore.{table_before, turns_before, open_table}
 use Rattle.bsp_incr.proofs.superstep.take_turns.Goals as goal
 
 pub turns_again-requires-clause-count : goal.turns_again-requires-clause-count
@@ -33,6 +33,12 @@ turns_again-requires-clause-doubtful g c κs within =
     let now = c.views.ensures.views ∙ views_shown-open r c.requires.open in
     subst (λ (vs : List ViewParts). AreDoubtful vs c.views.result.now c.args.doubtful.now) (sym before)
     (subst (λ (vs : List ViewParts). AreDoubtful (taken_before old (length r.past)) vs c.args.doubtful.now) (sym now) c.requires.doubtful)
+
+pub turns_again-requires-clause-recorded : goal.turns_again-requires-clause-recorded
+turns_again-requires-clause-recorded g c κs within =
+    let turn = turn_of (g.P.Program.acts c.args.given.now.program.now) (g.P.Program.ending c.args.given.now.program.now) in
+    let old : Option Run = option_map (λ k. k.now) c.args.given.now.old in
+    c.outcomes_before-old_outcomes.ensures ∙ turns_before turn c.args.given.now.input.now old c.step-step.result c.requires.before ∙ ap (map turn) (sym c.taken_before-old_views.ensures)
 
 pub turns_again-requires-clause-old_table : goal.turns_again-requires-clause-old_table
 turns_again-requires-clause-old_table g c κs within =
