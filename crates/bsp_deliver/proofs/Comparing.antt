@@ -24,19 +24,19 @@ empty_rest q xs i l here h =
       | inr w ↦ omega (arith, w.0)
     ]
 
--- Where the first list has ended, the lists are equal exactly where the second has.
-pub ended_first : {X : Type 0} (q : X → Bool) (xs ys : List X) (i j : ℕ) → length xs ≤ i → j ≤ length ys → ((r : X) → j < length ys → q (get_or ys j r) ≡ true)
-    → (filter q xs ≡ filter q ys → filter q (drop i xs) ≡ filter q (drop j ys)) → (filter q (drop i xs) ≡ filter q (drop j ys) → filter q xs ≡ filter q ys)
-    → (nat_eq j (length ys) ≡ true → filter q xs ≡ filter q ys) × (filter q xs ≡ filter q ys → nat_eq j (length ys) ≡ true)
+-- Where the first list has ended, E holds exactly where the second has: what is left of both is equal exactly where E holds.
+pub ended_first : {X E : Type 0} (q : X → Bool) (xs ys : List X) (i j : ℕ) → length xs ≤ i → j ≤ length ys → ((r : X) → j < length ys → q (get_or ys j r) ≡ true)
+    → (E → filter q (drop i xs) ≡ filter q (drop j ys)) → (filter q (drop i xs) ≡ filter q (drop j ys) → E)
+    → (nat_eq j (length ys) ≡ true → E) × (E → nat_eq j (length ys) ≡ true)
 ended_first q xs ys i j e l here forth back = (
   λ t. back (rest_past q xs i e ∙ sym (rest_past q ys j (let k : j ≡ length ys = eqb-true j (length ys) t in omega arith))),
   λ h. eq-eqb j (length ys) (empty_rest q ys j l here (sym (forth h) ∙ rest_past q xs i e)),
 )
 
--- Where the second has ended and the first has not, they differ.
-pub ended_second : {X : Type 0} (q : X → Bool) (xs ys : List X) (i j : ℕ) → i < length xs → length ys ≤ j → ((r : X) → i < length xs → q (get_or xs i r) ≡ true)
-    → (filter q xs ≡ filter q ys → filter q (drop i xs) ≡ filter q (drop j ys))
-    → (nat_eq i (length xs) ≡ true → filter q xs ≡ filter q ys) × (filter q xs ≡ filter q ys → nat_eq i (length xs) ≡ true)
+-- Where the second has ended and the first has not, E does not hold.
+pub ended_second : {X E : Type 0} (q : X → Bool) (xs ys : List X) (i j : ℕ) → i < length xs → length ys ≤ j → ((r : X) → i < length xs → q (get_or xs i r) ≡ true)
+    → (E → filter q (drop i xs) ≡ filter q (drop j ys))
+    → (nat_eq i (length xs) ≡ true → E) × (E → nat_eq i (length xs) ≡ true)
 ended_second q xs ys i j l e here forth = (
   λ t. absurd (let k : i ≡ length xs = eqb-true i (length xs) t in omega arith),
   λ h. eq-eqb i (length xs) (empty_rest q xs i (omega arith) here (forth h ∙ rest_past q ys j e)),

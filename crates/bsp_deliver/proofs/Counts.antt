@@ -18,6 +18,13 @@ use Rattle.bsp_deliver.specs.Inside.Sums.{raised, counted, no_words, transfers_o
 use Rattle.bsp_deliver.proofs.Senders.{at_item, length-sizes_of, map_twice}
 use Rattle.bsp_deliver.proofs.Writes.{each_below-same}
 
+-- one transfer more is counted
+pub counted_more : {R : Type 0} (f : R → Transfer) (s now : Sums) (rs : List R) (i : ℕ) (r : R) → i < length rs → r ≡ get_or rs i r → now ≡ fold counted s (map f (take i rs)) → counted now (f r) ≡ fold counted s (map f (take (i + 1) rs))
+counted_more f s now rs i r l e h =
+    ap (λ (t : Sums). counted t (f r)) h
+    ∙ sym (fold-append counted s (map f (take i rs)) (f r ∷ []))
+    ∙ ap (fold counted s) (sym (map-append f (take i rs) (r ∷ [])) ∙ ap (map f) (ap (λ x. take i rs ++ x ∷ []) e ∙ sym (take_more rs i r l)))
+
 -- less room is room
 pub less_room : (s : Sums) (m n : ℕ) → m ≤ n → HasRoom s n → HasRoom s m
 less_room s m n l h = record {

@@ -1,5 +1,7 @@
 -- Requests of several senders, and facts of the outcomes that are read one by one.
-use Rattle.std.proofs.Common.{◌≡◌, ℕ, ◌+◌, ◌<◌, ◌≤◌, ◌==◌, Bool, true, false, cond, List, [], ◌∷◌, ◌++◌, map, filter, take, length, All, refl, sym, ◌∙◌, ap, arith, get_or, subst, append_assoc, append-nil}
+use Rattle.std.proofs.Common.{◌≡◌, ℕ, ◌+◌, ◌<◌, ◌≤◌, ◌==◌, Bool, true, false, cond, List, [], ◌∷◌, ◌++◌, map, filter, take, length, All, refl, sym, ◌∙◌, ap, arith, get_or, subst, append_assoc, append-nil, Some}
+use Rattle.std.specs.Prelude.{slice_get}
+use Rattle.std.proofs.lemmas.Option.{get_or_from_slice_get}
 use Rattle.std.proofs.lemmas.List.{take_more, map-append, get_or-map, get_or_default, length-map}
 use Rattle.std.proofs.lemmas.List.Elements.{filter_more, filter-append, filter_passes, All-nil, All-append, All-map, All-head, All-tail, All-filter}
 use Rattle.std.proofs.lemmas.Bool.{eqb-true}
@@ -15,6 +17,10 @@ use Rattle.bsp_deliver.specs.Inside.Comparison.{IsReadable}
 pub at_item : {X : Type 0} (P : X → Type 0) (xs : List X) (i : ℕ) (x : X) → All P xs → i < length xs → x ≡ get_or xs i x → P x
 at_item P xs i x h l e = subst P (sym e) (h i x l)
 
+-- what stands at a place, as it is read there
+pub item_at : {X : Type 0} (xs : List X) (i : ℕ) (x : X) → slice_get xs i ≡ Some x → x ≡ get_or xs i x
+item_at xs i x h = sym (get_or_from_slice_get xs i x x h)
+
 pub filter_more_yes : {X : Type 0} (p : X → Bool) (xs : List X) (i : ℕ) (x : X) → i < length xs → x ≡ get_or xs i x → p x ≡ true → filter p (take (i + 1) xs) ≡ filter p (take i xs) ++ x ∷ []
 filter_more_yes p xs i x l e t =
     filter_more p xs i x l ∙ ap (λ y. filter p (take i xs) ++ cond (p y) (y ∷ []) []) (sym e) ∙ ap (λ b. filter p (take i xs) ++ cond b (x ∷ []) []) t
@@ -23,6 +29,18 @@ pub filter_more_no : {X : Type 0} (p : X → Bool) (xs : List X) (i : ℕ) (x : 
 filter_more_no p xs i x l e t =
     filter_more p xs i x l ∙ ap (λ y. filter p (take i xs) ++ cond (p y) (y ∷ []) []) (sym e) ∙ ap (λ b. filter p (take i xs) ++ cond b (x ∷ []) []) t
     ∙ append-nil (filter p (take i xs))
+
+-- what is made of those that pass, at the end of a list, with one element more
+pub added_yes : {X Y : Type 0} (f : X → Y) (p : X → Bool) (xs : List X) (i : ℕ) (x : X) (first ys : List Y) → i < length xs → x ≡ get_or xs i x → p x ≡ true → ys ≡ first ++ map f (filter p (take i xs))
+    → ys ++ f x ∷ [] ≡ first ++ map f (filter p (take (i + 1) xs))
+added_yes f p xs i x first ys l e t h =
+    ap (λ zs. zs ++ f x ∷ []) h
+    ∙ append_assoc first (map f (filter p (take i xs))) (f x ∷ [])
+    ∙ ap (λ zs. first ++ zs) (sym (map-append f (filter p (take i xs)) (x ∷ [])) ∙ ap (map f) (sym (filter_more_yes p xs i x l e t)))
+
+pub added_no : {X Y : Type 0} (f : X → Y) (p : X → Bool) (xs : List X) (i : ℕ) (x : X) (first ys : List Y) → i < length xs → x ≡ get_or xs i x → p x ≡ false → ys ≡ first ++ map f (filter p (take i xs))
+    → ys ≡ first ++ map f (filter p (take (i + 1) xs))
+added_no f p xs i x first ys l e t h = h ∙ ap (λ zs. first ++ map f zs) (sym (filter_more_no p xs i x l e t))
 
 -- one sender more adds its requests
 pub requests_from-more : {R : Type 0} (of : OutcomeParts → List R) (n m : ℕ) (os : List OutcomeParts) (o : OutcomeParts) → m ≡ n + length os

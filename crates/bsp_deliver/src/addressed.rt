@@ -1,6 +1,6 @@
 //! The requests that are addressed to a process.
 
-ghost use Rattle.std.specs.Prelude.{◌≡◌, ◌≤◌, ◌++◌, ◌==◌, length, map, filter, IfOk, OnOk};
+ghost use Rattle.std.specs.Prelude.{◌≡◌, ◌<◌, ◌≤◌, ◌++◌, ◌==◌, ◌↔◌, length, map, filter, IfOk, IsTrue, OnOk, slice_index_or};
 ghost use Rattle.bsp_step.specs.ViewParts.{IsQueue};
 ghost use Rattle.bsp_deliver.specs.Requests.{all_puts, all_sends};
 ghost use Rattle.bsp_deliver.specs.Delivery.{delivery_parts, message_of};
@@ -8,12 +8,12 @@ ghost use Rattle.bsp_deliver.specs.Inbox.{inbox_of};
 
 use crate::Inbox;
 use bsp_model::limits::MOST_PROCESSES;
-use bsp_model::{OutOfMemory, Put, Same, Send, Seq, Shared, TryCopy};
+use bsp_model::{OutOfMemory, Put, Puts, Send, Sends, Seq, Shared};
 use bsp_step::Outcome;
 use std::alloc::Global;
 
-/// A request that is addressed to a process.
-pub(crate) trait Addressed: Same {
+/// A kind of requests that are addressed to processes. A request is told by the outcome of the turn that issued it, and its place there.
+pub(crate) trait Addressed {
     ghost use Rattle.std.specs.Prelude.{◌≡◌, ℕ, List};
     ghost use Rattle.bsp_step.specs.OutcomeParts.{OutcomeParts};
 
@@ -21,13 +21,20 @@ pub(crate) trait Addressed: Same {
 
     ghost issued: { OutcomeParts → List Self };
 
-    /// The process.
-    fn addressee(&self) -> u64
-        ensures { result ≡ addressee self.now };
+    /// How many requests of this kind a turn issued.
+    fn count(outcome: &Outcome) -> usize
+        ensures { result ≡ length (issued outcome.now) };
 
-    /// The requests of this kind that a turn issued, in order.
-    fn issued(outcome: &Outcome) -> &[Self]
-        ensures { result.now ≡ issued outcome.now };
+    /// The process that the request at a place is addressed to.
+    fn addressee_at(outcome: &Outcome, place: usize) -> u64
+        requires { place < length (issued outcome.now) }
+        ensures { (r : Self) × (r ≡ slice_index_or (issued outcome.now) place r) × (result ≡ addressee r) };
+
+    /// Whether the request at a place is that of another outcome at another.
+    fn same_at(outcome: &Outcome, place: usize, other: &Outcome, other_place: usize) -> bool
+        requires known { place < length (issued outcome.now) }
+        requires known_other { other_place < length (issued other.now) }
+        ensures { (r : Self) × (s : Self) × (r ≡ slice_index_or (issued outcome.now) place r) × (s ≡ slice_index_or (issued other.now) other_place s) × (IsTrue result ↔ (r ≡ s)) };
 }
 
 impl Addressed for Put {
@@ -35,12 +42,17 @@ impl Addressed for Put {
 
     ghost issued = { λ o. o.puts };
 
-    fn addressee(&self) -> u64 {
-        self.target
+    fn count(outcome: &Outcome) -> usize {
+        outcome.puts.len()
     }
 
-    fn issued(outcome: &Outcome) -> &[Put] {
-        outcome.puts.as_slice()
+    fn addressee_at(outcome: &Outcome, place: usize) -> u64 {
+        let put = outcome.puts.at(place);
+        put.target
+    }
+
+    fn same_at(outcome: &Outcome, place: usize, other: &Outcome, other_place: usize) -> bool {
+        outcome.puts.same_at(place, &other.puts, other_place)
     }
 }
 
@@ -49,27 +61,44 @@ impl Addressed for Send {
 
     ghost issued = { λ o. o.sends };
 
-    fn addressee(&self) -> u64 {
-        self.target
+    fn count(outcome: &Outcome) -> usize {
+        outcome.sends.len()
     }
 
-    fn issued(outcome: &Outcome) -> &[Send] {
-        outcome.sends.as_slice()
+    fn addressee_at(outcome: &Outcome, place: usize) -> u64 {
+        let send = outcome.sends.at(place);
+        send.target
+    }
+
+    fn same_at(outcome: &Outcome, place: usize, other: &Outcome, other_place: usize) -> bool {
+        outcome.sends.same_at(place, &other.sends, other_place)
     }
 }
 
-/// Adds one sender's requests to `d`, in issue order.
-fn add_addressed<R: Addressed + TryCopy>(
-    list: &mut Seq<(u64, R)>,
+/// Adds one sender's puts to `d`, in issue order.
+fn add_puts(list: &mut Seq<(u64, Put)>, sender: u64, d: u64, puts: &Puts) -> Result<(), OutOfMemory>
+    ensures { OnOk result (list.new ≡ list.old ++ map (λ p. (sender, p)) (filter (λ p. p.target == d) puts.now)) }
+{
+    for place in 0..puts.len() {
+        if puts.at(place).target == d {
+            list.push((sender, puts.copy_at(place)?))?;
+        }
+    }
+    Ok(())
+}
+
+/// Adds one sender's messages to `d`, in issue order.
+fn add_sends(
+    list: &mut Seq<(u64, Send)>,
     sender: u64,
     d: u64,
-    requests: &[R],
+    sends: &Sends,
 ) -> Result<(), OutOfMemory>
-    ensures { OnOk result (list.new ≡ list.old ++ map (λ r. (sender, r)) (filter (λ r. R.addressee r == d) requests.now)) }
+    ensures { OnOk result (list.new ≡ list.old ++ map (λ m. (sender, m)) (filter (λ m. m.target == d) sends.now)) }
 {
-    for request in requests {
-        if request.addressee() == d {
-            list.push((sender, request.copy()?))?;
+    for place in 0..sends.len() {
+        if sends.at(place).target == d {
+            list.push((sender, sends.copy_at(place)?))?;
         }
     }
     Ok(())
@@ -85,7 +114,7 @@ fn puts_to(
 {
     let mut puts = Seq::new(alloc);
     for (sender, outcome) in outcomes.iter().enumerate() {
-        add_addressed(&mut puts, sender as u64, d, outcome.puts.as_slice())?;
+        add_puts(&mut puts, sender as u64, d, &outcome.puts)?;
     }
     Ok(puts)
 }
@@ -102,7 +131,7 @@ fn sends_to(
 {
     let mut sends = Seq::new(alloc);
     for (sender, outcome) in outcomes.iter().enumerate() {
-        add_addressed(&mut sends, sender as u64, d, outcome.sends.as_slice())?;
+        add_sends(&mut sends, sender as u64, d, &outcome.sends)?;
     }
     Ok(sends)
 }

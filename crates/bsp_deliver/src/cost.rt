@@ -6,7 +6,7 @@ ghost use Rattle.bsp_deliver.specs.Condition.{AreDeliverable};
 ghost use Rattle.bsp_deliver.specs.Cost.{put_transfer, get_transfer, send_transfer, largest, h_relation};
 
 use bsp_model::limits::{MOST_PROCESSES, MOST_REQUESTS};
-use bsp_model::{Get, Put, Send, Shared};
+use bsp_model::{Get, Puts, Sends, Shared};
 use bsp_step::Outcome;
 
 /// The words that each process sends to and receives from others.
@@ -32,12 +32,13 @@ impl Sums {
     }
 
     /// Counts the words of a sender's puts.
-    fn count_puts(&mut self, sender: u64, puts: &[Put])
+    fn count_puts(&mut self, sender: u64, puts: &Puts)
         requires small { All (λ p. IsSmall (put_transfer sender p)) puts.now }
         requires room { HasRoom self.old (length puts.now) }
         ensures { self.new ≡ fold counted self.old (map (put_transfer sender) puts.now) }
     {
-        for put in puts {
+        for place in 0..puts.len() {
+            let put = puts.at(place);
             self.count(sender, put.target, put.words.len() as u64);
         }
     }
@@ -54,12 +55,13 @@ impl Sums {
     }
 
     /// Counts the words of a sender's messages, tags and payloads.
-    fn count_sends(&mut self, sender: u64, sends: &[Send])
+    fn count_sends(&mut self, sender: u64, sends: &Sends)
         requires small { All (λ m. IsSmall (send_transfer sender m)) sends.now }
         requires room { HasRoom self.old (length sends.now) }
         ensures { self.new ≡ fold counted self.old (map (send_transfer sender) sends.now) }
     {
-        for send in sends {
+        for place in 0..sends.len() {
+            let send = sends.at(place);
             let words = send.tag.len() + send.words.len();
             self.count(sender, send.target, words as u64);
         }
@@ -74,9 +76,9 @@ impl Sums {
         ensures room { (n : ℕ) → HasRoom self.old (MOST_REQUESTS + n) → HasRoom self.new n }
     {
         let own: &Outcome = &outcomes[p];
-        self.count_puts(p as u64, own.puts.as_slice());
+        self.count_puts(p as u64, &own.puts);
         self.count_gets(p as u64, own.gets.as_slice());
-        self.count_sends(p as u64, own.sends.as_slice());
+        self.count_sends(p as u64, &own.sends);
     }
 
     /// The sums over all requests.

@@ -9,7 +9,7 @@ ghost use Rattle.bsp_deliver.specs.Condition.{AreDeliverable, AreRequestsInside,
 
 use crate::delivery::{deliver, memory_with_gets, message};
 use crate::lists::empty_lists;
-use bsp_model::{Memory, Message, OutOfMemory, Put, Send, Seq, Shared};
+use bsp_model::{Memory, Message, OutOfMemory, Puts, Sends, Seq, Shared};
 use bsp_step::{Outcome, Queue};
 use std::alloc::Global;
 use std::vec::IntoIter;
@@ -46,15 +46,16 @@ fn memories_with_gets(
 }
 
 /// Writes one sender's puts, in issue order, each to the memory at its target's place.
-fn write_puts(memories: &mut [Memory], places: &[usize], puts: &[Put]) -> Result<(), OutOfMemory>
+fn write_puts(memories: &mut [Memory], places: &[usize], puts: &Puts) -> Result<(), OutOfMemory>
     requires { All (λ p. p.target < length places.now) puts.now }
     ensures { OnOk result (memories.new ≡ fold (put_at places.now) memories.old puts.now) }
 {
-    for put in puts {
+    for i in 0..puts.len() {
+        let put = puts.at(i);
         let place = places[put.target as usize];
         if place < memories.len() {
             let memory = &mut memories[place];
-            memory.write(put.start, put.words.as_slice())?;
+            memory.write(put.start, put.words)?;
         }
     }
     Ok(())
@@ -71,7 +72,7 @@ fn write_all_puts(
     ensures { OnOk result (memories.new ≡ fold (λ ms s. put_at places.now ms s.1) memories.old (all_puts outcomes.now)) }
 {
     for outcome in outcomes {
-        write_puts(memories, places, outcome.puts.as_slice())?;
+        write_puts(memories, places, &outcome.puts)?;
     }
     Ok(())
 }
@@ -80,16 +81,18 @@ fn write_all_puts(
 fn add_messages(
     queues: &mut [Seq<Message>],
     places: &[usize],
-    sends: &[Send],
+    sends: &Sends,
 ) -> Result<(), OutOfMemory>
     requires { All (λ m. m.target < length places.now) sends.now }
     ensures { OnOk result (queues.new ≡ fold (sent_at places.now) queues.old sends.now) }
 {
-    for send in sends {
+    for i in 0..sends.len() {
+        let send = sends.at(i);
         let place = places[send.target as usize];
         if place < queues.len() {
             let queue = &mut queues[place];
-            queue.push(message(send)?)?;
+            let message = message(queue.allocator(), send.tag, send.words)?;
+            queue.push(message)?;
         }
     }
     Ok(())
@@ -106,7 +109,7 @@ fn add_all_messages(
     ensures { OnOk result (queues.new ≡ fold (λ qs s. sent_at places.now qs s.1) queues.old (all_sends outcomes.now)) }
 {
     for outcome in outcomes {
-        add_messages(queues, places, outcome.sends.as_slice())?;
+        add_messages(queues, places, &outcome.sends)?;
     }
     Ok(())
 }

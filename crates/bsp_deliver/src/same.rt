@@ -8,39 +8,44 @@ ghost use Rattle.bsp_deliver.specs.Inside.Comparison.{HasSameParcel, IsReadable}
 
 use crate::addressed::Addressed;
 use bsp_model::limits::MOST_MEMORY_WORDS;
-use bsp_model::{Get, Memory, Same, Shared};
+use bsp_model::{Get, Memory, Put, Same, Send, Shared};
 use bsp_step::Outcome;
 
 /// The place of the next request to `d`, or the number of requests.
-fn next_to<R: Addressed>(requests: &[R], d: u64, from: usize) -> usize
-    requires { from ≤ length requests.now }
-    ensures within { result ≤ length requests.now }
+fn next_to<R: Addressed>(outcome: &Outcome, d: u64, from: usize) -> usize
+    requires { from ≤ length (R.issued outcome.now) }
+    ensures within { result ≤ length (R.issued outcome.now) }
     ensures later { from ≤ result }
-    ensures rest { filter (λ r. R.addressee r == d) (drop from requests.now) ≡ filter (λ r. R.addressee r == d) (drop result requests.now) }
-    ensures here { (r : _) → result < length requests.now → (R.addressee (slice_index_or requests.now result r) == d) ≡ true }
+    ensures rest { filter (λ r. R.addressee r == d) (drop from (R.issued outcome.now)) ≡ filter (λ r. R.addressee r == d) (drop result (R.issued outcome.now)) }
+    ensures here { (r : _) → result < length (R.issued outcome.now) → (R.addressee (slice_index_or (R.issued outcome.now) result r) == d) ≡ true }
 {
-    for i in from..requests.len() {
-        if requests[i].addressee() == d {
+    let count = R::count(outcome);
+    for i in from..count {
+        if R::addressee_at(outcome, i) == d {
             return i;
         }
     }
-    requests.len()
+    count
 }
 
-/// Whether the requests of one sender to `d` are equal lists.
-pub(crate) fn are_same_to<R: Addressed>(old: &[R], new: &[R], d: u64) -> bool
-    ensures { IsTrue result ↔ (filter (λ r. R.addressee r == d) old.now ≡ filter (λ r. R.addressee r == d) new.now) }
+/// Whether the requests of one sender to `d`, from a place on, are equal lists.
+pub(crate) fn are_same_to<R: Addressed>(old: &Outcome, new: &Outcome, from: usize, d: u64) -> bool
+    requires in_old { from ≤ length (R.issued old.now) }
+    requires in_new { from ≤ length (R.issued new.now) }
+    ensures { IsTrue result ↔ (filter (λ r. R.addressee r == d) (drop from (R.issued old.now)) ≡ filter (λ r. R.addressee r == d) (drop from (R.issued new.now))) }
 {
-    let mut i = next_to(old, d, 0);
-    let mut j = next_to(new, d, 0);
-    while i < old.len() && j < new.len() {
-        if !old[i].same(&new[j]) {
+    let old_count = R::count(old);
+    let new_count = R::count(new);
+    let mut i = next_to::<R>(old, d, from);
+    let mut j = next_to::<R>(new, d, from);
+    while i < old_count && j < new_count {
+        if !R::same_at(old, i, new, j) {
             return false;
         }
-        i = next_to(old, d, i + 1);
-        j = next_to(new, d, j + 1);
+        i = next_to::<R>(old, d, i + 1);
+        j = next_to::<R>(new, d, j + 1);
     }
-    i == old.len() && j == new.len()
+    i == old_count && j == new_count
 }
 
 /// Whether one sender puts and sends the same to `d`.
@@ -49,8 +54,7 @@ fn is_same_parcel(old: &Shared<Outcome>, new: &Shared<Outcome>, d: u64) -> bool
 {
     let earlier: &Outcome = old;
     let later: &Outcome = new;
-    are_same_to(earlier.puts.as_slice(), later.puts.as_slice(), d)
-        && are_same_to(earlier.sends.as_slice(), later.sends.as_slice(), d)
+    are_same_to::<Put>(earlier, later, 0, d) && are_same_to::<Send>(earlier, later, 0, d)
 }
 
 /// Whether the puts and the sends to `d` are equal lists, senders kept. It takes no memory.

@@ -66,13 +66,15 @@ fn nanos_of(words: usize) -> usize {
 /// What the requests of a process take.
 fn nanos_of_requests(outcome: &Outcome) -> usize {
     let mut nanos: usize = 0;
-    for put in outcome.puts.as_slice() {
+    for place in 0..outcome.puts.len() {
+        let put = outcome.puts.at(place);
         nanos = nanos.saturating_add(nanos_of(put.words.len()));
     }
     for get in outcome.gets.as_slice() {
         nanos = nanos.saturating_add(nanos_of(get.len as usize));
     }
-    for send in outcome.sends.as_slice() {
+    for place in 0..outcome.sends.len() {
+        let send = outcome.sends.at(place);
         nanos = nanos.saturating_add(nanos_of(send.words.len()));
     }
     nanos

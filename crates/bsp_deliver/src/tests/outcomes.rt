@@ -3,7 +3,7 @@
 ghost use Rattle.std.specs.Prelude.{IsTrue, IfOk, All, ◌<◌, ◌≤◌, ◌+◌, length, slice_index};
 ghost use Rattle.bsp_deliver.specs.Condition.{AreDeliverable, AreRequestsInside, IsGetInside, IsPutInside, sizes_of};
 
-use bsp_model::{Get, Memory, OutOfMemory, Put, Rows, Seq, Shared, Stores, Words};
+use bsp_model::{Get, Memory, OutOfMemory, Puts, Rows, Seq, Sends, Shared, Stores};
 use bsp_step::{Ended, Outcome};
 use std::alloc::Global;
 use std::process::Abort;
@@ -52,21 +52,14 @@ impl Process {
 /// What one process issued.
 #[derive(Drop)]
 struct Requests {
-    puts: Seq<Put>,
+    puts: Puts,
     gets: Seq<Get>,
 }
 
 impl Requests {
-    fn add(&mut self, alloc: Global, request: Request<'_>) -> Result<(), OutOfMemory> {
+    fn add(&mut self, request: Request<'_>) -> Result<(), OutOfMemory> {
         match request {
-            Request::Put(target, start, words) => {
-                let words = Words::from_slice(alloc, words)?;
-                self.puts.push(Put {
-                    target,
-                    start,
-                    words,
-                })
-            }
+            Request::Put(target, start, words) => self.puts.push(target, start, words),
             Request::Get(get) => self.gets.push(get),
         }
     }
@@ -78,12 +71,12 @@ fn requests_of(
     issued: &[Issued<'_>],
 ) -> Result<Requests, OutOfMemory> {
     let mut requests = Requests {
-        puts: Seq::new(alloc),
+        puts: Puts::new(alloc),
         gets: Seq::new(alloc),
     };
     for one in issued {
         if one.process == process {
-            requests.add(alloc, one.request)?;
+            requests.add(one.request)?;
         }
     }
     Ok(requests)
@@ -104,7 +97,7 @@ fn outcome_of(
         stores: Stores::new(alloc),
         puts,
         gets,
-        sends: Seq::new(alloc),
+        sends: Sends::new(alloc),
         pops: Seq::new(alloc),
         pushes: Seq::new(alloc),
         tag: None,
@@ -135,15 +128,21 @@ fn is_room(memory: &Memory, start: u64, len: u64) -> bool
 fn are_requests_inside(outcome: &Outcome, outcomes: &[Shared<Outcome>]) -> bool
     ensures { IsTrue result → AreRequestsInside (sizes_of outcomes.now) outcome.now }
 {
-    are_puts_inside(outcome.puts.as_slice(), outcomes)
+    are_puts_inside(&outcome.puts, outcomes)
         && are_gets_inside(outcome.gets.as_slice(), &outcome.memory, outcomes)
         && outcome.sends.is_empty()
 }
 
-fn are_puts_inside(puts: &[Put], outcomes: &[Shared<Outcome>]) -> bool
+fn are_puts_inside(puts: &Puts, outcomes: &[Shared<Outcome>]) -> bool
     ensures { IsTrue result → All (IsPutInside (sizes_of outcomes.now)) puts.now }
 {
-    puts.iter().all(|put| are_words_of(outcomes, put.target, put.start, put.words.len() as u64))
+    for place in 0..puts.len() {
+        let put = puts.at(place);
+        if !are_words_of(outcomes, put.target, put.start, put.words.len() as u64) {
+            return false;
+        }
+    }
+    true
 }
 
 fn are_gets_inside(gets: &[Get], own: &Memory, outcomes: &[Shared<Outcome>]) -> bool

@@ -16,7 +16,7 @@ loop-sender-preserved c =
     let o = c.index-outcomes-sender.result in
     let to : Put → Bool = λ p. p.target == c.args.d in
     let sent = λ (ps : List Put). map {B = ℕ × Put} (λ (p : Put). (i, p)) (filter to ps) in
-    c.in_ok-add_addressed.ensures
-    ∙ ap (λ ps. c.loop-sender.puts ++ sent ps) (c.as_slice.ensures ∙ ap (λ (x : OutcomeParts). x.puts) (c.behind-outcome.view_is ∙ c.deref.ensures))
+    c.in_ok-add_puts.ensures
+    ∙ ap (λ ps. c.loop-sender.puts ++ sent ps) (ap (λ (x : OutcomeParts). x.puts) (c.behind-outcome.view_is ∙ c.deref.ensures))
     ∙ ap (λ (ps : List (ℕ × Put)). ps ++ sent o.puts) c.loop-sender.invariant
     ∙ sym (addressed_more (λ (x : OutcomeParts). x.puts) to c.args.outcomes.now i o c.loop-sender-test.true c.index-outcomes-sender.is)

@@ -23,9 +23,9 @@ loop-sender-preserved c =
     let o = c.index-outcomes-sender.result in
     let to : Send → Bool = λ m. m.target == c.args.d in
     let sent = λ (ms : List Send). map {B = ℕ × Send} (λ (m : Send). (i, m)) (filter to ms) in
-    let grown : c.add_addressed.new.list ≡ c.loop-sender.sends ++ sent o.sends =
-    c.in_ok-add_addressed.ensures ∙ ap (λ ms. c.loop-sender.sends ++ sent ms) (c.as_slice.ensures ∙ ap (λ (x : OutcomeParts). x.sends) (c.behind-outcome.view_is ∙ c.deref.ensures)) in
-    let queue : messages_of c.add_addressed.new.list ≡ messages_of c.loop-sender.sends ++ map message_of (filter to o.sends) =
+    let grown : c.add_sends.new.list ≡ c.loop-sender.sends ++ sent o.sends =
+    c.in_ok-add_sends.ensures ∙ ap (λ ms. c.loop-sender.sends ++ sent ms) (ap (λ (x : OutcomeParts). x.sends) (c.behind-outcome.view_is ∙ c.deref.ensures)) in
+    let queue : messages_of c.add_sends.new.list ≡ messages_of c.loop-sender.sends ++ map message_of (filter to o.sends) =
     ap messages_of grown
     ∙ map-append (λ (m : ℕ × Send). message_of m.1) c.loop-sender.sends (sent o.sends)
     ∙ ap (λ ms. messages_of c.loop-sender.sends ++ ms) (sym (map_twice (λ (m : ℕ × Send). message_of m.1) (λ (m : Send). (i, m)) (filter to o.sends))) in

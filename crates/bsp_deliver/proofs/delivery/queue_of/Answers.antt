@@ -24,7 +24,7 @@ unfolding all_sends
 loop-outcome-preserved c =
     let M = λ (ms : List Send). map message_of (filter (λ (m : Send). m.target == c.args.d) ms) in
     let o = c.outcome-item.result in
-    let grown : c.add_messages.new.queue ≡ c.loop-outcome.queue ++ M o.sends = c.in_ok-add_messages.ensures ∙ ap (λ ms. c.loop-outcome.queue ++ M ms) (c.as_slice.ensures ∙ ap (λ (x : OutcomeParts). x.sends) (c.behind-outcome.view_is ∙ c.deref.ensures)) in
+    let grown : c.add_messages.new.queue ≡ c.loop-outcome.queue ++ M o.sends = c.in_ok-add_messages.ensures ∙ ap (λ ms. c.loop-outcome.queue ++ M ms) (ap (λ (x : OutcomeParts). x.sends) (c.behind-outcome.view_is ∙ c.deref.ensures)) in
     record {
       messages =
           grown

@@ -19,7 +19,7 @@ write_puts-requires c =
     let o = c.outcome-item.result in
     let sizes = sizes_of os in
     let inside = at_item (AreRequestsInside sizes) os c.loop-outcome.outcome-index o c.requires.inside c.loop-outcome-test.true c.outcome-item.is in
-    let puts : c.as_slice.result.now ≡ o.puts = c.as_slice.ensures ∙ ap (λ (x : OutcomeParts). x.puts) (c.behind-outcome.view_is ∙ c.deref.ensures) in
+    let puts : c.behind-outcome.inside.puts ≡ o.puts = ap (λ (x : OutcomeParts). x.puts) (c.behind-outcome.view_is ∙ c.deref.ensures) in
     let long : length c.loop-outcome.memory ≡ length c.args.memory.now = ap length c.loop-outcome.invariant ∙ length-overlay c.args.memory.now (map put_write (filter (λ (p : ℕ × Put). p.1.target == c.args.d) (all_puts (take c.loop-outcome.outcome-index os)))) in
     rw puts (λ k q l t.
     let p = get_or o.puts k q in
@@ -35,7 +35,7 @@ loop-outcome-preserved c =
     let m = c.args.memory.now in
     let W = λ (ps : List Put). map write_of (filter (λ (p : Put). p.target == c.args.d) ps) in
     c.in_ok-write_puts.ensures
-    ∙ ap (λ ps. overlay c.loop-outcome.memory (W ps)) (c.as_slice.ensures ∙ ap (λ (x : OutcomeParts). x.puts) (c.behind-outcome.view_is ∙ c.deref.ensures))
+    ∙ ap (λ ps. overlay c.loop-outcome.memory (W ps)) (ap (λ (x : OutcomeParts). x.puts) (c.behind-outcome.view_is ∙ c.deref.ensures))
     ∙ ap (λ (x : List ℕ). overlay x (W c.outcome-item.result.puts)) c.loop-outcome.invariant
     ∙ overlay-overlay m (map put_write (filter (λ (p : ℕ × Put). p.1.target == c.args.d) (all_puts (take c.loop-outcome.outcome-index os)))) (W c.outcome-item.result.puts)
     ∙ ap (overlay m) (sym (passing_more (λ (o : OutcomeParts). o.puts) (λ p. p.target == c.args.d) write_of os c.loop-outcome.outcome-index c.outcome-item.result c.loop-outcome-test.true c.outcome-item.is))

@@ -22,9 +22,9 @@ both_parcels o u os us ms ns xs ys zs eo eu em en h k =
 
 pub returns : goal.returns
 returns c =
-    both_parcels c.args.old.now c.args.new.now c.as_slice.result.now c.as_slice-2.result.now c.as_slice-3.result.now c.as_slice-4.result.now c.args.marks.now c.mark_changes.new.marks c.mark_changes-2.new.marks
-    (c.as_slice.ensures ∙ ap (λ (o : OutcomeParts). o.puts) (c.earlier.view_is ∙ c.deref-earlier.ensures))
-    (c.as_slice-2.ensures ∙ ap (λ (o : OutcomeParts). o.puts) (c.later.view_is ∙ c.deref-later.ensures))
-    (c.as_slice-3.ensures ∙ ap (λ (o : OutcomeParts). o.sends) (c.earlier.view_is ∙ c.deref-earlier.ensures))
-    (c.as_slice-4.ensures ∙ ap (λ (o : OutcomeParts). o.sends) (c.later.view_is ∙ c.deref-later.ensures))
+    let earlier = c.deref-earlier.result.now in
+    let later = c.deref-later.result.now in
+    both_parcels c.args.old.now c.args.new.now earlier.puts later.puts earlier.sends later.sends c.args.marks.now c.mark_changes.new.marks c.mark_changes-2.new.marks
+    (ap (λ (o : OutcomeParts). o.puts) c.deref-earlier.ensures) (ap (λ (o : OutcomeParts). o.puts) c.deref-later.ensures)
+    (ap (λ (o : OutcomeParts). o.sends) c.deref-earlier.ensures) (ap (λ (o : OutcomeParts). o.sends) c.deref-later.ensures)
     c.mark_changes.ensures c.mark_changes-2.ensures

@@ -1,4 +1,4 @@
-use Rattle.std.proofs.Common.{◌≡◌, ℕ, ◌<◌, ◌==◌, Bool, true, false, List, filter, get_or, length, sym, ◌∙◌, arith, subst}
+use Rattle.std.proofs.Common.{◌≡◌, ℕ, ◌<◌, ◌==◌, Bool, true, false, List, filter, drop, get_or, length, sym, ◌∙◌, arith, subst}
 use Rattle.std.proofs.lemmas.Bool.{false≢true}
 use Rattle.std.proofs.lemmas.List.{get_or_default}
 use Rattle.bsp_deliver.specs.Inside.Marks.{AreMarkedUnless}
@@ -10,7 +10,7 @@ pub loop-d-preserved : goal.loop-d-preserved
 loop-d-preserved g c =
     let d : ℕ = c.loop-d.d in
     let marks : List Bool = c.loop-d.marks in
-    let S : ℕ → Type 0 = λ k. filter (λ r. g.R.Addressed.addressee r == k) c.args.old.now ≡ filter (λ r. g.R.Addressed.addressee r == k) c.args.new.now in
+    let S : ℕ → Type 0 = λ k. filter (λ r. g.R.Addressed.addressee r == k) (drop c.args.from (g.R.Addressed.issued c.args.old.now)) ≡ filter (λ r. g.R.Addressed.addressee r == k) (drop c.args.from (g.R.Addressed.issued c.args.new.now)) in
     let within : d < length marks = omega (arith, c.loop-d-test.true, c.loop-d.auto.marks) in
     let here : get_or marks d true ≡ get_or marks d false = get_or_default marks d true false within in
     let step : AreMarkedUnless (λ k. k ≡ d → S k) marks c.if-not-marks-d.marks =

@@ -1,16 +1,22 @@
-use Rattle.std.proofs.Common.{◌==◌, ◌≤◌, ◌<◌, length, arith}
+use Rattle.std.proofs.Common.{◌==◌, ◌≤◌, ◌<◌, ℕ, nat_eq, length, filter, drop, arith}
 use Rattle.bsp_deliver.proofs.Comparing.{ended_first, ended_second}
 use Rattle.bsp_deliver.proofs.same.are_same_to.Goals as goal
-use Rattle.bsp_deliver.proofs.same.are_same_to.Goals.{then-loop-i-test+else-j-new, else-loop-i-test}
+use Rattle.bsp_deliver.proofs.same.are_same_to.Goals.{then-loop-i-test+else-j-new_count, else-loop-i-test}
 
-pub returns-then-i-old : goal.returns-then-i-old
-returns-then-i-old g c =
+pub returns-then-i-old_count : goal.returns-then-i-old_count
+returns-then-i-old_count g c =
     let here = c.loop-i.invariant in
-    ended_first (λ r. g.R.Addressed.addressee r == c.args.d) c.args.old.now c.args.new.now c.loop-i.i c.loop-i.j (omega (arith, c.if-i-old.true)) here.new_within here.new_here here.forth here.back
+    let old = g.R.Addressed.issued c.args.old.now in
+    let new = g.R.Addressed.issued c.args.new.now in
+    rw c.count-new_count.ensures
+    (ended_first (λ r. g.R.Addressed.addressee r == c.args.d) old new c.loop-i.i c.loop-i.j (omega (arith, c.if-i-old_count.true, c.count-old_count.ensures)) here.new_within here.new_here here.forth here.back)
 
-pub returns-else-i-old : goal.returns-else-i-old
-returns-else-i-old g c =
+pub returns-else-i-old_count : goal.returns-else-i-old_count
+returns-else-i-old_count g c =
     let here = c.loop-i.invariant in
-    let left : c.loop-i.i < length c.args.old.now = omega (arith, c.if-i-old.false, here.old_within) in
-    let ended : length c.args.new.now ≤ c.loop-i.j = elim c.loop-i-test.branch [ then-loop-i-test+else-j-new w ↦ omega (arith, w.if-j-new) | else-loop-i-test w ↦ absurd (omega (arith, left)) ] in
-    ended_second (λ r. g.R.Addressed.addressee r == c.args.d) c.args.old.now c.args.new.now c.loop-i.i c.loop-i.j left ended here.old_here here.forth
+    let old = g.R.Addressed.issued c.args.old.now in
+    let new = g.R.Addressed.issued c.args.new.now in
+    let left : c.loop-i.i < length old = omega (arith, c.if-i-old_count.false, here.old_within, c.count-old_count.ensures) in
+    let ended : length new ≤ c.loop-i.j =
+    elim c.loop-i-test.branch [ then-loop-i-test+else-j-new_count w ↦ omega (arith, w.if-j-new_count, c.count-new_count.ensures) | else-loop-i-test w ↦ absurd (omega (arith, left, c.count-old_count.ensures)) ] in
+    rw c.count-old_count.ensures (ended_second (λ r. g.R.Addressed.addressee r == c.args.d) old new c.loop-i.i c.loop-i.j left ended here.old_here here.forth)

@@ -5,14 +5,16 @@ use Rattle.bsp_deliver.proofs.same.are_same_to.Given as goal
 abbrev pub invariant-loop-i : goal.invariant-loop-i
 invariant-loop-i g l =
     let to : g.row.R.Denot → Bool = λ r. g.R.Addressed.addressee r == l.d in
+    let old = g.R.Addressed.issued l.old in
+    let new = g.R.Addressed.issued l.new in
     record {
-      forth : filter to l.old ≡ filter to l.new → filter to (drop l.i l.old) ≡ filter to (drop l.j l.new);
-      back : filter to (drop l.i l.old) ≡ filter to (drop l.j l.new) → filter to l.old ≡ filter to l.new;
-      old_here : (r : _) → l.i < length l.old → to (get_or l.old l.i r) ≡ true;
-      new_here : (r : _) → l.j < length l.new → to (get_or l.new l.j r) ≡ true;
-      old_within : l.i ≤ length l.old;
-      new_within : l.j ≤ length l.new;
+      forth : filter to (drop l.from old) ≡ filter to (drop l.from new) → filter to (drop l.i old) ≡ filter to (drop l.j new);
+      back : filter to (drop l.i old) ≡ filter to (drop l.j new) → filter to (drop l.from old) ≡ filter to (drop l.from new);
+      old_here : (r : _) → l.i < length old → to (get_or old l.i r) ≡ true;
+      new_here : (r : _) → l.j < length new → to (get_or new l.j r) ≡ true;
+      old_within : l.i ≤ length old;
+      new_within : l.j ≤ length new;
     }
 
 abbrev pub decreases-loop-i : goal.decreases-loop-i
-decreases-loop-i g l = length l.old - l.i
+decreases-loop-i g l = length (g.R.Addressed.issued l.old) - l.i

@@ -9,10 +9,10 @@ pub returns-then-are_same_to : goal.returns-then-are_same_to
 returns-then-are_same_to c =
     let P = λ (ps : List Put). filter (λ (p : Put). p.target == c.args.d) ps in
     let S = λ (ms : List Send). filter (λ (m : Send). m.target == c.args.d) ms in
-    let old_puts = ap P (c.as_slice.ensures ∙ ap (λ (o : OutcomeParts). o.puts) (c.earlier.view_is ∙ c.deref-earlier.ensures)) in
-    let new_puts = ap P (c.as_slice-2.ensures ∙ ap (λ (o : OutcomeParts). o.puts) (c.later.view_is ∙ c.deref-later.ensures)) in
-    let old_sends = ap S (c.as_slice-then-are_same_to.ensures ∙ ap (λ (o : OutcomeParts). o.sends) (c.earlier.view_is ∙ c.deref-earlier.ensures)) in
-    let new_sends = ap S (c.as_slice-then-are_same_to-2.ensures ∙ ap (λ (o : OutcomeParts). o.sends) (c.later.view_is ∙ c.deref-later.ensures)) in (
+    let old_puts = ap P (ap (λ (o : OutcomeParts). o.puts) c.deref-earlier.ensures) in
+    let new_puts = ap P (ap (λ (o : OutcomeParts). o.puts) c.deref-later.ensures) in
+    let old_sends = ap S (ap (λ (o : OutcomeParts). o.sends) c.deref-earlier.ensures) in
+    let new_sends = ap S (ap (λ (o : OutcomeParts). o.sends) c.deref-later.ensures) in (
       λ t. record {
         puts = sym old_puts ∙ c.are_same_to.ensures.0 c.if-are_same_to.true ∙ new_puts;
         sends = sym old_sends ∙ c.are_same_to-then-are_same_to.ensures.0 t ∙ new_sends;
@@ -23,6 +23,6 @@ returns-then-are_same_to c =
 pub returns-else-are_same_to : goal.returns-else-are_same_to
 returns-else-are_same_to c =
     let P = λ (ps : List Put). filter (λ (p : Put). p.target == c.args.d) ps in
-    let old_puts = ap P (c.as_slice.ensures ∙ ap (λ (o : OutcomeParts). o.puts) (c.earlier.view_is ∙ c.deref-earlier.ensures)) in
-    let new_puts = ap P (c.as_slice-2.ensures ∙ ap (λ (o : OutcomeParts). o.puts) (c.later.view_is ∙ c.deref-later.ensures)) in
+    let old_puts = ap P (ap (λ (o : OutcomeParts). o.puts) c.deref-earlier.ensures) in
+    let new_puts = ap P (ap (λ (o : OutcomeParts). o.puts) c.deref-later.ensures) in
     (λ t. absurd (false≢true (sym c.if-are_same_to.false ∙ t)), λ h. c.are_same_to.ensures.1 (old_puts ∙ h.puts ∙ sym new_puts))

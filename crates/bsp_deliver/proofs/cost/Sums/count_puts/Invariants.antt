@@ -4,5 +4,5 @@ use Rattle.bsp_deliver.specs.Inside.Sums.{counted}
 use Rattle.bsp_deliver.proofs.cost.Sums.count_puts.Given as goal
 
 -- the puts so far are counted
-abbrev pub invariant-loop-put : goal.invariant-loop-put
-invariant-loop-put l = l.self ≡ fold counted l.initial.self (map (put_transfer l.sender) (take l.put-index l.puts))
+abbrev pub invariant-loop-place : goal.invariant-loop-place
+invariant-loop-place l = l.self ≡ fold counted l.initial.self (map (put_transfer l.sender) (take l.place l.puts))

@@ -7,12 +7,12 @@ use Rattle.bsp_deliver.proofs.cost.Sums.count_requests.Goals as goal
 
 pub count_puts-requires-clause-small : goal.count_puts-requires-clause-small
 count_puts-requires-clause-small c =
-    rw (c.as_slice.ensures ∙ ap (λ (x : OutcomeParts). x.puts) (c.own.view_is ∙ c.deref-own.ensures))
+    rw (ap (λ (x : OutcomeParts). x.puts) (c.own.view_is ∙ c.deref-own.ensures))
     (small_puts c.args.outcomes.now c.args.p c.index-outcomes-p.result c.requires.deliverable c.requires.known c.index-outcomes-p.is)
 
 pub count_gets-requires-clause-small : goal.count_gets-requires-clause-small
 count_gets-requires-clause-small c =
-    rw (c.as_slice-2.ensures ∙ ap (λ (x : OutcomeParts). x.gets) (c.own.view_is ∙ c.deref-own.ensures))
+    rw (c.as_slice.ensures ∙ ap (λ (x : OutcomeParts). x.gets) (c.own.view_is ∙ c.deref-own.ensures))
     (small_gets c.args.outcomes.now c.args.p c.index-outcomes-p.result c.requires.deliverable c.requires.known c.index-outcomes-p.is)
 
 pub count_gets-requires-clause-room : goal.count_gets-requires-clause-room
@@ -20,17 +20,17 @@ count_gets-requires-clause-room c =
     let os = c.args.outcomes.now in
     let p = c.args.p in
     let o = c.index-outcomes-p.result in
-    let puts = c.as_slice.ensures ∙ ap (λ (x : OutcomeParts). x.puts) (c.own.view_is ∙ c.deref-own.ensures) in
-    room_at (put_transfer p) o.puts c.args.self.now c.count_puts.new.self 1024 (length c.as_slice-2.result.now)
+    let puts = ap (λ (x : OutcomeParts). x.puts) (c.own.view_is ∙ c.deref-own.ensures) in
+    room_at (put_transfer p) o.puts c.args.self.now c.count_puts.new.self 1024 (length c.as_slice.result.now)
     (c.count_puts.ensures ∙ ap (λ xs. fold counted c.args.self.now (map (put_transfer p) xs)) puts)
     (small_puts os p o c.requires.deliverable c.requires.known c.index-outcomes-p.is)
-    (omega (arith, ap length c.as_slice.ensures, ap length puts, ap length c.as_slice-2.ensures, c.own.invariant.few_requests)) c.requires.room
+    (omega (arith, ap length puts, ap length c.as_slice.ensures, c.own.invariant.few_requests)) c.requires.room
 
 pub count_sends-requires-clause-small : goal.count_sends-requires-clause-small
 count_sends-requires-clause-small c =
     let o = c.index-outcomes-p.result in
     let short : All IsShortSend o.sends = subst (λ (x : OutcomeParts). All IsShortSend x.sends) (c.own.view_is ∙ c.deref-own.ensures) c.own.invariant.sends.each in
-    rw (c.as_slice-3.ensures ∙ ap (λ (x : OutcomeParts). x.sends) (c.own.view_is ∙ c.deref-own.ensures))
+    rw (ap (λ (x : OutcomeParts). x.sends) (c.own.view_is ∙ c.deref-own.ensures))
     (small_sends c.args.outcomes.now c.args.p o c.requires.deliverable c.requires.known c.index-outcomes-p.is short)
 
 pub count_sends-requires-clause-room : goal.count_sends-requires-clause-room
@@ -39,16 +39,16 @@ count_sends-requires-clause-room c =
     let p = c.args.p in
     let o = c.index-outcomes-p.result in
     let few = c.own.invariant.few_requests in
-    let puts = c.as_slice.ensures ∙ ap (λ (x : OutcomeParts). x.puts) (c.own.view_is ∙ c.deref-own.ensures) in
-    let gets = c.as_slice-2.ensures ∙ ap (λ (x : OutcomeParts). x.gets) (c.own.view_is ∙ c.deref-own.ensures) in
-    let n = length c.as_slice-3.result.now in
+    let puts = ap (λ (x : OutcomeParts). x.puts) (c.own.view_is ∙ c.deref-own.ensures) in
+    let gets = c.as_slice.ensures ∙ ap (λ (x : OutcomeParts). x.gets) (c.own.view_is ∙ c.deref-own.ensures) in
+    let n = length c.own.inside.sends in
     room_at (get_transfer p) o.gets c.count_puts.new.self c.count_gets.new.self (length o.gets + n) n
     (c.count_gets.ensures ∙ ap (λ xs. fold counted c.count_puts.new.self (map (get_transfer p) xs)) gets)
     (small_gets os p o c.requires.deliverable c.requires.known c.index-outcomes-p.is) (omega arith)
     (room_at (put_transfer p) o.puts c.args.self.now c.count_puts.new.self 1024 (length o.gets + n)
     (c.count_puts.ensures ∙ ap (λ xs. fold counted c.args.self.now (map (put_transfer p) xs)) puts)
     (small_puts os p o c.requires.deliverable c.requires.known c.index-outcomes-p.is)
-    (omega (arith, ap length c.as_slice.ensures, ap length puts, ap length c.as_slice-2.ensures, ap length gets, ap length c.as_slice-3.ensures, few)) c.requires.room)
+    (omega (arith, ap length puts, ap length c.as_slice.ensures, ap length gets, few)) c.requires.room)
 
 pub returns-clause-room : goal.returns-clause-room
 returns-clause-room c =
@@ -57,9 +57,9 @@ returns-clause-room c =
     let o = c.index-outcomes-p.result in
     let few = c.own.invariant.few_requests in
     let short : All IsShortSend o.sends = subst (λ (x : OutcomeParts). All IsShortSend x.sends) (c.own.view_is ∙ c.deref-own.ensures) c.own.invariant.sends.each in
-    let puts = c.as_slice.ensures ∙ ap (λ (x : OutcomeParts). x.puts) (c.own.view_is ∙ c.deref-own.ensures) in
-    let gets = c.as_slice-2.ensures ∙ ap (λ (x : OutcomeParts). x.gets) (c.own.view_is ∙ c.deref-own.ensures) in
-    let sends = c.as_slice-3.ensures ∙ ap (λ (x : OutcomeParts). x.sends) (c.own.view_is ∙ c.deref-own.ensures) in
+    let puts = ap (λ (x : OutcomeParts). x.puts) (c.own.view_is ∙ c.deref-own.ensures) in
+    let gets = c.as_slice.ensures ∙ ap (λ (x : OutcomeParts). x.gets) (c.own.view_is ∙ c.deref-own.ensures) in
+    let sends = ap (λ (x : OutcomeParts). x.sends) (c.own.view_is ∙ c.deref-own.ensures) in
     λ n room.
     room_at (send_transfer p) o.sends c.count_gets.new.self c.count_sends.new.self (length o.sends + n) n
     (c.count_sends.ensures ∙ ap (λ xs. fold counted c.count_gets.new.self (map (send_transfer p) xs)) sends)
@@ -70,4 +70,4 @@ returns-clause-room c =
     (room_at (put_transfer p) o.puts c.args.self.now c.count_puts.new.self (1024 + n) (length o.gets + (length o.sends + n))
     (c.count_puts.ensures ∙ ap (λ xs. fold counted c.args.self.now (map (put_transfer p) xs)) puts)
     (small_puts os p o c.requires.deliverable c.requires.known c.index-outcomes-p.is)
-    (omega (arith, ap length c.as_slice.ensures, ap length puts, ap length c.as_slice-2.ensures, ap length gets, ap length c.as_slice-3.ensures, ap length sends, few)) room))
+    (omega (arith, ap length puts, ap length c.as_slice.ensures, ap length gets, ap length sends, few)) room))

@@ -4,5 +4,5 @@ use Rattle.bsp_deliver.specs.Inside.Sums.{counted}
 use Rattle.bsp_deliver.proofs.cost.Sums.count_sends.Given as goal
 
 -- the sends so far are counted
-abbrev pub invariant-loop-send : goal.invariant-loop-send
-invariant-loop-send l = l.self ≡ fold counted l.initial.self (map (send_transfer l.sender) (take l.send-index l.sends))
+abbrev pub invariant-loop-place : goal.invariant-loop-place
+invariant-loop-place l = l.self ≡ fold counted l.initial.self (map (send_transfer l.sender) (take l.place l.sends))
