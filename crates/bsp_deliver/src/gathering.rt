@@ -7,7 +7,7 @@ ghost use Rattle.bsp_deliver.specs.Delivery.{get_write, delivery_parts, next_mem
 ghost use Rattle.bsp_deliver.specs.Inside.Gathering.{overlay, put_at, sent_at, ArePlaces};
 ghost use Rattle.bsp_deliver.specs.Condition.{AreDeliverable, AreRequestsInside, IsAscending, sizes_of};
 
-use crate::delivery::{memory_with_gets, message};
+use crate::delivery::{deliver, memory_with_gets, message};
 use crate::lists::empty_lists;
 use bsp_model::{Memory, Message, OutOfMemory, Puts, Sends, Seq, Shared};
 use bsp_step::{Outcome, Queue};
@@ -178,6 +178,25 @@ fn cells_of(
 }
 
 /// What `deliver` answers for each of these processes, in the order of the list, in one pass over all requests. The list is ascending.
+fn deliver_together(
+    alloc: Global,
+    outcomes: &[Shared<Outcome>],
+    processes: &[usize],
+) -> Result<Vec<(Memory, Queue)>, OutOfMemory>
+    requires deliverable { AreDeliverable outcomes.now }
+    requires known { All (λ d. d < length outcomes.now) processes.now }
+    requires ascending { IsAscending processes.now }
+    ensures { IfOk result (λ all. all.items
+        ≡ map (λ d. (next_memory (delivery_parts outcomes.now d), next_queue (delivery_parts outcomes.now d))) processes.now) }
+{
+    let places = places_of(alloc, outcomes.len(), processes)?;
+    let memories = memories_after(alloc, outcomes, processes, places.as_slice())?;
+    let queues = queues_after(alloc, outcomes, processes.len(), places.as_slice())?;
+    cells_of(alloc, memories, queues)
+}
+
+/// What `deliver` answers for each of these processes, in the order of the list. The list is ascending. For no process it takes no memory, one is
+/// delivered to by itself, and for several all requests are gone over once.
 pub fn deliver_some(
     alloc: Global,
     outcomes: &[Shared<Outcome>],
@@ -188,8 +207,12 @@ pub fn deliver_some(
     requires ascending { IsAscending processes.now }
     ensures { IfOk result (λ all. all.items ≡ map (λ d. (next_memory (delivery_parts outcomes.now d), next_queue (delivery_parts outcomes.now d))) processes.now) }
 {
-    let places = places_of(alloc, outcomes.len(), processes)?;
-    let memories = memories_after(alloc, outcomes, processes, places.as_slice())?;
-    let queues = queues_after(alloc, outcomes, processes.len(), places.as_slice())?;
-    cells_of(alloc, memories, queues)
+    if processes.len() > 1 {
+        return deliver_together(alloc, outcomes, processes);
+    }
+    let mut cells = Vec::new(alloc);
+    for process in processes {
+        cells.push(deliver(alloc, *process, outcomes)?)?;
+    }
+    Ok(cells)
 }

@@ -1,6 +1,6 @@
 -- What a run gives, by its supersteps.
-use Rattle.std.proofs.Common.{◌≡◌, ◌<◌, ℕ, suc, true, false, cond, List, [], ◌∷◌, ◌++◌, None, Some, map, length, get_or, arith, refl, sym, ap, ◌∙◌, length-append}
-use Rattle.std.proofs.lemmas.List.{get_or-map, length-map, get_or_at, map-append}
+use Rattle.std.proofs.Common.{◌≡◌, ◌<◌, ℕ, suc, true, false, cond, List, [], ◌∷◌, ◌++◌, map, length, get_or, arith, refl, sym, ap, ◌∙◌, length-append}
+use Rattle.std.proofs.lemmas.List.{get_or-map, length-map}
 use Rattle.std.proofs.lemmas.List.FromFn.{get_or-map-range_with_len, length-map-range_with_len}
 use Rattle.bsp_model.specs.declared.input.Input.{Input}
 use Rattle.bsp_model.specs.declared.cost.CostRow.{CostRow}
@@ -12,51 +12,36 @@ use Rattle.bsp_run.specs.declared.phase.Phase.{Phase}
 use Rattle.bsp_run.specs.declared.phase.Phase.TheVariants.{Open, Turned, Ended}
 use Rattle.bsp_run.specs.declared.superstep.Superstep.{Superstep}
 use Rattle.bsp_run.specs.State.{State}
-use Rattle.bsp_run.specs.Run.{Run, open_views, is_limit}
-use Rattle.bsp_run.specs.Shown.{no_superstep}
-use Rattle.bsp_run.specs.Supersteps.{last_superstep, supersteps_of}
+use Rattle.bsp_run.specs.Run.{Run, is_limit}
+use Rattle.bsp_run.specs.Supersteps.{no_superstep, outcomes_of, last_superstep, supersteps_of}
 use Rattle.bsp_run.specs.Law.{views_in, outcomes_in, IsBspRun}
 use Rattle.bsp_run.specs.Condition.{no_view, is_ended}
-use Rattle.bsp_run.specs.Result.{status_of, status_in, delivered_turns, last_turns, turns_in, all_turns, memories_of, lines_of, lines_of_process, costs_of, cost_of_delivery, cost_of_end, total_of, result_of}
-use Rattle.bsp_run.proofs.Records.{superstep, count-state_at, count-outcomes_in}
-use Rattle.bsp_run.proofs.OneRun.{count_past}
+use Rattle.bsp_run.specs.Result.{status_of, status_in, memories_of, lines_of, lines_of_process, costs_of, cost_of_delivery, cost_of_end, total_of, result_of}
+use Rattle.bsp_run.proofs.Records.{count-state_at, count-outcomes_in}
+use Rattle.bsp_run.proofs.OneRun.{last_one}
 use Rattle.bsp_incr.proofs.Propagation.{view-in}
 use Rattle.bsp_engine.specs.Untouched.{at_limit}
 
 -- the supersteps of a run, and its turns
 
-turns_at_end : (p : Phase) (x : Superstep) → is_ended p ≡ true → turns_in (cond (is_limit p) None (Some x.outcomes)) ≡ map (λ (s : Superstep). s.outcomes) (last_superstep p x)
-turns_at_end Open x h = cc
-turns_at_end Turned x h = cc
-turns_at_end (Ended Limit) x h = refl
-turns_at_end (Ended Halted) x h = refl
-turns_at_end (Ended (Faulted step faults)) x h = refl
-turns_at_end (Ended (SyncFaulted step fault)) x h = refl
+pub turns_at : (turn : ViewParts → OutcomeParts) (i : Input) (r : Run) (s : ℕ) → IsBspRun turn i r → s < length (supersteps_of r) → get_or (outcomes_of (supersteps_of r)) s [] ≡ outcomes_in turn i s
+turns_at turn i r s h l = get_or-map (λ (x : Superstep). x.outcomes) (supersteps_of r) s no_superstep [] l ∙ h.outcomes s l
 
-all_turns-is : (r : Run) → is_ended r.phase ≡ true → all_turns r ≡ map (λ (s : Superstep). s.outcomes) (supersteps_of r)
-all_turns-is r e =
-    let x = superstep (open_views r) r.outcomes in
-    ap (λ (ts : List (List OutcomeParts)). delivered_turns r ++ ts) (turns_at_end r.phase x e)
-    ∙ sym (map-append (λ (s : Superstep). s.outcomes) r.past (last_superstep r.phase x))
-
-pub turns_at : (turn : ViewParts → OutcomeParts) (i : Input) (r : Run) (s : ℕ) → IsBspRun turn i r → s < length (supersteps_of r) → get_or (all_turns r) s [] ≡ outcomes_in turn i s
-turns_at turn i r s h l =
-    ap (λ (ts : List (List OutcomeParts)). get_or ts s []) (all_turns-is r h.ended)
-    ∙ get_or-map (λ (x : Superstep). x.outcomes) (supersteps_of r) s no_superstep [] l ∙ h.outcomes s l
-
-pub count_turns : (r : Run) → is_ended r.phase ≡ true → length (all_turns r) ≡ length (supersteps_of r)
-count_turns r e = ap (λ (ts : List (List OutcomeParts)). length ts) (all_turns-is r e) ∙ length-map (supersteps_of r) (λ (s : Superstep). s.outcomes)
+pub count_turns : (r : Run) → length (outcomes_of (supersteps_of r)) ≡ length (supersteps_of r)
+count_turns r = length-map (supersteps_of r) (λ (s : Superstep). s.outcomes)
 
 -- as many rows as supersteps
-count_costs : (r : Run) → length (costs_of r) ≡ length (all_turns r)
+count_costs : (r : Run) → length (costs_of r) ≡ length (supersteps_of r)
 unfolding costs_of
 count_costs r =
     omega (
       arith,
-      length-append (map (cost_of_delivery r.g r.l) (delivered_turns r)) (map cost_of_end (last_turns r)),
-      length-map (delivered_turns r) (cost_of_delivery r.g r.l),
-      length-map (last_turns r) cost_of_end,
-      length-append (delivered_turns r) (last_turns r),
+      length-append (map (cost_of_delivery r.g r.l) (outcomes_of r.past)) (map cost_of_end (outcomes_of (last_superstep r))),
+      length-map (outcomes_of r.past) (cost_of_delivery r.g r.l),
+      length-map (outcomes_of (last_superstep r)) cost_of_end,
+      length-map r.past (λ (s : Superstep). s.outcomes),
+      length-map (last_superstep r) (λ (s : Superstep). s.outcomes),
+      length-append r.past (last_superstep r),
     )
 
 pub limit_is : (p : Phase) → is_ended p ≡ true → is_limit p ≡ at_limit (status_in p)
@@ -69,13 +54,7 @@ limit_is (Ended (SyncFaulted step fault)) h = refl
 
 -- the outcomes that ended a run
 ending_turns : (turn : ViewParts → OutcomeParts) (i : Input) (r : Run) → IsBspRun turn i r → is_limit r.phase ≡ false → r.outcomes ≡ outcomes_in turn i (length r.past)
-ending_turns turn i r h b =
-    let n = length r.past in
-    let count = count_past false r h.ended b in
-    let delivered : length (delivered_turns r) ≡ n = length-map r.past (λ (s : Superstep). s.outcomes) in
-    let last : last_turns r ≡ r.outcomes ∷ [] = ap (λ c. turns_in (cond c None (Some r.outcomes))) b in
-    let here : get_or (all_turns r) n [] ≡ r.outcomes = ap (λ (ts : List (List OutcomeParts)). get_or (delivered_turns r ++ ts) n []) last ∙ get_or_at (delivered_turns r) r.outcomes [] [] n delivered in
-    sym here ∙ turns_at turn i r n h (omega (arith, count))
+ending_turns turn i r h b = let last = last_one r (ap is_ended h.phase) b in sym last.1 ∙ h.outcomes (length r.past) last.0
 
 -- what a process has at the end of a run
 
@@ -104,12 +83,12 @@ count_memories turn i r h =
 
 pub count_lines : (turn : ViewParts → OutcomeParts) (i : Input) (r : Run) → IsBspRun turn i r → length (lines_of r) ≡ length i.mems
 unfolding lines_of
-count_lines turn i r h = length-map-range_with_len (lines_of_process (all_turns r)) 0 (length r.state.memories) ∙ count_state turn i r h
+count_lines turn i r h = length-map-range_with_len (lines_of_process (outcomes_of (supersteps_of r))) 0 (length r.state.memories) ∙ count_state turn i r h
 
-pub lines-at : (turn : ViewParts → OutcomeParts) (i : Input) (r : Run) (p : ℕ) → IsBspRun turn i r → p < length i.mems → get_or (lines_of r) p [] ≡ lines_of_process (all_turns r) p
+pub lines-at : (turn : ViewParts → OutcomeParts) (i : Input) (r : Run) (p : ℕ) → IsBspRun turn i r → p < length i.mems → get_or (lines_of r) p [] ≡ lines_of_process (outcomes_of (supersteps_of r)) p
 unfolding lines_of
 lines-at turn i r p h l =
-    get_or-map-range_with_len (lines_of_process (all_turns r)) 0 (length r.state.memories) p p [] (omega (arith, l, count_state turn i r h)) (omega arith)
+    get_or-map-range_with_len (lines_of_process (outcomes_of (supersteps_of r))) 0 (length r.state.memories) p p [] (omega (arith, l, count_state turn i r h)) (omega arith)
 
 pub lines_same : (xs ys : List (List OutcomeParts)) (p : ℕ) → length xs ≡ length ys → ((k : ℕ) → k < length xs → outcome_of (get_or xs k []) p ≡ outcome_of (get_or ys k []) p) → lines_of_process xs p ≡ lines_of_process ys p
 lines_same [] [] p long same = refl
@@ -138,5 +117,5 @@ count_result_memories turn i r h = ap (λ (ms : List (List ℕ)). length ms) (pa
 pub count_result_lines : (turn : ViewParts → OutcomeParts) (i : Input) (r : Run) → IsBspRun turn i r → length (result_of r).lines ≡ length i.mems
 count_result_lines turn i r h = ap (λ (ls : List (List (List ℕ))). length ls) (parts r).lines ∙ count_lines turn i r h
 
-pub rows_of : (r : Run) → is_ended r.phase ≡ true → length (result_of r).costs ≡ length (supersteps_of r)
-rows_of r e = ap (λ (rows : List CostRow). length rows) (parts r).costs ∙ count_costs r ∙ count_turns r e
+pub rows_of : (r : Run) → length (result_of r).costs ≡ length (supersteps_of r)
+rows_of r = ap (λ (rows : List CostRow). length rows) (parts r).costs ∙ count_costs r

@@ -16,10 +16,10 @@ use Rattle.bsp_deliver.specs.Delivery.{delivery_parts, next_memory}
 use Rattle.bsp_run.specs.declared.result.RunResult.{RunResult}
 use Rattle.bsp_run.specs.declared.superstep.Superstep.{Superstep}
 use Rattle.bsp_run.specs.Run.{Run, is_limit}
-use Rattle.bsp_run.specs.Supersteps.{supersteps_of, superstep_at}
+use Rattle.bsp_run.specs.Supersteps.{supersteps_of, superstep_at, outcomes_of}
 use Rattle.bsp_run.specs.Law.{views_in, outcomes_in}
-use Rattle.bsp_run.specs.Condition.{no_view}
-use Rattle.bsp_run.specs.Result.{status_of, all_turns, memories_of, lines_of, result_of}
+use Rattle.bsp_run.specs.Condition.{no_view, is_ended}
+use Rattle.bsp_run.specs.Result.{status_of, memories_of, lines_of, result_of}
 use Rattle.bsp_run.proofs.Records.{count-views_in, count-outcomes_in}
 use Rattle.bsp_run.proofs.OneRun.{count_past, front}
 use Rattle.bsp_incr.specs.declared.edit.Edit.{Edit}
@@ -116,8 +116,8 @@ module _ (turn : ViewParts → OutcomeParts) (looks : ViewParts → ℕ → Bool
   -- as many supersteps ended by delivery
   count_delivered : length old.past ≡ length new.past
   count_delivered =
-      let one = count_past (is_limit new.phase) old h.runs.before.ended h.limit in
-      let other = count_past (is_limit new.phase) new h.runs.after.ended refl in
+      let one = count_past (is_limit new.phase) old (ap is_ended h.runs.before.phase) h.limit in
+      let other = count_past (is_limit new.phase) new (ap is_ended h.runs.after.phase) refl in
       omega (arith, one, other, h.count)
 
   -- what it depends on in the next superstep is the same
@@ -166,7 +166,7 @@ module _ (turn : ViewParts → OutcomeParts) (looks : ViewParts → ℕ → Bool
       let v : view_there (supersteps_of old) q ≡ get_or (views_in turn i s) p no_view = ap (λ (vs : List ViewParts). get_or vs p no_view) olds in
       let w : view_there (supersteps_of new) q ≡ get_or (views_in turn j s) p no_view = ap (λ (vs : List ViewParts). get_or vs p no_view) news in
       let taken : HasTurn (supersteps_of new) q = omega (arith, there, ap (λ (vs : List ViewParts). length vs) news, count-views_in turn j s) in
-      let few = count_past (is_limit new.phase) new h.runs.after.ended refl in
+      let few = count_past (is_limit new.phase) new (ap is_ended h.runs.after.phase) refl in
       let alike : AreAlike (looks (view_there (supersteps_of old) q)) (view_there (supersteps_of old) q) (view_there (supersteps_of new) q) = served s taken in
       let own = same_own s (few_past (is_limit new.phase) (length new.past) s (omega (arith, l, few))) in
       alike_is (get_or (views_in turn i s) p no_view) (get_or (views_in turn j s) p no_view) (looks (view_there (supersteps_of old) q))
@@ -189,7 +189,7 @@ module _ (turn : ViewParts → OutcomeParts) (looks : ViewParts → ℕ → Bool
             memory-cut turn i old p before h.here (h.limit ∙ b) ∙ ap (λ n. (get_or (views_in turn i n) p no_view).memory) past
             ∙ same_own (length new.past) (omega arith) ∙ sym (memory-cut turn j new p after there b)
         | false ↦ λ b.
-            let few = count_past false new after.ended b in
+            let few = count_past false new (ap is_ended after.phase) b in
             memory-stopped turn i old p before h.here (h.limit ∙ b) ∙ ap (λ n. (outcome_of (outcomes_in turn i n) p).memory) past
             ∙ ap (λ (o : OutcomeParts). o.memory) (same_left (length new.past) (omega (arith, few))) ∙ sym (memory-stopped turn j new p after there b)
       ] refl
@@ -198,10 +198,10 @@ module _ (turn : ViewParts → OutcomeParts) (looks : ViewParts → ℕ → Bool
   same_lines_at_end =
       let before = h.runs.before in
       let after = h.runs.after in
-      let olds = count_turns old before.ended in
-      let news = count_turns new after.ended in
+      let olds = count_turns old in
+      let news = count_turns new in
       lines-at turn i old p before h.here
-      ∙ lines_same (all_turns old) (all_turns new) p (olds ∙ h.count ∙ sym news)
+      ∙ lines_same (outcomes_of (supersteps_of old)) (outcomes_of (supersteps_of new)) p (olds ∙ h.count ∙ sym news)
       (λ k l.
       let m : k < length (supersteps_of new) = omega (arith, l, olds, h.count) in
       ap (λ os. outcome_of os p) (turns_at turn i old k before (omega (arith, l, olds))) ∙ same_left k m ∙ sym (ap (λ os. outcome_of os p) (turns_at turn j new k after m)))
@@ -228,8 +228,8 @@ untouched_stay turn looks i batch update old new runs e p l away =
     let count_costs : length (result_of old).costs ≡ length (result_of new).costs = as_many (result_of old) (result_of new) e in
     let limit : at_limit (status_of old) ≡ at_limit (status_of new) =
     sym (ap at_limit (parts old).status) ∙ both_at_limit (result_of old) (result_of new) e ∙ ap at_limit (parts new).status in
-    let count : length (supersteps_of old) ≡ length (supersteps_of new) = sym (rows_of old before.ended) ∙ count_costs ∙ rows_of new after.ended in
-    let ends : is_limit old.phase ≡ is_limit new.phase = limit_is old.phase before.ended ∙ limit ∙ sym (limit_is new.phase after.ended) in
+    let count : length (supersteps_of old) ≡ length (supersteps_of new) = sym (rows_of old) ∙ count_costs ∙ rows_of new in
+    let ends : is_limit old.phase ≡ is_limit new.phase = limit_is old.phase (ap is_ended before.phase) ∙ limit ∙ sym (limit_is new.phase (ap is_ended after.phase)) in
     let h : AreWithout turn looks i batch update old new p = record { runs = runs; here = l; away = away; count = count; limit = ends } in
     let m : p < length (edited i batch).mems = omega (arith, l, edited_count i batch) in
     record {

@@ -19,7 +19,7 @@ use Rattle.bsp_incr.specs.Inside.Reuse.{serves, needs_turn}
 use Rattle.bsp_incr.specs.Inside.Changes.{differs, differ_in, differ_from, differ, is_touched, touched_in, touched_from, touched, update_of}
 use Rattle.bsp_incr.proofs.Propagation.{Decides-untouched}
 use Rattle.bsp_incr.proofs.Serving.{Decides-serves}
-use Rattle.bsp_incr.specs.Exact.{supersteps_before, delivered_before, view_there, IsServed, IsKept, comes_before, AreInOrder, IsExact}
+use Rattle.bsp_incr.specs.Exact.{supersteps_before, delivered_before, view_there, HasTurn, IsServed, IsKept, comes_before, AreInOrder, IsExact}
 use Rattle.bsp_incr.proofs.Updating.{same_update}
 use Rattle.bsp_incr.proofs.PlacesGathered.{none_in_nil, in_cons, cons_here, cons_later, gathered, in_gathered, of_gathered, gathered_in_order}
 
@@ -157,6 +157,15 @@ update_is_exact looks old new update h =
       executed_in_order = subst AreInOrder (sym (executed_is ∙ differ_is looks olds news)) (gathered_in_order turns_in (turn_test looks olds) 0 news);
       redelivered_in_order = subst AreInOrder (sym (redelivered_is ∙ touched_is (delivered_before old) new.past)) (gathered_in_order deliveries_in (delivery_test (delivered_before old)) 0 new.past);
     }
+
+-- where no turn was taken again, the old one serves
+pub served_at : (looks : ViewParts → ℕ → Bool) (old : Option Run) (new : Run) (update : Update) (q : Place) → update ≡ update_of looks old new → HasTurn (supersteps_of new) q → (Contains update.executed q → ⊥) → IsServed looks (supersteps_before old) (supersteps_of new) q
+served_at looks old new update q is there free =
+    let olds = supersteps_before old in
+    let news = supersteps_of new in
+    let test = turn_test looks olds q.step (superstep_at news q.step) q.pid in
+    let exact = update_is_exact looks old new update is in
+    (turn_passes looks olds news q).0 (yes_or_no test (λ t. free ((exact.executed q).1 (there, (opposite test (IsServed looks olds news q) (turn_passes looks olds news q)).0 t))))
 
 -- the same, of whatever update that is
 pub exact_of : {looks : ViewParts → ℕ → Bool} {old : Option Run} {new : Run} {update : Update} → update ≡ update_of looks old new → IsExact looks old new update

@@ -1,6 +1,5 @@
 -- What the processes see in superstep 0 of an edited input.
-use Rattle.std.proofs.Common.{◌≡◌, ◌<◌, ℕ, Bool, true, false, List, [], Option, Some, map, length, get_or, arith, refl, sym, ap, ◌∙◌, subst}
-use Rattle.std.specs.Option.{ForSome}
+use Rattle.std.proofs.Common.{◌≡◌, ◌<◌, ℕ, Bool, true, false, List, [], Some, map, length, get_or, arith, refl, sym, ap, ◌∙◌}
 use Rattle.std.proofs.lemmas.List.{get_or_default, get_or-map}
 use Rattle.std.proofs.lemmas.List.FromFn.{get_or-map-range_with_len, length-map-range_with_len}
 use Rattle.bsp_model.specs.declared.input.Input.{Input}
@@ -11,13 +10,13 @@ use Rattle.bsp_run.specs.State.{first_state, no_messages, view_of, views_of}
 use Rattle.bsp_run.specs.Run.{Run, start, open_views}
 use Rattle.bsp_run.specs.Condition.{no_view}
 use Rattle.bsp_run.specs.Law.{views_in}
-use Rattle.bsp_run.specs.Supersteps.{views_at}
 use Rattle.bsp_run.specs.Inside.Record.{IsRecord}
 use Rattle.bsp_run.proofs.Records.{state_at-first}
-use Rattle.bsp_incr.specs.Inside.Before.{AreFirstMarked, HasFirstViews, IsBefore, IsRecordBefore}
+use Rattle.bsp_incr.specs.Inside.Before.{first_views_before, first_view_before, AreFirstMarked, IsBefore}
 use Rattle.bsp_incr.specs.Inside.Changes.{processes_where}
 use Rattle.bsp_incr.specs.Inside.Replaced.{replaced}
 use Rattle.bsp_incr.proofs.Patching.{patched, patched_is}
+use Rattle.bsp_incr.proofs.RunBefore.{record_of_law}
 
 -- what each process sees first
 pub first_views : (input : Input) → open_views (start input) ≡ each_below (length input.mems) (view_of input.args 0 (first_state input))
@@ -35,40 +34,32 @@ first_view_stays i j p v n l e a m =
     λ k. record { nprocs = n k; pid = p; step = 0; args = args k; memory = memory k; table = []; tag_size = 0; queue = queue k } in
     e ∙ same
 
--- The first views of the run before, with those of the marked processes in their places, are the new ones.
-pub first_views_in_place : (r : Run) (input : Input) (marks : List Bool) (views new : List ViewParts) (marked : List ℕ) → views ≡ views_at r 0 → HasFirstViews input r → AreFirstMarked (Some r) input marks
-    → marked ≡ processes_where (length marks) (λ p. get_or marks p false) → new ≡ map (view_of input.args 0 (first_state input)) marked
-    → (length views ≡ length input.mems) × (replaced views marked new ≡ open_views (start input))
-first_views_in_place r input marks views new marked v began h listed made =
-    let n = length input.mems in
-    let i = began.input_before in
-    let f = view_of input.args 0 (first_state input) in
-    let g = view_of i.args 0 (first_state i) in
-    let test : ℕ → Bool = λ p. get_or marks p false in
-    let seen : views_at r 0 ≡ each_below n g = began.views ∙ first_views i ∙ ap (λ k. each_below k g) began.count in
-    let long : length views ≡ n = ap (λ (vs : List ViewParts). length vs) (v ∙ seen) ∙ length-map-range_with_len g 0 n in
-    let places : marked ≡ processes_where n test = listed ∙ ap (λ k. processes_where k test) h.count in
-    let there : (p : ℕ) → p < n → test p ≡ false → get_or views p no_view ≡ f p =
-    λ p l t.
-    let clean : get_or marks p true ≡ false = get_or_default marks p true false (omega (arith, l, h.count)) ∙ t in
-    let at : get_or (views_at r 0) p no_view ≡ g p = ap (λ (vs : List ViewParts). get_or vs p no_view) seen ∙ get_or-map-range_with_len g 0 n p p no_view l (omega arith) in
-    ap (λ (vs : List ViewParts). get_or vs p no_view) v ∙ first_view_stays i input p (get_or (views_at r 0) p no_view) began.count l at (h.args p l clean r refl) (h.memory p l clean r refl) in (
-      long,
-      ap (replaced views marked) made ∙ ap (λ (ps : List ℕ). patched f views ps) places ∙ patched_is f test n views no_view long there ∙ sym (first_views input),
-    )
-
 started : (turn : ViewParts → OutcomeParts) (input : Input) → open_views (start input) ≡ views_in turn input 0
 unfolding start
 started turn input = ap (views_of input.args 0) (sym (state_at-first turn input))
 
 -- a run begins with the first views of its input
-pub first_views_of : (turn : ViewParts → OutcomeParts) (input : Input) (r : Run) → IsRecord turn input r → views_at r 0 ≡ open_views (start input)
+pub first_views_of : (turn : ViewParts → OutcomeParts) (input : Input) (r : Run) → IsRecord turn input r → first_views_before r ≡ open_views (start input)
 first_views_of turn input r h = h.views 0 (omega arith) ∙ sym (started turn input)
 
--- The run before began with the first views of its input.
-pub first_views_before : (turn : ViewParts → OutcomeParts) (input : Input) (r : Run) → IsRecordBefore turn input r → HasFirstViews input r
-first_views_before turn input r h =
-    record { input_before = h.input_before; views = first_views_of turn h.input_before r h.made; count = h.count }
-
-pub had_first_views : (turn : ViewParts → OutcomeParts) (input : Input) (old : Option Run) → IsBefore turn input old → ForSome old (HasFirstViews input)
-had_first_views turn input old h = λ r is. first_views_before turn input r (subst (IsBefore turn input) is h)
+-- The first views of the run before, with those of the marked processes in their places, are the new ones.
+pub first_views_in_place : (turn : ViewParts → OutcomeParts) (r : Run) (input : Input) (marks : List Bool) (views new : List ViewParts) (marked : List ℕ) → views ≡ first_views_before r → IsBefore turn input (Some r) → AreFirstMarked (Some r) input marks
+    → marked ≡ processes_where (length marks) (λ p. get_or marks p false) → new ≡ map (view_of input.args 0 (first_state input)) marked
+    → (length views ≡ length input.mems) × (replaced views marked new ≡ open_views (start input))
+first_views_in_place turn r input marks views new marked v began h listed made =
+    let n = length input.mems in
+    let i = began.input_before in
+    let f = view_of input.args 0 (first_state input) in
+    let g = view_of i.args 0 (first_state i) in
+    let test : ℕ → Bool = λ p. get_or marks p false in
+    let seen : first_views_before r ≡ each_below n g = first_views_of turn i r (record_of_law turn began.input_before r began.lawful began.law) ∙ first_views i ∙ ap (λ k. each_below k g) began.stands in
+    let long : length views ≡ n = ap (λ (vs : List ViewParts). length vs) (v ∙ seen) ∙ length-map-range_with_len g 0 n in
+    let places : marked ≡ processes_where n test = listed ∙ ap (λ k. processes_where k test) h.count in
+    let there : (p : ℕ) → p < n → test p ≡ false → get_or views p no_view ≡ f p =
+    λ p l t.
+    let clean : get_or marks p true ≡ false = get_or_default marks p true false (omega (arith, l, h.count)) ∙ t in
+    let at : first_view_before r p ≡ g p = ap (λ (vs : List ViewParts). get_or vs p no_view) seen ∙ get_or-map-range_with_len g 0 n p p no_view l (omega arith) in
+    ap (λ (vs : List ViewParts). get_or vs p no_view) v ∙ first_view_stays i input p (first_view_before r p) began.stands l at (h.args p l clean r refl) (h.memory p l clean r refl) in (
+      long,
+      ap (replaced views marked) made ∙ ap (λ (ps : List ℕ). patched f views ps) places ∙ patched_is f test n views no_view long there ∙ sym (first_views input),
+    )

@@ -1,5 +1,5 @@
 -- Lists of answers by process, and of the processes whose answer is true.
-use Rattle.std.proofs.Common.{◌≡◌, ◌<◌, ◌+◌, ℕ, zero, suc, Bool, true, false, cond, List, [], ◌∷◌, ◌++◌, All, map, length, get_or, arith, refl, sym, ap, ◌∙◌, subst}
+use Rattle.std.proofs.Common.{◌≡◌, ◌<◌, ◌+◌, ℕ, zero, suc, Bool, true, false, cond, List, [], ◌∷◌, ◌++◌, All, length, get_or, arith, refl, sym, ap, ◌∙◌, subst}
 use Rattle.std.specs.Prelude.{filter, ◌&&◌, nat_eq}
 use Rattle.std.specs.List.{range_with_len}
 use Rattle.std.proofs.lemmas.List.FromFn.{filter_of_map_range_with_len_more, get_or-map-range_with_len, get_or-range_with_len, length-map-range_with_len, length-range_with_len}
@@ -21,12 +21,6 @@ filter_from f g a zero same = refl
 filter_from f g a (suc n) same =
     ap (λ b. cond b (a ∷ filter f (range_with_len (a + 1) n)) (filter f (range_with_len (a + 1) n))) (same a (omega arith) (omega arith))
     ∙ ap (λ ks. cond (g a) (a ∷ ks) ks) (filter_from f g (a + 1) n (λ k low high. same k (omega arith) (omega arith)))
-
-pub map_from : (f g : ℕ → Bool) (a n : ℕ) → ((k : ℕ) → a < k + 1 → k < a + n → f k ≡ g k) → map f (range_with_len a n) ≡ map g (range_with_len a n)
-map_from f g a zero same = refl
-map_from f g a (suc n) same =
-    ap (λ b. b ∷ map f (range_with_len (a + 1) n)) (same a (omega arith) (omega arith))
-    ∙ ap (λ bs. g a ∷ bs) (map_from f g (a + 1) n (λ k low high. same k (omega arith) (omega arith)))
 
 -- a list of answers gives the processes at which the test holds
 pub processes_where-each_below : (n : ℕ) (test : ℕ → Bool) (answers : List Bool) → answers ≡ each_below n test → processes_where (length answers) (λ p. get_or answers p false) ≡ processes_where n test
@@ -85,13 +79,6 @@ all_where n test holds = filter_from test (λ _. true) 0 n (λ k low high. holds
 
 pub head_same : {X : Type 0} (x y : X) (xs ys : List X) → x ∷ xs ≡ y ∷ ys → x ≡ y
 head_same x y xs ys e = cc
-
--- a list of answers, each with another one
-pub answers_with : (n : ℕ) (test : ℕ → Bool) (answers : List Bool) (more : Bool → ℕ → Bool) → answers ≡ each_below n test → each_below (length answers) (λ d. more (get_or answers d true) d) ≡ each_below n (λ d. more (test d) d)
-answers_with n test answers more e =
-    let long : length answers ≡ n = ap (λ (bs : List Bool). length bs) e ∙ length-map-range_with_len test 0 n in
-    ap (λ k. each_below k (λ d. more (get_or answers d true) d)) long
-    ∙ map_from (λ d. more (get_or answers d true) d) (λ d. more (test d) d) 0 n (λ k low high. ap (λ b. more b k) (answer_at n test answers k true e (omega arith)))
 
 -- a list that is not empty has an item
 pub not_empty : {X : Type 0} (xs : List X) → nat_eq (length xs) 0 ≡ false → 0 < length xs

@@ -22,4 +22,8 @@ pub mod TakingBack
 pub mod Marking
 pub mod Likeness
 pub mod LawOfReuse
+pub mod Lasting
+pub mod MarkedToo
 pub mod Replying
+pub mod EndLikeness
+pub mod KnownTables

@@ -7,18 +7,19 @@ use Rattle.std.proofs.lemmas.List.FromFn.{get_or-map-range_with_len}
 use Rattle.std.proofs.lemmas.Bool.Decides.{Decides-eqb, eqb_tells}
 use Rattle.bsp_model.specs.declared.input.Input.{Input}
 use Rattle.bsp_step.specs.ViewParts.{ViewParts}
+use Rattle.bsp_step.specs.OutcomeParts.{OutcomeParts}
 use Rattle.bsp_run.specs.Run.{Run, start, open_views}
 use Rattle.bsp_run.specs.Condition.{no_view}
-use Rattle.bsp_run.specs.Supersteps.{views_at}
 use Rattle.bsp_incr.specs.declared.edit.Edit.{Edit}
 use Rattle.bsp_incr.specs.declared.edit.Edit.TheVariants.{Word, Arg, Limit, Prices}
 use Rattle.bsp_run.specs.State.{first_state, view_of}
 use Rattle.bsp_incr.specs.Edits.{edited_by, edited, with_number}
-use Rattle.bsp_incr.specs.Inside.Before.{IsEdited, HasSameArgs, HasSameMemory, HasOtherArgs, AreArgsMarked, AreFirstMarked}
+use Rattle.bsp_incr.specs.Inside.Before.{first_views_before, first_view_before, IsBeforeEdits, HasSameArgs, HasSameMemory, HasOtherArgs, AreArgsMarked, AreFirstMarked}
 use Rattle.bsp_incr.proofs.EditParts.{same_length}
 use Rattle.bsp_incr.proofs.Lawful.{edited_count}
-use Rattle.bsp_incr.proofs.FirstViews.{first_views}
+use Rattle.bsp_incr.proofs.FirstViews.{first_views, first_views_of}
 use Rattle.bsp_incr.specs.Inside.Marking.{word_before, word_now, arg_before, arg_now, word_place, arg_place, marked_if, marked_at, all_marked}
+use Rattle.bsp_incr.proofs.RunBefore.{record_of_law}
 
 -- the marks that there are
 
@@ -192,7 +193,7 @@ same_number_at_last of place local before now i (e ∷ later) p a there last h =
     ]
 
 -- what a process saw first of an input
-seen_first : (r : Run) (i : Input) (p : ℕ) → views_at r 0 ≡ open_views (start i) → p < length i.mems → get_or (views_at r 0) p no_view ≡ view_of i.args 0 (first_state i) p
+seen_first : (r : Run) (i : Input) (p : ℕ) → first_views_before r ≡ open_views (start i) → p < length i.mems → first_view_before r p ≡ view_of i.args 0 (first_state i) p
 seen_first r i p h l = ap (λ (vs : List ViewParts). get_or vs p no_view) (h ∙ first_views i) ∙ get_or-map-range_with_len (view_of i.args 0 (first_state i)) 0 (length i.mems) p p no_view l (omega arith)
 
 memories-first : (i : Input) → (first_state i).memories ≡ i.mems
@@ -210,56 +211,56 @@ none_set zero p h = cc
 none_set (suc n) zero h = cc
 none_set (suc n) (suc p) h = none_set n p h
 
-same_args_unmarked : (r : Run) (input : Input) (edits : List Edit) (ms : List Bool) (p : ℕ) → IsEdited r edits input → p < length input.mems → get_or (all_marked arg_place (arg_before r) (arg_now input) ms edits) p true ≡ false → HasSameArgs (Some r) input p
-same_args_unmarked r input edits ms p h l clean k is =
+same_args_unmarked : (turn : ViewParts → OutcomeParts) (r : Run) (input : Input) (edits : List Edit) (ms : List Bool) (p : ℕ) → IsBeforeEdits turn edits input r → p < length input.mems → get_or (all_marked arg_place (arg_before r) (arg_now input) ms edits) p true ≡ false → HasSameArgs (Some r) input p
+same_args_unmarked turn r input edits ms p h l clean k is =
     let i = h.input_before in
-    let here : p < length i.mems = omega (arith, l, ap (λ (j : Input). length j.mems) h.edited, edited_count i edits) in
-    let own : (get_or (views_at r 0) p no_view).args ≡ get_or i.args p [] = ap (λ (v : ViewParts). v.args) (seen_first r i p h.views here) in
-    let now : get_or input.args p [] ≡ get_or (edited i edits).args p [] = ap (λ (j : Input). get_or j.args p []) h.edited in
+    let here : p < length i.mems = omega (arith, l, ap (λ (j : Input). length j.mems) h.stands, edited_count i edits) in
+    let own : (first_view_before r p).args ≡ get_or i.args p [] = ap (λ (v : ViewParts). v.args) (seen_first r i p (first_views_of turn i r (record_of_law turn h.input_before r h.lawful h.law)) here) in
+    let now : get_or input.args p [] ≡ get_or (edited i edits).args p [] = ap (λ (j : Input). get_or j.args p []) h.stands in
     let there = are_there arg_place (arg_before r) (arg_now input) ms edits p clean in
-    let long : length (get_or (views_at r 0) p no_view).args ≡ length (get_or input.args p []) = ap (λ (xs : List ℕ). length xs) own ∙ sym (same_long (λ (j : Input). j.args) arg_place arguments i edits p) ∙ sym (ap (λ (xs : List ℕ). length xs) now) in
-    subst (λ (x : Run). (get_or (views_at x 0) p no_view).args ≡ get_or input.args p []) (some_same r k is)
-    (ext_get_or 0 (get_or (views_at r 0) p no_view).args (get_or input.args p []) long
+    let long : length (first_view_before r p).args ≡ length (get_or input.args p []) = ap (λ (xs : List ℕ). length xs) own ∙ sym (same_long (λ (j : Input). j.args) arg_place arguments i edits p) ∙ sym (ap (λ (xs : List ℕ). length xs) now) in
+    subst (λ (x : Run). (first_view_before x p).args ≡ get_or input.args p []) (some_same r k is)
+    (ext_get_or 0 (first_view_before r p).args (get_or input.args p []) long
     (λ a m. sym (same_number_at_last (λ (j : Input). j.args) arg_place arguments (arg_before r) (arg_now input) i edits p a there (ap (λ (xs : List ℕ). get_or xs a 0) now) (sym (ap (λ (xs : List ℕ). get_or xs a 0) own))) ∙ sym (ap (λ (xs : List ℕ). get_or xs a 0) now)))
 
-same_memory_unmarked : (r : Run) (input : Input) (edits : List Edit) (ms : List Bool) (p : ℕ) → IsEdited r edits input → p < length input.mems → get_or (all_marked word_place (word_before r) (word_now input) ms edits) p true ≡ false → HasSameMemory (Some r) input p
-same_memory_unmarked r input edits ms p h l clean k is =
+same_memory_unmarked : (turn : ViewParts → OutcomeParts) (r : Run) (input : Input) (edits : List Edit) (ms : List Bool) (p : ℕ) → IsBeforeEdits turn edits input r → p < length input.mems → get_or (all_marked word_place (word_before r) (word_now input) ms edits) p true ≡ false → HasSameMemory (Some r) input p
+same_memory_unmarked turn r input edits ms p h l clean k is =
     let i = h.input_before in
-    let here : p < length i.mems = omega (arith, l, ap (λ (j : Input). length j.mems) h.edited, edited_count i edits) in
-    let own : (get_or (views_at r 0) p no_view).memory ≡ get_or i.mems p [] = ap (λ (v : ViewParts). v.memory) (seen_first r i p h.views here) ∙ ap (λ (ms : List (List ℕ)). get_or ms p []) (memories-first i) in
-    let now : get_or input.mems p [] ≡ get_or (edited i edits).mems p [] = ap (λ (j : Input). get_or j.mems p []) h.edited in
+    let here : p < length i.mems = omega (arith, l, ap (λ (j : Input). length j.mems) h.stands, edited_count i edits) in
+    let own : (first_view_before r p).memory ≡ get_or i.mems p [] = ap (λ (v : ViewParts). v.memory) (seen_first r i p (first_views_of turn i r (record_of_law turn h.input_before r h.lawful h.law)) here) ∙ ap (λ (ms : List (List ℕ)). get_or ms p []) (memories-first i) in
+    let now : get_or input.mems p [] ≡ get_or (edited i edits).mems p [] = ap (λ (j : Input). get_or j.mems p []) h.stands in
     let there = are_there word_place (word_before r) (word_now input) ms edits p clean in
-    let long : length (get_or (views_at r 0) p no_view).memory ≡ length (get_or input.mems p []) = ap (λ (xs : List ℕ). length xs) own ∙ sym (same_long (λ (j : Input). j.mems) word_place words i edits p) ∙ sym (ap (λ (xs : List ℕ). length xs) now) in
-    subst (λ (x : Run). (get_or (views_at x 0) p no_view).memory ≡ get_or input.mems p []) (some_same r k is)
-    (ext_get_or 0 (get_or (views_at r 0) p no_view).memory (get_or input.mems p []) long
+    let long : length (first_view_before r p).memory ≡ length (get_or input.mems p []) = ap (λ (xs : List ℕ). length xs) own ∙ sym (same_long (λ (j : Input). j.mems) word_place words i edits p) ∙ sym (ap (λ (xs : List ℕ). length xs) now) in
+    subst (λ (x : Run). (first_view_before x p).memory ≡ get_or input.mems p []) (some_same r k is)
+    (ext_get_or 0 (first_view_before r p).memory (get_or input.mems p []) long
     (λ a m. sym (same_number_at_last (λ (j : Input). j.mems) word_place words (word_before r) (word_now input) i edits p a there (ap (λ (xs : List ℕ). get_or xs a 0) now) (sym (ap (λ (xs : List ℕ). get_or xs a 0) own))) ∙ sym (ap (λ (xs : List ℕ). get_or xs a 0) now)))
 
 other_args_marked : (r : Run) (input : Input) (edits : List Edit) (p : ℕ) → get_or (args_after r input edits) p false ≡ true → HasOtherArgs (Some r) input p
 other_args_marked r input edits p set k is same =
     elim (set_or_other arg_place (arg_before r) (arg_now input) (replicate (length input.mems) false) edits p set) [
       | inl w ↦ none_set (length input.mems) p w
-      | inr w ↦ w.1 (ap (λ (xs : List ℕ). get_or xs w.0 0) (subst (λ (x : Run). (get_or (views_at x 0) p no_view).args ≡ get_or input.args p []) (sym (some_same r k is)) same))
+      | inr w ↦ w.1 (ap (λ (xs : List ℕ). get_or xs w.0 0) (subst (λ (x : Run). (first_view_before x p).args ≡ get_or input.args p []) (sym (some_same r k is)) same))
     ]
 
-pub args_marked : (r : Run) (input : Input) (edits : List Edit) → IsEdited r edits input → AreArgsMarked (Some r) input (args_after r input edits)
-args_marked r input edits h =
+pub args_marked : (turn : ViewParts → OutcomeParts) (r : Run) (input : Input) (edits : List Edit) → IsBeforeEdits turn edits input r → AreArgsMarked (Some r) input (args_after r input edits)
+args_marked turn r input edits h =
     record {
       count = length-marked arg_place (arg_before r) (arg_now input) (replicate (length input.mems) false) edits ∙ length-replicate (length input.mems) false;
-      clean = λ p l c. same_args_unmarked r input edits (replicate (length input.mems) false) p h l c;
+      clean = λ p l c. same_args_unmarked turn r input edits (replicate (length input.mems) false) p h l c;
       other = λ p l c. other_args_marked r input edits p c;
     }
 
-pub first_marked : (r : Run) (input : Input) (edits : List Edit) → IsEdited r edits input → AreFirstMarked (Some r) input (first_after r input edits)
-first_marked r input edits h =
-    let args = args_marked r input edits h in
+pub first_marked : (turn : ViewParts → OutcomeParts) (r : Run) (input : Input) (edits : List Edit) → IsBeforeEdits turn edits input r → AreFirstMarked (Some r) input (first_after r input edits)
+first_marked turn r input edits h =
+    let args = args_marked turn r input edits h in
     record {
       count = length-marked word_place (word_before r) (word_now input) (args_after r input edits) edits ∙ args.count;
-      memory = λ p l c. same_memory_unmarked r input edits (args_after r input edits) p h l c;
+      memory = λ p l c. same_memory_unmarked turn r input edits (args_after r input edits) p h l c;
       args = λ p l c. args.clean p l (unmarked_before word_place (word_before r) (word_now input) (args_after r input edits) edits p c);
       other = λ p l c.
           elim (set_or_other word_place (word_before r) (word_now input) (args_after r input edits) edits p c) [
             | inl w ↦ inr (args.other p l w)
-            | inr w ↦ inl (λ k is same. w.1 (ap (λ (xs : List ℕ). get_or xs w.0 0) (subst (λ (x : Run). (get_or (views_at x 0) p no_view).memory ≡ get_or input.mems p []) (sym (some_same r k is)) same)))
+            | inr w ↦ inl (λ k is same. w.1 (ap (λ (xs : List ℕ). get_or xs w.0 0) (subst (λ (x : Run). (first_view_before x p).memory ≡ get_or input.mems p []) (sym (some_same r k is)) same)))
           ];
     }
 

@@ -26,7 +26,7 @@ use Rattle.bsp_incr.specs.Inside.Next.{next_view}
 use Rattle.bsp_incr.specs.Inside.Before.{taken_before, delivered_outcomes, IsBefore, HasSameArgs, AreArgsMarked, AreAlikeAfter, AreFirstMarked, HasSameMemory, IsUnderWay}
 use Rattle.bsp_incr.proofs.Updating.{same_update, updated_turned, updated_delivered}
 use Rattle.bsp_incr.proofs.Propagation.{propagated, view-in, first_alike, untouched_is}
-use Rattle.bsp_incr.proofs.RunBefore.{args_before, memory_before, taken-in, some_taken, nothing_taken, delivered-in, some_delivered, nothing_delivered, views_after-some}
+use Rattle.bsp_incr.proofs.RunBefore.{record_of_law, args_before, memory_before, taken-in, some_taken, nothing_taken, delivered-in, some_delivered, nothing_delivered, views_after-some}
 
 -- the next views, process by process
 pub next_views-are : (r : Run) → each_below (length r.outcomes) (next_view r) ≡ views_of r.args (length r.past + 1) (next_state r.state r.outcomes)
@@ -57,7 +57,7 @@ unchanged_among turn input (Some o) s ws processes h is k =
 pub count_taken : (turn : ViewParts → OutcomeParts) (input : Input) (old : Option Run) (s : ℕ) (ws : List ViewParts) → IsBefore turn input old → ws ≡ views_in turn input s → 0 < length (taken_before old s) → length (taken_before old s) ≡ length ws
 count_taken turn input None s ws h is l = absurd (nothing_taken s 0 l)
 count_taken turn input (Some k) s ws h is l =
-    ap (λ (vs : List ViewParts). length vs) (taken-in turn input k s h (some_taken k s 0 l)) ∙ count-views_in turn h.input_before s ∙ h.count
+    ap (λ (vs : List ViewParts). length vs) (taken-in turn input k s h (some_taken k s 0 l)) ∙ count-views_in turn h.input_before s ∙ h.stands
     ∙ sym (count-views_in turn input s) ∙ sym (ap (λ (vs : List ViewParts). length vs) is)
 
 -- What a process sees next, once the turns are taken.
@@ -78,11 +78,11 @@ alike_after turn input (Some k) t always h a made o = λ p l f c.
     let same = untouched_is (delivered_outcomes (Some k) s) t.outcomes p f in
     let past = some_delivered k s p same.0 in
     let here : p < length input.mems = omega (arith, l, ap (λ (os : List OutcomeParts). length os) o, count-outcomes_in turn input s) in
-    let views = views_after-some k s past ∙ h.made.views (s + 1) (omega (arith, past)) in
+    let views = views_after-some k s past ∙ (record_of_law turn h.input_before k h.lawful h.law).views (s + 1) (omega (arith, past)) in
     let parts = ap (λ (xs : List OutcomeParts). delivery_parts xs p) (sym (delivered-in turn input k s h past)) ∙ same.1 ∙ ap (λ (xs : List OutcomeParts). delivery_parts xs p) o in
     subst (λ (vs : List ViewParts). AreAlikeButForTable (get_or vs p no_view) (next_view t p)) (sym views)
     (subst (AreAlikeButForTable (get_or (views_in turn h.input_before (s + 1)) p no_view)) (next_view-in turn input t p made o here)
-    (propagated turn h.input_before input s p h.count here (args_before turn input k p h here (a.clean p here c)) parts))
+    (propagated turn h.input_before input s p h.stands here (args_before turn input k p h here (a.clean p here c)) parts))
 
 or_false : (a b : Bool) → (a || b) ≡ false → (a ≡ false) × (b ≡ false)
 or_false true b e = cc
@@ -95,7 +95,7 @@ clean_after turn input (Some k) s p h l m same there e =
     let os = delivered-in turn input k s h (some_delivered k s p there) in
     let vs = taken-in turn input k (s + 1) h (some_taken k (s + 1) p m) in
     subst (λ (xs : List ViewParts). AreAlikeButForTable (get_or xs p no_view) (get_or (views_in turn input (s + 1)) p no_view)) (sym vs)
-    (propagated turn h.input_before input s p h.count l (args_before turn input k p h l same) (ap (λ (xs : List OutcomeParts). delivery_parts xs p) (sym os) ∙ e))
+    (propagated turn h.input_before input s p h.stands l (args_before turn input k p h l same) (ap (λ (xs : List OutcomeParts). delivery_parts xs p) (sym os) ∙ e))
 
 -- A process that is not marked after the deliveries sees next what it saw in the run before.
 marked_next : (turn : ViewParts → OutcomeParts) (input : Input) (old : Option Run) (s : ℕ) (always marks : List Bool) → IsBefore turn input old → AreArgsMarked old input always
@@ -165,7 +165,7 @@ first_clean : (turn : ViewParts → OutcomeParts) (input : Input) (old : Option 
 first_clean turn input None p h m l memory same = absurd (nothing_taken 0 p l)
 first_clean turn input (Some k) p h m l memory same =
     subst (λ (vs : List ViewParts). AreAlikeButForTable (get_or vs p no_view) (get_or (views_in turn input 0) p no_view)) (sym (taken-in turn input k 0 h (some_taken k 0 p l)))
-    (first_alike turn h.input_before input p h.count m (args_before turn input k p h m same) (memory_before turn input k p h m memory))
+    (first_alike turn h.input_before input p h.stands m (args_before turn input k p h m same) (memory_before turn input k p h m memory))
 
 nothing_executed : (looks : ViewParts → ℕ → Bool) (old : Option Run) (input : Input) → differ looks (supersteps_before old) (supersteps_of (start input)) ≡ []
 unfolding start differ

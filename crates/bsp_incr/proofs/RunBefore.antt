@@ -11,17 +11,19 @@ use Rattle.bsp_step.specs.ViewParts.{ViewParts}
 use Rattle.bsp_step.specs.OutcomeParts.{OutcomeParts}
 use Rattle.bsp_run.specs.declared.superstep.Superstep.{Superstep}
 use Rattle.bsp_run.specs.Run.{Run, open_views}
-use Rattle.bsp_run.specs.Supersteps.{supersteps_of, superstep_at, views_at}
+use Rattle.bsp_run.specs.Supersteps.{supersteps_of, supersteps_opened, superstep_at}
 use Rattle.bsp_run.specs.State.{view_of}
 use Rattle.bsp_run.specs.Law.{state_at, views_in, outcomes_in, IsBspRun}
 use Rattle.bsp_run.specs.Condition.{no_view}
 use Rattle.bsp_run.specs.Inside.Record.{IsRecord}
-use Rattle.bsp_run.proofs.Records.{views_at-past, open_views-in, count-views_in, count-outcomes_in, IsRecord-run}
+use Rattle.bsp_run.proofs.Records.{opened-past, open_views-in, count-views_in, count-outcomes_in, IsRecord-run}
 use Rattle.bsp_run.proofs.OneRun.{one_run}
-use Rattle.bsp_run.proofs.Laws.{superstep_at-past_end, taken_views, taken_outcomes}
+use Rattle.bsp_run.proofs.Laws.{superstep_at-past_end, taken-opened, taken_outcomes}
 use Rattle.bsp_incr.specs.Inside.Marks.{HaveOneTable, AreDelivered}
 use Rattle.bsp_incr.specs.Exact.{supersteps_before}
-use Rattle.bsp_incr.specs.Inside.Before.{taken_before, outcomes_before, delivered_outcomes, views_after, IsBefore, IsRecordBefore, HasSameArgs, HasSameMemory}
+use Rattle.bsp_incr.specs.Inside.Before.{taken_before, outcomes_before, delivered_outcomes, views_after, first_view_before, IsBefore, IsBeforeEdits, HasSameArgs, HasSameMemory}
+use Rattle.bsp_incr.specs.declared.edit.Edit.{Edit}
+use Rattle.bsp_incr.proofs.Lawful.{edited_count}
 use Rattle.bsp_incr.proofs.Propagation.{one_table, view-in, first_memory, memory-in, queue-in}
 
 -- the run of a lawful input is its record
@@ -29,19 +31,24 @@ pub record_of_law : (turn : ViewParts → OutcomeParts) (input : Input) (r : Run
 record_of_law turn input r lawful law =
     subst (IsRecord turn input) (sym ((one_run turn input r lawful).0 law)) (IsRecord-run turn input (lawful_input input lawful).some_superstep)
 
+-- edits leave as many processes
+pub before_edits : (turn : ViewParts → OutcomeParts) (edits : List Edit) (input : Input) (r : Run) → IsBeforeEdits turn edits input r → IsBefore turn input (Some r)
+before_edits turn edits input r h =
+    record { input_before = h.input_before; lawful = h.lawful; law = h.law; stands = sym (edited_count h.input_before edits) ∙ ap (λ (i : Input). length i.mems) (sym h.stands) }
+
 -- what a process saw first
-first_view : (turn : ViewParts → OutcomeParts) (input : Input) (k : Run) (p : ℕ) (h : IsRecordBefore turn input k) → p < length input.mems → get_or (views_at k 0) p no_view ≡ view_of h.input_before.args 0 (state_at turn h.input_before 0) p
-first_view turn input k p h l = ap (λ (vs : List ViewParts). get_or vs p no_view) (h.made.views 0 (omega arith)) ∙ view-in turn h.input_before 0 p (omega (arith, l, h.count))
+first_view : (turn : ViewParts → OutcomeParts) (input : Input) (k : Run) (p : ℕ) (h : IsBefore turn input (Some k)) → p < length input.mems → first_view_before k p ≡ view_of h.input_before.args 0 (state_at turn h.input_before 0) p
+first_view turn input k p h l = ap (λ (vs : List ViewParts). get_or vs p no_view) ((record_of_law turn h.input_before k h.lawful h.law).views 0 (omega arith)) ∙ view-in turn h.input_before 0 p (omega (arith, l, h.stands))
 
 -- the arguments and the memory that it had
-pub args_before : (turn : ViewParts → OutcomeParts) (input : Input) (k : Run) (p : ℕ) (h : IsRecordBefore turn input k) → p < length input.mems → HasSameArgs (Some k) input p → get_or h.input_before.args p [] ≡ get_or input.args p []
+pub args_before : (turn : ViewParts → OutcomeParts) (input : Input) (k : Run) (p : ℕ) (h : IsBefore turn input (Some k)) → p < length input.mems → HasSameArgs (Some k) input p → get_or h.input_before.args p [] ≡ get_or input.args p []
 args_before turn input k p h l same = sym (ap (λ (v : ViewParts). v.args) (first_view turn input k p h l)) ∙ same k refl
 
-pub memory_before : (turn : ViewParts → OutcomeParts) (input : Input) (k : Run) (p : ℕ) (h : IsRecordBefore turn input k) → p < length input.mems → HasSameMemory (Some k) input p → get_or h.input_before.mems p [] ≡ get_or input.mems p []
+pub memory_before : (turn : ViewParts → OutcomeParts) (input : Input) (k : Run) (p : ℕ) (h : IsBefore turn input (Some k)) → p < length input.mems → HasSameMemory (Some k) input p → get_or h.input_before.mems p [] ≡ get_or input.mems p []
 memory_before turn input k p h l same = sym (first_memory turn h.input_before p) ∙ sym (ap (λ (v : ViewParts). v.memory) (first_view turn input k p h l)) ∙ same k refl
 
-pub taken-in : (turn : ViewParts → OutcomeParts) (input : Input) (k : Run) (s : ℕ) (h : IsRecordBefore turn input k) → s < length (supersteps_of k) → taken_before (Some k) s ≡ views_in turn h.input_before s
-taken-in turn input k s h l = let taken = taken_views k s l in taken.1 ∙ h.made.views s taken.0
+pub taken-in : (turn : ViewParts → OutcomeParts) (input : Input) (k : Run) (s : ℕ) (h : IsBefore turn input (Some k)) → s < length (supersteps_of k) → taken_before (Some k) s ≡ views_in turn h.input_before s
+taken-in turn input k s h l = let taken = taken-opened k s l in ap (λ (x : Superstep). x.views) taken.1 ∙ (record_of_law turn h.input_before k h.lawful h.law).views s taken.0
 
 pub none_taken : (old : Option Run) (s : ℕ) → length (supersteps_before old) ≤ s → length (taken_before old s) ≡ 0
 none_taken old s l = ap (λ (x : Superstep). length x.views) (superstep_at-past_end (supersteps_before old) s l)
@@ -57,11 +64,11 @@ some_taken k s p l =
 pub nothing_taken : (s p : ℕ) → p < length (taken_before None s) → ⊥
 nothing_taken s p l = let none = none_taken None s (omega arith) in omega arith
 
-pub delivered-in : (turn : ViewParts → OutcomeParts) (input : Input) (k : Run) (s : ℕ) (h : IsRecordBefore turn input k) → s < length k.past → delivered_outcomes (Some k) s ≡ outcomes_in turn h.input_before s
+pub delivered-in : (turn : ViewParts → OutcomeParts) (input : Input) (k : Run) (s : ℕ) (h : IsBefore turn input (Some k)) → s < length k.past → delivered_outcomes (Some k) s ≡ outcomes_in turn h.input_before s
 delivered-in turn input k s h l =
     let front : superstep_at (supersteps_of k) s ≡ superstep_at k.past s = grind (arith, common_steps) in
-    let turns = subst (λ (x : Superstep). x.outcomes ≡ map turn x.views) front (taken_outcomes turn (supersteps_of k) s h.made.turns) in
-    turns ∙ ap (map turn) (sym (views_at-past k s l) ∙ h.made.views s (omega arith))
+    let turns = subst (λ (x : Superstep). x.outcomes ≡ map turn x.views) front (taken_outcomes turn (supersteps_of k) s (record_of_law turn h.input_before k h.lawful h.law).turns) in
+    turns ∙ ap (map turn) (sym (ap (λ (x : Superstep). x.views) (opened-past k s l)) ∙ (record_of_law turn h.input_before k h.lawful h.law).views s (omega arith))
 
 pub some_delivered : (k : Run) (s d : ℕ) → d < length (delivered_outcomes (Some k) s) → s < length k.past
 some_delivered k s d l =
@@ -91,19 +98,19 @@ open_table turn input r h = subst HaveOneTable (sym (open_views-in turn input r 
 -- its outcomes are the turns of its views
 pub turns_before : (turn : ViewParts → OutcomeParts) (input : Input) (old : Option Run) (s : ℕ) → IsBefore turn input old → outcomes_before old s ≡ map turn (taken_before old s)
 turns_before turn input None s h = subst (λ (x : Superstep). x.outcomes ≡ map turn x.views) (sym (superstep_at-past_end [] s (omega arith))) refl
-turns_before turn input (Some k) s h = taken_outcomes turn (supersteps_of k) s h.made.turns
+turns_before turn input (Some k) s h = taken_outcomes turn (supersteps_of k) s (record_of_law turn h.input_before k h.lawful h.law).turns
 
 -- what the run before delivered, it delivered to the same processes
 pub count_before : (turn : ViewParts → OutcomeParts) (input : Input) (old : Option Run) (s : ℕ) → IsBefore turn input old → 0 < length (delivered_outcomes old s) → length (delivered_outcomes old s) ≡ length (outcomes_in turn input s)
 count_before turn input None s h l = absurd (nothing_delivered s 0 l)
 count_before turn input (Some k) s h l =
-    ap (λ (os : List OutcomeParts). length os) (delivered-in turn input k s h (some_delivered k s 0 l)) ∙ count-outcomes_in turn h.input_before s ∙ h.count ∙ sym (count-outcomes_in turn input s)
+    ap (λ (os : List OutcomeParts). length os) (delivered-in turn input k s h (some_delivered k s 0 l)) ∙ count-outcomes_in turn h.input_before s ∙ h.stands ∙ sym (count-outcomes_in turn input s)
 
-pub views_after-some : (k : Run) (s : ℕ) → s < length k.past → views_after (Some k) s ≡ views_at k (s + 1)
-views_after-some k s l = let t : nat_lt s (length k.past) ≡ true = grind (arith, nat_tests) in ap (λ b. cond b (views_at k (s + 1)) []) t
+pub views_after-some : (k : Run) (s : ℕ) → s < length k.past → views_after (Some k) s ≡ (superstep_at (supersteps_opened k) (s + 1)).views
+views_after-some k s l = let t : nat_lt s (length k.past) ≡ true = grind (arith, nat_tests) in ap (λ b. cond b (superstep_at (supersteps_opened k) (s + 1)).views []) t
 
 views_after-none : (k : Run) (s : ℕ) → length k.past ≤ s → views_after (Some k) s ≡ []
-views_after-none k s l = let t : nat_lt s (length k.past) ≡ false = grind (arith, nat_tests) in ap (λ b. cond b (views_at k (s + 1)) []) t
+views_after-none k s l = let t : nat_lt s (length k.past) ≡ false = grind (arith, nat_tests) in ap (λ b. cond b (superstep_at (supersteps_opened k) (s + 1)).views []) t
 
 none_delivered : (views : List ViewParts) (os : List OutcomeParts) → views ≡ [] → length os ≡ 0 → AreDelivered os views
 none_delivered views os e l =
@@ -125,7 +132,7 @@ delivered_before_is turn input None s h = none_delivered [] (delivered_outcomes 
 delivered_before_is turn input (Some k) s h =
     elim (cases_lt s (length k.past)) [
       | inl w ↦
-          let views = views_after-some k s w ∙ h.made.views (s + 1) (omega arith) in
+          let views = views_after-some k s w ∙ (record_of_law turn h.input_before k h.lawful h.law).views (s + 1) (omega arith) in
           subst (λ (os : List OutcomeParts). AreDelivered os (views_after (Some k) s)) (sym (delivered-in turn input k s h w))
           (subst (AreDelivered (outcomes_in turn h.input_before s)) (sym views) (delivered_views turn h.input_before s))
       | inr w ↦ none_delivered (views_after (Some k) s) (delivered_outcomes (Some k) s) (views_after-none k s w) (ap (λ (x : Superstep). length x.outcomes) (superstep_at-past_end k.past s w))
@@ -136,6 +143,6 @@ pub table_after : (turn : ViewParts → OutcomeParts) (input : Input) (old : Opt
 table_after turn input None s h = no_table
 table_after turn input (Some k) s h =
     elim (cases_lt s (length k.past)) [
-      | inl w ↦ subst HaveOneTable (sym (views_after-some k s w ∙ h.made.views (s + 1) (omega arith))) (one_table turn h.input_before (s + 1))
+      | inl w ↦ subst HaveOneTable (sym (views_after-some k s w ∙ (record_of_law turn h.input_before k h.lawful h.law).views (s + 1) (omega arith))) (one_table turn h.input_before (s + 1))
       | inr w ↦ subst HaveOneTable (sym (views_after-none k s w)) no_table
     ]

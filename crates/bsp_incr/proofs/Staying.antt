@@ -24,16 +24,16 @@ use Rattle.bsp_run.specs.TakingOver.{CanTakeOver, outcomes_there}
 use Rattle.bsp_run.proofs.Opens.{state_seen-views_of, state_seen}
 use Rattle.bsp_run.proofs.Turns.{AreOutcomesOf-turns}
 use Rattle.bsp_run.proofs.Runs.{open_phase}
-use Rattle.bsp_run.proofs.Records.{superstep, views_at-past, state_at-next, count-state_at, count-views_in, open_views-in, past-delivered, IsRecord-goes_on}
+use Rattle.bsp_run.proofs.Records.{superstep, opened-past, state_at-next, count-state_at, count-views_in, open_views-in, past-delivered, IsRecord-goes_on}
 use Rattle.bsp_run.proofs.Laws.{taken_outcomes}
 use Rattle.bsp_incr.specs.declared.reply.Place.{Place}
 use Rattle.bsp_incr.specs.declared.reply.Update.{Update}
 use Rattle.bsp_incr.specs.Inside.Changes.{processes_where, differ_in, touched_in}
 use Rattle.bsp_incr.specs.Inside.Marks.{AreMarked, AreAlikeButForTable, ViewsDifferAtMost}
-use Rattle.bsp_incr.specs.Inside.Before.{taken_before, delivered_outcomes, IsBefore, IsRecordBefore, IsUnderWay}
+use Rattle.bsp_incr.specs.Inside.Before.{taken_before, delivered_outcomes, IsBefore, IsUnderWay}
 use Rattle.bsp_incr.proofs.Patching.{patched, patched_is}
 use Rattle.bsp_incr.proofs.Propagation.{view-in}
-use Rattle.bsp_incr.proofs.RunBefore.{taken-in, some_taken}
+use Rattle.bsp_incr.proofs.RunBefore.{record_of_law, taken-in, some_taken}
 use Rattle.bsp_incr.proofs.Unchanged.{nothing-differs, nothing-touched}
 use Rattle.bsp_incr.proofs.Updating.{updated_delivered}
 
@@ -83,7 +83,7 @@ past_outcomes : (turn : ViewParts → OutcomeParts) (i : Input) (old : Run) (s :
 past_outcomes turn i old s h l =
     let front : superstep_at (supersteps_of old) s ≡ superstep_at old.past s = grind (arith, common_steps) in
     let turns = subst (λ (x : Superstep). x.outcomes ≡ map turn x.views) front (taken_outcomes turn (supersteps_of old) s h.turns) in
-    turns ∙ ap (map turn) (sym (views_at-past old s l) ∙ h.views s (omega arith))
+    turns ∙ ap (map turn) (sym (ap (λ (x : Superstep). x.views) (opened-past old s l)) ∙ h.views s (omega arith))
 
 -- Where all see what they saw in the run before, and that superstep ended by delivery, it can be taken over.
 pub can_take_over : (acts : ViewParts → List Act) (ending : ViewParts → End) (i j : Input) (old r : Run) → IsRecord (turn_of acts ending) i old → IsRecord (turn_of acts ending) j r → r.phase ≡ Open → 0 < length j.mems → length i.mems ≡ length j.mems
@@ -126,7 +126,7 @@ pub record IsStaying (turn : ViewParts → OutcomeParts) (i j : Input) (old r : 
   pub seen : views_in turn i (length r.past) ≡ open_views r
 
 pub some_before : (old : Run) (s : ℕ) → s < length old.past → s < length (supersteps_of old)
-some_before old s l = omega (arith, l, length-append old.past (last_superstep old.phase (superstep (open_views old) old.outcomes)))
+some_before old s l = omega (arith, l, length-append old.past (last_superstep old))
 
 -- what its turns leave
 pub left : (turn : ViewParts → OutcomeParts) (i j : Input) (old r : Run) → IsStaying turn i j old r → outcomes_there old r ≡ map turn (open_views r)
@@ -157,7 +157,7 @@ alike v w e =
     }
 
 -- What is known of the run that is made again stays, marks and update too.
-pub under_way_taken : (turn : ViewParts → OutcomeParts) (looks : ViewParts → ℕ → Bool) (j : Input) (old r q : Run) (marks : List Bool) (u : Update) (k : IsRecordBefore turn j old) → IsStaying turn k.input_before j old r → IsUnderWay turn looks (Some old) j r marks u → q ≡ after_delivery (after_turns r (map turn (open_views r)))
+pub under_way_taken : (turn : ViewParts → OutcomeParts) (looks : ViewParts → ℕ → Bool) (j : Input) (old r q : Run) (marks : List Bool) (u : Update) (k : IsBefore turn j (Some old)) → IsStaying turn k.input_before j old r → IsUnderWay turn looks (Some old) j r marks u → q ≡ after_delivery (after_turns r (map turn (open_views r)))
     → IsUnderWay turn looks (Some old) j q marks u
 under_way_taken turn looks j old r q marks u k h under is =
     let i = k.input_before in
@@ -191,20 +191,20 @@ under_way_taken turn looks j old r q marks u k h under is =
     }
 
 -- where nobody sees something else, the open superstep stays
-pub staying : (turn : ViewParts → OutcomeParts) (j : Input) (old r : Run) (processes : List ℕ) (k : IsRecordBefore turn j old) → IsRecord turn j r → is_open r.phase ≡ true → 0 < length j.mems → length r.past < length old.past → ViewsDifferAtMost (taken_before (Some old) (length r.past)) (open_views r) processes → processes ≡ []
+pub staying : (turn : ViewParts → OutcomeParts) (j : Input) (old r : Run) (processes : List ℕ) (k : IsBefore turn j (Some old)) → IsRecord turn j r → is_open r.phase ≡ true → 0 < length j.mems → length r.past < length old.past → ViewsDifferAtMost (taken_before (Some old) (length r.past)) (open_views r) processes → processes ≡ []
     → IsStaying turn k.input_before j old r
 staying turn j old r processes k made started some past differ none =
     let s = length r.past in
     let taken = taken-in turn j old s k (some_before old s past) in
     let count : length (taken_before (Some old) s) ≡ length (open_views r) =
-    ap (λ (vs : List ViewParts). length vs) taken ∙ count-views_in turn k.input_before s ∙ k.count ∙ sym (count-views_in turn j s) ∙ sym (ap (λ (vs : List ViewParts). length vs) (open_views-in turn j r made)) in
-    record { before = k.made; made = made; many = k.count; some = some; started = started; past = past; seen = sym taken ∙ same_views (taken_before (Some old) s) (open_views r) processes differ none count }
+    ap (λ (vs : List ViewParts). length vs) taken ∙ count-views_in turn k.input_before s ∙ k.stands ∙ sym (count-views_in turn j s) ∙ sym (ap (λ (vs : List ViewParts). length vs) (open_views-in turn j r made)) in
+    record { before = record_of_law turn k.input_before old k.lawful k.law; made = made; many = k.stands; some = some; started = started; past = past; seen = sym taken ∙ same_views (taken_before (Some old) s) (open_views r) processes differ none count }
 
 -- the same, from what the code knows
 pub staying_whole : (turn : ViewParts → OutcomeParts) (j : Input) (before : Option Run) (old r : Run) (step : ℕ) (olds news : List ViewParts) (processes doubtful : List ℕ) → IsBefore turn j before → (doubtful ≡ []) × (step < length old.past) × (before ≡ Some old) → IsRecord turn j r → is_open r.phase ≡ true → 0 < length j.mems
-    → step ≡ length r.past → olds ≡ taken_before before step → news ≡ open_views r → doubtful ≡ processes → ViewsDifferAtMost olds news processes → (k : IsRecordBefore turn j old) × IsStaying turn k.input_before j old r
+    → step ≡ length r.past → olds ≡ taken_before before step → news ≡ open_views r → doubtful ≡ processes → ViewsDifferAtMost olds news processes → (k : IsBefore turn j (Some old)) × IsStaying turn k.input_before j old r
 staying_whole turn j before old r step olds news processes doubtful h whole made started some steps there here same differ =
-    let k : IsRecordBefore turn j old = subst (IsBefore turn j) whole.2 h in
+    let k : IsBefore turn j (Some old) = subst (IsBefore turn j) whole.2 h in
     let past : length r.past < length old.past = subst (λ n. n < length old.past) steps whole.1 in
     let taken : olds ≡ taken_before (Some old) (length r.past) = there ∙ (λ i. taken_before (whole.2 i) (steps i)) in
     (k, staying turn j old r processes k made started some past (subst (λ (vs : List ViewParts). ViewsDifferAtMost vs (open_views r) processes) taken (subst (λ (vs : List ViewParts). ViewsDifferAtMost olds vs processes) here differ)) (sym same ∙ whole.0))

@@ -9,3 +9,5 @@ pub mod Before
 pub mod Replies
 pub mod Marking
 pub mod Alike
+pub mod Stays
+pub mod Known

@@ -2,9 +2,11 @@
 
 ghost use Rattle.std.specs.Prelude.{◌≡◌, ◌<◌, ℕ, length, true};
 ghost use Rattle.bsp_deliver.specs.Requests.{outcome_of};
-ghost use Rattle.bsp_incr.specs.Inside.Alike.{CostsAlike};
+ghost use Rattle.bsp_incr.specs.Inside.Alike.{AllEndAlike, CostsAlike, EndsAlike};
 ghost use Rattle.bsp_incr.specs.Inside.Marks.{OutcomesDifferAtMost};
 
+use crate::doubtful::Doubtful;
+use crate::moving::all_move_alike;
 use bsp_model::{Same, Shared};
 use bsp_step::Outcome;
 
@@ -16,17 +18,28 @@ fn left_by(outcomes: &[Shared<Outcome>], pid: usize) -> &Outcome
     &outcomes[pid]
 }
 
-/// Whether two turns charged the same work, and issued the same puts, gets and sends.
+/// Whether two turns charged the same work, and moved as many words between the same processes.
 fn costs_alike(old: &Outcome, new: &Outcome) -> bool
     ensures { result ≡ true → CostsAlike old.now new.now }
 {
     old.work == new.work
-        && old.puts.same(&new.puts)
-        && old.gets.same(&new.gets)
-        && old.sends.same(&new.sends)
+        && all_move_alike(old.puts.as_slice(), new.puts.as_slice())
+        && all_move_alike(old.gets.as_slice(), new.gets.as_slice())
+        && all_move_alike(old.sends.as_slice(), new.sends.as_slice())
 }
 
-/// Whether the turns of a process did.
+/// Whether two turns ended alike, and asked for the same table and tag size.
+fn ends_alike(old: &Outcome, new: &Outcome) -> bool
+    ensures { result ≡ true → EndsAlike old.now new.now }
+{
+    old.fault == new.fault
+        && old.ended == new.ended
+        && old.tag == new.tag
+        && old.pops.same(&new.pops)
+        && old.pushes.same(&new.pushes)
+}
+
+/// Whether the turns of a process charged and moved alike.
 fn costs_alike_at(old: &[Shared<Outcome>], new: &[Shared<Outcome>], p: usize) -> bool
     requires old { p < length old.now }
     requires new { p < length new.now }
@@ -35,7 +48,16 @@ fn costs_alike_at(old: &[Shared<Outcome>], new: &[Shared<Outcome>], p: usize) ->
     costs_alike(left_by(old, p), left_by(new, p))
 }
 
-/// Whether the turns of all processes did. Only those of the processes in `doubtful` are looked at, since the others left the same.
+/// Whether the turns of a process ended alike.
+fn ends_alike_at(old: &[Shared<Outcome>], new: &[Shared<Outcome>], p: usize) -> bool
+    requires old { p < length old.now }
+    requires new { p < length new.now }
+    ensures { result ≡ true → EndsAlike (outcome_of old.now p) (outcome_of new.now p) }
+{
+    ends_alike(left_by(old, p), left_by(new, p))
+}
+
+/// Whether the turns of all processes charged and moved alike. Only those of the processes in `doubtful` are looked at, since the others left the same.
 pub fn all_cost_alike(old: &[Shared<Outcome>], new: &[Shared<Outcome>], doubtful: &[usize]) -> bool
     requires count { length old.now ≡ length new.now }
     requires doubtful { OutcomesDifferAtMost old.now new.now doubtful.now }
@@ -47,4 +69,30 @@ pub fn all_cost_alike(old: &[Shared<Outcome>], new: &[Shared<Outcome>], doubtful
         }
     }
     true
+}
+
+/// Whether the turns of all processes ended alike. Here too, only those in `doubtful` are looked at.
+pub fn all_end_alike(old: &[Shared<Outcome>], new: &[Shared<Outcome>], doubtful: &[usize]) -> bool
+    requires count { length old.now ≡ length new.now }
+    requires doubtful { OutcomesDifferAtMost old.now new.now doubtful.now }
+    ensures { result ≡ true → AllEndAlike old.now new.now }
+{
+    for process in doubtful {
+        if !ends_alike_at(old, new, *process) {
+            return false;
+        }
+    }
+    true
+}
+
+/// Whether a superstep is known to end by delivery and with the table and the tag size of the run before: there it opened with the same ones and ended
+/// by delivery, and all turns ended alike.
+pub fn ends_as_before(old: &[Shared<Outcome>], new: &[Shared<Outcome>], doubtful: &Doubtful) -> bool
+    requires count { 0 < length old.now → length old.now ≡ length new.now }
+    requires doubtful { OutcomesDifferAtMost old.now new.now doubtful.now.processes.items }
+    ensures some { result ≡ true → 0 < length old.now }
+    ensures table { result ≡ true → doubtful.now.same_table ≡ true }
+    ensures ends { result ≡ true → AllEndAlike old.now new.now }
+{
+    doubtful.same_table && !old.is_empty() && all_end_alike(old, new, doubtful.processes.as_slice())
 }

@@ -1,11 +1,10 @@
 //! What is read of the run before when a run is made again.
 
-ghost use Rattle.std.specs.Prelude.{◌≡◌, ◌<◌, IfSome, length, option_map, slice_index_or};
+ghost use Rattle.std.specs.Prelude.{◌≡◌, ◌<◌, IfSome, length, option_map};
 ghost use Rattle.std.specs.Option.{ForSome};
 ghost use Rattle.bsp_deliver.specs.Condition.{AreDeliverable};
-ghost use Rattle.bsp_run.specs.Condition.{no_view};
-ghost use Rattle.bsp_run.specs.Supersteps.{views_at};
 ghost use Rattle.bsp_incr.specs.Inside.Before.{taken_before, outcomes_before, delivered_outcomes, views_after};
+ghost use Rattle.bsp_incr.specs.Inside.Before.{first_views_before, first_view_before};
 
 use bsp_model::Shared;
 use bsp_run::History;
@@ -16,8 +15,11 @@ pub fn taken_before<'a>(old: Option<&'a History>, step: usize) -> &'a [Shared<Vi
     ensures { result.now ≡ taken_before (option_map (λ k. k.now) old.entry) step }
 {
     match old {
-        Some(history) => history.superstep_views(step),
-        None => &[],
+        Some(history) if step < history.steps() => match history.views(step as u64) {
+            Some(views) => views,
+            None => &[],
+        },
+        _ => &[],
     }
 }
 
@@ -25,8 +27,11 @@ pub fn taken_before<'a>(old: Option<&'a History>, step: usize) -> &'a [Shared<Vi
 pub fn outcomes_before<'a>(old: Option<&'a History>, step: usize) -> &'a [Shared<Outcome>]
     ensures { result.now ≡ outcomes_before (option_map (λ k. k.now) old.entry) step }
 {
-    match old {
-        Some(history) => history.superstep_outcomes(step),
+    let Some(history) = old else {
+        return &[];
+    };
+    match history.outcomes(step as u64) {
+        Some(outcomes) => outcomes,
         None => &[],
     }
 }
@@ -63,7 +68,7 @@ pub fn views_after<'a>(old: Option<&'a History>, step: usize) -> &'a [Shared<Vie
 
 /// What the processes saw in superstep 0.
 pub fn first_views_before(old: &History) -> &[Shared<View>]
-    ensures { result.now ≡ views_at old.now 0 }
+    ensures { result.now ≡ first_views_before old.now }
 {
     match old.views(0) {
         Some(views) => views,
@@ -73,7 +78,7 @@ pub fn first_views_before(old: &History) -> &[Shared<View>]
 
 /// What a process saw in superstep 0 of the run before, if there was one.
 pub fn first_view_before<'a>(old: Option<&'a History>, p: usize) -> Option<&'a View>
-    ensures { IfSome result (λ view. ForSome (option_map (λ k. k.now) old.entry) (λ r. view.now ≡ slice_index_or (views_at r 0) p no_view)) }
+    ensures { IfSome result (λ view. ForSome (option_map (λ k. k.now) old.entry) (λ r. view.now ≡ first_view_before r p)) }
 {
     let view: &View = first_views_before(old?).get(p)?;
     Some(view)

@@ -1,7 +1,7 @@
 //! The deliveries of a superstep, of which those that depend on the same as in the run before are not made again. The outcomes of a run before
 //! that has no such superstep, or none that ended by delivery, are empty.
 
-ghost use Rattle.std.specs.Prelude.{◌≡◌, ◌<◌, ◌||◌, ℕ, [], All, IfOk, None, length, map, slice_index_or, true, false};
+ghost use Rattle.std.specs.Prelude.{◌≡◌, ◌<◌, ℕ, [], All, IfOk, None, length, map, slice_index_or, true, false};
 ghost use Rattle.bsp_deliver.specs.Requests.{each_below, outcome_of};
 ghost use Rattle.bsp_deliver.specs.Touched.{former_or, outcomes_before};
 ghost use Rattle.bsp_deliver.specs.Condition.{AreDeliverable};
@@ -193,29 +193,4 @@ pub fn next_cells(
     let mut cells = cells_of(alloc, old_next, all.as_slice())?;
     put_at(&mut cells, touched, made);
     Ok(cells)
-}
-
-/// Whether a process is marked for the next superstep.
-fn is_marked(touched: bool, always: &[bool], d: usize) -> bool
-    requires { d < length always.now }
-    ensures { result ≡ (touched || slice_index_or always.now d true) }
-{
-    touched || always[d]
-}
-
-/// The marks for the next superstep: a process is marked if it is touched, or if it was to be marked anyway.
-pub fn next_marks(
-    alloc: Global,
-    touched: &[bool],
-    always: &[bool],
-) -> Result<Vec<bool>, OutOfMemory>
-    requires { length always.now ≡ length touched.now }
-    ensures { IfOk result (λ marks. marks.items ≡ each_below (length touched.now) (λ d. slice_index_or touched.now d true || slice_index_or always.now d true)) }
-{
-    let mut marks = Vec::with_capacity(alloc, touched.len())?;
-    for d in 0..touched.len() {
-        let is_marked = is_marked(touched[d], always, d);
-        marks.push_reserved(is_marked);
-    }
-    Ok(marks)
 }

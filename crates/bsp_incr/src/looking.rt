@@ -6,7 +6,7 @@ ghost use Rattle.bsp_run.specs.Condition.{no_view};
 ghost use Rattle.bsp_incr.specs.Inside.Reuse.{same_where_looked_at, serves};
 
 use bsp_model::limits::MOST_MEMORY_WORDS;
-use bsp_model::{Same, Shared};
+use bsp_model::{Same, Shared, are_same_words};
 use bsp_run::seen_by;
 use bsp_step::{Program, View};
 use bsp_table::Table;
@@ -57,7 +57,7 @@ fn are_alike_from<P: Program>(
     requires short { first + length old.now ≤ MOST_MEMORY_WORDS }
     ensures { IsTrue result ↔ ((i : ℕ) → i < length old.now → IsTrue (P.looks program.now view.now (first + i)) → slice_index old.now i ≡ slice_index new.now i) }
 {
-    if old == new {
+    if are_same_words(old, new) {
         return true;
     }
     for i in 0..old.len() {

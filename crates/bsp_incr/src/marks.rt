@@ -1,9 +1,10 @@
 //! Which processes have another memory or other arguments than in the run before.
 
-ghost use Rattle.std.specs.Prelude.{◌≡◌, IfOk, None, Some, replicate};
-ghost use Rattle.bsp_incr.specs.Inside.Before.{IsEdited, AreArgsMarked, AreFirstMarked};
+ghost use Rattle.std.specs.Prelude.{◌≡◌, ◌<◌, All, IfOk, None, Some, length, map, replicate, true};
+ghost use Rattle.bsp_incr.specs.Inside.Before.{IsBeforeEdits, AreArgsMarked, AreFirstMarked};
 ghost use Rattle.bsp_incr.specs.Inside.Marking.{word_before, word_now, arg_before, arg_now, word_place, arg_place};
 ghost use Rattle.bsp_incr.specs.Inside.Marking.{marked_if, marked_at, all_marked};
+ghost use Rattle.bsp_incr.specs.Inside.Replaced.{replaced};
 
 use crate::Edit;
 use crate::before::first_views_before;
@@ -74,6 +75,16 @@ fn mark_if(marks: &mut Vec<bool>, pid: u64, is_other: bool)
     }
 }
 
+/// Marks these processes too.
+pub fn mark_too(marks: &mut Vec<bool>, processes: &[usize])
+    requires { All (λ p. p < length marks.old.items) processes.now }
+    ensures { marks.new.items ≡ replaced marks.old.items processes.now (map (λ _. true) processes.now) }
+{
+    for process in processes {
+        marks[*process] = true;
+    }
+}
+
 /// Marks the process of an edit of an argument, if the argument is another than in the run before.
 fn mark_arg(marks: &mut Vec<bool>, old: &History, input: &Input, edit: &Edit)
     ensures { marks.new.items ≡ marked_at (arg_before old.now) (arg_now input.now) marks.old.items (arg_place edit.now) }
@@ -129,7 +140,7 @@ pub fn marks_of_edits(
     input: &Input,
     edits: &[Edit],
 ) -> Result<Marks, OutOfMemory>
-    requires edited { IsEdited old.now edits.now input.now }
+    requires before { (turn : _) × IsBeforeEdits turn edits.now input.now old.now }
     ensures args { IfOk result (λ marks. AreArgsMarked (Some old.now) input.now marks.args.items) }
     ensures first { IfOk result (λ marks. AreFirstMarked (Some old.now) input.now marks.first.items) }
 {

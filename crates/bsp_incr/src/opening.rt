@@ -1,11 +1,10 @@
 //! The opening of a run, which shares what it can with the run before.
 
 ghost use Rattle.std.specs.Prelude.{◌≡◌, ◌<◌, All, IfOk, None, Some, length, map, option_map};
-ghost use Rattle.std.specs.Option.{ForSome};
 ghost use Rattle.bsp_model.specs.Input.{input_fault};
 ghost use Rattle.bsp_run.specs.Run.{start, open_views};
 ghost use Rattle.bsp_run.specs.State.{first_state, view_of};
-ghost use Rattle.bsp_incr.specs.Inside.Before.{AreFirstMarked, HasFirstViews};
+ghost use Rattle.bsp_incr.specs.Inside.Before.{IsBefore, AreFirstMarked};
 
 use crate::before::first_views_before;
 use crate::places::processes_where;
@@ -40,7 +39,7 @@ fn views_again(
     marks: &[bool],
 ) -> Result<SharedSeq<Shared<View>>, OutOfMemory>
     requires lawful { input_fault input.now ≡ None }
-    requires first { HasFirstViews input.now old.now }
+    requires before { (turn : _) × IsBefore turn input.now (Some old.now) }
     requires marks { AreFirstMarked (Some old.now) input.now marks.now }
     ensures { IfOk result (λ views. views ≡ open_views (start input.now)) }
 {
@@ -59,7 +58,7 @@ pub fn opened(
     marks: &[bool],
 ) -> Result<Tape, OutOfMemory>
     requires lawful { input_fault input.now ≡ None }
-    requires first { ForSome (option_map (λ k. k.now) old) (HasFirstViews input.now) }
+    requires before { (turn : _) × IsBefore turn input.now (option_map (λ k. k.now) old) }
     requires marks { AreFirstMarked (option_map (λ k. k.now) old) input.now marks.now }
     ensures { IfOk result (λ tape. tape ≡ start input.now) }
 {

@@ -1,19 +1,20 @@
 //! A run that is made again, against the record of the run before.
 
-ghost use Rattle.std.specs.Prelude.{◌≡◌, IfOk, OnOk, OnErr, None, Some, option_map, true};
+ghost use Rattle.std.specs.Prelude.{◌≡◌, IfOk, OnOk, OnErr, None, Some, option_map};
 ghost use Rattle.bsp_model.specs.Input.{input_fault};
 ghost use Rattle.bsp_step.specs.Turn.{turn_of};
 ghost use Rattle.bsp_run.specs.Run.{run};
 ghost use Rattle.bsp_run.specs.Law.{IsBspRun};
-ghost use Rattle.bsp_run.specs.Condition.{is_ended};
 ghost use Rattle.bsp_incr.specs.Inside.Changes.{update_of};
 ghost use Rattle.bsp_incr.specs.Edits.{refusal_of, edited};
-ghost use Rattle.bsp_incr.specs.Inside.Before.{IsBefore, IsEdited, AreArgsMarked, AreFirstMarked};
+ghost use Rattle.bsp_incr.specs.Inside.Before.{IsBefore, IsBeforeEdits, AreArgsMarked, AreFirstMarked};
 
 use crate::counts::Counts;
 use crate::editing::make_edits;
+use crate::finishing::finished;
 use crate::former::restore;
 use crate::given::Given;
+use crate::known_table::KnownTable;
 use crate::marks::{Marks, marks_of_edits};
 use crate::opening::opened;
 use crate::places::processes_where;
@@ -22,7 +23,7 @@ use crate::workers::Workers;
 use crate::{Edit, Update};
 use bsp_model::{Input, OutOfMemory, Seq};
 use bsp_pool::Gate;
-use bsp_run::{History, Tape};
+use bsp_run::History;
 use bsp_step::Program;
 use std::alloc::Global;
 use std::thread::Threads;
@@ -64,22 +65,20 @@ pub fn rerun<P: Program, G: Gate, R: Threads + Sync>(
         always: always.as_slice(),
         other_args: other_args.as_slice(),
     };
-    for _step in 0..input.limit {
-        advance(&given, &mut tape, &mut marks, &mut update, counts)?;
+    let mut table = KnownTable::Unknown;
+    while tape.is_open() {
+        advance(
+            &given,
+            &mut tape,
+            &mut marks,
+            &mut table,
+            &mut update,
+            counts,
+        )?;
     }
-    let history = finished(old, tape)?;
+    let executed = update.executed.as_slice();
+    let history = finished(alloc, old, tape, input.mems.len(), executed)?;
     Ok((history, update))
-}
-
-/// The history of a run that has ended. It shares lines with the run before.
-fn finished(old: Option<&History>, tape: Tape) -> Result<History, OutOfMemory>
-    requires { is_ended tape.phase ≡ true }
-    ensures { IfOk result (λ history. history ≡ tape) }
-{
-    match old {
-        Some(history) => Ok(tape.finish_like(history)?),
-        None => Ok(tape.finish()?),
-    }
 }
 
 /// The run of an edited input, made against the run of the input as it was.
@@ -93,8 +92,7 @@ fn rerun_from_edits<P: Program, G: Gate, R: Threads + Sync>(
     counts: &mut Counts,
 ) -> Result<(History, Update), OutOfMemory>
     requires lawful { input_fault input.now ≡ None }
-    requires before { IsBefore (turn_of (P.acts program.now) (P.ending program.now)) input.now (Some old.now) }
-    requires edited { IsEdited old.now edits.now input.now }
+    requires before { IsBeforeEdits (turn_of (P.acts program.now) (P.ending program.now)) edits.now input.now old.now }
     ensures run { IfOk result (λ r. r.0 ≡ run (turn_of (P.acts program.now) (P.ending program.now)) input.now) }
     ensures update { IfOk result (λ r. r.1 ≡ update_of (P.looks program.now) (Some old.now) r.0) }
 {

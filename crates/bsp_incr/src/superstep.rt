@@ -1,41 +1,81 @@
 //! One superstep of a run that is made again, against the record of the run before.
 
-ghost use Rattle.std.specs.Prelude.{◌≡◌, ◌<◌, ◌++◌, [], IfOk, IfSome, OnOk, Some, map, length, option_map, true, false};
+ghost use Rattle.std.specs.Prelude.{◌≡◌, ◌<◌, ◌++◌, [], IfOk, IfSome, OnOk, Some, is_some, map, length, option_map, true, false};
 ghost use Rattle.bsp_step.specs.Turn.{turn_of};
 ghost use Rattle.bsp_run.specs.Run.{after_turns, open_views, advance};
-ghost use Rattle.bsp_run.specs.Condition.{is_open, is_turned};
+ghost use Rattle.bsp_run.specs.Condition.{AreOutcomesOf, is_open, is_turned};
+ghost use Rattle.bsp_run.specs.Inside.Record.{IsRecord};
 ghost use Rattle.bsp_incr.specs.Inside.Changes.{differ_in};
-ghost use Rattle.bsp_incr.specs.Inside.Marks.{ViewsDifferAtMost, HaveOneTable};
 ghost use Rattle.bsp_incr.specs.Inside.Before.{taken_before, IsBefore, IsUnderWay};
+ghost use Rattle.bsp_incr.specs.Inside.Known.{AreDoubtful, KnowsTable, KnowsNextTable};
 
-use crate::before::{outcomes_before, taken_before};
+use crate::alike::ends_as_before;
+use crate::before::{delivered_outcomes, outcomes_before, taken_before};
 use crate::counts::Counts;
+use crate::doubtful::Doubtful;
 use crate::ending::make_deliveries;
 use crate::given::Given;
-use crate::turns::{doubtful, turns_again};
+use crate::known_table::KnownTable;
+use crate::turns::turns_again;
 use crate::{Place, Update};
-use bsp_model::{OutOfMemory, Seq};
+use bsp_model::{OutOfMemory, Seq, Shared};
 use bsp_pool::Gate;
 use bsp_run::{History, Tape};
-use bsp_step::Program;
+use bsp_step::{Outcome, Program};
 use std::thread::Threads;
 
-/// The turns of the open superstep. True where it ends by delivery.
+/// Takes the outcomes of the open superstep. It answers what is known of the next table, or none where the run has ended. How the superstep ends is
+/// asked only where it is not known to end as in the run before.
+fn end_turns<P: Program, G: Gate, R: Threads + Sync>(
+    given: &Given<'_, P, R, G>,
+    tape: &mut Tape,
+    doubtful: &Doubtful,
+    outcomes: Vec<Shared<Outcome>>,
+) -> Result<Option<KnownTable>, OutOfMemory>
+    requires open { is_open tape.old.phase ≡ true }
+    requires before { IsBefore (turn_of (P.acts given.now.program.now) (P.ending given.now.program.now)) given.now.input.now
+        (option_map (λ k. k.now) given.now.old) }
+    requires made { IsRecord (turn_of (P.acts given.now.program.now) (P.ending given.now.program.now)) given.now.input.now
+        tape.old }
+    requires doubtful { AreDoubtful (taken_before (option_map (λ k. k.now) given.now.old) (length tape.old.past))
+        (open_views tape.old) doubtful.now }
+    requires turns { outcomes.items ≡ map (turn_of (P.acts given.now.program.now) (P.ending given.now.program.now))
+        (open_views tape.old) }
+    requires within { AreOutcomesOf (open_views tape.old) outcomes.items }
+    ensures turned { OnOk result (tape.new ≡ after_turns tape.old outcomes.items) }
+    ensures answer { IfOk result (λ next. is_some next ≡ is_turned tape.new.phase) }
+    ensures known { IfOk result (λ next. IfSome next (KnowsNextTable (option_map (λ k. k.now) given.now.old) tape.new)) }
+{
+    let before = delivered_outcomes(given.old, tape.step());
+    if ends_as_before(before, outcomes.as_slice(), doubtful) {
+        tape.turned_to_deliver(outcomes)?;
+        return Ok(Some(KnownTable::AsBefore));
+    }
+    if tape.turned(outcomes)? {
+        Ok(Some(KnownTable::Unknown))
+    } else {
+        Ok(None)
+    }
+}
+
+/// The turns of the open superstep. It answers what is known of the next table, or none where the run has ended.
 fn take_turns<P: Program, G: Gate, R: Threads + Sync>(
     given: &Given<'_, P, R, G>,
     tape: &mut Tape,
-    doubtful: &[usize],
+    doubtful: &Doubtful,
     executed: &mut Seq<Place>,
     counts: &mut Counts,
-) -> Result<bool, OutOfMemory>
+) -> Result<Option<KnownTable>, OutOfMemory>
     requires open { is_open tape.old.phase ≡ true }
-    requires before { IsBefore (turn_of (P.acts given.now.program.now) (P.ending given.now.program.now)) given.now.input.now (option_map (λ k. k.now) given.now.old) }
-    requires count { 0 < length (taken_before (option_map (λ k. k.now) given.now.old) (length tape.old.past)) → length (taken_before (option_map (λ k. k.now) given.now.old) (length tape.old.past)) ≡ length (open_views tape.old) }
-    requires doubtful { ViewsDifferAtMost (taken_before (option_map (λ k. k.now) given.now.old) (length tape.old.past)) (open_views tape.old) doubtful.now }
-    requires old_table { HaveOneTable (taken_before (option_map (λ k. k.now) given.now.old) (length tape.old.past)) }
-    requires table { HaveOneTable (open_views tape.old) }
+    requires before { IsBefore (turn_of (P.acts given.now.program.now) (P.ending given.now.program.now)) given.now.input.now
+        (option_map (λ k. k.now) given.now.old) }
+    requires made { IsRecord (turn_of (P.acts given.now.program.now) (P.ending given.now.program.now)) given.now.input.now
+        tape.old }
+    requires doubtful { AreDoubtful (taken_before (option_map (λ k. k.now) given.now.old) (length tape.old.past))
+        (open_views tape.old) doubtful.now }
     ensures turned { OnOk result (tape.new ≡ after_turns tape.old (map (turn_of (P.acts given.now.program.now) (P.ending given.now.program.now)) (open_views tape.old))) }
-    ensures answer { IfOk result (λ goes_on. goes_on ≡ is_turned tape.new.phase) }
+    ensures answer { IfOk result (λ next. is_some next ≡ is_turned tape.new.phase) }
+    ensures known { IfOk result (λ next. IfSome next (KnowsNextTable (option_map (λ k. k.now) given.now.old) tape.new)) }
     ensures executed { OnOk result (executed.new ≡ executed.old ++ differ_in (P.looks given.now.program.now) (length tape.old.past) (taken_before (option_map (λ k. k.now) given.now.old) (length tape.old.past)) (open_views tape.old)) }
 {
     let step = tape.step();
@@ -53,30 +93,41 @@ fn take_turns<P: Program, G: Gate, R: Threads + Sync>(
         executed,
         counts,
     )?;
-    tape.turned(outcomes)
+    end_turns(given, tape, doubtful, outcomes)
 }
 
-/// The turns and the deliveries of the open superstep, in which the processes that are not in `doubtful` see what they saw in the run before.
+/// The turns and the deliveries of the open superstep, in which the others than the doubtful processes see what they saw in the run before.
 fn make_again<P: Program, G: Gate, R: Threads + Sync>(
     given: &Given<'_, P, R, G>,
     tape: &mut Tape,
-    doubtful: &[usize],
+    doubtful: &Doubtful,
     marks: &mut Vec<bool>,
+    table: &mut KnownTable,
     update: &mut Update,
     counts: &mut Counts,
 ) -> Result<(), OutOfMemory>
     requires open { is_open tape.old.phase ≡ true }
-    requires doubtful { ViewsDifferAtMost (taken_before (option_map (λ k. k.now) given.now.old) (length tape.old.past)) (open_views tape.old) doubtful.now }
+    requires doubtful { AreDoubtful (taken_before (option_map (λ k. k.now) given.now.old) (length tape.old.past))
+        (open_views tape.old) doubtful.now }
     requires under_way { IsUnderWay (turn_of (P.acts given.now.program.now) (P.ending given.now.program.now)) (P.looks given.now.program.now) (option_map (λ k. k.now) given.now.old) given.now.input.now tape.old marks.old.items update.old }
     ensures tape { OnOk result (tape.new ≡ advance (turn_of (P.acts given.now.program.now) (P.ending given.now.program.now)) tape.old) }
     ensures under_way { OnOk result (IsUnderWay (turn_of (P.acts given.now.program.now) (P.ending given.now.program.now)) (P.looks given.now.program.now) (option_map (λ k. k.now) given.now.old) given.now.input.now tape.new marks.new.items update.new) }
+    ensures table { OnOk result (KnowsTable (option_map (λ k. k.now) given.now.old) tape.new table.new) }
 {
-    let delivers = take_turns(given, tape, doubtful, &mut update.executed, counts)?;
-    if !delivers {
+    let Some(known) = take_turns(given, tape, doubtful, &mut update.executed, counts)? else {
         return Ok(());
-    }
-    let next = make_deliveries(given, tape, doubtful, &mut update.redelivered, counts)?;
-    *marks = next;
+    };
+    let processes = doubtful.processes.as_slice();
+    let next = make_deliveries(
+        given,
+        tape,
+        processes,
+        known,
+        &mut update.redelivered,
+        counts,
+    )?;
+    *marks = next.0;
+    *table = next.1;
     Ok(())
 }
 
@@ -96,23 +147,33 @@ pub fn advance<P: Program, G: Gate, R: Threads + Sync>(
     given: &Given<'_, P, R, G>,
     tape: &mut Tape,
     marks: &mut Vec<bool>,
+    table: &mut KnownTable,
     update: &mut Update,
     counts: &mut Counts,
 ) -> Result<(), OutOfMemory>
     requires between { is_turned tape.old.phase ≡ false }
     requires under_way { IsUnderWay (turn_of (P.acts given.now.program.now) (P.ending given.now.program.now)) (P.looks given.now.program.now) (option_map (λ k. k.now) given.now.old) given.now.input.now tape.old marks.old.items update.old }
+    requires table { KnowsTable (option_map (λ k. k.now) given.now.old) tape.old table.old }
     ensures tape { OnOk result (tape.new ≡ advance (turn_of (P.acts given.now.program.now) (P.ending given.now.program.now)) tape.old) }
     ensures under_way { OnOk result (IsUnderWay (turn_of (P.acts given.now.program.now) (P.ending given.now.program.now)) (P.looks given.now.program.now) (option_map (λ k. k.now) given.now.old) given.now.input.now tape.new marks.new.items update.new) }
+    ensures table { OnOk result (KnowsTable (option_map (λ k. k.now) given.now.old) tape.new table.new) }
 {
     if !tape.is_open() {
         return Ok(());
     }
     let step = tape.step();
     let old_views = taken_before(given.old, step);
-    let doubtful = doubtful(given.alloc, old_views, tape.views(), marks.as_slice())?;
-    if let Some(history) = taken_whole(given.old, step, doubtful.as_slice()) {
+    let doubtful = Doubtful::among(
+        given.alloc,
+        old_views,
+        tape.views(),
+        marks.as_slice(),
+        *table,
+    )?;
+    if let Some(history) = taken_whole(given.old, step, doubtful.processes.as_slice()) {
         tape.take_over(history)?;
+        *table = KnownTable::AsBefore;
         return Ok(());
     }
-    make_again(given, tape, doubtful.as_slice(), marks, update, counts)
+    make_again(given, tape, &doubtful, marks, table, update, counts)
 }

@@ -6,12 +6,14 @@ ghost use Rattle.bsp_step.specs.Turn.{turn_of};
 ghost use Rattle.bsp_run.specs.Condition.{no_view};
 ghost use Rattle.bsp_run.specs.Shares.{turns_of};
 ghost use Rattle.bsp_incr.specs.Inside.Changes.{differs, differ_in};
-ghost use Rattle.bsp_incr.specs.Inside.Marks.{AreMarked, ViewsDifferAtMost, HaveOneTable};
+ghost use Rattle.bsp_incr.specs.Inside.Marks.{HaveOneTable};
+ghost use Rattle.bsp_incr.specs.Inside.Known.{AreDoubtful};
 
 use crate::Place;
 use crate::counts::Counts;
-use crate::looking::{see, serves};
-use crate::places::{add_places, all_processes, processes_where};
+use crate::doubtful::Doubtful;
+use crate::looking::serves;
+use crate::places::add_places;
 use crate::replacing::{copied, put_at};
 use crate::reuse::reuse;
 use crate::workers::Workers;
@@ -21,41 +23,6 @@ use bsp_run::{seen_by, wide_turns};
 use bsp_step::{Outcome, Program, View};
 use std::alloc::Global;
 use std::thread::Threads;
-
-/// Whether the processes of two supersteps see the same table and tag size. False where one of them has no process.
-fn is_same_table(old: &[Shared<View>], new: &[Shared<View>]) -> bool
-    ensures some { result ≡ true → 0 < length old.now }
-    ensures table { result ≡ true → (slice_index_or old.now 0 no_view).table ≡ (slice_index_or new.now 0 no_view).table }
-    ensures tag_size { result ≡ true → (slice_index_or old.now 0 no_view).tag_size ≡ (slice_index_or new.now 0 no_view).tag_size }
-{
-    if new.is_empty() {
-        return false;
-    }
-    let view = seen_by(new, 0);
-    see(old, &view.table, view.tag_size)
-}
-
-/// The processes that may see something else than in the run before: those that are marked, where the table and the tag size are the same, and
-/// else all.
-pub fn doubtful(
-    alloc: Global,
-    old_views: &[Shared<View>],
-    views: &[Shared<View>],
-    marks: &[bool],
-) -> Result<Vec<usize>, OutOfMemory>
-    requires count { 0 < length old_views.now → length old_views.now ≡ length views.now }
-    requires marks { AreMarked old_views.now views.now marks.now }
-    requires old_table { HaveOneTable old_views.now }
-    requires table { HaveOneTable views.now }
-    ensures { IfOk result (λ all. ViewsDifferAtMost old_views.now views.now all.items) }
-{
-    let processes = if is_same_table(old_views, views) {
-        processes_where(alloc, marks)?
-    } else {
-        all_processes(alloc, views.len())?
-    };
-    Ok(processes)
-}
 
 /// Whether the turn of a process has to be taken. The tables are not compared where all processes are known to see the same.
 fn needs_turn<P: Program>(
@@ -82,27 +49,27 @@ fn needs_turn<P: Program>(
     )
 }
 
-/// Of these processes, those whose turn has to be taken, and then those for which the recorded one serves.
+/// Of the doubtful processes, those whose turn has to be taken, and then those for which the recorded one serves.
 fn needed_turns<P: Program>(
     alloc: Global,
     program: &P,
     old_views: &[Shared<View>],
     views: &[Shared<View>],
-    processes: &[usize],
+    doubtful: &Doubtful,
     counts: &mut Counts,
 ) -> Result<(Vec<usize>, Vec<usize>), OutOfMemory>
-    requires known { All (λ p. p < length views.now) processes.now }
+    requires doubtful { AreDoubtful old_views.now views.now doubtful.now }
     requires old_table { HaveOneTable old_views.now }
     requires table { HaveOneTable views.now }
-    ensures needed { IfOk result (λ r. r.0.items ≡ filter (differs (P.looks program.now) old_views.now views.now) processes.now) }
-    ensures served { IfOk result (λ r. r.1.items ≡ filter (λ p. not (differs (P.looks program.now) old_views.now views.now p)) processes.now) }
+    ensures needed { IfOk result (λ r. r.0.items ≡ filter (differs (P.looks program.now) old_views.now views.now) doubtful.now.processes.items) }
+    ensures served { IfOk result (λ r. r.1.items ≡ filter (λ p. not (differs (P.looks program.now) old_views.now views.now p)) doubtful.now.processes.items) }
 {
-    let same_table = is_same_table(old_views, views);
+    let processes = doubtful.processes.as_slice();
     let mut needed = Vec::new(alloc);
     let mut served = Vec::new(alloc);
     for process in processes {
         counts.look();
-        if needs_turn(program, old_views, views, *process, same_table) {
+        if needs_turn(program, old_views, views, *process, doubtful.same_table) {
             needed.push(*process)?;
         } else {
             served.push(*process)?;
@@ -156,8 +123,7 @@ fn served_turns<P: Program>(
     Ok(served)
 }
 
-/// The turns of a superstep: the workers take those that have to be taken, and their places are added. The processes that are not in `doubtful`
-/// see what they saw in the run before.
+/// The turns of a superstep: the workers take those that have to be taken, and their places are added.
 pub fn turns_again<P: Program, G: Gate, R: Threads + Sync>(
     workers: &Workers<'_, R, G>,
     alloc: Global,
@@ -166,13 +132,13 @@ pub fn turns_again<P: Program, G: Gate, R: Threads + Sync>(
     old_views: &[Shared<View>],
     old_outcomes: &[Shared<Outcome>],
     views: &[Shared<View>],
-    doubtful: &[usize],
+    doubtful: &Doubtful,
     executed: &mut Seq<Place>,
     counts: &mut Counts,
 ) -> Result<Vec<Shared<Outcome>>, OutOfMemory>
     requires recorded { old_outcomes.now ≡ map (turn_of (P.acts program.now) (P.ending program.now)) old_views.now }
     requires count { 0 < length old_views.now → length old_views.now ≡ length views.now }
-    requires doubtful { ViewsDifferAtMost old_views.now views.now doubtful.now }
+    requires doubtful { AreDoubtful old_views.now views.now doubtful.now }
     requires old_table { HaveOneTable old_views.now }
     requires table { HaveOneTable views.now }
     ensures turns { IfOk result (λ all. all.items ≡ map (turn_of (P.acts program.now) (P.ending program.now)) views.now) }

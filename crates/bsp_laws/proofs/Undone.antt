@@ -1,5 +1,5 @@
 -- Updates by which nothing was done.
-use Rattle.std.proofs.Common.{◌≡◌, ◌≤◌, ◌<◌, ◌-◌, ℕ, zero, suc, Bool, true, false, get_or, List, [], None, map, length, arith, refl, sym, ap, ◌∙◌, subst, inl, inr}
+use Rattle.std.proofs.Common.{◌≡◌, ◌≤◌, ◌<◌, ◌-◌, ℕ, zero, suc, Bool, true, false, get_or, List, [], None, map, length, unwrap_or, arith, refl, sym, ap, ◌∙◌, subst, inl, inr}
 use Rattle.std.proofs.lemmas.Bool.{cases_lt, false≢true}
 use Rattle.bsp_model.specs.declared.input.Input.{Input}
 use Rattle.bsp_model.specs.Input.{input_fault}
@@ -8,20 +8,18 @@ use Rattle.bsp_step.specs.ViewParts.{ViewParts}
 use Rattle.bsp_step.specs.OutcomeParts.{OutcomeParts}
 use Rattle.bsp_step.specs.Footprint.{AreAlike}
 use Rattle.bsp_deliver.specs.Delivery.{delivery_parts}
-use Rattle.bsp_run.specs.declared.result.Status.TheVariants.{Halted, Limit, Faulted, SyncFaulted}
-use Rattle.bsp_run.specs.declared.phase.Phase.{Phase}
-use Rattle.bsp_run.specs.declared.phase.Phase.TheVariants.{Open, Turned, Ended}
+use Rattle.bsp_run.specs.declared.result.Status.TheVariants.{Limit}
+use Rattle.bsp_run.specs.declared.phase.Phase.TheVariants.{Ended}
 use Rattle.bsp_run.specs.declared.superstep.Superstep.{Superstep}
 use Rattle.bsp_run.specs.State.{State, first_state, next_state, views_of, no_messages}
 use Rattle.bsp_run.specs.Ending.{end_of}
 use Rattle.bsp_run.specs.Run.{Run, run, is_limit}
-use Rattle.bsp_run.specs.Result.{status_in}
 use Rattle.bsp_run.specs.Supersteps.{supersteps_of, superstep_at}
 use Rattle.bsp_run.specs.Law.{state_at, views_in, outcomes_in, end_in}
 use Rattle.bsp_run.specs.Condition.{is_ended, no_view}
 use Rattle.bsp_run.proofs.Records.{IsRecord-run}
-use Rattle.bsp_run.proofs.Laws.{IsBspRun-run, superstep_at-past_end}
-use Rattle.bsp_run.proofs.OneRun.{front, count_past, limit_status}
+use Rattle.bsp_run.proofs.Laws.{IsBspRun-run, superstep_at-past_end, limit_phase}
+use Rattle.bsp_run.proofs.OneRun.{front, count_past}
 use Rattle.bsp_incr.specs.declared.reply.Place.{Place}
 use Rattle.bsp_incr.specs.Exact.{HasTurn, IsServed, view_there}
 use Rattle.bsp_incr.proofs.Serving.{Decides-serves, serves-itself}
@@ -112,32 +110,24 @@ fewer turn i j lawful_i lawful_j h low less =
     let y = IsBspRun-run turn j lawful_j in
     let n = length (supersteps_of (run turn i)) in
     let none = same_ends turn i j h (n - 1) ∙ y.goes_on (n - 1) (omega (arith, x.some, less)) in
-    omega (arith, x.cut (x.delivered.1 none), y.few, low, less)
-
-status_limit : (p : Phase) → is_ended p ≡ true → status_in p ≡ Limit → is_limit p ≡ true
-status_limit Open e h = cc
-status_limit Turned e h = cc
-status_limit (Ended Limit) e h = refl
-status_limit (Ended Halted) e h = cc
-status_limit (Ended (Faulted step faults)) e h = cc
-status_limit (Ended (SyncFaulted step fault)) e h = cc
+    omega (arith, x.cut (x.phase ∙ ap (λ o. Ended (unwrap_or o Limit)) none), y.few, low, less)
 
 fewer_delivered : (b : Bool) (turn : ViewParts → OutcomeParts) (i j : Input) → input_fault i ≡ None → input_fault j ≡ None → DifferInLimitAndPrices i j → j.limit ≤ i.limit → is_limit (run turn i).phase ≡ b → length (run turn i).past < length (run turn j).past → ⊥
 fewer_delivered true turn i j lawful_i lawful_j h low b less =
     let x = IsBspRun-run turn i lawful_i in
     let y = IsBspRun-run turn j lawful_j in
-    let count = count_past true (run turn i) x.ended b in
-    let full = x.cut (limit_status (run turn i).phase b) in
+    let count = count_past true (run turn i) (ap is_ended x.phase) b in
+    let full = x.cut (limit_phase (run turn i).phase b) in
     let inside = front (run turn j) (length (run turn i).past) less in
     omega (arith, count, full, low, y.few, inside.0)
 fewer_delivered false turn i j lawful_i lawful_j h low b less =
     let x = IsBspRun-run turn i lawful_i in
     let some = (lawful_input j lawful_j).some_superstep in
-    let count = count_past false (run turn i) x.ended b in
+    let count = count_past false (run turn i) (ap is_ended x.phase) b in
     let n = length (supersteps_of (run turn i)) in
     let at : n - 1 ≡ length (run turn i).past = omega (arith, count) in
     let none = ap (end_in turn i) at ∙ same_ends turn i j h (length (run turn i).past) ∙ (IsRecord-run turn j some).goes_on (length (run turn i).past) less in
-    false≢true (sym b ∙ status_limit (run turn i).phase x.ended (x.delivered.1 none))
+    false≢true (sym b ∙ ap is_limit (x.phase ∙ ap (λ o. Ended (unwrap_or o Limit)) none))
 
 pub lower_limits : LowerLimitsDoNothing
 lower_limits turn looks i j update lawful_i lawful_j h low is =

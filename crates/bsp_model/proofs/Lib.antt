@@ -7,3 +7,4 @@ pub mod Rests
 pub mod RowRanges
 pub mod SameRanges
 pub mod Writes
+pub mod SameWords

@@ -17,6 +17,7 @@ mod seq;
 mod shared;
 mod shared_seq;
 mod stores;
+mod words;
 
 pub use copying::{Same, TryCopy};
 pub use cost::CostRow;
@@ -31,6 +32,7 @@ pub use shared::Shared;
 pub use shared_seq::SharedSeq;
 pub use std::alloc::AllocError as OutOfMemory;
 pub use stores::Stores;
+pub use words::are_same_words;
 
 /// A list of 64-bit words.
 pub type Words = Seq<u64>;

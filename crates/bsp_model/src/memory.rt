@@ -9,7 +9,7 @@ mod tests;
 
 use crate::page::{Page, WORDS_OF_A_PAGE, replace_words};
 use crate::paging::{are_same_pages, full_pages, write_pages};
-use crate::{OutOfMemory, Same, TryCopy};
+use crate::{OutOfMemory, Same, TryCopy, are_same_words};
 use std::alloc::Global;
 use std::marker::Model;
 
@@ -177,6 +177,6 @@ impl Same for Memory {
         if !are_same_pages(self.pages.as_slice(), other.pages.as_slice()) {
             return false;
         }
-        self.last == other.last
+        are_same_words(self.last.as_slice(), other.last.as_slice())
     }
 }

@@ -2,7 +2,7 @@
 
 ghost use Rattle.std.specs.Prelude.{◌≡◌, ◌+◌, ◌≤◌, ◌<◌, ◌++◌, ◌↔◌, IsTrue, IfOk, OnOk, OnErr, length, take, drop, slice_index, slice_set};
 
-use crate::{OutOfMemory, TryCopy};
+use crate::{OutOfMemory, TryCopy, are_same_words};
 use std::alloc::{AllocError, Global};
 use std::marker::Model;
 use std::sync::Arc;
@@ -61,7 +61,7 @@ impl Page {
         ensures len { length self.now ≡ WORDS_OF_A_PAGE }
         ensures other_len { length other.now ≡ WORDS_OF_A_PAGE }
     {
-        self.as_slice() == other.as_slice()
+        are_same_words(self.as_slice(), other.as_slice())
     }
 
     /// The word at a place.

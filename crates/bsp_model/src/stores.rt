@@ -5,6 +5,8 @@ ghost use Rattle.bsp_model.specs.Memory.{memory_written};
 ghost use Rattle.bsp_model.specs.Stores.{records, made_again};
 
 mod range;
+#[cfg(test)]
+mod tests;
 
 use crate::seq::are_same;
 use crate::{Memory, OutOfMemory, Same, Store, TryCopy};
@@ -89,7 +91,7 @@ impl Stores {
         Ok(())
     }
 
-    /// Makes the stores again in another memory, range by range. What lies past its end is left out.
+    /// Makes the stores again in another memory, range by range. What lies past its end is left out. After `OutOfMemory` some of them are made.
     pub fn make_again(&self, memory: &mut Memory) -> Result<(), OutOfMemory>
         ensures { OnOk result (memory.new ≡ made_again memory.old self.now) }
     {

@@ -1,7 +1,7 @@
 -- What a run gives that superstep k ended by halt, from what its supersteps are.
 use Rattle.std.proofs.Common.{◌≡◌, ◌<◌, ◌++◌, ◌∙◌, ℕ, List, [], ◌∷◌, map, length, arith, ap, refl}
 use Rattle.std.specs.List.{range_with_len}
-use Rattle.std.proofs.lemmas.List.{append-nil}
+use Rattle.std.proofs.lemmas.List.{append-nil, map-append}
 use Rattle.bsp_model.specs.declared.cost.CostRow.{CostRow}
 use Rattle.bsp_model.specs.declared.input.Input.{Input}
 use Rattle.bsp_step.specs.OutcomeParts.{OutcomeParts}
@@ -9,6 +9,7 @@ use Rattle.bsp_step.specs.ViewParts.{ViewParts}
 use Rattle.bsp_deliver.specs.Requests.{each_below, outcome_of}
 use Rattle.bsp_run.specs.declared.result.Status.TheVariants.{Halted}
 use Rattle.bsp_run.specs.declared.superstep.Superstep.{Superstep}
+use Rattle.bsp_run.specs.Supersteps.{outcomes_of, open_superstep, supersteps_of}
 use Rattle.bsp_run.specs.Law.{outcomes_in}
 use Rattle.bsp_run.specs.Result.{cost_of_delivery, cost_of_end, costs_of, lines_of, lines_of_process, memories_of}
 use Rattle.bsp_run.proofs.Records.{count-state_at}
@@ -17,6 +18,12 @@ use Rattle.bsp_right.proofs.RunsFromSupersteps.{ended_at, superstep_in}
 
 outcomes-past : (turn : ViewParts → OutcomeParts) (input : Input) (k : ℕ) → map (λ (s : Superstep). s.outcomes) (each_below k (superstep_in turn input)) ≡ map (outcomes_in turn input) (range_with_len 0 k)
 outcomes-past turn input k = map_range-agree (λ (s : Superstep). s.outcomes) (superstep_in turn input) (outcomes_in turn input) k 0 (λ p _ _. refl)
+
+-- the outcomes of its supersteps
+pub outcomes-ended_at : (turn : ViewParts → OutcomeParts) (input : Input) (k : ℕ) → outcomes_of (supersteps_of (ended_at turn input k Halted)) ≡ map (outcomes_in turn input) (range_with_len 0 k) ++ outcomes_in turn input k ∷ []
+outcomes-ended_at turn input k =
+    map-append (λ (s : Superstep). s.outcomes) (each_below k (superstep_in turn input)) (open_superstep (ended_at turn input k Halted) ∷ [])
+    ∙ ap (λ (os : List (List OutcomeParts)). os ++ outcomes_in turn input k ∷ []) (outcomes-past turn input k)
 
 -- The memories of the last superstep.
 pub memories-ended : (turn : ViewParts → OutcomeParts) (input : Input) (k n : ℕ) (out : ℕ → OutcomeParts) → outcomes_in turn input k ≡ each_below n out → memories_of (ended_at turn input k Halted) ≡ each_below n (λ p. (out p).memory)
@@ -31,7 +38,7 @@ unfolding lines_of
 lines-ended turn input k line silent last =
     let n = length input.mems in
     let lines_in : List OutcomeParts → ℕ → List (List ℕ) = λ os p. (outcome_of os p).lines in
-    (λ i. each_below (count-state_at turn input k i) (lines_of_process (outcomes-past turn input k i ++ outcomes_in turn input k ∷ [])))
+    (λ i. each_below (count-state_at turn input k i) (lines_of_process (outcomes-ended_at turn input k i)))
     ∙ range-agree (lines_of_process (map (outcomes_in turn input) (range_with_len 0 k) ++ outcomes_in turn input k ∷ [])) line n 0 (λ p _ m.
     flat_map-none (λ os. lines_in os p) (outcomes_in turn input) (outcomes_in turn input k ∷ []) k 0 (λ s _ b. silent s p (omega arith) (omega arith))
     ∙ append-nil (lines_in (outcomes_in turn input k) p)

@@ -7,14 +7,14 @@ use Rattle.bsp_deliver.specs.Requests.{each_below, outcome_of}
 use Rattle.bsp_programs.specs.Doubling.{distance}
 use Rattle.bsp_run.specs.declared.result.Status.TheVariants.{Halted}
 use Rattle.bsp_run.specs.Run.{Run, run}
-use Rattle.bsp_run.specs.declared.superstep.Superstep.{Superstep}
 use Rattle.bsp_run.proofs.Records.{count-state_at}
 use Rattle.bsp_run.specs.Result.{lines_of, lines_of_process, status_of, memories_of, costs_of, total_of}
 use Rattle.bsp_run.specs.Law.{outcomes_in}
 use Rattle.bsp_right.specs.Summed.{memory_summed, costs_summed, IsPrefixInput, IsSummed, prefix_sum, prefix_turn, word_of_process}
 use Rattle.bsp_right.proofs.PrefixSupersteps.{EndsAfter, ends_after, few_doublings, first_of, last_step, memory_after, prefix_run, state_after, step_more, step_zero}
 use Rattle.bsp_right.proofs.PrefixTurns.{added, passes, prints_sum, registers_two}
-use Rattle.bsp_right.proofs.RunsFromSupersteps.{ended_at, superstep_in}
+use Rattle.bsp_right.proofs.EndedRuns.{outcomes-ended_at}
+use Rattle.bsp_right.proofs.RunsFromSupersteps.{ended_at}
 use Rattle.bsp_right.proofs.Ranges.{flat_map-none, map_range-agree, range-agree}
 use Rattle.bsp_right.proofs.WordsWritten.{outcome_of-each_below}
 use Rattle.bsp_right.proofs.PrefixSums.{sums, window-all}
@@ -41,8 +41,8 @@ unfolding lines_of printed
 lines_summed input k h =
     let n = length input.mems in
     let last = last_step input k h in
-    let past : map (λ (s : Superstep). s.outcomes) (each_below (suc k) (superstep_in prefix_turn input)) ≡ map (outcomes_in prefix_turn input) (range_with_len 0 (suc k)) = map_range-agree (λ (s : Superstep). s.outcomes) (superstep_in prefix_turn input) (outcomes_in prefix_turn input) (suc k) 0 (λ p _ _. refl) in
-    (λ i. each_below (count-state_at prefix_turn input (suc k) i) (lines_of_process (past i ++ last.outcomes i ∷ [])))
+    (λ i. each_below (count-state_at prefix_turn input (suc k) i) (lines_of_process (outcomes-ended_at prefix_turn input (suc k) i)))
+    ∙ ap (λ os. each_below n (lines_of_process (map (outcomes_in prefix_turn input) (range_with_len 0 (suc k)) ++ os ∷ []))) last.outcomes
     ∙ range-agree (lines_of_process (map (outcomes_in prefix_turn input) (range_with_len 0 (suc k)) ++ each_below n (prints_sum (suc k) (memory_after (first_of input) k)) ∷ [])) (λ p. (printed input k p ∷ []) ∷ []) n 0 (λ p _ m.
     let l : p < n = omega arith in
     flat_map-none (λ os. (outcome_of os p).lines) (outcomes_in prefix_turn input) (each_below n (prints_sum (suc k) (memory_after (first_of input) k)) ∷ []) (suc k) 0 (λ j _ b. silent input k h p l j (omega arith))

@@ -6,7 +6,6 @@ use Rattle.bsp_model.specs.declared.input.Input.{Input}
 use Rattle.bsp_step.specs.OutcomeParts.{OutcomeParts}
 use Rattle.bsp_deliver.specs.Requests.{each_below, outcome_of}
 use Rattle.bsp_run.specs.declared.result.Status.TheVariants.{Halted}
-use Rattle.bsp_run.specs.declared.superstep.Superstep.{Superstep}
 use Rattle.bsp_run.specs.Law.{outcomes_in}
 use Rattle.bsp_run.specs.Run.{Run, run}
 use Rattle.bsp_run.specs.Result.{costs_of, lines_of, lines_of_process, memories_of, status_of, total_of}
@@ -16,7 +15,8 @@ use Rattle.bsp_right.proofs.Ranges.{flat_map-none, map_range-agree, range-agree}
 use Rattle.bsp_right.proofs.RankCosts.{costs_are_ranked, total_ranked}
 use Rattle.bsp_right.proofs.RankSupersteps.{first-is, first_of, last_step, list_of, rank_run, state_after, step_more, step_zero}
 use Rattle.bsp_right.proofs.RankTurns.{Linked, asks, double, known, memory_left, onward, prints_rank, registers_pair}
-use Rattle.bsp_right.proofs.RunsFromSupersteps.{ended_at, superstep_in}
+use Rattle.bsp_right.proofs.EndedRuns.{outcomes-ended_at}
+use Rattle.bsp_right.proofs.RunsFromSupersteps.{ended_at}
 use Rattle.bsp_right.proofs.WordsWritten.{outcome_of-each_below}
 
 -- Where the list is no longer than that, each element knows the last one, and how far it is.
@@ -57,8 +57,8 @@ module _ (input : Input) (element successors : ℕ → ℕ) (k : ℕ) (h : IsLis
       let n = length input.mems in
       let list = list_of input element successors in
       let last = last_step input element successors k h in
-      let past : map (λ (s : Superstep). s.outcomes) (each_below (suc k) (superstep_in rank_turn input)) ≡ map (outcomes_in rank_turn input) (range_with_len 0 (suc k)) = map_range-agree (λ (s : Superstep). s.outcomes) (superstep_in rank_turn input) (outcomes_in rank_turn input) (suc k) 0 (λ p _ _. refl) in
-      (λ i. each_below (count-state_at rank_turn input (suc k) i) (lines_of_process (past i ++ last.outcomes i ∷ [])))
+      (λ i. each_below (count-state_at rank_turn input (suc k) i) (lines_of_process (outcomes-ended_at rank_turn input (suc k) i)))
+      ∙ ap (λ os. each_below n (lines_of_process (map (outcomes_in rank_turn input) (range_with_len 0 (suc k)) ++ os ∷ []))) last.outcomes
       ∙ range-agree (lines_of_process (map (outcomes_in rank_turn input) (range_with_len 0 (suc k)) ++ each_below n (prints_rank list k) ∷ [])) (λ p. (successors p ∷ []) ∷ []) n 0 (λ p _ m.
       let l : p < n = omega arith in
       flat_map-none (λ os. (outcome_of os p).lines) (outcomes_in rank_turn input) (each_below n (prints_rank list k) ∷ []) (suc k) 0 (λ j _ b. silent p l j (omega arith))

@@ -169,7 +169,8 @@ fn shared_lines(
     last: Option<&[Shared<Outcome>]>,
     pid: usize,
 ) -> Result<Shared<Lines>, OutOfMemory>
-    requires { AreLinesUnlessMarked before.now marks.now (outcomes_of past.now ++ option_to_list (option_map (λ o. o.now) last)) }
+    requires { AreLinesUnlessMarked before.now marks.now
+        (outcomes_of past.now ++ option_to_list (option_map (λ o. o.now) last)) }
     ensures { IfOk result (λ lines. lines ≡ lines_of_process (outcomes_of past.now ++ option_to_list (option_map (λ o. o.now) last.entry)) pid) }
 {
     if let Some(lines) = before.get(pid) {
@@ -190,7 +191,8 @@ pub fn all_lines(
     last: Option<&[Shared<Outcome>]>,
     nprocs: usize,
 ) -> Result<SharedSeq<Shared<Lines>>, OutOfMemory>
-    requires { AreLinesUnlessMarked before.now marks.now (outcomes_of past.now ++ option_to_list (option_map (λ o. o.now) last)) }
+    requires { AreLinesUnlessMarked before.now marks.now
+        (outcomes_of past.now ++ option_to_list (option_map (λ o. o.now) last)) }
     ensures { IfOk result (λ all. all ≡ each_below nprocs (lines_of_process (outcomes_of past.now ++ option_to_list (option_map (λ o. o.now) last.entry)))) }
 {
     if before.len() == nprocs && is_none_marked(marks, nprocs) {

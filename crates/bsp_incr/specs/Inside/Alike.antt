@@ -1,10 +1,25 @@
 -- What outcomes have in common where parts of a superstep are taken over from the run before.
-use Rattle.std.specs.Prelude.{◌≡◌}
+use Rattle.std.specs.Prelude.{◌≡◌, ◌<◌, ℕ, List, length, map}
 use Rattle.bsp_step.specs.OutcomeParts.{OutcomeParts}
+use Rattle.bsp_deliver.specs.Requests.{outcome_of}
+use Rattle.bsp_deliver.specs.Cost.{put_transfer, get_transfer, send_transfer}
 
--- the parts on which the cost of a superstep depends
+-- the parts on which the end of a superstep, the next table and the next tag size depend
+pub record EndsAlike (o u : OutcomeParts) : Type 0 where
+  pub fault : o.fault ≡ u.fault
+  pub ended : o.ended ≡ u.ended
+  pub tag : o.tag ≡ u.tag
+  pub pops : o.pops ≡ u.pops
+  pub pushes : o.pushes ≡ u.pushes
+
+-- As many turns, which end alike one by one.
+pub record AllEndAlike (os us : List OutcomeParts) : Type 0 where
+  pub count : length os ≡ length us
+  pub each : (p : ℕ) → p < length us → EndsAlike (outcome_of os p) (outcome_of us p)
+
+-- The same work, and requests that move as many words between the same processes, whoever issues them.
 pub record CostsAlike (o u : OutcomeParts) : Type 0 where
   pub work : o.work ≡ u.work
-  pub puts : o.puts ≡ u.puts
-  pub gets : o.gets ≡ u.gets
-  pub sends : o.sends ≡ u.sends
+  pub puts : (sender : ℕ) → map (put_transfer sender) o.puts ≡ map (put_transfer sender) u.puts
+  pub gets : (sender : ℕ) → map (get_transfer sender) o.gets ≡ map (get_transfer sender) u.gets
+  pub sends : (sender : ℕ) → map (send_transfer sender) o.sends ≡ map (send_transfer sender) u.sends

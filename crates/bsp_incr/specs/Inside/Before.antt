@@ -2,11 +2,13 @@
 use Rattle.std.specs.Prelude.{◌≡◌, ◌<◌, ◌⊎◌, ℕ, ◌+◌, Bool, true, false, List, [], Option, None, Some, length, nat_lt, if◌then◌else◌, slice_index_or}
 use Rattle.std.specs.Option.{ForSome}
 use Rattle.bsp_model.specs.declared.input.Input.{Input}
+use Rattle.bsp_model.specs.Input.{input_fault}
 use Rattle.bsp_step.specs.ViewParts.{ViewParts}
 use Rattle.bsp_step.specs.OutcomeParts.{OutcomeParts}
-use Rattle.bsp_run.specs.Run.{Run, start, open_views}
-use Rattle.bsp_run.specs.Supersteps.{superstep_at, views_at}
+use Rattle.bsp_run.specs.Run.{Run, open_views}
+use Rattle.bsp_run.specs.Supersteps.{superstep_at, supersteps_opened}
 use Rattle.bsp_run.specs.Condition.{is_open, no_view}
+use Rattle.bsp_run.specs.Law.{IsBspRun}
 use Rattle.bsp_incr.specs.declared.reply.Update.{Update}
 use Rattle.bsp_incr.specs.declared.edit.Edit.{Edit}
 use Rattle.bsp_incr.specs.Edits.{edited}
@@ -29,24 +31,38 @@ delivered_outcomes old s = (superstep_at (delivered_before old) s).outcomes
 -- the views after the delivery of superstep s; none where there was no such delivery
 abbrev pub views_after : Option Run → ℕ → List ViewParts
 views_after None s = []
-views_after (Some r) s = if nat_lt s (length r.past) then views_at r (s + 1) else []
+views_after (Some r) s = if nat_lt s (length r.past) then (superstep_at (supersteps_opened r) (s + 1)).views else []
 
--- the run before is that of an input which has as many processes as the new one
-pub record IsRecordBefore (turn : ViewParts → OutcomeParts) (input : Input) (r : Run) : Type 0 where
+-- what the processes saw in superstep 0 of the run before, and what process p saw
+abbrev pub first_views_before : Run → List ViewParts
+first_views_before r = (superstep_at (supersteps_opened r) 0).views
+
+abbrev pub first_view_before : Run → ℕ → ViewParts
+first_view_before r p = slice_index_or (first_views_before r) p no_view
+
+-- The run before is that of a lawful input, of which this stands.
+pub record IsRunBefore (turn : ViewParts → OutcomeParts) (Stands : Input → Type 0) (r : Run) : Type 0 where
   pub input_before : Input
-  pub made : IsRecord turn input_before r
-  pub count : length input_before.mems ≡ length input.mems
+  pub lawful : input_fault input_before ≡ None
+  pub law : IsBspRun turn input_before r
+  pub stands : Stands input_before
 
+-- the run before, if there was one, is that of an input which has as many processes as the new one
 abbrev pub IsBefore : (ViewParts → OutcomeParts) → Input → Option Run → Type 0
 IsBefore turn input None = Unit {0}
-IsBefore turn input (Some r) = IsRecordBefore turn input r
+IsBefore turn input (Some r) = IsRunBefore turn (λ before. length before.mems ≡ length input.mems) r
 
+-- the run before is that of an input of which these edits make the new one
+abbrev pub IsBeforeEdits : (ViewParts → OutcomeParts) → List Edit → Input → Run → Type 0
+IsBeforeEdits turn edits input r = IsRunBefore turn (λ before. input ≡ edited before edits) r
+
+-- a process has the arguments that it had in the run before, if there was one
 abbrev pub HasSameArgs : Option Run → Input → ℕ → Type 0
-HasSameArgs old input p = ForSome old (λ r. (slice_index_or (views_at r 0) p no_view).args ≡ slice_index_or input.args p [])
+HasSameArgs old input p = ForSome old (λ r. (first_view_before r p).args ≡ slice_index_or input.args p [])
 
 -- a process has other arguments than in the run before, if there was one
 abbrev pub HasOtherArgs : Option Run → Input → ℕ → Type 0
-HasOtherArgs old input p = ForSome old (λ r. (slice_index_or (views_at r 0) p no_view).args ≡ slice_index_or input.args p [] → ⊥)
+HasOtherArgs old input p = ForSome old (λ r. (first_view_before r p).args ≡ slice_index_or input.args p [] → ⊥)
 
 -- A process whose arguments are not marked has those of the run before, and one whose arguments are marked has others.
 pub record AreArgsMarked (old : Option Run) (input : Input) (marks : List Bool) : Type 0 where
@@ -67,12 +83,13 @@ pub record IsUnderWay (turn : ViewParts → OutcomeParts) (looks : ViewParts →
   pub marked : is_open r.phase ≡ true → AreMarked (taken_before old (length r.past)) (open_views r) marks
   pub updated : update ≡ update_of looks old r
 
+-- a process has the memory that it had in the run before, if there was one
 abbrev pub HasSameMemory : Option Run → Input → ℕ → Type 0
-HasSameMemory old input p = ForSome old (λ r. (slice_index_or (views_at r 0) p no_view).memory ≡ slice_index_or input.mems p [])
+HasSameMemory old input p = ForSome old (λ r. (first_view_before r p).memory ≡ slice_index_or input.mems p [])
 
 -- a process has another memory than in the run before, if there was one
 abbrev pub HasOtherMemory : Option Run → Input → ℕ → Type 0
-HasOtherMemory old input p = ForSome old (λ r. (slice_index_or (views_at r 0) p no_view).memory ≡ slice_index_or input.mems p [] → ⊥)
+HasOtherMemory old input p = ForSome old (λ r. (first_view_before r p).memory ≡ slice_index_or input.mems p [] → ⊥)
 
 -- A process that is not marked for superstep 0 has the memory and the arguments of the run before, and one that is marked has another memory or other
 -- arguments.
@@ -81,15 +98,3 @@ pub record AreFirstMarked (old : Option Run) (input : Input) (marks : List Bool)
   pub memory : (p : ℕ) → p < length input.mems → slice_index_or marks p true ≡ false → HasSameMemory old input p
   pub args : (p : ℕ) → p < length input.mems → slice_index_or marks p true ≡ false → HasSameArgs old input p
   pub other : (p : ℕ) → p < length input.mems → slice_index_or marks p false ≡ true → HasOtherMemory old input p ⊎ HasOtherArgs old input p
-
--- the run before began with what the processes see first of an input which has as many processes as the new one
-pub record HasFirstViews (input : Input) (r : Run) : Type 0 where
-  pub input_before : Input
-  pub views : views_at r 0 ≡ open_views (start input_before)
-  pub count : length input_before.mems ≡ length input.mems
-
--- the run before began with what the processes see first of an input of which these edits make the new one
-pub record IsEdited (r : Run) (edits : List Edit) (input : Input) : Type 0 where
-  pub input_before : Input
-  pub views : views_at r 0 ≡ open_views (start input_before)
-  pub edited : input ≡ edited input_before edits

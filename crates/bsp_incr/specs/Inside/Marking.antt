@@ -2,20 +2,19 @@
 use Rattle.std.specs.Prelude.{ℕ, Bool, true, ◌==◌, not, if◌then◌else◌, List, [], ◌∷◌, Option, None, Some, slice_index, slice_index_or, slice_set}
 use Rattle.bsp_model.specs.declared.input.Input.{Input}
 use Rattle.bsp_run.specs.Run.{Run}
-use Rattle.bsp_run.specs.Condition.{no_view}
-use Rattle.bsp_run.specs.Supersteps.{views_at}
 use Rattle.bsp_incr.specs.declared.edit.Edit.{Edit}
 use Rattle.bsp_incr.specs.declared.edit.Edit.TheVariants.{Word, Arg, Limit, Prices}
+use Rattle.bsp_incr.specs.Inside.Before.{first_view_before}
 
 -- a word and an argument: in the run before, and now
 abbrev pub word_before : Run → ℕ → ℕ → ℕ
-word_before r p a = slice_index (slice_index_or (views_at r 0) p no_view).memory a
+word_before r p a = slice_index (first_view_before r p).memory a
 
 abbrev pub word_now : Input → ℕ → ℕ → ℕ
 word_now input p a = slice_index (slice_index_or input.mems p []) a
 
 abbrev pub arg_before : Run → ℕ → ℕ → ℕ
-arg_before r p a = slice_index (slice_index_or (views_at r 0) p no_view).args a
+arg_before r p a = slice_index (first_view_before r p).args a
 
 abbrev pub arg_now : Input → ℕ → ℕ → ℕ
 arg_now input p a = slice_index (slice_index_or input.args p []) a

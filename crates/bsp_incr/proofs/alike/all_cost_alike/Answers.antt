@@ -1,4 +1,4 @@
-use Rattle.std.proofs.Common.{◌<◌, ◌∙◌, ℕ, length, get_or, sym, ap, subst, arith, inl, inr}
+use Rattle.std.proofs.Common.{ℕ, length, get_or, sym, subst, arith, inl, inr}
 use Rattle.std.proofs.lemmas.Bool.Decides.{eqb_tells}
 use Rattle.bsp_deliver.specs.Requests.{outcome_of}
 use Rattle.bsp_incr.specs.Inside.Alike.{CostsAlike}

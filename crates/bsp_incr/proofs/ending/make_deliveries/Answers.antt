@@ -1,5 +1,5 @@
-use Rattle.std.proofs.Common.{◌<◌, ◌∙◌, ◌++◌, ℕ, Bool, true, false, Option, List, All, ap, sym, subst, length, get_or}
-use Rattle.std.specs.Prelude.{option_map, ◌||◌}
+use Rattle.std.proofs.Common.{◌≡◌, ◌<◌, ◌∙◌, ◌++◌, ℕ, Bool, false, Option, List, All, ap, sym, subst, length, get_or}
+use Rattle.std.specs.Prelude.{option_map}
 use Rattle.std.proofs.lemmas.List.FromFn.{length-map-range_with_len}
 use Rattle.bsp_step.specs.OutcomeParts.{OutcomeParts}
 use Rattle.bsp_deliver.specs.Condition.{IsAscending}
@@ -7,8 +7,9 @@ use Rattle.bsp_run.specs.Run.{Run}
 use Rattle.bsp_run.proofs.Runs.{outcomes_shown-turned}
 use Rattle.bsp_incr.specs.Inside.Changes.{is_touched, processes_where, places_of}
 use Rattle.bsp_incr.specs.Inside.Before.{delivered_outcomes}
-use Rattle.bsp_incr.proofs.Gathering.{processes_where-ascending, processes_where-each_below, listed_below, answers_with}
+use Rattle.bsp_incr.proofs.Gathering.{processes_where-ascending, processes_where-each_below, listed_below}
 use Rattle.bsp_incr.proofs.Carrying.{touched_of}
+use Rattle.bsp_incr.proofs.MarkedToo.{marked_too}
 use Rattle.bsp_incr.proofs.ending.make_deliveries.Goals as goal
 
 pub wide_deliveries-requires-clause-processes : goal.wide_deliveries-requires-clause-processes
@@ -38,15 +39,16 @@ open_next-requires-clause-touched g c κs within =
     let is = touched_of c.delivered_outcomes.result.now (delivered_outcomes old (length r.past)) c.outcomes.result.now r.outcomes answers before now c.in_ok-touched.ensures in
     c.as_slice-4.ensures.value ∙ c.in_ok-processes.ensures ∙ ap (λ (bs : List Bool). processes_where (length bs) (λ p. get_or bs p false)) c.as_slice.ensures.value ∙ processes_where-each_below (length r.outcomes) (is_touched (delivered_outcomes old (length r.past)) r.outcomes) answers is
 
-pub next_marks-requires : goal.next_marks-requires
-next_marks-requires g c =
+pub mark_too-requires : goal.mark_too-requires
+mark_too-requires g c =
     let old : Option Run = option_map (λ k. k.now) c.args.given.now.old in
     let r : Run = c.args.tape.now in
     let before = c.delivered_outcomes.ensures.outcomes ∙ ap (delivered_outcomes old) c.step-step.ensures in
     let now = c.outcomes.ensures.outcomes ∙ outcomes_shown-turned r c.requires.turned in
     let answers = c.in_ok-touched.touched.items in
     let is = touched_of c.delivered_outcomes.result.now (delivered_outcomes old (length r.past)) c.outcomes.result.now r.outcomes answers before now c.in_ok-touched.ensures in
-    c.requires.always ∙ sym (ap (λ (bs : List Bool). length bs) (c.as_slice-5.ensures.value ∙ is) ∙ length-map-range_with_len (is_touched (delivered_outcomes old (length r.past)) r.outcomes) 0 (length r.outcomes))
+    let count : length c.args.given.now.always.now ≡ length answers = c.requires.always ∙ sym (ap (λ (bs : List Bool). length bs) is ∙ length-map-range_with_len (is_touched (delivered_outcomes old (length r.past)) r.outcomes) 0 (length r.outcomes)) in
+    listed_below (length answers) (λ p. get_or c.args.given.now.always.now p false) c.args.given.now.other_args.now (c.args.given.now.listed ∙ ap (λ n. processes_where n (λ p. get_or c.args.given.now.always.now p false)) count)
 
 pub returns-clause-marks : goal.returns-clause-marks
 returns-clause-marks g c =
@@ -56,7 +58,7 @@ returns-clause-marks g c =
     let now = c.outcomes.ensures.outcomes ∙ outcomes_shown-turned r c.requires.turned in
     let answers = c.in_ok-touched.touched.items in
     let is = touched_of c.delivered_outcomes.result.now (delivered_outcomes old (length r.past)) c.outcomes.result.now r.outcomes answers before now c.in_ok-touched.ensures in
-    c.in_ok-marks.ensures ∙ answers_with (length r.outcomes) (is_touched (delivered_outcomes old (length r.past)) r.outcomes) c.as_slice-5.result.now (λ b d. b || get_or c.args.given.now.always.now d true) (c.as_slice-5.ensures.value ∙ is)
+    c.mark_too.ensures ∙ marked_too (length r.outcomes) (is_touched (delivered_outcomes old (length r.past)) r.outcomes) answers c.args.given.now.always.now c.args.given.now.other_args.now is c.requires.always c.args.given.now.listed
 
 pub returns-clause-redelivered : goal.returns-clause-redelivered
 returns-clause-redelivered g c =

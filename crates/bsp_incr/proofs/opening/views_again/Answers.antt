@@ -19,7 +19,7 @@ put_at-requires-clause-known c =
     let marked = c.as_slice-2.result.now in
     let seen = c.in_ok-views.ensures ∙ c.first_views_before.ensures in
     let listed = c.as_slice-2.ensures.value ∙ c.in_ok-marked.ensures in
-    let made = first_views_in_place c.args.old.now input marks c.in_ok-views.views.items (map (view_of input.args 0 (first_state input)) marked) marked seen c.requires.first c.requires.marks listed (λ i. map (view_of input.args 0 (first_state input)) marked) in
+    let made = first_views_in_place c.requires.before.0 c.args.old.now input marks c.in_ok-views.views.items (map (view_of input.args 0 (first_state input)) marked) marked seen c.requires.before.1 c.requires.marks listed (λ i. map (view_of input.args 0 (first_state input)) marked) in
     subst (λ n. All (λ p. p < n) marked) (sym made.0) (listed_below (length input.mems) test marked (listed ∙ ap (λ n. processes_where n test) c.requires.marks.count))
 
 pub returns : goal.returns
@@ -30,4 +30,4 @@ returns c =
     let seen = c.in_ok-views.ensures ∙ c.first_views_before.ensures in
     let listed = c.as_slice-2.ensures.value ∙ c.in_ok-marked.ensures in
     let new = c.in_ok-new.ensures ∙ ap (map (view_of input.args 0 (first_state input))) (c.as_slice.ensures.value ∙ sym c.as_slice-2.ensures.value) in
-    c.in_ok-from_vec.ensures ∙ c.put_at.ensures ∙ (first_views_in_place c.args.old.now input marks c.in_ok-views.views.items c.in_ok-new.new.items marked seen c.requires.first c.requires.marks listed new).1
+    c.in_ok-from_vec.ensures ∙ c.put_at.ensures ∙ (first_views_in_place c.requires.before.0 c.args.old.now input marks c.in_ok-views.views.items c.in_ok-new.new.items marked seen c.requires.before.1 c.requires.marks listed new).1

@@ -1,61 +1,87 @@
-use Rattle.std.proofs.Common.{◌≡◌, ◌+◌, ◌-◌, ◌∙◌, ℕ, Bool, false, List, suc, length, get_or, ap, sym, subst, arith, Option}
+use Rattle.std.proofs.Common.{◌≡◌, ◌<◌, ◌∙◌, Bool, true, false, List, length, get_or, ap, sym, subst, Option, Some}
 use Rattle.std.specs.Prelude.{option_map}
 use Rattle.bsp_model.specs.declared.input.Input.{Input}
 use Rattle.bsp_model.proofs.Inputs.{lawful_input}
 use Rattle.bsp_step.specs.Turn.{turn_of}
-use Rattle.bsp_run.specs.Run.{Run, start, advance, times, run}
-use Rattle.bsp_run.proofs.Runs.{IsBetween, start-between, advance-between, ended-between, times_more}
-use Rattle.bsp_incr.specs.Inside.Before.{AreArgsMarked}
+use Rattle.bsp_run.specs.Run.{Run, run}
+use Rattle.bsp_run.specs.Condition.{is_open}
+use Rattle.bsp_run.specs.Law.{IsBspRun}
+use Rattle.bsp_run.proofs.Laws.{IsBspRun-run}
+use Rattle.bsp_run.proofs.Runs.{LeadsTo, supersteps_left, start-leads, advance-leads, fewer_left, closed-leads}
+use Rattle.bsp_incr.specs.declared.reply.Update.{Update}
 use Rattle.bsp_incr.specs.Inside.Changes.{update_of, processes_where}
-use Rattle.bsp_incr.proofs.FirstViews.{had_first_views}
+use Rattle.bsp_incr.specs.Inside.Before.{IsBefore, AreArgsMarked}
+use Rattle.bsp_incr.specs.Inside.Stays.{LinesStayBut}
+use Rattle.bsp_incr.proofs.Lasting.{lines_stay}
 use Rattle.bsp_incr.proofs.Remaking.{under_way_start}
 use Rattle.bsp_incr.proofs.rerun.rerun.Goals as goal
 
-pub loop-step-init : goal.loop-step-init
-unfolding run
-loop-step-init g c =
+pub loop-given-init : goal.loop-given-init
+loop-given-init g c =
     let turn = turn_of (g.P.Program.acts c.args.program.now) (g.P.Program.ending c.args.program.now) in
-    let f = advance turn in
     let input : Input = c.args.input.now in
     let old : Option Run = option_map (λ k. k.now) c.args.old in
-    let all : input.limit - 0 ≡ input.limit = omega arith in
     let opened = c.in_ok-tape.ensures in
+    let some = (lawful_input input c.requires.lawful).some_superstep in
     record {
-      rest = ap (λ n. times n f c.in_ok-tape.tape) all ∙ ap (times input.limit f) opened;
-      between = subst (IsBetween (input.limit - 0)) (sym opened) (subst (λ n. IsBetween n (start input)) (sym all) (start-between input (lawful_input input c.requires.lawful).some_superstep));
-      under_way = under_way_start turn (g.P.Program.looks c.args.program.now) old input c.in_ok-tape.tape c.args.marks.first.items record { executed = c.new.result; redelivered = c.new-2.result } opened (lawful_input input c.requires.lawful).some_superstep c.requires.before c.requires.first c.new.ensures c.new-2.ensures;
+      leads = subst (λ (r : Run). LeadsTo turn r (run turn input)) (sym opened) (start-leads turn input some);
+      under_way = under_way_start turn (g.P.Program.looks c.args.program.now) old input c.in_ok-tape.tape c.args.marks.first.items record { executed = c.new.result; redelivered = c.new-2.result } opened some c.requires.before c.requires.first c.new.ensures c.new-2.ensures;
+      table = λ _. tt;
     }
 
-pub loop-step-preserved : goal.loop-step-preserved
-loop-step-preserved g c =
+pub loop-given-preserved : goal.loop-given-preserved
+loop-given-preserved g c =
     let turn = turn_of (g.P.Program.acts c.args.program.now) (g.P.Program.ending c.args.program.now) in
-    let limit : ℕ = c.args.input.now.limit in
-    let left : limit - c.loop-step._step ≡ suc (limit - (c.loop-step._step + 1)) = omega (arith, c.loop-step-test.true) in
-    let next : c.advance.new.tape ≡ advance turn c.loop-step.tape = c.in_ok-advance.ensures.tape in
+    let whole : Run = run turn c.args.input.now in
+    let open_now : is_open c.loop-given.tape.phase ≡ true = sym c.is_open.ensures ∙ c.loop-given-test.true in
     record {
-      rest = ap (times (limit - (c.loop-step._step + 1)) (advance turn)) next ∙ sym (times_more turn (limit - c.loop-step._step) (limit - (c.loop-step._step + 1)) c.loop-step.tape left) ∙ c.loop-step.invariant.rest;
-      between = subst (IsBetween (limit - (c.loop-step._step + 1))) (sym next) (advance-between turn (limit - (c.loop-step._step + 1)) c.loop-step.tape (subst (λ n. IsBetween n c.loop-step.tape) left c.loop-step.invariant.between));
+      leads = subst (λ (r : Run). LeadsTo turn r whole) (sym c.in_ok-advance.ensures.tape) (advance-leads turn c.loop-given.tape whole c.loop-given.invariant.leads open_now);
       under_way = c.in_ok-advance.ensures.under_way;
+      table = c.in_ok-advance.ensures.table;
     }
 
-pub finished-requires : goal.finished-requires
-finished-requires g c =
-    let none : c.args.input.now.limit - c.loop-step._step ≡ 0 = omega (arith, c.loop-step-test.false) in
-    ended-between c.loop-step.tape (subst (λ n. IsBetween n c.loop-step.tape) none c.loop-step.invariant.between)
+pub loop-given-smaller : goal.loop-given-smaller
+loop-given-smaller g c =
+    let turn = turn_of (g.P.Program.acts c.args.program.now) (g.P.Program.ending c.args.program.now) in
+    let whole : Run = run turn c.args.input.now in
+    let open_now : is_open c.loop-given.tape.phase ≡ true = sym c.is_open.ensures ∙ c.loop-given-test.true in
+    subst (λ (r : Run). supersteps_left r < supersteps_left c.loop-given.tape) (sym c.in_ok-advance.ensures.tape) (fewer_left turn c.loop-given.tape whole c.loop-given.invariant.leads open_now)
+
+pub finished-requires-clause-ended : goal.finished-requires-clause-ended
+finished-requires-clause-ended g c =
+    let turn = turn_of (g.P.Program.acts c.args.program.now) (g.P.Program.ending c.args.program.now) in
+    let closed : is_open c.loop-given.tape.phase ≡ false = sym c.is_open.ensures ∙ c.loop-given-test.false in
+    (closed-leads turn c.loop-given.tape (run turn c.args.input.now) c.loop-given.invariant.leads closed).0
+
+pub finished-requires-clause-executed : goal.finished-requires-clause-executed
+finished-requires-clause-executed g c = λ r e.
+    let acts = g.P.Program.acts c.args.program.now in
+    let ending = g.P.Program.ending c.args.program.now in
+    let looks = g.P.Program.looks c.args.program.now in
+    let turn = turn_of acts ending in
+    let laws = g.met.P.Program g.world.𝓛 g.world.𝓜 g.world.𝓡 ((λ s x. x), (λ x. x), (λ x. x), λ x. x) in
+    let input : Input = c.args.input.now in
+    let tape : Run = c.loop-given.tape in
+    let update : Update = c.loop-given.update in
+    let closed : is_open tape.phase ≡ false = sym c.is_open.ensures ∙ c.loop-given-test.false in
+    let is : tape ≡ run turn input = (closed-leads turn tape (run turn input) c.loop-given.invariant.leads closed).1 in
+    let law : IsBspRun turn input tape = subst (IsBspRun turn input) (sym is) (IsBspRun-run turn input c.requires.lawful) in
+    let updated : update ≡ update_of looks (Some r) tape = subst (λ (o : Option Run). update ≡ update_of looks o tape) e c.loop-given.invariant.under_way.updated in
+    subst (LinesStayBut r tape) (sym c.as_slice-executed.ensures)
+    (lines_stay acts ending looks input r tape update (laws.footprint c.args.program.now) c.requires.lawful (subst (IsBefore turn input) e c.requires.before) law updated)
 
 pub returns-clause-run : goal.returns-clause-run
 returns-clause-run g c =
-    let f = advance (turn_of (g.P.Program.acts c.args.program.now) (g.P.Program.ending c.args.program.now)) in
-    let none : c.args.input.now.limit - c.loop-step._step ≡ 0 = omega (arith, c.loop-step-test.false) in
-    c.in_ok-history.ensures ∙ sym (ap (λ n. times n f c.loop-step.tape) none) ∙ c.loop-step.invariant.rest
+    let turn = turn_of (g.P.Program.acts c.args.program.now) (g.P.Program.ending c.args.program.now) in
+    let closed : is_open c.loop-given.tape.phase ≡ false = sym c.is_open.ensures ∙ c.loop-given-test.false in
+    c.in_ok-history.ensures ∙ (closed-leads turn c.loop-given.tape (run turn c.args.input.now) c.loop-given.invariant.leads closed).1
 
 pub returns-clause-update : goal.returns-clause-update
 returns-clause-update g c =
-    subst (λ (r : Run). c.loop-step.update ≡ update_of (g.P.Program.looks c.args.program.now) (option_map (λ k. k.now) c.args.old) r) (sym c.in_ok-history.ensures) c.loop-step.invariant.under_way.updated
+    subst (λ (r : Run). c.loop-given.update ≡ update_of (g.P.Program.looks c.args.program.now) (option_map (λ k. k.now) c.args.old) r) (sym c.in_ok-history.ensures) c.loop-given.invariant.under_way.updated
 
-pub opened-requires-clause-first : goal.opened-requires-clause-first
-opened-requires-clause-first g c =
-    had_first_views (turn_of (g.P.Program.acts c.args.program.now) (g.P.Program.ending c.args.program.now)) c.args.input.now (option_map (λ k. k.now) c.args.old) c.requires.before
+pub opened-requires-clause-before : goal.opened-requires-clause-before
+opened-requires-clause-before g c = (turn_of (g.P.Program.acts c.args.program.now) (g.P.Program.ending c.args.program.now), c.requires.before)
 
 pub invariant_of-given : goal.invariant_of-given
 invariant_of-given g c =

@@ -1,10 +1,9 @@
-use Rattle.std.proofs.Common.{◌≡◌, ◌∙◌, ap, sym, subst, length, None}
+use Rattle.std.proofs.Common.{◌≡◌, sym, subst, None}
 use Rattle.bsp_model.specs.declared.input.Input.{Input}
 use Rattle.bsp_model.specs.Input.{input_fault}
 use Rattle.bsp_step.specs.Turn.{turn_of}
 use Rattle.bsp_incr.proofs.RunBefore.{record_of_law}
-use Rattle.bsp_incr.proofs.FirstViews.{first_views_of}
-use Rattle.bsp_incr.proofs.Lawful.{edited_lawful, edited_count}
+use Rattle.bsp_incr.proofs.Lawful.{edited_lawful}
 use Rattle.bsp_incr.proofs.rerun.rerun_edited.Goals as goal
 
 pub rerun_from_edits-requires-clause-lawful : goal.rerun_from_edits-requires-clause-lawful
@@ -15,18 +14,4 @@ pub rerun_from_edits-requires-clause-before : goal.rerun_from_edits-requires-cla
 rerun_from_edits-requires-clause-before g c κs within =
     let turn = turn_of (g.P.Program.acts c.args.program.now) (g.P.Program.ending c.args.program.now) in
     let input : Input = c.args.input.now in
-    record {
-      input_before = input;
-      made = record_of_law turn input c.args.old.now c.requires.lawful c.requires.before;
-      count = sym (edited_count c.args.input.now c.args.edits.now) ∙ ap (λ (i : Input). length i.mems) (sym c.in_ok-formers.ensures.made);
-    }
-
-pub rerun_from_edits-requires-clause-edited : goal.rerun_from_edits-requires-clause-edited
-rerun_from_edits-requires-clause-edited g c κs within =
-    let turn = turn_of (g.P.Program.acts c.args.program.now) (g.P.Program.ending c.args.program.now) in
-    let input : Input = c.args.input.now in
-    record {
-      input_before = input;
-      views = first_views_of turn input c.args.old.now (record_of_law turn input c.args.old.now c.requires.lawful c.requires.before);
-      edited = c.in_ok-formers.ensures.made;
-    }
+    record { input_before = input; lawful = c.requires.lawful; law = c.requires.before; stands = c.in_ok-formers.ensures.made }

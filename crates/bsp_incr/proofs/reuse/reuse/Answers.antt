@@ -1,5 +1,4 @@
 use Rattle.std.proofs.Common.{◌∙◌, ap, sym, subst, List, ℕ}
-use Rattle.bsp_model.specs.declared.request.Store.{Store}
 use Rattle.bsp_model.specs.Stores.{made_again}
 use Rattle.bsp_step.specs.ViewParts.{ViewParts, IsView}
 use Rattle.bsp_step.specs.OutcomeParts.{OutcomeParts, IsOutcome}

@@ -1,5 +1,5 @@
 use Rattle.std.proofs.Common.{◌<◌, ◌++◌, ◌∙◌, ℕ, Bool, true, List, Option, ap, sym, subst, map, length, get_or}
-use Rattle.std.specs.Prelude.{option_map, ◌||◌}
+use Rattle.std.specs.Prelude.{is_some, option_map, ◌||◌}
 use Rattle.bsp_step.specs.OutcomeParts.{OutcomeParts}
 use Rattle.bsp_step.specs.Turn.{turn_of}
 use Rattle.bsp_deliver.specs.Requests.{each_below}
@@ -14,15 +14,10 @@ use Rattle.bsp_incr.specs.declared.reply.Place.{Place}
 use Rattle.bsp_incr.specs.Inside.Changes.{touched_in, is_touched}
 use Rattle.bsp_incr.specs.Inside.Marks.{OutcomesDifferAtMost}
 use Rattle.bsp_incr.specs.Inside.Before.{delivered_outcomes}
-use Rattle.bsp_incr.proofs.RunBefore.{count_before, delivered_before_is, table_after, table_before, open_table}
-use Rattle.bsp_incr.proofs.Remaking.{turns-in, count_taken, unchanged_among, alike_after, outcomes-turned, under_way_turned, under_way_delivered}
+use Rattle.bsp_incr.proofs.KnownTables.{knows_delivered, knows_ended}
+use Rattle.bsp_incr.proofs.RunBefore.{count_before, delivered_before_is, table_after}
+use Rattle.bsp_incr.proofs.Remaking.{turns-in, unchanged_among, alike_after, outcomes-turned, under_way_turned, under_way_delivered}
 use Rattle.bsp_incr.proofs.superstep.make_again.Goals as goal
-
-pub take_turns-requires-clause-count : goal.take_turns-requires-clause-count
-take_turns-requires-clause-count g c κs within =
-    let turn = turn_of (g.P.Program.acts c.args.given.now.program.now) (g.P.Program.ending c.args.given.now.program.now) in
-    let r : Run = c.args.tape.now in
-    count_taken turn c.args.given.now.input.now (option_map (λ k. k.now) c.args.given.now.old) (length r.past) (open_views r) c.requires.under_way.before (open_views-in turn c.args.given.now.input.now r c.requires.under_way.made)
 
 pub make_deliveries-requires-clause-count : goal.make_deliveries-requires-clause-count
 make_deliveries-requires-clause-count g c κs within =
@@ -30,7 +25,7 @@ make_deliveries-requires-clause-count g c κs within =
     let old : Option Run = option_map (λ k. k.now) c.args.given.now.old in
     let r : Run = c.args.tape.now in
     let us = map turn (open_views r) in
-    let is = c.in_ok-delivers.ensures.turned in
+    let is = c.in_ok-known.ensures.turned in
     let steps = ap (λ (x : Run). length x.past) is ∙ ap (λ (xs : List Superstep). length xs) (past-turned r us) in
     let outcomes = ap (λ (x : Run). x.outcomes) is ∙ outcomes-turned r us in
     λ some.
@@ -52,12 +47,14 @@ make_deliveries-requires-clause-doubtful g c κs within =
     let old : Option Run = option_map (λ k. k.now) c.args.given.now.old in
     let r : Run = c.args.tape.now in
     let us = map turn (open_views r) in
-    let is = c.in_ok-delivers.ensures.turned in
+    let is = c.in_ok-known.ensures.turned in
     let steps = ap (λ (x : Run). length x.past) is ∙ ap (λ (xs : List Superstep). length xs) (past-turned r us) in
     let outcomes = ap (λ (x : Run). x.outcomes) is ∙ outcomes-turned r us in
-    let unchanged = unchanged_among turn c.args.given.now.input.now old (length r.past) (open_views r) c.args.doubtful.now c.requires.under_way.before (open_views-in turn c.args.given.now.input.now r c.requires.under_way.made) c.requires.doubtful in
-    subst (λ (os : List OutcomeParts). OutcomesDifferAtMost (delivered_outcomes old (length c.take_turns.new.tape.past)) os c.args.doubtful.now) (sym outcomes)
-    (subst (λ n. OutcomesDifferAtMost (delivered_outcomes old n) us c.args.doubtful.now) (sym steps) unchanged)
+    let processes = c.args.doubtful.now.processes.items in
+    let unchanged = unchanged_among turn c.args.given.now.input.now old (length r.past) (open_views r) processes c.requires.under_way.before (open_views-in turn c.args.given.now.input.now r c.requires.under_way.made) c.requires.doubtful.processes in
+    subst (OutcomesDifferAtMost (delivered_outcomes old (length c.take_turns.new.tape.past)) c.take_turns.new.tape.outcomes) (sym c.as_slice-processes.ensures.value)
+    (subst (λ (os : List OutcomeParts). OutcomesDifferAtMost (delivered_outcomes old (length c.take_turns.new.tape.past)) os processes) (sym outcomes)
+    (subst (λ n. OutcomesDifferAtMost (delivered_outcomes old n) us processes) (sym steps) unchanged))
 
 pub make_deliveries-requires-clause-alike : goal.make_deliveries-requires-clause-alike
 make_deliveries-requires-clause-alike g c κs within =
@@ -65,7 +62,7 @@ make_deliveries-requires-clause-alike g c κs within =
     let old : Option Run = option_map (λ k. k.now) c.args.given.now.old in
     let r : Run = c.args.tape.now in
     let us = map turn (open_views r) in
-    let is = c.in_ok-delivers.ensures.turned in
+    let is = c.in_ok-known.ensures.turned in
     let steps = ap (λ (x : Run). length x.past) is ∙ ap (λ (xs : List Superstep). length xs) (past-turned r us) in
     let made : IsRecord turn c.args.given.now.input.now c.take_turns.new.tape = subst (IsRecord turn c.args.given.now.input.now) (sym is) (IsRecord-turned turn c.args.given.now.input.now r c.requires.under_way.made (open_phase r.phase c.requires.open)) in
     let outcomes = ap (λ (x : Run). x.outcomes) is ∙ outcomes-turned r us ∙ turns-in turn c.args.given.now.input.now r c.requires.under_way.made ∙ ap (outcomes_in turn c.args.given.now.input.now) (sym steps) in
@@ -77,15 +74,15 @@ make_deliveries-requires-clause-always g c κs within =
     let old : Option Run = option_map (λ k. k.now) c.args.given.now.old in
     let r : Run = c.args.tape.now in
     let us = map turn (open_views r) in
-    let outcomes = ap (λ (x : Run). x.outcomes) c.in_ok-delivers.ensures.turned ∙ outcomes-turned r us ∙ turns-in turn c.args.given.now.input.now r c.requires.under_way.made in
+    let outcomes = ap (λ (x : Run). x.outcomes) c.in_ok-known.ensures.turned ∙ outcomes-turned r us ∙ turns-in turn c.args.given.now.input.now r c.requires.under_way.made in
     c.args.given.now.marked.count ∙ sym (count-outcomes_in turn c.args.given.now.input.now (length r.past)) ∙ sym (ap (λ (os : List OutcomeParts). length os) outcomes)
 
 pub returns-clause-tape : goal.returns-clause-tape
 returns-clause-tape g c =
     let turn = turn_of (g.P.Program.acts c.args.given.now.program.now) (g.P.Program.ending c.args.given.now.program.now) in
     let r : Run = c.args.tape.now in
-    let is = c.in_ok-delivers.ensures.turned in
-    let delivers = ap (λ (x : Run). is_turned x.phase) (sym is) ∙ sym c.in_ok-delivers.ensures.answer ∙ c.if-not-delivers.false in
+    let is = c.in_ok-known.ensures.turned in
+    let delivers = ap (λ (x : Run). is_turned x.phase) (sym is) ∙ sym c.in_ok-known.ensures.answer ∙ ap is_some c.in-Some.is in
     c.in_ok-next.ensures.tape ∙ ap after_delivery is ∙ sym (advance-delivers turn r (open_phase r.phase c.requires.open) delivers)
 
 pub returns-clause-under_way : goal.returns-clause-under_way
@@ -94,41 +91,48 @@ returns-clause-under_way g c =
     let old : Option Run = option_map (λ k. k.now) c.args.given.now.old in
     let r : Run = c.args.tape.now in
     let us = map turn (open_views r) in
-    let is = c.in_ok-delivers.ensures.turned in
+    let is = c.in_ok-known.ensures.turned in
     let steps = ap (λ (x : Run). length x.past) is ∙ ap (λ (xs : List Superstep). length xs) (past-turned r us) in
     let outcomes = ap (λ (x : Run). x.outcomes) is ∙ outcomes-turned r us in
     let looks = g.P.Program.looks c.args.given.now.program.now in
     let always = c.args.given.now.always.now in
-    let delivers = ap (λ (x : Run). is_turned x.phase) (sym is) ∙ sym c.in_ok-delivers.ensures.answer ∙ c.if-not-delivers.false in
+    let delivers = ap (λ (x : Run). is_turned x.phase) (sym is) ∙ sym c.in_ok-known.ensures.answer ∙ ap is_some c.in-Some.is in
     let all : ℕ → List OutcomeParts → List Bool = λ n os. each_below (length os) (λ d. is_touched (delivered_outcomes old n) os d || get_or always d true) in
     let places : ℕ → List OutcomeParts → List Place = λ n os. c.args.update.now.redelivered ++ touched_in n (delivered_outcomes old n) os in
-    under_way_delivered turn looks old c.args.given.now.input.now always r c.make_deliveries.new.tape c.args.marks.now.items c.in_ok-next.next.items c.args.update.now record { executed = c.take_turns.new.executed; redelivered = c.make_deliveries.new.redelivered }
+    under_way_delivered turn looks old c.args.given.now.input.now always r c.make_deliveries.new.tape c.args.marks.now.items c.in_ok-next.next.0.items c.args.update.now record { executed = c.take_turns.new.executed; redelivered = c.make_deliveries.new.redelivered }
     c.requires.open delivers c.args.given.now.marked c.requires.under_way
     (c.in_ok-next.ensures.tape ∙ ap after_delivery is)
     (c.in_ok-next.ensures.marks ∙ ap (λ n. all n c.take_turns.new.tape.outcomes) steps ∙ ap (all (length r.past)) outcomes)
-    c.in_ok-delivers.ensures.executed
+    c.in_ok-known.ensures.executed
     (c.in_ok-next.ensures.redelivered ∙ ap (λ n. places n c.take_turns.new.tape.outcomes) steps ∙ ap (places (length r.past)) outcomes)
 
-pub returns-then-not-delivers-clause-tape : goal.returns-then-not-delivers-clause-tape
-returns-then-not-delivers-clause-tape g c =
+pub returns-in_default-clause-tape : goal.returns-in_default-clause-tape
+returns-in_default-clause-tape g c =
     let turn = turn_of (g.P.Program.acts c.args.given.now.program.now) (g.P.Program.ending c.args.given.now.program.now) in
     let r : Run = c.args.tape.now in
-    let is = c.in_ok-delivers.ensures.turned in
-    let delivers = ap (λ (x : Run). is_turned x.phase) (sym is) ∙ sym c.in_ok-delivers.ensures.answer ∙ c.if-not-delivers.true in
+    let is = c.in_ok-known.ensures.turned in
+    let delivers = ap (λ (x : Run). is_turned x.phase) (sym is) ∙ sym c.in_ok-known.ensures.answer ∙ ap is_some c.in_default.is in
     is ∙ sym (advance-ends turn r (open_phase r.phase c.requires.open) delivers)
 
-pub returns-then-not-delivers-clause-under_way : goal.returns-then-not-delivers-clause-under_way
-returns-then-not-delivers-clause-under_way g c =
+pub returns-in_default-clause-under_way : goal.returns-in_default-clause-under_way
+returns-in_default-clause-under_way g c =
     let turn = turn_of (g.P.Program.acts c.args.given.now.program.now) (g.P.Program.ending c.args.given.now.program.now) in
     let looks = g.P.Program.looks c.args.given.now.program.now in
     let old : Option Run = option_map (λ k. k.now) c.args.given.now.old in
     under_way_turned turn looks old c.args.given.now.input.now c.args.tape.now c.take_turns.new.tape c.args.marks.now.items c.args.update.now record { executed = c.take_turns.new.executed; redelivered = c.args.update.now.redelivered }
-    c.requires.open c.requires.under_way c.in_ok-delivers.ensures.turned c.in_ok-delivers.ensures.executed (λ i. c.args.update.now.redelivered)
+    c.requires.open c.requires.under_way c.in_ok-known.ensures.turned c.in_ok-known.ensures.executed (λ i. c.args.update.now.redelivered)
 
-pub take_turns-requires-clause-old_table : goal.take_turns-requires-clause-old_table
-take_turns-requires-clause-old_table g c κs within =
-    table_before (turn_of (g.P.Program.acts c.args.given.now.program.now) (g.P.Program.ending c.args.given.now.program.now)) c.args.given.now.input.now (option_map (λ k. k.now) c.args.given.now.old) (length c.args.tape.now.past) c.requires.under_way.before
+pub returns-clause-table : goal.returns-clause-table
+returns-clause-table g c =
+    let turn = turn_of (g.P.Program.acts c.args.given.now.program.now) (g.P.Program.ending c.args.given.now.program.now) in
+    let old : Option Run = option_map (λ k. k.now) c.args.given.now.old in
+    let r : Run = c.args.tape.now in
+    knows_delivered turn c.args.given.now.input.now old r c.take_turns.new.tape c.make_deliveries.new.tape (map turn (open_views r)) c.in_ok-next.next.1 c.requires.under_way.before
+    c.in_ok-known.ensures.turned c.in_ok-next.ensures.tape c.in_ok-next.ensures.known
 
-pub take_turns-requires-clause-table : goal.take_turns-requires-clause-table
-take_turns-requires-clause-table g c κs within =
-    open_table (turn_of (g.P.Program.acts c.args.given.now.program.now) (g.P.Program.ending c.args.given.now.program.now)) c.args.given.now.input.now c.args.tape.now c.requires.under_way.made
+pub returns-in_default-clause-table : goal.returns-in_default-clause-table
+returns-in_default-clause-table g c =
+    let turn = turn_of (g.P.Program.acts c.args.given.now.program.now) (g.P.Program.ending c.args.given.now.program.now) in
+    let old : Option Run = option_map (λ k. k.now) c.args.given.now.old in
+    let r : Run = c.args.tape.now in
+    knows_ended old r c.take_turns.new.tape (map turn (open_views r)) c.args.table.now c.in_ok-known.ensures.turned

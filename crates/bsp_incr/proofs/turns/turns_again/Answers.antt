@@ -13,14 +13,11 @@ use Rattle.bsp_incr.proofs.Patching.{length-replaced}
 use Rattle.bsp_incr.proofs.Retaking.{needed_among, turns_in_place, turns_of_none, differ_below, not_true}
 use Rattle.bsp_incr.proofs.turns.turns_again.Goals as goal
 
-pub needed_turns-requires-clause-known : goal.needed_turns-requires-clause-known
-needed_turns-requires-clause-known g c κs within = differ_below c.args.old_views.now c.args.views.now c.args.doubtful.now c.requires.doubtful
-
 pub wide_turns-requires-clause-processes : goal.wide_turns-requires-clause-processes
 wide_turns-requires-clause-processes g c κs within =
     let n = length c.args.views.now in
     subst (All (λ p. p < n)) (sym (c.as_slice-2.ensures.value ∙ c.in_ok-needed.ensures.needed))
-    (All-filter (differs (g.P.Program.looks c.args.program.now) c.args.old_views.now c.args.views.now) (λ p. p < n) c.args.doubtful.now (differ_below c.args.old_views.now c.args.views.now c.args.doubtful.now c.requires.doubtful))
+    (All-filter (differs (g.P.Program.looks c.args.program.now) c.args.old_views.now c.args.views.now) (λ p. p < n) c.args.doubtful.now.processes.items (differ_below c.args.old_views.now c.args.views.now c.args.doubtful.now.processes.items c.requires.doubtful.processes))
 
 pub returns-then-is_empty-clause-turns : goal.returns-then-is_empty-clause-turns
 returns-then-is_empty-clause-turns g c =
@@ -29,25 +26,25 @@ returns-then-is_empty-clause-turns g c =
     let old = c.args.old_views.now in let new = c.args.views.now in
     let none : length old ≡ 0 = eqb-true (length old) 0 (sym c.is_empty.ensures ∙ c.if-is_empty.true) in
     turns_of_none turn looks old new c.as_slice-2.result.now c.in_ok-taken.taken.items none
-    (c.as_slice-2.ensures.value ∙ c.in_ok-needed.ensures.needed ∙ needed_among looks old new c.args.doubtful.now c.requires.doubtful) c.in_ok-taken.ensures
+    (c.as_slice-2.ensures.value ∙ c.in_ok-needed.ensures.needed ∙ needed_among looks old new c.args.doubtful.now.processes.items c.requires.doubtful.processes) c.in_ok-taken.ensures
 
 pub returns-then-is_empty-clause-executed : goal.returns-then-is_empty-clause-executed
 returns-then-is_empty-clause-executed g c =
     let looks = g.P.Program.looks c.args.program.now in
-    let needed = c.as_slice.ensures.value ∙ c.in_ok-needed.ensures.needed ∙ needed_among looks c.args.old_views.now c.args.views.now c.args.doubtful.now c.requires.doubtful in
+    let needed = c.as_slice.ensures.value ∙ c.in_ok-needed.ensures.needed ∙ needed_among looks c.args.old_views.now c.args.views.now c.args.doubtful.now.processes.items c.requires.doubtful.processes in
     c.in_ok-add_places.ensures ∙ ap (λ (ks : List ℕ). c.args.executed.now ++ places_of c.args.step ks) needed
 
 pub served_turns-requires-clause-known : goal.served_turns-requires-clause-known
 served_turns-requires-clause-known g c κs within =
     let n = length c.args.views.now in
     subst (All (λ p. p < n)) (sym (c.as_slice-3.ensures.value ∙ c.in_ok-needed.ensures.served))
-    (All-filter (λ p. not (differs (g.P.Program.looks c.args.program.now) c.args.old_views.now c.args.views.now p)) (λ p. p < n) c.args.doubtful.now (differ_below c.args.old_views.now c.args.views.now c.args.doubtful.now c.requires.doubtful))
+    (All-filter (λ p. not (differs (g.P.Program.looks c.args.program.now) c.args.old_views.now c.args.views.now p)) (λ p. p < n) c.args.doubtful.now.processes.items (differ_below c.args.old_views.now c.args.views.now c.args.doubtful.now.processes.items c.requires.doubtful.processes))
 
 pub served_turns-requires-clause-serve : goal.served_turns-requires-clause-serve
 served_turns-requires-clause-serve g c κs within =
     let test : ℕ → Bool = differs (g.P.Program.looks c.args.program.now) c.args.old_views.now c.args.views.now in
     subst (All (λ p. test p ≡ false)) (sym (c.as_slice-3.ensures.value ∙ c.in_ok-needed.ensures.served))
-    (λ k d l. not_true (test (get_or (filter (λ p. not (test p)) c.args.doubtful.now) k d)) (filter_passes (λ p. not (test p)) c.args.doubtful.now k d l))
+    (λ k d l. not_true (test (get_or (filter (λ p. not (test p)) c.args.doubtful.now.processes.items) k d)) (filter_passes (λ p. not (test p)) c.args.doubtful.now.processes.items k d l))
 
 pub put_at-requires-clause-known : goal.put_at-requires-clause-known
 put_at-requires-clause-known g c =
@@ -57,7 +54,7 @@ put_at-requires-clause-known g c =
     let long : length c.in_ok-outcomes.outcomes.items ≡ n = ap (λ (os : List OutcomeParts). length os) (c.in_ok-outcomes.ensures ∙ c.requires.recorded) ∙ length-map c.args.old_views.now turn ∙ c.requires.count some in
     subst (λ m. All (λ p. p < m) c.as_slice-4.result.now) (sym long)
     (subst (All (λ p. p < n)) (sym (c.as_slice-4.ensures.value ∙ c.in_ok-needed.ensures.served))
-    (All-filter (λ p. not (differs (g.P.Program.looks c.args.program.now) c.args.old_views.now c.args.views.now p)) (λ p. p < n) c.args.doubtful.now (differ_below c.args.old_views.now c.args.views.now c.args.doubtful.now c.requires.doubtful)))
+    (All-filter (λ p. not (differs (g.P.Program.looks c.args.program.now) c.args.old_views.now c.args.views.now p)) (λ p. p < n) c.args.doubtful.now.processes.items (differ_below c.args.old_views.now c.args.views.now c.args.doubtful.now.processes.items c.requires.doubtful.processes)))
 
 pub put_at-requires-2-clause-known : goal.put_at-requires-2-clause-known
 put_at-requires-2-clause-known g c =
@@ -68,7 +65,7 @@ put_at-requires-2-clause-known g c =
     let after : length c.put_at.new.items.items ≡ n = ap (λ (os : List OutcomeParts). length os) c.put_at.ensures ∙ length-replaced c.in_ok-outcomes.outcomes.items c.as_slice-4.result.now c.in_ok-reused.reused.items ∙ long in
     subst (λ m. All (λ p. p < m) c.as_slice-5.result.now) (sym after)
     (subst (All (λ p. p < n)) (sym (c.as_slice-5.ensures.value ∙ c.in_ok-needed.ensures.needed))
-    (All-filter (differs (g.P.Program.looks c.args.program.now) c.args.old_views.now c.args.views.now) (λ p. p < n) c.args.doubtful.now (differ_below c.args.old_views.now c.args.views.now c.args.doubtful.now c.requires.doubtful)))
+    (All-filter (differs (g.P.Program.looks c.args.program.now) c.args.old_views.now c.args.views.now) (λ p. p < n) c.args.doubtful.now.processes.items (differ_below c.args.old_views.now c.args.views.now c.args.doubtful.now.processes.items c.requires.doubtful.processes)))
 
 pub returns-clause-turns : goal.returns-clause-turns
 returns-clause-turns g c =
@@ -81,11 +78,11 @@ returns-clause-turns g c =
     let taken : c.in_ok-taken.taken.items ≡ turns_of turn c.args.views.now needed = c.in_ok-taken.ensures ∙ ap (turns_of turn c.args.views.now) (c.as_slice-2.ensures.value ∙ sym c.as_slice-5.ensures.value) in
     c.put_at-2.ensures
     ∙ ap (λ (os : List OutcomeParts). replaced os needed c.in_ok-taken.taken.items) c.put_at.ensures
-    ∙ turns_in_place turn looks c.args.old_views.now c.args.views.now c.args.doubtful.now c.in_ok-outcomes.outcomes.items c.in_ok-reused.reused.items c.in_ok-taken.taken.items served needed c.requires.doubtful (c.requires.count some)
+    ∙ turns_in_place turn looks c.args.old_views.now c.args.views.now c.args.doubtful.now.processes.items c.in_ok-outcomes.outcomes.items c.in_ok-reused.reused.items c.in_ok-taken.taken.items served needed c.requires.doubtful.processes (c.requires.count some)
     (c.in_ok-outcomes.ensures ∙ c.requires.recorded) (c.as_slice-4.ensures.value ∙ c.in_ok-needed.ensures.served) (c.as_slice-5.ensures.value ∙ c.in_ok-needed.ensures.needed) reused taken
 
 pub returns-clause-executed : goal.returns-clause-executed
 returns-clause-executed g c =
     let looks = g.P.Program.looks c.args.program.now in
-    let needed = c.as_slice.ensures.value ∙ c.in_ok-needed.ensures.needed ∙ needed_among looks c.args.old_views.now c.args.views.now c.args.doubtful.now c.requires.doubtful in
+    let needed = c.as_slice.ensures.value ∙ c.in_ok-needed.ensures.needed ∙ needed_among looks c.args.old_views.now c.args.views.now c.args.doubtful.now.processes.items c.requires.doubtful.processes in
     c.in_ok-add_places.ensures ∙ ap (λ (ks : List ℕ). c.args.executed.now ++ places_of c.args.step ks) needed

@@ -1,17 +1,23 @@
 use Rattle.std.proofs.Common.{◌∙◌}
 use Rattle.bsp_incr.proofs.Retaking.{marked_differ, all_differ}
-use Rattle.bsp_incr.proofs.turns.doubtful.Goals as goal
-use Rattle.bsp_incr.proofs.turns.doubtful.Goals.{then-is_same_table+in_ok-processes, else-is_same_table+in_ok-processes-2}
+use Rattle.bsp_incr.proofs.doubtful.Doubtful.among.Goals as goal
+use Rattle.bsp_incr.proofs.doubtful.Doubtful.among.Goals.{then-same_table+in_ok-processes, else-same_table+in_ok-processes-2}
 
 pub returns : goal.returns
 returns c =
     let old = c.args.old_views.now in let new = c.args.views.now in
-    elim c.if-is_same_table.branch [
-      | then-is_same_table+in_ok-processes w ↦
-          let same = w.if-is_same_table.true in
-          marked_differ old new c.args.marks.now c.if-is_same_table.processes.items c.requires.marks c.requires.old_table c.requires.table
-          (c.is_same_table.ensures.table same) (c.is_same_table.ensures.tag_size same) (c.requires.count (c.is_same_table.ensures.some same))
-          ((λ i. (w.processes-is i).items) ∙ w.in_ok-processes.ensures)
-      | else-is_same_table+in_ok-processes-2 w ↦
-          all_differ old new c.if-is_same_table.processes.items ((λ i. (w.processes-is i).items) ∙ w.in_ok-processes-2.ensures)
+    elim c.if-same_table.branch [
+      | then-same_table+in_ok-processes w ↦
+          let same = c.is_same_table-same_table.ensures w.if-same_table.true in
+          record {
+            processes = marked_differ old new c.args.marks.now c.if-same_table.processes.items c.requires.marks c.requires.old_table c.requires.table
+                same.table same.tag_size (c.requires.count same.some)
+                ((λ i. (w.processes-is i).items) ∙ w.in_ok-processes.ensures);
+            same_table = c.is_same_table-same_table.ensures;
+          }
+      | else-same_table+in_ok-processes-2 w ↦
+          record {
+            processes = all_differ old new c.if-same_table.processes.items ((λ i. (w.processes-is i).items) ∙ w.in_ok-processes-2.ensures);
+            same_table = c.is_same_table-same_table.ensures;
+          }
     ]

@@ -1,7 +1,5 @@
 use Rattle.std.proofs.Common.{◌≡◌, ◌++◌, ◌∷◌, [], sym, ap, ◌∙◌, length}
 use Rattle.std.proofs.lemmas.Bool.{false≢true}
-use Rattle.std.proofs.lemmas.Bool.Decides.{Decides-eqb}
-use Rattle.std.proofs.lemmas.Slice.Eq.{slice_eq-Decides}
 use Rattle.bsp_model.specs.Inside.Pages.{words_of, HasPages}
 use Rattle.bsp_model.proofs.Pages.{words_len, same_full, same_last, same_words}
 use Rattle.bsp_model.proofs.memory.MemorySame.same.Goals as goal
@@ -26,7 +24,7 @@ returns c =
     let other : HasPages c.other.inside.pages.items c.other.inside.last.items c.self.inside.len = rw c.if-self-other.false c.other.invariant in
     let there : words_of (c.other.inside.pages.items ++ c.other.inside.last.items ∷ []) c.self.inside.len ≡ c.args.other.now = rw c.if-self-other.false c.other.view_is in
     let pages = rw (c.as_slice.ensures.value, c.as_slice-2.ensures.value) at c.are_same_pages.ensures in
-    let last = slice_eq-Decides Decides-eqb c.self.inside.last.items c.other.inside.last.items c.eq.result c.eq.ensures in (
+    let last = rw (c.as_slice-3.ensures.value, c.as_slice-4.ensures.value) at c.are_same_words.ensures in (
       λ h. sym c.self.view_is ∙ same_words _ _ _ _ _ c.self.invariant other (pages.0 c.if-not-are_same_pages.false) (last.0 h) ∙ there,
       λ h. last.1 (same_last _ _ _ _ _ c.self.invariant other (c.self.view_is ∙ h ∙ sym there)),
     )

@@ -5,7 +5,7 @@ use Rattle.bsp_model.specs.declared.request.Message.{Message}
 use Rattle.bsp_deliver.specs.Delivery.{get_write, delivery_parts, next_memory, next_queue}
 use Rattle.bsp_deliver.specs.Inside.Gathering.{overlay, ArePlaces}
 use Rattle.bsp_deliver.proofs.Gathered.{memories_gathered, queues_gathered, zip_maps}
-use Rattle.bsp_deliver.proofs.gathering.deliver_some.Goals as goal
+use Rattle.bsp_deliver.proofs.gathering.deliver_together.Goals as goal
 
 pub cells_of-requires : goal.cells_of-requires
 cells_of-requires c =

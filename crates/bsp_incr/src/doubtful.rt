@@ -1,0 +1,68 @@
+//! Who may see something else in a superstep than in the run before.
+
+ghost use Rattle.std.specs.Prelude.{◌≡◌, ◌<◌, IfOk, length, true};
+ghost use Rattle.bsp_incr.specs.Inside.Marks.{AreMarked, HaveOneTable};
+ghost use Rattle.bsp_incr.specs.Inside.Known.{AreDoubtful, HaveSameTable, IsKnown};
+
+use crate::known_table::KnownTable;
+use crate::looking::see;
+use crate::places::{all_processes, processes_where};
+use bsp_model::{OutOfMemory, Shared};
+use bsp_run::seen_by;
+use bsp_step::View;
+use std::alloc::Global;
+
+/// What may be another in a superstep than in the run before.
+#[derive(Drop)]
+pub struct Doubtful {
+    /// The processes that may see something else, in order.
+    pub processes: Vec<usize>,
+    /// Whether all are known to see the table and the tag size of the run before.
+    pub same_table: bool,
+}
+
+/// Whether the processes of two supersteps see the same table and tag size. False where one of them has no process.
+fn is_same_table(old: &[Shared<View>], new: &[Shared<View>], known: KnownTable) -> bool
+    requires { IsKnown known old.now new.now }
+    ensures { result ≡ true → HaveSameTable old.now new.now }
+{
+    if old.is_empty() || new.is_empty() {
+        return false;
+    }
+    match known {
+        KnownTable::AsBefore => true,
+        KnownTable::Unknown => {
+            let view = seen_by(new, 0);
+            see(old, &view.table, view.tag_size)
+        }
+    }
+}
+
+impl Doubtful {
+    /// The processes that are marked, where the table and the tag size are those of the run before, and else all.
+    pub fn among(
+        alloc: Global,
+        old_views: &[Shared<View>],
+        views: &[Shared<View>],
+        marks: &[bool],
+        known: KnownTable,
+    ) -> Result<Doubtful, OutOfMemory>
+        requires count { 0 < length old_views.now → length old_views.now ≡ length views.now }
+        requires marks { AreMarked old_views.now views.now marks.now }
+        requires old_table { HaveOneTable old_views.now }
+        requires table { HaveOneTable views.now }
+        requires known { IsKnown known old_views.now views.now }
+        ensures { IfOk result (AreDoubtful old_views.now views.now) }
+    {
+        let same_table = is_same_table(old_views, views, known);
+        let processes = if same_table {
+            processes_where(alloc, marks)?
+        } else {
+            all_processes(alloc, views.len())?
+        };
+        Ok(Doubtful {
+            processes,
+            same_table,
+        })
+    }
+}

@@ -1,0 +1,44 @@
+//! The history of a run that was made again.
+
+ghost use Rattle.std.specs.Prelude.{◌≡◌, IfOk, option_map, true};
+ghost use Rattle.std.specs.Option.{ForSome};
+ghost use Rattle.bsp_run.specs.Condition.{is_ended};
+ghost use Rattle.bsp_incr.specs.Inside.Stays.{LinesStayBut, AreProcessesMarked};
+
+use crate::Place;
+use bsp_model::OutOfMemory;
+use bsp_run::{History, Tape};
+use std::alloc::Global;
+
+/// The processes of some places, of so many, by process.
+fn marks_of_places(alloc: Global, nprocs: usize, places: &[Place]) -> Result<Vec<bool>, OutOfMemory>
+    ensures { IfOk result (λ marks. AreProcessesMarked places.now marks.items) }
+{
+    let mut marks = vec![in alloc; false; nprocs]?;
+    for place in places {
+        if place.pid < marks.len() as u64 {
+            marks[place.pid as usize] = true;
+        }
+    }
+    Ok(marks)
+}
+
+/// The history of a run that has ended. It shares the lines of each process that are those of the run before, as those of a process are whose turns
+/// were not taken again.
+pub fn finished(
+    alloc: Global,
+    old: Option<&History>,
+    tape: Tape,
+    nprocs: usize,
+    executed: &[Place],
+) -> Result<History, OutOfMemory>
+    requires ended { is_ended tape.phase ≡ true }
+    requires executed { ForSome (option_map (λ k. k.now) old) (λ r. LinesStayBut r tape executed.now) }
+    ensures { IfOk result (λ history. history ≡ tape) }
+{
+    let Some(history) = old else {
+        return Ok(tape.finish()?);
+    };
+    let marks = marks_of_places(alloc, nprocs, executed)?;
+    Ok(tape.finish_like(history, marks.as_slice())?)
+}

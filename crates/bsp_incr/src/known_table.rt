@@ -1,0 +1,10 @@
+//! What is known of tables, without a look at them.
+
+/// What is known of the table and the tag size of a superstep.
+#[derive(Clone, Copy)]
+pub enum KnownTable {
+    /// They are those of the same superstep of the run before, if that run has such a superstep.
+    AsBefore,
+    /// They may be others.
+    Unknown,
+}
