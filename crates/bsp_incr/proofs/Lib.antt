@@ -27,3 +27,4 @@ pub mod MarkedToo
 pub mod Replying
 pub mod EndLikeness
 pub mod KnownTables
+pub mod MovedAlike

@@ -6,7 +6,7 @@ ghost use Rattle.bsp_incr.specs.Inside.Alike.{AllEndAlike, CostsAlike, EndsAlike
 ghost use Rattle.bsp_incr.specs.Inside.Marks.{OutcomesDifferAtMost};
 
 use crate::doubtful::Doubtful;
-use crate::moving::all_move_alike;
+use crate::moving::{gets_move_alike, puts_move_alike, sends_move_alike};
 use bsp_model::{Same, Shared};
 use bsp_step::Outcome;
 
@@ -23,9 +23,9 @@ fn costs_alike(old: &Outcome, new: &Outcome) -> bool
     ensures { result ≡ true → CostsAlike old.now new.now }
 {
     old.work == new.work
-        && all_move_alike(old.puts.as_slice(), new.puts.as_slice())
-        && all_move_alike(old.gets.as_slice(), new.gets.as_slice())
-        && all_move_alike(old.sends.as_slice(), new.sends.as_slice())
+        && puts_move_alike(&old.puts, &new.puts)
+        && gets_move_alike(old.gets.as_slice(), new.gets.as_slice())
+        && sends_move_alike(&old.sends, &new.sends)
 }
 
 /// Whether two turns ended alike, and asked for the same table and tag size.

@@ -4,6 +4,7 @@ ghost use Rattle.std.specs.Prelude.{◌≡◌, ◌<◌, ◌≤◌, ◌++◌, ◌
 ghost use Rattle.bsp_model.specs.Inside.HeadedRows.{AreEnds, start_at};
 
 use crate::seq::are_same;
+use crate::words::are_same_words;
 use crate::{OutOfMemory, Same, TryCopy};
 use std::alloc::Global;
 use std::marker::Model;
@@ -113,6 +114,6 @@ impl<H: Copy> TryCopy for HeadedRows<H> {
 impl<H: Same> Same for HeadedRows<H> {
     fn same(&self, other: &HeadedRows<H>) -> bool {
         are_same(self.heads.as_slice(), other.heads.as_slice())
-            && are_same(self.words.as_slice(), other.words.as_slice())
+            && are_same_words(self.words.as_slice(), other.words.as_slice())
     }
 }

@@ -7,7 +7,7 @@ use Rattle.bsp_model.proofs.headed_rows.HeadedRowsSame.same.Goals as goal
 pub returns-then-are_same : goal.returns-then-are_same
 returns-then-are_same g c =
     let heads = rw (c.as_slice.ensures.value, c.as_slice-2.ensures.value) at c.are_same.ensures in
-    let words = rw (c.as_slice-then-are_same.ensures.value, c.as_slice-then-are_same-2.ensures.value) at c.are_same-then-are_same.ensures in (
+    let words = rw (c.as_slice-then-are_same.ensures.value, c.as_slice-then-are_same-2.ensures.value) at c.are_same_words.ensures in (
       λ h.
           sym c.self.view_is
           ∙ ap (λ hs. rows_from 0 hs c.self.inside.words.items) (heads.0 c.if-are_same.true)
