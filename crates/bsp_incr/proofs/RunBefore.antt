@@ -1,8 +1,9 @@
 -- The run before, superstep by superstep.
-use Rattle.std.proofs.Common.{◌≡◌, ◌≤◌, ◌<◌, ◌+◌, ℕ, true, false, cond, List, [], Option, None, Some, map, length, get_or, arith, refl, sym, ap, ◌∙◌, subst, inl, inr}
+use Rattle.std.proofs.Common.{◌≡◌, ◌≤◌, ◌<◌, ◌+◌, ℕ, Bool, true, false, cond, List, [], Option, None, Some, map, length, get_or, arith, refl, sym, ap, ◌∙◌, subst, inl, inr}
 use Rattle.std.specs.Prelude.{nat_lt}
 use Rattle.std.proofs.lemmas.Bool.{cases_lt}
 use Rattle.std.proofs.lemmas.Bool.Decides.{nat_tests}
+use Rattle.std.proofs.lemmas.List.{ext_get_or, get_or_default}
 use Rattle.std.proofs.lemmas.Grind.{common_steps}
 use Rattle.bsp_model.specs.declared.input.Input.{Input}
 use Rattle.bsp_model.specs.Input.{input_fault}
@@ -21,8 +22,10 @@ use Rattle.bsp_run.proofs.OneRun.{one_run}
 use Rattle.bsp_run.proofs.Laws.{superstep_at-past_end, taken-opened, taken_outcomes}
 use Rattle.bsp_incr.specs.Inside.Marks.{HaveOneTable, AreDelivered}
 use Rattle.bsp_incr.specs.Exact.{supersteps_before}
-use Rattle.bsp_incr.specs.Inside.Before.{taken_before, outcomes_before, delivered_outcomes, views_after, first_view_before, IsBefore, IsBeforeEdits, HasSameArgs, HasSameMemory}
+use Rattle.bsp_incr.specs.Inside.Before.{taken_before, outcomes_before, delivered_outcomes, views_after, first_view_before, IsBefore, IsBeforeEdits, HasSameArgs, HasSameMemory, AreArgsMarked}
+use Rattle.bsp_incr.specs.Inside.Changes.{processes_where}
 use Rattle.bsp_incr.specs.declared.edit.Edit.{Edit}
+use Rattle.bsp_incr.proofs.Carrying.{not_listed}
 use Rattle.bsp_incr.proofs.Lawful.{edited_count}
 use Rattle.bsp_incr.proofs.Propagation.{one_table, view-in, first_memory, memory-in, queue-in}
 
@@ -43,6 +46,23 @@ first_view turn input k p h l = ap (λ (vs : List ViewParts). get_or vs p no_vie
 -- the arguments and the memory that it had
 pub args_before : (turn : ViewParts → OutcomeParts) (input : Input) (k : Run) (p : ℕ) (h : IsBefore turn input (Some k)) → p < length input.mems → HasSameArgs (Some k) input p → get_or h.input_before.args p [] ≡ get_or input.args p []
 args_before turn input k p h l same = sym (ap (λ (v : ViewParts). v.args) (first_view turn input k p h l)) ∙ same k refl
+
+-- where nobody is marked, the lists of arguments are the same
+pub all_args_before : (turn : ViewParts → OutcomeParts) (input : Input) (k : Run) (always : List Bool) (others : List ℕ) (h : IsBefore turn input (Some k)) → input_fault input ≡ None → AreArgsMarked (Some k) input always
+    → others ≡ processes_where (length always) (λ p. get_or always p false) → others ≡ [] → k.args ≡ input.args
+all_args_before turn input k always others h lawful marked listed none =
+    let i = h.input_before in
+    let test : ℕ → Bool = λ p. get_or always p false in
+    let new = lawful_input input lawful in
+    let old = lawful_input i h.lawful in
+    let long : length i.args ≡ length input.args = old.same_count ∙ h.stands ∙ sym new.same_count in
+    h.law.args
+    ∙ ext_get_or [] i.args input.args long
+    (λ p l.
+    let here : p < length input.mems = omega (arith, l, long, new.same_count) in
+    let there : p < length always = omega (arith, here, marked.count) in
+    let unmarked : test p ≡ false = not_listed test (length always) p [] (sym none ∙ listed) there (λ j m. absurd (omega (arith, m))) in
+    args_before turn input k p h here (marked.clean p here (get_or_default always p true false there ∙ unmarked)))
 
 pub memory_before : (turn : ViewParts → OutcomeParts) (input : Input) (k : Run) (p : ℕ) (h : IsBefore turn input (Some k)) → p < length input.mems → HasSameMemory (Some k) input p → get_or h.input_before.mems p [] ≡ get_or input.mems p []
 memory_before turn input k p h l same = sym (first_memory turn h.input_before p) ∙ sym (ap (λ (v : ViewParts). v.memory) (first_view turn input k p h l)) ∙ same k refl

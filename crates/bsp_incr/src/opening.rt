@@ -1,6 +1,7 @@
 //! The opening of a run, which shares what it can with the run before.
 
-ghost use Rattle.std.specs.Prelude.{◌≡◌, ◌<◌, All, IfOk, None, Some, length, map, option_map};
+ghost use Rattle.std.specs.Prelude.{◌≡◌, ◌<◌, [], All, IfOk, None, Some, length, map, option_map};
+ghost use Rattle.std.specs.Option.{ForSome};
 ghost use Rattle.bsp_model.specs.Input.{input_fault};
 ghost use Rattle.bsp_run.specs.Run.{start, open_views};
 ghost use Rattle.bsp_run.specs.State.{first_state, view_of};
@@ -9,10 +10,10 @@ ghost use Rattle.bsp_incr.specs.Inside.Before.{IsBefore, AreFirstMarked};
 use crate::before::first_views_before;
 use crate::places::processes_where;
 use crate::replacing::{copied, put_at};
-use bsp_model::{Input, OutOfMemory, Shared, SharedSeq};
-use bsp_run::{History, RunError, Tape, first_view};
+use bsp_model::{Input, OutOfMemory, Shared, SharedSeq, TryCopy};
+use bsp_run::{Arguments, History, Tape, first_view, seen_args};
 use bsp_step::View;
-use std::alloc::{AllocError, Global};
+use std::alloc::Global;
 
 /// What some processes see in superstep 0.
 fn first_views(
@@ -50,25 +51,41 @@ fn views_again(
     Ok(SharedSeq::from_vec(views)?)
 }
 
-/// A run of an input whose superstep 0 is open. Of the run before, if there was one, it takes what the processes see that are not marked.
+/// The arguments of each process: the list of the run before, where nobody has others.
+fn args_again(
+    alloc: Global,
+    old: &History,
+    views: &[Shared<View>],
+    other_args: &[usize],
+) -> Result<Arguments, OutOfMemory>
+    requires { other_args.now ≡ [] → old.now.args ≡ map (λ v. v.args) views.now }
+    ensures { IfOk result (λ args. args ≡ map (λ v. v.args) views.now) }
+{
+    if other_args.is_empty() {
+        return old.args().copy();
+    }
+    seen_args(alloc, views)
+}
+
+/// A run of an input whose superstep 0 is open. Of the run before, if there was one, it takes what the processes see that are not marked, and all
+/// arguments where nobody has others.
 pub fn opened(
     alloc: Global,
     old: Option<&History>,
     input: &Input,
     marks: &[bool],
+    other_args: &[usize],
 ) -> Result<Tape, OutOfMemory>
     requires lawful { input_fault input.now ≡ None }
     requires before { (turn : _) × IsBefore turn input.now (option_map (λ k. k.now) old) }
     requires marks { AreFirstMarked (option_map (λ k. k.now) old) input.now marks.now }
+    requires other_args { other_args.now ≡ [] → ForSome (option_map (λ k. k.now) old) (λ r. r.args ≡ input.now.args) }
     ensures { IfOk result (λ tape. tape ≡ start input.now) }
 {
-    let opened = match old {
-        Some(history) => Tape::open_as(alloc, input, views_again(alloc, history, input, marks)?),
-        None => Tape::open(alloc, input),
+    let Some(history) = old else {
+        return Ok(Tape::open_lawful(alloc, input)?);
     };
-    match opened {
-        Ok(tape) => Ok(tape),
-        Err(RunError::OutOfMemory) => Err(AllocError),
-        Err(RunError::Input(_)) => unreachable!(),
-    }
+    let views = views_again(alloc, history, input, marks)?;
+    let args = args_again(alloc, history, views.as_slice(), other_args)?;
+    Ok(Tape::open_as(alloc, input, args, views)?)
 }

@@ -51,7 +51,7 @@ pub fn rerun<P: Program, G: Gate, R: Threads + Sync>(
         first: mut marks,
     } = marks;
     let other_args = processes_where(alloc, always.as_slice())?;
-    let mut tape = opened(alloc, old, input, marks.as_slice())?;
+    let mut tape = opened(alloc, old, input, marks.as_slice(), other_args.as_slice())?;
     let mut update = Update {
         executed: Seq::new(alloc),
         redelivered: Seq::new(alloc),

@@ -128,14 +128,19 @@ first_tag : (input : Input) → (first_state input).tag_size ≡ 0
 unfolding first_state
 first_tag input = refl
 
+-- the first views show the arguments of the input
+pub seen_first : (input : Input) (vs : List ViewParts) → IsLawfulInput input → vs ≡ open_views (start input) → map (λ (v : ViewParts). v.args) vs ≡ input.args
+seen_first input vs h e =
+    ap (map (λ (v : ViewParts). v.args)) (e ∙ started input)
+    ∙ part_of_views (λ (v : ViewParts). v.args) input.args 0 (first_state input) input.args [] (h.same_count ∙ sym (first_length input)) (λ p. refl)
+
 -- a tape that was opened with the first views is the start of a run
-pub opened_as : (input : Input) (args : List (List ℕ)) (past : List Superstep) (os : List OutcomeParts) (table : List (List Area)) (vs : List ViewParts) → IsLawfulInput input → args ≡ map (λ (v : ViewParts). v.args) vs → past ≡ [] → os ≡ []
+pub opened_as : (input : Input) (args : List (List ℕ)) (past : List Superstep) (os : List OutcomeParts) (table : List (List Area)) (vs : List ViewParts) → IsLawfulInput input → args ≡ input.args → past ≡ [] → os ≡ []
     → table ≡ [] → vs ≡ open_views (start input)
     → record { args = args; limit = input.limit; g = input.g; l = input.l; past = past; state = state_seen vs table 0; outcomes = os; phase = Open } ≡ start input
 unfolding start
 opened_as input args past os table vs h ea ep eo et e =
     let views : vs ≡ views_of input.args 0 (first_state input) = e ∙ started input in
-    let own : args ≡ input.args = ea ∙ ap (map (λ (v : ViewParts). v.args)) views ∙ part_of_views (λ (v : ViewParts). v.args) input.args 0 (first_state input) input.args [] (h.same_count ∙ sym (first_length input)) (λ p. refl) in
     let state : state_seen vs table 0 ≡ first_state input =
     ap (λ (slots : List (List Area)). state_seen vs slots 0) (et ∙ sym (first_slots input)) ∙ ap (state_seen vs (first_state input).table) (sym (first_tag input)) ∙ reopened input.args 0 (first_state input) vs views (first_counts input) in
-    λ i. record { args = own i; limit = input.limit; g = input.g; l = input.l; past = ep i; state = state i; outcomes = eo i; phase = Open }
+    λ i. record { args = ea i; limit = input.limit; g = input.g; l = input.l; past = ep i; state = state i; outcomes = eo i; phase = Open }

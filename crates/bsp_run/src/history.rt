@@ -11,7 +11,7 @@ ghost use Rattle.bsp_run.specs.Result.{status_of, memories_of, lines_of, costs_o
 use crate::costs::{all_costs, total_of};
 use crate::keeping::{is_limit, last_turn};
 use crate::lines::all_lines;
-use crate::{Lines, Phase, RunResult, Status, Superstep, Tape, Views};
+use crate::{Arguments, Lines, Phase, RunResult, Status, Superstep, Tape, Views};
 use bsp_model::{CostRow, Memory, OutOfMemory, Seq, Shared, SharedSeq, TryCopy};
 use bsp_step::{Outcome, View};
 use std::alloc::Global;
@@ -221,6 +221,14 @@ impl History {
             }
             None => None,
         }
+    }
+
+    /// The arguments of each process.
+    pub fn args(&self) -> &Arguments
+        ensures { result.now ≡ self.now.args }
+    {
+        let run = &self.run;
+        &run.args
     }
 
     /// The supersteps that ended by delivery.

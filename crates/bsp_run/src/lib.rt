@@ -23,12 +23,12 @@ mod works;
 
 pub use history::History;
 pub use law::one_run;
-pub use opening::first_view;
+pub use opening::{first_view, seen_args};
 pub use phase::Phase;
 pub use plain::{run_plain, run_result};
 pub use result::{Lines, ProcessFault, RunError, RunResult, Status};
 pub use seen::seen_by;
-pub use superstep::{Outcomes, Superstep, Views};
+pub use superstep::{Arguments, Outcomes, Superstep, Views};
 pub use taking::take_next;
 pub use tape::Tape;
 pub use wide::{run_wide, wide_deliveries, wide_turns};

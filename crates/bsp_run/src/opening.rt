@@ -6,7 +6,7 @@ ghost use Rattle.bsp_step.specs.ViewParts.{IsView};
 ghost use Rattle.bsp_run.specs.State.{first_state, view_of, views_of, no_messages};
 ghost use Rattle.bsp_run.specs.Inside.Opening.{CanOpen, state_of, view_with};
 
-use crate::Views;
+use crate::{Arguments, Views};
 use crate::taking::take_next;
 use bsp_model::{Input, Memory, OutOfMemory, Seq, Shared, SharedSeq, TryCopy, Words};
 use bsp_step::{Queue, View};
@@ -24,15 +24,15 @@ pub fn first_cells(alloc: Global, mems: &[Memory]) -> Result<Vec<(Memory, Queue)
     Ok(cells)
 }
 
-/// The arguments of each process, for views that share them.
-pub fn shared_args(args: &Seq<Words>) -> Result<Seq<SharedSeq<u64>>, OutOfMemory>
+/// The arguments of each process, for views and runs that share them.
+pub fn shared_args(args: &Seq<Words>) -> Result<Arguments, OutOfMemory>
     ensures { IfOk result (λ shared. shared ≡ args.now) }
 {
     let mut shared = Seq::new(args.allocator());
     for words in args.as_slice() {
         shared.push(words.copy()?.share()?)?;
     }
-    Ok(shared)
+    shared.share()
 }
 
 /// One view, of parts within the limits.
@@ -78,14 +78,14 @@ pub fn first_view(alloc: Global, input: &Input, pid: usize) -> Result<Shared<Vie
 }
 
 /// The arguments that the processes see.
-pub fn args_of(alloc: Global, views: &[Shared<View>]) -> Result<Seq<SharedSeq<u64>>, OutOfMemory>
+pub fn seen_args(alloc: Global, views: &[Shared<View>]) -> Result<Arguments, OutOfMemory>
     ensures { IfOk result (λ args. args ≡ map (λ v. v.args) views.now) }
 {
     let mut args = Seq::with_capacity(alloc, views.len())?;
     for view in views {
         args.push(view.args.copy()?)?;
     }
-    Ok(args)
+    args.share()
 }
 
 /// What the processes may see in a superstep.

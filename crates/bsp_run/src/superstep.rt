@@ -9,6 +9,9 @@ pub type Views = SharedSeq<Shared<View>>;
 /// What their turns leave.
 pub type Outcomes = SharedSeq<Shared<Outcome>>;
 
+/// The arguments of each process, by process.
+pub type Arguments = SharedSeq<SharedSeq<u64>>;
+
 /// The views of a superstep and the outcomes of their turns. Records of several runs may share them.
 #[derive(Drop)]
 pub struct Superstep {

@@ -14,10 +14,10 @@ ghost use Rattle.bsp_run.specs.Result.{cost_of_delivery, IsSmall};
 use crate::costs::cost_of_delivery;
 use crate::ending::end_of;
 use crate::keeping::{keep_superstep, next_table, phase_after, phase_at};
-use crate::opening::{args_of, first_cells, open_views, shared_args, view_at};
-use crate::{Outcomes, Phase, RunError, Status, Superstep, Views};
+use crate::opening::{first_cells, open_views, shared_args, view_at};
+use crate::{Arguments, Outcomes, Phase, RunError, Status, Superstep, Views};
 use bsp_deliver::next_tag_size;
-use bsp_model::{CostRow, Input, Memory, OutOfMemory, Seq, Shared, SharedSeq, TryCopy};
+use bsp_model::{CostRow, Input, Memory, OutOfMemory, Shared, SharedSeq, TryCopy};
 use bsp_step::{Outcome, Queue, View};
 use bsp_table::Table;
 use std::alloc::Global;
@@ -26,7 +26,7 @@ use std::marker::Model;
 /// A run while it is recorded: the turns and the deliveries are handed in, superstep by superstep.
 #[derive(Drop)]
 pub struct Tape {
-    pub(crate) args: Seq<SharedSeq<u64>>,
+    pub(crate) args: Arguments,
     pub(crate) limit: u64,
     pub(crate) g: u64,
     pub(crate) l: u64,
@@ -68,21 +68,33 @@ impl Tape {
         ensures input { IfErr result (λ e. input_fault input.now ≡ input_fault_of e) }
     {
         checked(input)?;
+        Ok(Tape::open_lawful(alloc, input)?)
+    }
+
+    /// The same, where the input is known to be lawful.
+    pub fn open_lawful(alloc: Global, input: &Input) -> Result<Tape, OutOfMemory>
+        requires lawful { input_fault input.now ≡ None }
+        ensures { IfOk result (λ tape. tape ≡ start input.now) }
+    {
         let args = shared_args(&input.args)?;
         let cells = first_cells(alloc, input.mems.as_slice())?;
         let table = Table::new(alloc, cells.len())?;
         let views = open_views(alloc, args.as_slice(), 0, cells, &table, 0)?;
-        Ok(Tape::open_as(alloc, input, views)?)
+        Tape::open_as(alloc, input, args, views)
     }
 
-    /// The same, where the views of superstep 0 are given.
-    pub fn open_as(alloc: Global, input: &Input, views: Views) -> Result<Tape, RunError>
-        requires { views ≡ open_views (start input.now) }
-        ensures ok { IfOk result (λ tape. (input_fault input.now ≡ None) × (tape ≡ start input.now)) }
-        ensures input { IfErr result (λ e. input_fault input.now ≡ input_fault_of e) }
+    /// The same, where the arguments are given, and the views of superstep 0.
+    pub fn open_as(
+        alloc: Global,
+        input: &Input,
+        args: Arguments,
+        views: Views,
+    ) -> Result<Tape, OutOfMemory>
+        requires lawful { input_fault input.now ≡ None }
+        requires args { args ≡ input.now.args }
+        requires views { views ≡ open_views (start input.now) }
+        ensures { IfOk result (λ tape. tape ≡ start input.now) }
     {
-        checked(input)?;
-        let args = args_of(alloc, views.as_slice())?;
         let table = Table::new(alloc, input.mems.len())?;
         Ok(Tape {
             args,

@@ -23,7 +23,7 @@ use crate::tape::checked;
 use crate::{Lines, RunError, RunResult, Status, Views};
 use bsp_deliver::{deliver_some, next_tag_size};
 use bsp_model::limits::{HIGHEST_PRICE, MOST_SUPERSTEPS};
-use bsp_model::{CostRow, Input, Memory, OutOfMemory, Seq, Shared, SharedSeq};
+use bsp_model::{CostRow, Input, Memory, OutOfMemory, Seq, Shared};
 use bsp_step::{Outcome, Queue};
 use bsp_table::Table;
 use std::alloc::Global;
@@ -31,7 +31,7 @@ use std::alloc::Global;
 /// What is kept of a run: what the processes see, and the lines and the costs so far.
 #[derive(Drop)]
 pub(crate) struct Unrecorded {
-    pub(crate) args: Seq<SharedSeq<u64>>,
+    pub(crate) args: Arguments,
     pub(crate) views: Views,
     pub(crate) table: Table,
     pub(crate) tag_size: u64,

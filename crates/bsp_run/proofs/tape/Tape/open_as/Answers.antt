@@ -1,7 +1,6 @@
 use Rattle.std.proofs.Common.{◌∙◌, List, All, ap, sym, subst, map}
 use Rattle.std.proofs.lemmas.List.Elements.{All-nil}
 use Rattle.bsp_model.proofs.Inputs.{lawful_input}
-use Rattle.bsp_step.specs.ViewParts.{ViewParts}
 use Rattle.bsp_run.specs.declared.superstep.Superstep.{Superstep}
 use Rattle.bsp_run.specs.Result.{cost_of_delivery, IsSmall}
 use Rattle.bsp_run.specs.Run.{open_views}
@@ -12,20 +11,18 @@ use Rattle.bsp_run.proofs.tape.Tape.open_as.Goals as goal
 pub invariant_of-result : goal.invariant_of-result
 invariant_of-result c =
     let input = c.args.input.now in
-    let h = lawful_input input c.in_ok-checked.ensures.ok in
-    let own = c.in_ok-args.ensures ∙ ap (map (λ (v : ViewParts). v.args)) c.as_slice.ensures in
-    let is = opened_as input c.in_ok-args.args c.new-2.result.items c.new-4.result c.in_ok-table.table c.args.views h own c.new-2.ensures.items c.new-4.ensures c.in_ok-table.ensures c.requires in
+    let h = lawful_input input c.requires.lawful in
+    let is = opened_as input c.args.args c.new-2.result.items c.new-4.result c.in_ok-table.table c.args.views h c.requires.args c.new-2.ensures.items c.new-4.ensures c.in_ok-table.ensures c.requires.views in
     record {
-      views = c.requires ∙ ap open_views (sym is);
+      views = c.requires.views ∙ ap open_views (sym is);
       run = subst IsRun (sym is) (start_is_run input h);
       costs = c.new-3.ensures.items ∙ sym (ap (λ (past : List Superstep). map (cost_of_delivery input.g input.l) (map (λ (s : Superstep). s.outcomes) past)) c.new-2.ensures.items);
       small = subst (All IsSmall) (sym c.new-3.ensures.items) (All-nil IsSmall);
     }
 
-pub returns-clause-ok : goal.returns-clause-ok
-returns-clause-ok c =
+pub returns : goal.returns
+returns c =
     let input = c.args.input.now in
-    let h = lawful_input input c.in_ok-checked.ensures.ok in
-    let own = c.in_ok-args.ensures ∙ ap (map (λ (v : ViewParts). v.args)) c.as_slice.ensures in
-    let is = opened_as input c.in_ok-args.args c.new-2.result.items c.new-4.result c.in_ok-table.table c.args.views h own c.new-2.ensures.items c.new-4.ensures c.in_ok-table.ensures c.requires in
-    (c.in_ok-checked.ensures.ok, is)
+    let h = lawful_input input c.requires.lawful in
+    let is = opened_as input c.args.args c.new-2.result.items c.new-4.result c.in_ok-table.table c.args.views h c.requires.args c.new-2.ensures.items c.new-4.ensures c.in_ok-table.ensures c.requires.views in
+    is

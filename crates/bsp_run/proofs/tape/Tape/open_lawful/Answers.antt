@@ -3,17 +3,17 @@ use Rattle.bsp_model.proofs.Inputs.{lawful_input}
 use Rattle.bsp_run.specs.State.{no_messages, views_of}
 use Rattle.bsp_run.specs.Inside.Opening.{state_of}
 use Rattle.bsp_run.proofs.Opens.{can_open_first, first_is, started}
-use Rattle.bsp_run.proofs.tape.Tape.open.Goals as goal
+use Rattle.bsp_run.proofs.tape.Tape.open_lawful.Goals as goal
 
 pub open_views-requires : goal.open_views-requires
 open_views-requires c =
     let input = c.args.input.now in
-    let h = lawful_input input c.in_ok-checked.ensures.ok in
+    let h = lawful_input input c.requires in
     let cells = c.in_ok-cells.ensures ∙ ap (map (λ m. (m, no_messages m))) c.as_slice.ensures in
     can_open_first input c.as_slice-2.result.now c.in_ok-cells.cells.items c.in_ok-table.table h (c.as_slice-2.ensures ∙ c.in_ok-args.ensures) cells c.in_ok-table.ensures
 
-pub open_as-requires : goal.open_as-requires
-open_as-requires c =
+pub open_as-requires-clause-views : goal.open_as-requires-clause-views
+open_as-requires-clause-views c =
     let input = c.args.input.now in
     let cells = c.in_ok-cells.ensures ∙ ap (map (λ m. (m, no_messages m))) c.as_slice.ensures in
     c.in_ok-views.ensures ∙ ap (λ xs. views_of xs 0 (state_of c.in_ok-cells.cells.items c.in_ok-table.table 0)) (c.as_slice-2.ensures ∙ c.in_ok-args.ensures)
