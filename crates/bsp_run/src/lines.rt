@@ -111,7 +111,8 @@ fn place_behind_printed(
 ) -> Option<usize>
     requires { at ≤ length lines.now }
     ensures inside { IfSome result (λ behind. behind ≤ length lines.now) }
-    ensures same { IfSome result (λ behind. take behind lines.now ≡ take at lines.now ++ (outcome_of outcomes.now pid).lines) }
+    ensures same { IfSome result
+        (λ behind. take behind lines.now ≡ take at lines.now ++ (outcome_of outcomes.now pid).lines) }
 {
     match outcomes.get(pid) {
         Some(outcome) => place_behind(lines, at, &outcome.lines),
