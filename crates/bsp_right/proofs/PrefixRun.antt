@@ -1,5 +1,5 @@
 -- The run of prefix sums.
-use Rattle.std.proofs.Common.{All, ◌≤◌, ◌%◌, ◌++◌, ◌<◌, [], ◌^◌, ap, arith, get_or, length, map, refl, suc, zero, ℕ, ◌∙◌, ◌∷◌, ◌≡◌}
+use Rattle.std.proofs.Common.{All, ◌≤◌, ◌%◌, ◌++◌, ◌<◌, [], ◌^◌, ap, arith, get_or, length, map, suc, zero, ℕ, ◌∙◌, ◌∷◌, ◌≡◌}
 use Rattle.std.specs.List.{range_with_len}
 use Rattle.bsp_model.specs.declared.input.Input.{Input}
 use Rattle.bsp_step.specs.OutcomeParts.{OutcomeParts}

@@ -46,8 +46,9 @@ pub record IsBspRun (turn : ViewParts → OutcomeParts) (input : Input) (r : Run
   pub outcomes : (s : ℕ) → s < length (supersteps_of r) → (superstep_at (supersteps_of r) s).outcomes ≡ outcomes_in turn input s
   -- no superstep but the last ends the run
   pub goes_on : (s : ℕ) → s + 1 < length (supersteps_of r) → end_in turn input s ≡ None
-  -- the run has ended as the last one ends it, by fault, sync fault or halt; where that one ends by delivery, at the limit, and then there are as many as the limit
+  -- the run has ended as the last one ends it, by fault, sync fault or halt; where that one ends by delivery, at the limit
   pub phase : r.phase ≡ Ended (unwrap_or (end_in turn input (length (supersteps_of r) - 1)) Limit)
+  -- and then there are as many as the limit
   pub cut : r.phase ≡ Ended Limit → length (supersteps_of r) ≡ input.limit
   -- the state at the end is that of the last superstep, or at the limit that of the one after it, of which no turn is taken
   pub state : r.state ≡ state_at turn input (length r.past)

@@ -22,13 +22,13 @@ outcomes_of supersteps = map (λ s. s.outcomes) supersteps
 abbrev pub open_superstep : Run → Superstep
 open_superstep r = record { views = open_views r; outcomes = r.outcomes }
 
--- the turns of this superstep were taken
+-- the turns of the superstep that is open, or that ended the run, were taken
 abbrev pub has_turns : Phase → Bool
 has_turns Open = false
 has_turns Turned = true
 has_turns (Ended status) = not (is_limit (Ended status))
 
--- The superstep whose turns were taken and that did not end by delivery, if there is one.
+-- that superstep, if its turns were taken
 abbrev pub last_superstep : Run → List Superstep
 last_superstep r = if has_turns r.phase then open_superstep r ∷ [] else []
 
