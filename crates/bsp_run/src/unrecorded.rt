@@ -20,7 +20,7 @@ use crate::lines::{add_all_lines, no_lines, share_lines};
 use crate::opening::{first_cells, open_views, shared_args};
 use crate::supersteps::numbers;
 use crate::tape::checked;
-use crate::{Lines, RunError, RunResult, Status, Views};
+use crate::{Arguments, Lines, RunError, RunResult, Status, Views};
 use bsp_deliver::{deliver_some, next_tag_size};
 use bsp_model::limits::{HIGHEST_PRICE, MOST_SUPERSTEPS};
 use bsp_model::{CostRow, Input, Memory, OutOfMemory, Seq, Shared};

@@ -3,7 +3,7 @@
 ghost use Rattle.std.specs.Prelude.{IsTrue, IfOk, All, ◌<◌, ◌≤◌, ◌+◌, length, slice_index};
 ghost use Rattle.bsp_deliver.specs.Condition.{AreDeliverable, AreRequestsInside, IsGetInside, IsPutInside, sizes_of};
 
-use bsp_model::{Get, Memory, OutOfMemory, Puts, Rows, Seq, Sends, Shared, Stores};
+use bsp_model::{Get, Memory, OutOfMemory, Puts, Rows, Sends, Seq, Shared, Stores};
 use bsp_step::{Ended, Outcome};
 use std::alloc::Global;
 use std::process::Abort;
