@@ -8,7 +8,7 @@ use Rattle.bsp_run.proofs.tape.Tape.open_lawful.Goals as goal
 pub open_views-requires : goal.open_views-requires
 open_views-requires c =
     let input = c.args.input.now in
-    let h = lawful_input input c.requires in
+    let h = lawful_input input c.requires.lawful in
     let cells = c.in_ok-cells.ensures ∙ ap (map (λ m. (m, no_messages m))) c.as_slice.ensures in
     can_open_first input c.as_slice-2.result.now c.in_ok-cells.cells.items c.in_ok-table.table h (c.as_slice-2.ensures ∙ c.in_ok-args.ensures) cells c.in_ok-table.ensures
 
