@@ -59,7 +59,7 @@ fn push_lines_or_silence(text: &mut Vec<u8>, pid: u64, lines: &Lines) -> Result<
     if lines.is_empty() {
         return push_line(text, "silent", &[pid]);
     }
-    push_lines(text, pid, lines.as_slice())
+    push_lines(text, pid, lines)
 }
 
 /// Appends the lines of a process, unless they are the same as before. Whether they are other ones.

@@ -8,7 +8,7 @@ ghost use Rattle.bsp_engine.specs.Text.{fault_word, fault_numbers, process_fault
 use crate::lines::{push_field, push_line, push_long_line, push_memory};
 use crate::places::push_places;
 use bsp_incr::{EditFault, EditRefusal, Update};
-use bsp_model::{CostRow, Fault, Memory, OutOfMemory, Shared, SyncFault, Words};
+use bsp_model::{CostRow, Fault, Memory, OutOfMemory, Shared, SyncFault};
 use bsp_run::{Lines, ProcessFault, RunResult, Status};
 
 fn fault_word(fault: Fault) -> &'static str
@@ -118,11 +118,11 @@ fn push_memories(text: &mut Vec<u8>, memories: &[Memory]) -> Result<(), OutOfMem
     Ok(())
 }
 
-pub fn push_lines(text: &mut Vec<u8>, pid: u64, lines: &[Words]) -> Result<(), OutOfMemory>
+pub fn push_lines(text: &mut Vec<u8>, pid: u64, lines: &Lines) -> Result<(), OutOfMemory>
     ensures { OnOk result (text.new.items ≡ text.old.items ++ print_lines pid lines.now) }
 {
-    for words in lines {
-        push_long_line(text, "print", pid, words.as_slice())?;
+    for place in 0..lines.len() {
+        push_long_line(text, "print", pid, lines.row(place))?;
     }
     Ok(())
 }
@@ -131,7 +131,7 @@ fn push_all_lines(text: &mut Vec<u8>, lines: &[Shared<Lines>]) -> Result<(), Out
     ensures { OnOk result (text.new.items ≡ text.old.items ++ numbered print_lines 0 lines.now) }
 {
     for (pid, lines) in lines.iter().enumerate() {
-        push_lines(text, pid as u64, lines.as_slice())?;
+        push_lines(text, pid as u64, lines)?;
     }
     Ok(())
 }

@@ -28,11 +28,11 @@ fn input(alloc: Global, memories: &[&[u64]], arguments: &[u64]) -> Result<Input,
 
 /// What a process printed, where that is one line of one word.
 fn printed(history: &History, pid: u64) -> Option<u64> {
-    let lines = history.lines(pid)?.as_slice();
-    if lines.len() != 1 || lines[0].len() != 1 {
-        return None;
+    let lines = history.lines(pid)?;
+    match lines.get(0)? {
+        [word] if lines.len() == 1 => Some(*word),
+        _ => None,
     }
-    Some(lines[0].as_slice()[0])
 }
 
 /// Word 0 of a process at the end.

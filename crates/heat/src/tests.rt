@@ -48,11 +48,9 @@ fn word_left(history: &History, pid: u64, address: u64) -> Option<u64> {
 
 /// The only word of the only line that a process printed.
 fn word_printed(history: &History, pid: u64) -> Option<u64> {
-    match history.lines(pid)?.as_slice() {
-        [line] => match line.as_slice() {
-            [word] => Some(*word),
-            _ => None,
-        },
+    let lines = history.lines(pid)?;
+    match lines.get(0)? {
+        [word] if lines.len() == 1 => Some(*word),
         _ => None,
     }
 }

@@ -2,7 +2,7 @@
 
 use super::known::{Known, row};
 use bsp_model::{CostRow, Fault, Input, Memory, OutOfMemory, Seq, Words};
-use bsp_run::{History, ProcessFault, RunError, RunResult, Status, run_plain, run_result};
+use bsp_run::{History, Lines, ProcessFault, RunError, RunResult, Status, run_plain, run_result};
 use bsp_step::Program;
 use std::alloc::Global;
 use std::process::Abort;
@@ -134,12 +134,12 @@ fn has_memories(history: &History, want: &[&[u64]]) -> bool {
     history.memory(want.len() as u64).is_none()
 }
 
-fn are_lines(lines: &[Words], want: &[&[u64]]) -> bool {
+fn are_lines(lines: &Lines, want: &[&[u64]]) -> bool {
     if lines.len() != want.len() {
         return false;
     }
     for i in 0..want.len() {
-        if lines[i].as_slice() != want[i] {
+        if lines.get(i) != Some(want[i]) {
             return false;
         }
     }
@@ -149,7 +149,7 @@ fn are_lines(lines: &[Words], want: &[&[u64]]) -> bool {
 fn has_lines(history: &History, want: &[&[&[u64]]]) -> bool {
     for pid in 0..want.len() {
         match history.lines(pid as u64) {
-            Some(lines) if are_lines(lines.as_slice(), want[pid]) => {}
+            Some(lines) if are_lines(lines, want[pid]) => {}
             _ => return false,
         }
     }
@@ -184,7 +184,7 @@ fn gives_lines(given: &RunResult, want: &[&[&[u64]]]) -> bool {
         return false;
     }
     for pid in 0..want.len() {
-        if !are_lines(lines[pid].as_slice(), want[pid]) {
+        if !are_lines(&lines[pid], want[pid]) {
             return false;
         }
     }
