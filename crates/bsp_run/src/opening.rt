@@ -6,8 +6,8 @@ ghost use Rattle.bsp_step.specs.ViewParts.{IsView};
 ghost use Rattle.bsp_run.specs.State.{first_state, view_of, views_of, no_messages};
 ghost use Rattle.bsp_run.specs.Inside.Opening.{CanOpen, state_of, view_with};
 
-use crate::{Arguments, Views};
 use crate::taking::take_next;
+use crate::{Arguments, Views};
 use bsp_model::{Input, Memory, OutOfMemory, Seq, Shared, SharedSeq, TryCopy, Words};
 use bsp_step::{Queue, View};
 use bsp_table::Table;
