@@ -8,11 +8,11 @@ view_parts v =
       nprocs = v.nprocs;
       pid = v.pid;
       step = v.step;
-      args = v.args;
+      args = v.args.now;
       memory = v.memory;
-      table = v.table;
+      table = v.table.now;
       tag_size = v.tag_size;
-      queue = v.queue;
+      queue = v.queue.now;
     }
 
 abbrev pub IsLawful : Inside → Type 0

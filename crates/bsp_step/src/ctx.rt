@@ -17,7 +17,7 @@ mod remote;
 use crate::{Ended, Outcome, Stop, View};
 use bsp_model::limits::MOST_REQUESTS;
 use bsp_model::{
-    End, Fault, Get, Memory, Message, OutOfMemory, Puts, Rows, Sends, Seq, Stores, TryCopy,
+    End, Fault, Get, Memory, Message, OutOfMemory, Puts, Rows, Sends, Seq, Stores,
 };
 use bsp_table::Area;
 use std::alloc::Global;
@@ -26,7 +26,7 @@ use std::marker::Model;
 /// The state of a turn. After a fault every acting call answers that fault, takes no memory and does nothing; reading calls answer as before.
 #[derive(Drop)]
 pub struct Ctx<'v> {
-    view: &'v View,
+    view: &'v View<'v>,
     alloc: Global,
     memory: Memory,
     left: &'v [Message],
@@ -56,15 +56,15 @@ impl<'v> Model for Ctx<'v> {
 
 impl<'v> Ctx<'v> {
     /// The context in which the turn of a view begins, or `OutOfMemory`.
-    pub fn open(alloc: Global, view: &'v View) -> Result<Ctx<'v>, OutOfMemory>
+    pub fn open(alloc: Global, view: &'v View<'v>) -> Result<Ctx<'v>, OutOfMemory>
         ensures { IfOk result (λ c. c ≡ fresh view.now) }
     {
-        let memory = view.memory.copy()?;
+        let memory = view.memory.to_memory()?;
         Ok(Ctx {
             view,
             alloc,
             memory,
-            left: view.queue.as_slice(),
+            left: view.queue,
             stores: Stores::new(alloc),
             puts: Puts::new(alloc),
             gets: Seq::new(alloc),

@@ -32,7 +32,7 @@ pub trait Program: Sync {
     ghost looks: { Self → ViewParts → ℕ → Bool };
 
     /// Whether the turn at a view may depend on the word at an address of its memory. A program that answers true everywhere is always right.
-    fn looks(&self, view: &View, address: u64) -> bool
+    fn looks(&self, view: &View<'_>, address: u64) -> bool
         ensures { result ≡ looks self.now view.now address };
 
     /// Takes the turn of a process, by the calls of its context. It may stop at its first fault, since later acts do nothing.
@@ -44,7 +44,7 @@ pub trait Program: Sync {
 }
 
 /// The turn of a program at a view, or `OutOfMemory`.
-pub fn turn<P: Program>(alloc: Global, program: &P, view: &View) -> Result<Outcome, OutOfMemory>
+pub fn turn<P: Program>(alloc: Global, program: &P, view: &View<'_>) -> Result<Outcome, OutOfMemory>
     ensures turn { IfOk result (λ o. o ≡ turn_of (P.acts program.now) (P.ending program.now) view.now) }
     ensures limits { IfOk result (λ o. IsOutcome o) }
     ensures issued { IfOk result (λ o. IsOutcomeOf view.now o) }

@@ -1,15 +1,15 @@
 //! What a process sees in a superstep.
 
-use bsp_model::{Memory, Message, OutOfMemory, Same, SharedSeq, TryCopy};
+use bsp_model::{MemoryRef, Message, SharedSeq};
 use bsp_table::Table;
 use std::marker::Model;
 
 /// A message queue: the messages that were sent to a process in the superstep before, by sender, then by issue.
 pub type Queue = SharedSeq<Message>;
 
-/// What a process may see in a superstep (Hill et al. 1998). Its copies share the arguments, the table, the queue and the full pages of the memory.
+/// What a process may see in a superstep (Hill et al. 1998). Its parts are read where they lie.
 #[derive(Drop)]
-pub struct View {
+pub struct View<'a> {
     /// The number of processes, 1 to `MOST_PROCESSES`.
     pub nprocs: u64,
     /// The own number, below `nprocs`.
@@ -17,18 +17,18 @@ pub struct View {
     /// The number of the superstep, from 0.
     pub step: u64,
     /// The own arguments: at most `MOST_ARGUMENTS` words.
-    pub args: SharedSeq<u64>,
+    pub args: &'a [u64],
     /// The own memory: at most `MOST_MEMORY_WORDS` words.
-    pub memory: Memory,
+    pub memory: MemoryRef<'a>,
     /// The registration table: at most `MOST_SLOTS` slots.
-    pub table: Table,
+    pub table: &'a Table,
     /// The tag size in force: at most `MOST_TAG_WORDS` words.
     pub tag_size: u64,
     /// The messages that came: at most `MOST_MESSAGES`.
-    pub queue: Queue,
+    pub queue: &'a [Message],
 }
 
-impl Model for View {
+impl<'a> Model for View<'a> {
     ghost use Rattle.bsp_step.specs.ViewParts.{ViewParts};
 
     ghost Value = { ViewParts };
@@ -38,32 +38,4 @@ impl Model for View {
     ghost view = { view_parts };
 
     ghost invariant = { IsLawful };
-}
-
-impl TryCopy for View {
-    fn copy(&self) -> Result<View, OutOfMemory> {
-        Ok(View {
-            nprocs: self.nprocs,
-            pid: self.pid,
-            step: self.step,
-            args: self.args.copy()?,
-            memory: self.memory.copy()?,
-            table: self.table.copy()?,
-            tag_size: self.tag_size,
-            queue: self.queue.copy()?,
-        })
-    }
-}
-
-impl Same for View {
-    fn same(&self, other: &View) -> bool {
-        self.nprocs == other.nprocs
-            && self.pid == other.pid
-            && self.step == other.step
-            && self.args.same(&other.args)
-            && self.memory.same(&other.memory)
-            && self.table.same(&other.table)
-            && self.tag_size == other.tag_size
-            && self.queue.same(&other.queue)
-    }
 }

@@ -42,7 +42,7 @@ impl<'v> Ctx<'v> {
         ensures few { length self.now.view.args ≤ MOST_ARGUMENTS }
     {
         let view = self.view;
-        view.args.as_slice().get(index as usize).copied()
+        view.args.get(index as usize).copied()
     }
 
     /// The number of 64-bit words of the own memory: at most `MOST_MEMORY_WORDS`, and the same in each superstep.
