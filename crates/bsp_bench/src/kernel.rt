@@ -33,7 +33,7 @@ impl Program for Squaring {
 
     ghost footprint = { λ p. looks_everywhere (λ v. print (word_after p.times v.pid ∷ []) ∷ []) (λ _. Halt) };
 
-    fn looks(&self, _view: &View, _address: u64) -> bool {
+    fn looks(&self, _view: &View<'_>, _address: u64) -> bool {
         true
     }
 

@@ -27,10 +27,10 @@ impl Program for Broadcast {
 
     ghost footprint = { λ _. broadcast_footprint };
 
-    fn looks(&self, view: &View, address: u64) -> bool {
+    fn looks(&self, view: &View<'_>, address: u64) -> bool {
         match view.step {
             0 => false,
-            1 => address == 0 && view.args.as_slice().first() == Some(&view.pid),
+            1 => address == 0 && view.args.first() == Some(&view.pid),
             _ => address == 0,
         }
     }

@@ -49,7 +49,7 @@ impl Program for Bundled {
 
     ghost footprint = { bundled_footprint };
 
-    fn looks(&self, view: &View, address: u64) -> bool {
+    fn looks(&self, view: &View<'_>, address: u64) -> bool {
         match self {
             Bundled::Broadcast(program) => program.looks(view, address),
             Bundled::Prefix(program) => program.looks(view, address),

@@ -34,8 +34,8 @@ impl Program for MatVec {
 
     ghost footprint = { λ _. matvec_footprint };
 
-    fn looks(&self, view: &View, address: u64) -> bool {
-        let Some(&block) = view.args.as_slice().first() else {
+    fn looks(&self, view: &View<'_>, address: u64) -> bool {
+        let Some(&block) = view.args.first() else {
             return false;
         };
         if block > 64 {

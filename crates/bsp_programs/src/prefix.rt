@@ -27,7 +27,7 @@ impl Program for Prefix {
 
     ghost footprint = { λ _. prefix_footprint };
 
-    fn looks(&self, view: &View, address: u64) -> bool {
+    fn looks(&self, view: &View<'_>, address: u64) -> bool {
         if view.step == 0 {
             return false;
         }

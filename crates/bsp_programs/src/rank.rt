@@ -28,7 +28,7 @@ impl Program for Rank {
 
     ghost footprint = { λ _. rank_footprint };
 
-    fn looks(&self, view: &View, address: u64) -> bool {
+    fn looks(&self, view: &View<'_>, address: u64) -> bool {
         match view.step {
             0 => false,
             1 => address == if distance(1) < view.nprocs { 0 } else { 1 },

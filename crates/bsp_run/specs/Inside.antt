@@ -6,3 +6,5 @@ pub mod Unrecorded
 pub mod IsUnrecorded
 pub mod Condition
 pub mod Lines
+pub mod Views
+pub mod ViewsRef

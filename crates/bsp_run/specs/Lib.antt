@@ -10,3 +10,4 @@ pub mod Inside
 pub mod Shares
 pub mod TakingOver
 pub mod SameLines
+pub mod Setting

@@ -20,6 +20,10 @@ pub record State : Type 0 where
 abbrev pub no_messages : List ℕ → List Message
 no_messages memory = []
 
+-- what process p starts with
+abbrev pub first_cell : List (List ℕ) → ℕ → List ℕ × List Message
+first_cell memories p = (slice_index_or memories p [], [])
+
 -- The first state: the input's memories, empty queues, no slots, tag size 0.
 unfoldable pub first_state : Input → State
 first_state input = record { memories = input.mems; queues = map no_messages input.mems; table = []; tag_size = 0 }
@@ -37,6 +41,10 @@ view_of args step s p =
       tag_size = s.tag_size;
       queue = slice_index_or s.queues p [];
     }
+
+-- the memory and the queue that a process sees
+abbrev pub cell_of : ViewParts → List ℕ × List Message
+cell_of v = (v.memory, v.queue)
 
 unfoldable pub views_of : List (List ℕ) → ℕ → State → List ViewParts
 views_of args step s = each_below (length s.memories) (view_of args step s)

@@ -12,8 +12,8 @@ use crate::costs::{all_costs, total_of};
 use crate::keeping::{is_limit, last_turn};
 use crate::lines::all_lines;
 use crate::{Arguments, Lines, Phase, RunResult, Status, Superstep, Tape, Views};
-use bsp_model::{CostRow, Memory, OutOfMemory, Seq, Shared, SharedSeq, TryCopy};
-use bsp_step::{Outcome, View};
+use bsp_model::{CostRow, Memory, MemoryRef, OutOfMemory, Seq, Shared, SharedSeq, TryCopy};
+use bsp_step::Outcome;
 use std::alloc::Global;
 use std::marker::Model;
 
@@ -109,16 +109,15 @@ impl History {
     }
 
     /// The memory of a process: after the last computing, or at `Limit` after the last delivery.
-    pub fn memory(&self, pid: u64) -> Option<&Memory>
-        ensures { option_map (λ m. m.now) result ≡ slice_get (memories_of self.now) pid }
+    pub fn memory(&self, pid: u64) -> Option<MemoryRef<'_>>
+        ensures { result ≡ slice_get (memories_of self.now) pid }
     {
         let run = &self.run;
         if is_limit(&run.phase) {
-            let view = run.views.as_slice().get(pid as usize)?;
-            Some(&view.memory)
+            memory_seen(&run.views, pid as usize)
         } else {
             let outcome = run.outcomes.as_slice().get(pid as usize)?;
-            Some(&outcome.memory)
+            Some(outcome.memory.as_ref())
         }
     }
 
@@ -160,15 +159,27 @@ impl History {
 /// The memories of these views.
 pub(crate) fn memories_of_views(
     alloc: Global,
-    views: &[Shared<View>],
+    views: &Views,
 ) -> Result<Seq<Memory>, OutOfMemory>
     ensures { IfOk result (λ all. all ≡ map (λ v. v.memory) views.now) }
 {
     let mut all = Seq::new(alloc);
-    for view in views {
-        all.push(view.memory.copy()?)?;
+    for pid in 0..views.len() {
+        let view = views.get(pid);
+        all.push(view.memory.to_memory()?)?;
     }
     Ok(all)
+}
+
+/// The memory that a process sees, if there is such a process.
+fn memory_seen(views: &Views, pid: usize) -> Option<MemoryRef<'_>>
+    ensures { result ≡ slice_get (map (λ v. v.memory) views.now) pid }
+{
+    if pid >= views.len() {
+        return None;
+    }
+    let view = views.get(pid);
+    Some(view.memory)
 }
 
 /// The memories of these outcomes.
@@ -187,17 +198,17 @@ pub(crate) fn memories_of_outcomes(
 
 impl History {
     /// The views of a superstep, by process; at `Limit` also of the superstep after the last.
-    pub fn views(&self, step: u64) -> Option<&[Shared<View>]>
+    pub fn views(&self, step: u64) -> Option<&Views>
         ensures { option_map (λ v. v.now) result ≡ slice_get (map (λ s. s.views) (supersteps_opened self.now)) step }
     {
         match self.kept_views(step) {
-            Some(views) => Some(views.as_slice()),
+            Some(views) => Some(views),
             None => None,
         }
     }
 
-    /// The same, as the list that is kept.
-    pub(crate) fn kept_views(&self, step: u64) -> Option<&Views>
+    /// The same, as they are kept.
+    pub(crate) fn kept_views(&self, step: u64) -> Option<&Shared<Views>>
         ensures { option_map (λ v. v.now) result ≡ slice_get (map (λ s. s.views) (supersteps_opened self.now)) step }
     {
         let run = &self.run;
@@ -247,7 +258,7 @@ impl History {
         let run = &self.run;
         let alloc = *run.past.allocator();
         if is_limit(&run.phase) {
-            memories_of_views(alloc, run.views.as_slice())
+            memories_of_views(alloc, &run.views)
         } else {
             memories_of_outcomes(alloc, run.outcomes.as_slice())
         }

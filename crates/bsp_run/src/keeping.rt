@@ -50,9 +50,9 @@ pub fn next_table(table: &Table, outcomes: &[Shared<Outcome>]) -> Result<Table, 
 pub fn keep_superstep(
     past: &mut Vec<Superstep>,
     costs: &mut Vec<CostRow>,
-    views: &mut Views,
+    views: &mut Shared<Views>,
     outcomes: &mut Outcomes,
-    next: Views,
+    next: Shared<Views>,
     row: CostRow,
 ) -> Result<(), OutOfMemory>
     ensures past { OnOk result (past.new.items ≡ past.old.items ++ record { views = views.old; outcomes = outcomes.old } ∷ []) }

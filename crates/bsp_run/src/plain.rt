@@ -13,7 +13,7 @@ ghost use Rattle.bsp_run.specs.RunErrors.{input_fault_of};
 use crate::ending::end_of;
 use crate::supersteps::run_by;
 use crate::unrecorded::{ended, ended_at_limit, go_on, open_unrecorded};
-use crate::{History, RunError, RunResult};
+use crate::{History, RunError, RunResult, Views};
 use bsp_deliver::deliver_some;
 use bsp_model::{Input, Memory, OutOfMemory, Shared};
 use bsp_step::{Outcome, Program, Queue, View, turn};
@@ -23,7 +23,7 @@ use std::alloc::Global;
 fn shared_turn<P: Program>(
     alloc: Global,
     program: &P,
-    view: &View,
+    view: &View<'_>,
 ) -> Result<Shared<Outcome>, OutOfMemory>
     ensures { IfOk result (λ o. o ≡ turn_of (P.acts program.now) (P.ending program.now) view.now) }
 {
@@ -34,7 +34,7 @@ fn shared_turn<P: Program>(
 fn turns<P: Program>(
     alloc: Global,
     program: &P,
-    views: &[Shared<View>],
+    views: &Views,
     processes: &[usize],
 ) -> Result<Vec<Shared<Outcome>>, OutOfMemory>
     requires { All (λ p. p < length views.now) processes.now }
@@ -42,7 +42,7 @@ fn turns<P: Program>(
 {
     let mut outcomes = Vec::with_capacity(alloc, processes.len())?;
     for process in processes {
-        let outcome = shared_turn(alloc, program, &views[*process])?;
+        let outcome = shared_turn(alloc, program, &views.get(*process))?;
         outcomes.push(outcome)?;
     }
     Ok(outcomes)
@@ -60,7 +60,7 @@ pub fn run_plain<P: Program>(alloc: Global, program: &P, input: &Input) -> Resul
         alloc,
         program,
         input,
-        &|program: &P, views: &[Shared<View>], processes: &[usize]| -> Result<
+        &|program: &P, views: &Views, processes: &[usize]| -> Result<
             Vec<Shared<Outcome>>,
             OutOfMemory,
         >
@@ -83,13 +83,13 @@ pub fn run_plain<P: Program>(alloc: Global, program: &P, input: &Input) -> Resul
 fn all_turns<P: Program>(
     alloc: Global,
     program: &P,
-    views: &[Shared<View>],
+    views: &Views,
 ) -> Result<Vec<Shared<Outcome>>, OutOfMemory>
     ensures { IfOk result (λ all. all.items ≡ map (turn_of (P.acts program.now) (P.ending program.now)) views.now) }
 {
     let mut outcomes = Vec::with_capacity(alloc, views.len())?;
-    for view in views {
-        let outcome = shared_turn(alloc, program, view)?;
+    for pid in 0..views.len() {
+        let outcome = shared_turn(alloc, program, &views.get(pid))?;
         outcomes.push(outcome)?;
     }
     Ok(outcomes)
@@ -107,7 +107,7 @@ fn unrecorded_result<P: Program>(
 {
     let mut kept = open_unrecorded(alloc, input)?;
     for step in 0..input.limit {
-        let outcomes = all_turns(alloc, program, kept.views.as_slice())?;
+        let outcomes = all_turns(alloc, program, &kept.views)?;
         let outcomes = outcomes.as_slice();
         if let Some(status) = end_of(alloc, step, &kept.table, outcomes)? {
             return Ok(ended(alloc, kept, status, outcomes)?);

@@ -1,12 +1,10 @@
 //! A superstep of a run, as it is recorded.
 
+use crate::Views;
 use bsp_model::{Shared, SharedSeq};
-use bsp_step::{Outcome, View};
+use bsp_step::Outcome;
 
-/// What the processes see in a superstep, by process.
-pub type Views = SharedSeq<Shared<View>>;
-
-/// What their turns leave.
+/// What the turns of the processes leave, by process.
 pub type Outcomes = SharedSeq<Shared<Outcome>>;
 
 /// The arguments of each process, by process.
@@ -15,6 +13,6 @@ pub type Arguments = SharedSeq<SharedSeq<u64>>;
 /// The views of a superstep and the outcomes of their turns. Records of several runs may share them.
 #[derive(Drop)]
 pub struct Superstep {
-    pub views: Views,
+    pub views: Shared<Views>,
     pub outcomes: Outcomes,
 }

@@ -11,9 +11,9 @@ ghost use Rattle.bsp_run.specs.Shares.{turns_of, deliveries_to};
 ghost use Rattle.bsp_run.specs.Law.{IsBspRun};
 ghost use Rattle.bsp_run.specs.RunErrors.{input_fault_of};
 
-use crate::{History, RunError, Tape};
+use crate::{History, RunError, Tape, Views};
 use bsp_model::{Input, Memory, OutOfMemory, Shared};
-use bsp_step::{Outcome, Program, Queue, View};
+use bsp_step::{Outcome, Program, Queue};
 use std::alloc::Global;
 
 /// The numbers of so many processes.
@@ -31,7 +31,7 @@ pub fn numbers(alloc: Global, count: usize) -> Result<Vec<usize>, OutOfMemory>
 /// One superstep more of a run that has not ended: its turns and, where it ends by delivery, its deliveries.
 fn advance<
     P: Program,
-    T: Fn(&P, &[Shared<View>], &[usize]) -> Result<Vec<Shared<Outcome>>, OutOfMemory>,
+    T: Fn(&P, &Views, &[usize]) -> Result<Vec<Shared<Outcome>>, OutOfMemory>,
     D: Fn(&[Shared<Outcome>], &[usize]) -> Result<Vec<(Memory, Queue)>, OutOfMemory>,
 >(alloc: Global, program: &P, turns: &T, deliveries: &D, tape: &mut Tape) -> Result<(), OutOfMemory>
     requires open { is_open tape.old.phase ≡ true }
@@ -43,7 +43,7 @@ fn advance<
         → IfOk r (λ all. all.items ≡ deliveries_to os.now ds.now) }
     ensures { OnOk result (tape.new ≡ advance (turn_of (P.acts program.now) (P.ending program.now)) tape.old) }
 {
-    let views = tape.views();
+    let views = tape.open_views();
     let processes = numbers(alloc, views.len())?;
     let outcomes = turns(program, views, processes.as_slice())?;
     let delivers = tape.turned(outcomes)?;
@@ -58,7 +58,7 @@ fn advance<
 /// processes that it is given, and `deliveries` makes the deliveries to those that it is given, in ascending order.
 pub(crate) fn run_by<
     P: Program,
-    T: Fn(&P, &[Shared<View>], &[usize]) -> Result<Vec<Shared<Outcome>>, OutOfMemory>,
+    T: Fn(&P, &Views, &[usize]) -> Result<Vec<Shared<Outcome>>, OutOfMemory>,
     D: Fn(&[Shared<Outcome>], &[usize]) -> Result<Vec<(Memory, Queue)>, OutOfMemory>,
 >(alloc: Global, program: &P, input: &Input, turns: &T, deliveries: &D) -> Result<History, RunError>
     requires turn { (p : _) (views : _) (ps : _) → All (λ k. k < length views.now) ps.now → T.pre turns.now p views ps }

@@ -11,12 +11,13 @@ ghost use Rattle.bsp_run.specs.TakingOver.{CanTakeOver, outcomes_there};
 
 use crate::costs::cost_at;
 use crate::keeping::{keep_superstep, phase_at};
+use crate::next::table_seen;
 use crate::{History, Phase, Tape, Views};
 use bsp_model::{CostRow, OutOfMemory, Shared, SharedSeq, TryCopy};
-use bsp_step::{Outcome, View};
+use bsp_step::Outcome;
 
 /// The list of what the processes see in a superstep.
-fn views_in(history: &History, step: usize) -> Result<Views, OutOfMemory>
+fn views_in(history: &History, step: usize) -> Result<Shared<Views>, OutOfMemory>
     requires { step ≤ length history.now.past }
     ensures { IfOk result (λ views. views ≡ (superstep_at (supersteps_opened history.now) step).views) }
 {
@@ -36,9 +37,7 @@ impl Tape {
     {
         let step = self.past.len();
         let views = views_in(other, step + 1)?;
-        let first: &View = &views.as_slice()[0];
-        let table = first.table.copy()?;
-        let tag_size = first.tag_size;
+        let (table, tag_size) = table_seen(&views)?;
         let run = &other.run;
         let mut outcomes = run.past[step].outcomes.copy()?;
         let row = cost_at(self.g, self.l, &run.costs[step]);

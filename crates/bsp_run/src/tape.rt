@@ -6,17 +6,21 @@ ghost use Rattle.bsp_step.specs.ViewParts.{IsView};
 ghost use Rattle.bsp_deliver.specs.Condition.{AreDeliverable};
 ghost use Rattle.bsp_run.specs.Run.{start, after_turns, after_delivery, open_views};
 ghost use Rattle.bsp_run.specs.Supersteps.{superstep_shown};
-ghost use Rattle.bsp_run.specs.State.{next_state, view_of, views_of};
-ghost use Rattle.bsp_run.specs.Condition.{AreOutcomesOf, deliveries_of, is_turned, is_open};
+ghost use Rattle.bsp_model.specs.Replaced.{replaced, IsAscending};
+ghost use Rattle.bsp_run.specs.State.{next_state, cell_of, first_cell, no_messages};
+ghost use Rattle.bsp_run.specs.Setting.{next_setting, next_views};
+ghost use Rattle.bsp_run.specs.Condition.{AreOutcomesOf, deliveries_of, is_turned, is_open, no_view};
 ghost use Rattle.bsp_run.specs.RunErrors.{input_fault_of};
 ghost use Rattle.bsp_run.specs.Result.{cost_of_delivery, IsSmall};
 
 use crate::costs::cost_of_delivery;
 use crate::ending::end_of;
-use crate::keeping::{keep_superstep, next_table, phase_after, phase_at};
-use crate::opening::{first_cells, open_views, shared_args, view_at};
-use crate::{Arguments, Outcomes, Phase, RunError, Status, Superstep, Views};
-use bsp_deliver::next_tag_size;
+use crate::keeping::{keep_superstep, phase_after, phase_at};
+use crate::next::table_seen;
+use crate::opening::{first_cells, first_cells_of, shared_args};
+use crate::{
+    Arguments, Outcomes, Phase, RunError, Setting, Status, Superstep, Views, ViewsRef,
+};
 use bsp_model::{CostRow, Input, Memory, OutOfMemory, Shared, SharedSeq, TryCopy};
 use bsp_step::{Outcome, Queue, View};
 use bsp_table::Table;
@@ -32,7 +36,7 @@ pub struct Tape {
     pub(crate) l: u64,
     pub(crate) past: Vec<Superstep>,
     pub(crate) costs: Vec<CostRow>,
-    pub(crate) views: Views,
+    pub(crate) views: Shared<Views>,
     pub(crate) outcomes: Outcomes,
     pub(crate) table: Table,
     pub(crate) tag_size: u64,
@@ -78,13 +82,36 @@ impl Tape {
     {
         let args = shared_args(&input.args)?;
         let cells = first_cells(alloc, input.mems.as_slice())?;
-        let table = Table::new(alloc, cells.len())?;
-        let views = open_views(alloc, args.as_slice(), 0, cells, &table, 0)?;
-        Tape::open_as(alloc, input, args, views)
+        let setting = Setting::first(alloc, &args, cells.len())?;
+        let views = Views::open(alloc, setting, cells)?;
+        Tape::open_with(alloc, input, args, views)
+    }
+
+    /// The same, where the arguments are given, and views of superstep 0 that are those of this run but for some processes, in ascending order.
+    pub fn open_like(
+        alloc: Global,
+        input: &Input,
+        args: Arguments,
+        like: &Views,
+        processes: &[usize],
+    ) -> Result<Tape, OutOfMemory>
+        requires lawful { input_fault input.now ≡ None }
+        requires args { args ≡ input.now.args }
+        requires known { All (λ p. p < length input.now.mems) processes.now }
+        requires ascending { IsAscending processes.now }
+        requires like { replaced (map cell_of like.now) processes.now (map (first_cell input.now.mems) processes.now)
+            ≡ map (λ m. (m, no_messages m)) input.now.mems }
+        ensures { IfOk result (λ tape. tape ≡ start input.now) }
+    {
+        let mems = input.mems.as_slice();
+        let cells = first_cells_of(alloc, mems, processes)?;
+        let setting = Setting::first(alloc, &args, mems.len())?;
+        let views = like.replaced(alloc, setting, processes, cells)?;
+        Tape::open_with(alloc, input, args, views)
     }
 
     /// The same, where the arguments are given, and the views of superstep 0.
-    pub fn open_as(
+    fn open_with(
         alloc: Global,
         input: &Input,
         args: Arguments,
@@ -103,7 +130,7 @@ impl Tape {
             l: input.l,
             past: Vec::new(alloc),
             costs: Vec::new(alloc),
-            views,
+            views: Shared::new(alloc, views)?,
             outcomes: SharedSeq::new(),
             table,
             tag_size: 0,
@@ -112,17 +139,25 @@ impl Tape {
     }
 
     /// The views of the open superstep, by process; once the run has ended, those of its last superstep. It takes no memory.
-    pub fn views(&self) -> &[Shared<View>]
-        ensures views { result.now ≡ (superstep_shown self.now).views }
-        ensures limits { self.now.phase ≡ Phase.Open → All IsView result.now }
+    pub fn views(&self) -> ViewsRef<'_>
+        ensures views { result ≡ (superstep_shown self.now).views }
+        ensures limits { self.now.phase ≡ Phase.Open → All IsView result }
     {
         match &self.phase {
             Phase::Ended(Status::Limit) => match self.past.last() {
-                Some(superstep) => superstep.views.as_slice(),
-                None => &[],
+                Some(superstep) => superstep.views.as_ref(),
+                None => ViewsRef::none(),
             },
-            _ => self.views.as_slice(),
+            _ => self.views.as_ref(),
         }
+    }
+
+    /// The views of the open superstep, by process. It takes no memory.
+    pub fn open_views(&self) -> &Views
+        ensures views { result.now ≡ open_views self.now }
+        ensures limits { self.now.phase ≡ Phase.Open → All IsView result.now }
+    {
+        &self.views
     }
 
     /// The outcomes of the open superstep, by process, once they are there; once the run has ended, those of its last superstep.
@@ -163,47 +198,6 @@ impl Tape {
         Ok(goes_on)
     }
 
-    /// The table of the next superstep.
-    pub fn next_table(&self) -> Result<Table, OutOfMemory>
-        requires { self.now.phase ≡ Phase.Turned }
-        ensures { IfOk result (λ t. t ≡ (next_state self.now.state self.now.outcomes).table) }
-    {
-        Ok(next_table(&self.table, self.outcomes.as_slice())?)
-    }
-
-    /// The tag size of the next superstep, in words.
-    pub fn next_tag_size(&self) -> u64
-        requires { self.now.phase ≡ Phase.Turned }
-        ensures { result ≡ (next_state self.now.state self.now.outcomes).tag_size }
-    {
-        next_tag_size(self.tag_size, self.outcomes.as_slice())
-    }
-
-    /// The view of a process in the next superstep, of its next memory and queue. The table and the tag size are those of a view of that superstep.
-    pub fn next_view(
-        &self,
-        like: &View,
-        pid: usize,
-        memory: Memory,
-        queue: Queue,
-    ) -> Result<Shared<View>, OutOfMemory>
-        requires turned { self.now.phase ≡ Phase.Turned }
-        requires known { pid < length self.now.outcomes }
-        requires table { like.now.table ≡ (next_state self.now.state self.now.outcomes).table }
-        requires tag_size { like.now.tag_size ≡ (next_state self.now.state self.now.outcomes).tag_size }
-        requires memory { memory ≡ slice_index_or (next_state self.now.state self.now.outcomes).memories pid [] }
-        requires queue { queue ≡ slice_index_or (next_state self.now.state self.now.outcomes).queues pid [] }
-        ensures { IfOk result (λ v. v ≡ view_of self.now.args (length self.now.past + 1) (next_state self.now.state self.now.outcomes) pid) }
-    {
-        let alloc = *self.past.allocator();
-        let nprocs = self.views.len();
-        let step = self.past.len() as u64 + 1;
-        let args = &self.args.as_slice()[pid];
-        let cell = (memory, queue);
-        let view = view_at(nprocs, pid, step, args, cell, &like.table, like.tag_size)?;
-        Ok(Shared::new(alloc, view)?)
-    }
-
     /// Takes the next memory and queue of each process. True where the next superstep opens; else the limit has ended the run.
     /// After `OutOfMemory` nothing has changed.
     pub fn delivered(&mut self, cells: Vec<(Memory, Queue)>) -> Result<bool, OutOfMemory>
@@ -214,10 +208,8 @@ impl Tape {
         ensures err { OnErr result (self.new ≡ self.old) }
     {
         let alloc = *self.past.allocator();
-        let table = self.next_table()?;
-        let tag_size = self.next_tag_size();
-        let step = self.past.len() as u64 + 1;
-        let views = open_views(alloc, self.args.as_slice(), step, cells, &table, tag_size)?;
+        let setting = self.next_setting()?;
+        let views = Views::open(alloc, setting, cells)?;
         let row = self.cost();
         Ok(self.delivered_as(views, row)?)
     }
@@ -235,17 +227,17 @@ impl Tape {
     /// `OutOfMemory` nothing has changed.
     pub fn delivered_as(&mut self, views: Views, row: CostRow) -> Result<bool, OutOfMemory>
         requires turned { self.old.phase ≡ Phase.Turned }
-        requires views { views ≡ views_of self.old.args (length self.old.past + 1) (next_state self.old.state self.old.outcomes) }
+        requires views { views ≡ next_views self.old }
         requires row { row ≡ cost_of_delivery self.old.g self.old.l self.old.outcomes }
         requires small { IsSmall row }
         ensures ok { OnOk result (self.new ≡ after_delivery self.old) }
         ensures answer { IfOk result (λ goes_on. goes_on ≡ is_open self.new.phase) }
         ensures err { OnErr result (self.new ≡ self.old) }
     {
+        let alloc = *self.past.allocator();
         let step = self.past.len() as u64 + 1;
-        let first: &View = &views.as_slice()[0];
-        let table = first.table.copy()?;
-        let tag_size = first.tag_size;
+        let views = Shared::new(alloc, views)?;
+        let (table, tag_size) = table_seen(&views)?;
         keep_superstep(
             &mut self.past,
             &mut self.costs,

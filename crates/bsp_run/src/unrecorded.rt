@@ -17,13 +17,13 @@ use crate::costs::{cost_of_delivery, cost_of_end, total_of};
 use crate::history::{memories_of_outcomes, memories_of_views};
 use crate::keeping::next_table;
 use crate::lines::{add_all_lines, no_lines, share_lines};
-use crate::opening::{first_cells, open_views, shared_args};
+use crate::opening::{first_cells, shared_args};
 use crate::supersteps::numbers;
 use crate::tape::checked;
-use crate::{Arguments, Lines, RunError, RunResult, Status, Views};
+use crate::{Arguments, Lines, RunError, RunResult, Setting, Status, Views};
 use bsp_deliver::{deliver_some, next_tag_size};
 use bsp_model::limits::{HIGHEST_PRICE, MOST_SUPERSTEPS};
-use bsp_model::{CostRow, Input, Memory, OutOfMemory, Seq, Shared};
+use bsp_model::{CostRow, Input, Memory, OutOfMemory, Seq, Shared, TryCopy};
 use bsp_step::{Outcome, Queue};
 use bsp_table::Table;
 use std::alloc::Global;
@@ -50,7 +50,8 @@ pub(crate) fn open_unrecorded(alloc: Global, input: &Input) -> Result<Unrecorded
     let cells = first_cells(alloc, input.mems.as_slice())?;
     let lines = no_lines(alloc, cells.len())?;
     let table = Table::new(alloc, cells.len())?;
-    let views = open_views(alloc, args.as_slice(), 0, cells, &table, 0)?;
+    let setting = Setting::first(alloc, &args, cells.len())?;
+    let views = Views::open(alloc, setting, cells)?;
     Ok(Unrecorded {
         args,
         views,
@@ -99,7 +100,13 @@ pub(crate) fn go_on(
     let cells = all_deliveries(alloc, outcomes)?;
     let table = next_table(&kept.table, outcomes)?;
     let tag_size = next_tag_size(kept.tag_size, outcomes);
-    let views = open_views(alloc, kept.args.as_slice(), step, cells, &table, tag_size)?;
+    let setting = Setting {
+        step,
+        args: kept.args.copy()?,
+        table: table.copy()?,
+        tag_size,
+    };
+    let views = Views::open(alloc, setting, cells)?;
     let row = cost_of_delivery(input.g, input.l, outcomes);
     add_all_lines(&mut kept.lines, outcomes)?;
     kept.costs.push(row)?;
@@ -159,7 +166,7 @@ pub(crate) fn ended_at_limit(alloc: Global, kept: Unrecorded) -> Result<RunResul
     }) }
 {
     let total = total_of(kept.costs.as_slice());
-    let memories = memories_of_views(alloc, kept.views.as_slice())?;
+    let memories = memories_of_views(alloc, &kept.views)?;
     Ok(RunResult {
         status: Status::Limit,
         memories,

@@ -11,11 +11,11 @@ ghost use Rattle.bsp_run.specs.RunErrors.{input_fault_of};
 
 use crate::supersteps::run_by;
 use crate::works::{Deliveries, Turns};
-use crate::{History, RunError};
+use crate::{History, RunError, Views};
 use bsp_deliver::{deliver_some, sort_requests};
 use bsp_model::{Input, Memory, OutOfMemory, Shared};
 use bsp_pool::{Gate, phase};
-use bsp_step::{Outcome, Program, Queue, View};
+use bsp_step::{Outcome, Program, Queue};
 use std::alloc::Global;
 use std::thread::Threads;
 
@@ -28,7 +28,7 @@ pub fn wide_turns<P: Program, G: Gate, R: Threads + Sync>(
     rt: &R,
     alloc: Global,
     program: &P,
-    views: &[Shared<View>],
+    views: &Views,
     processes: &[usize],
     workers: usize,
     gate: &G,
@@ -145,7 +145,7 @@ pub fn run_wide<P: Program, G: Gate, R: Threads + Sync>(
         alloc,
         program,
         input,
-        &|program: &P, views: &[Shared<View>], processes: &[usize]| -> Result<
+        &|program: &P, views: &Views, processes: &[usize]| -> Result<
             Vec<Shared<Outcome>>,
             OutOfMemory,
         >

@@ -7,18 +7,18 @@ ghost use Rattle.bsp_deliver.specs.Delivery.{delivery_parts, next_memory, next_q
 ghost use Rattle.bsp_deliver.specs.Sorting.{IsSortedFrom};
 ghost use Rattle.bsp_run.specs.Condition.{no_view};
 
-use crate::seen::seen_by;
+use crate::Views;
 use bsp_deliver::{SortedRequests, deliver_sorted};
 use bsp_model::{Memory, OutOfMemory, Shared};
 use bsp_pool::Work;
-use bsp_step::{Ctx, Outcome, Program, Queue, View};
+use bsp_step::{Ctx, Outcome, Program, Queue};
 use std::alloc::Global;
 
 /// The turns of a program. A job is the number of a process.
 #[derive(Drop)]
 pub struct Turns<'a, P: Program> {
     pub program: &'a P,
-    pub views: &'a [Shared<View>],
+    pub views: &'a Views,
 }
 
 impl<'a, P: Program> Work for Turns<'a, P> {
@@ -33,7 +33,9 @@ impl<'a, P: Program> Work for Turns<'a, P> {
 
     // The calls of `bsp_step::turn`, to which no method of a trait may pass a program.
     fn work(&self, alloc: Global, process: &usize) -> Result<Shared<Outcome>, OutOfMemory> {
-        let mut ctx = Ctx::open(alloc, seen_by(self.views, *process))?;
+        let views = self.views;
+        let view = views.get(*process);
+        let mut ctx = Ctx::open(alloc, &view)?;
         let how = self.program.step(alloc, &mut ctx)?;
         Shared::new(alloc, ctx.close(how))
     }

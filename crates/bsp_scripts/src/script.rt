@@ -82,7 +82,7 @@ impl Program for Script {
 
     ghost footprint = { script_footprint };
 
-    fn looks(&self, view: &View, address: u64) -> bool {
+    fn looks(&self, view: &View<'_>, address: u64) -> bool {
         match self.turn_at(view.step, view.pid) {
             Some(turn) => turn.looks_at(address),
             None => false,

@@ -86,7 +86,7 @@ impl Program for Asks<'_> {
 
     ghost footprint = { λ p. looks_everywhere (asks_acts p) (asks_ending p) };
 
-    fn looks(&self, _view: &View, _address: u64) -> bool {
+    fn looks(&self, _view: &View<'_>, _address: u64) -> bool {
         true
     }
 

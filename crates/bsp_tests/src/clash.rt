@@ -24,7 +24,7 @@ impl Program for Clash {
 
     ghost footprint = { λ _. looks_everywhere (λ v. clash_acts v.step v.pid) (λ v. clash_ending v.step) };
 
-    fn looks(&self, _view: &View, _address: u64) -> bool {
+    fn looks(&self, _view: &View<'_>, _address: u64) -> bool {
         true
     }
 

@@ -26,7 +26,7 @@ impl Program for Hello {
 
     ghost footprint = { λ _. looks_everywhere (λ v. print (v.pid ∷ []) ∷ []) (λ v. Halt) };
 
-    fn looks(&self, _view: &View, _address: u64) -> bool {
+    fn looks(&self, _view: &View<'_>, _address: u64) -> bool {
         true
     }
 

@@ -26,7 +26,7 @@ impl Program for Ring {
 
     ghost footprint = { λ _. looks_everywhere (λ v. (ring_plan v v.memory).acts) (λ v. (ring_plan v v.memory).ending) };
 
-    fn looks(&self, _view: &View, _address: u64) -> bool {
+    fn looks(&self, _view: &View<'_>, _address: u64) -> bool {
         true
     }
 

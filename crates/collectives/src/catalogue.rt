@@ -51,7 +51,7 @@ impl Program for Collective {
 
     ghost footprint = { collective_footprint };
 
-    fn looks(&self, view: &View, address: u64) -> bool {
+    fn looks(&self, view: &View<'_>, address: u64) -> bool {
         match self {
             Collective::Moving(program) => program.looks(view, address),
             Collective::Combining(program) => program.looks(view, address),

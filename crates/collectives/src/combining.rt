@@ -37,7 +37,7 @@ impl Program for Combining {
 
     ghost footprint = { combining_footprint };
 
-    fn looks(&self, view: &View, address: u64) -> bool {
+    fn looks(&self, view: &View<'_>, address: u64) -> bool {
         view.step == 0 && address == 0
     }
 

@@ -45,8 +45,8 @@ impl Program for Moving {
 
     ghost footprint = { moving_footprint };
 
-    fn looks(&self, view: &View, address: u64) -> bool {
-        let Some(&count) = view.args.as_slice().first() else {
+    fn looks(&self, view: &View<'_>, address: u64) -> bool {
+        let Some(&count) = view.args.first() else {
             return false;
         };
         view.step == 0 && address < count && self.is_sender(view)
@@ -59,7 +59,7 @@ impl Program for Moving {
 
 impl Moving {
     /// Whether a process sends its words in superstep 0.
-    fn is_sender(self, view: &View) -> bool
+    fn is_sender(self, view: &View<'_>) -> bool
         ensures { result ≡ is_sender self view.now }
     {
         match self {
@@ -114,10 +114,10 @@ impl Moving {
 }
 
 /// Whether the process is the root.
-fn is_root(view: &View) -> bool
+fn is_root(view: &View<'_>) -> bool
     ensures { result ≡ is_root view.now }
 {
-    match view.args.as_slice().get(1) {
+    match view.args.get(1) {
         Some(&root) => view.pid == root,
         None => view.pid == 0,
     }

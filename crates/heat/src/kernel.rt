@@ -31,8 +31,8 @@ impl Program for Heat {
 
     ghost footprint = { λ _. heat_footprint };
 
-    fn looks(&self, view: &View, address: u64) -> bool {
-        let Some(&time_steps) = view.args.as_slice().first() else {
+    fn looks(&self, view: &View<'_>, address: u64) -> bool {
+        let Some(&time_steps) = view.args.first() else {
             return false;
         };
         let len = view.memory.len() as u64;

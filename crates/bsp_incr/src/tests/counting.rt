@@ -23,7 +23,7 @@ impl<P: Program> Program for Counting<'_, P> {
 
     ghost footprint = { λ c. P.footprint c.program };
 
-    fn looks(&self, view: &View, address: u64) -> bool {
+    fn looks(&self, view: &View<'_>, address: u64) -> bool {
         self.program.looks(view, address)
     }
 
@@ -74,7 +74,7 @@ impl<P: Program> Program for Everywhere<P> {
 
     ghost footprint = { λ e. looks_everywhere (P.acts e.0) (P.ending e.0) };
 
-    fn looks(&self, _view: &View, _address: u64) -> bool {
+    fn looks(&self, _view: &View<'_>, _address: u64) -> bool {
         true
     }
 

@@ -29,7 +29,7 @@ impl<P: Program> Program for Switched<'_, P> {
 
     ghost footprint = { λ s. P.footprint s.program };
 
-    fn looks(&self, view: &View, address: u64) -> bool {
+    fn looks(&self, view: &View<'_>, address: u64) -> bool {
         self.program.looks(view, address)
     }
 

@@ -12,8 +12,8 @@ open_views-requires c =
     let cells = c.in_ok-cells.ensures ∙ ap (map (λ m. (m, no_messages m))) c.as_slice.ensures in
     can_open_first input c.as_slice-2.result.now c.in_ok-cells.cells.items c.in_ok-table.table h (c.as_slice-2.ensures ∙ c.in_ok-args.ensures) cells c.in_ok-table.ensures
 
-pub open_as-requires-clause-views : goal.open_as-requires-clause-views
-open_as-requires-clause-views c =
+pub open_with-requires-clause-views : goal.open_with-requires-clause-views
+open_with-requires-clause-views c =
     let input = c.args.input.now in
     let cells = c.in_ok-cells.ensures ∙ ap (map (λ m. (m, no_messages m))) c.as_slice.ensures in
     c.in_ok-views.ensures ∙ ap (λ xs. views_of xs 0 (state_of c.in_ok-cells.cells.items c.in_ok-table.table 0)) (c.as_slice-2.ensures ∙ c.in_ok-args.ensures)

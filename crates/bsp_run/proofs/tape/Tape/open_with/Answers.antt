@@ -6,7 +6,7 @@ use Rattle.bsp_run.specs.Result.{cost_of_delivery, IsSmall}
 use Rattle.bsp_run.specs.Run.{open_views}
 use Rattle.bsp_run.specs.Condition.{IsRun}
 use Rattle.bsp_run.proofs.Opens.{opened_as, start_is_run}
-use Rattle.bsp_run.proofs.tape.Tape.open_as.Goals as goal
+use Rattle.bsp_run.proofs.tape.Tape.open_with.Goals as goal
 
 pub invariant_of-result : goal.invariant_of-result
 invariant_of-result c =

@@ -1,0 +1,226 @@
+//! What the processes see in a superstep.
+
+ghost use Rattle.std.specs.Prelude.{◌≡◌, ◌<◌, [], All, IfNone, IfOk, IfSome, length, map, nat_eq, slice_index_or};
+ghost use Rattle.bsp_model.specs.Replaced.{replaced, IsAscending};
+ghost use Rattle.bsp_run.specs.State.{cell_of, views_of};
+ghost use Rattle.bsp_run.specs.Condition.{no_view};
+ghost use Rattle.bsp_run.specs.Inside.Opening.{CanOpen, state_of};
+
+use crate::taking::take_next;
+use crate::{Arguments, Setting};
+use bsp_model::{Memories, Memory, OutOfMemory, TryCopy};
+use bsp_step::{Queue, View};
+use std::alloc::Global;
+use std::marker::Model;
+
+/// What the processes see in a superstep, by process. The memories lie in flat lists; what all see alike is kept once.
+#[derive(Drop)]
+pub struct Views {
+    setting: Setting,
+    memories: Memories,
+    queues: Vec<Queue>,
+}
+
+impl Model for Views {
+    ghost use Rattle.std.specs.Prelude.{List};
+    ghost use Rattle.bsp_step.specs.ViewParts.{ViewParts};
+
+    ghost Value = { List ViewParts };
+
+    ghost use Rattle.bsp_run.specs.Inside.Views.{seen_in, IsLawful};
+
+    ghost view = { seen_in };
+
+    ghost invariant = { IsLawful };
+}
+
+/// The memories and the queues of processes, apart.
+fn apart(
+    alloc: Global,
+    cells: Vec<(Memory, Queue)>,
+) -> Result<(Memories, Vec<Queue>), OutOfMemory>
+    ensures memories { IfOk result (λ r. r.0 ≡ map (λ c. c.0) cells.items) }
+    ensures queues { IfOk result (λ r. r.1.items ≡ map (λ c. c.1) cells.items) }
+{
+    let count = cells.len();
+    let mut memories = Memories::with_capacity(alloc, count)?;
+    let mut queues = Vec::with_capacity(alloc, count)?;
+    let mut cells = cells.into_iter();
+    for _pid in 0..count {
+        let (memory, queue) = take_next(&mut cells);
+        memories.push(memory)?;
+        queues.push(queue)?;
+    }
+    Ok((memories, queues))
+}
+
+/// These queues, but for new ones of some processes. Beside them stand the new memories of these processes.
+fn with_cells(
+    alloc: Global,
+    queues: &[Queue],
+    processes: &[usize],
+    cells: Vec<(Memory, Queue)>,
+) -> Result<(Vec<Memory>, Vec<Queue>), OutOfMemory>
+    requires known { All (λ p. p < length queues.now) processes.now }
+    requires count { length cells.items ≡ length processes.now }
+    ensures memories { IfOk result (λ r. r.0.items ≡ map (λ c. c.0) cells.items) }
+    ensures queues { IfOk result (λ r. r.1.items ≡ replaced queues.now processes.now (map (λ c. c.1) cells.items)) }
+{
+    let mut memories = Vec::with_capacity(alloc, processes.len())?;
+    let mut all = Vec::with_capacity(alloc, queues.len())?;
+    for queue in queues {
+        all.push_reserved(queue.copy()?);
+    }
+    let mut cells = cells.into_iter();
+    for process in processes {
+        let (memory, queue) = take_next(&mut cells);
+        memories.push(memory)?;
+        all[*process] = queue;
+    }
+    Ok((memories, all))
+}
+
+impl Views {
+    /// What the processes see with these memories and queues.
+    pub(crate) fn open(
+        alloc: Global,
+        setting: Setting,
+        cells: Vec<(Memory, Queue)>,
+    ) -> Result<Views, OutOfMemory>
+        requires { CanOpen setting.args (state_of cells.items setting.table setting.tag_size) }
+        ensures { IfOk result
+            (λ v. v ≡ views_of setting.args setting.step (state_of cells.items setting.table setting.tag_size)) }
+    {
+        let (memories, queues) = apart(alloc, cells)?;
+        Ok(Views {
+            setting,
+            memories,
+            queues,
+        })
+    }
+
+    /// What the processes see in another setting with the same memories and queues, but for new ones of some processes, which are in ascending order.
+    pub(crate) fn replaced(
+        &self,
+        alloc: Global,
+        setting: Setting,
+        processes: &[usize],
+        cells: Vec<(Memory, Queue)>,
+    ) -> Result<Views, OutOfMemory>
+        requires known { All (λ p. p < length self.now) processes.now }
+        requires ascending { IsAscending processes.now }
+        requires count { length cells.items ≡ length processes.now }
+        requires opens { CanOpen setting.args
+            (state_of (replaced (map cell_of self.now) processes.now cells.items) setting.table setting.tag_size) }
+        ensures { IfOk result (λ v. v ≡ views_of setting.args setting.step
+            (state_of (replaced (map cell_of self.now) processes.now cells.items) setting.table setting.tag_size)) }
+    {
+        let (memories, queues) = with_cells(alloc, self.queues.as_slice(), processes, cells)?;
+        Ok(Views {
+            setting,
+            memories: self.memories.replaced(processes, memories)?,
+            queues,
+        })
+    }
+
+    /// The number of processes.
+    pub fn len(&self) -> usize
+        ensures { result ≡ length self.now }
+    {
+        self.queues.len()
+    }
+
+    /// Whether there is no process.
+    pub fn is_empty(&self) -> bool
+        ensures { result ≡ nat_eq (length self.now) 0 }
+    {
+        self.queues.is_empty()
+    }
+
+    /// What a process sees.
+    pub fn get(&self, pid: usize) -> View<'_>
+        requires { pid < length self.now }
+        ensures { result ≡ slice_index_or self.now pid no_view }
+    {
+        let setting = &self.setting;
+        let args: &Arguments = &setting.args;
+        View {
+            nprocs: self.queues.len() as u64,
+            pid: pid as u64,
+            step: setting.step,
+            args: args.as_slice()[pid].as_slice(),
+            memory: self.memories.get(pid),
+            table: &setting.table,
+            tag_size: setting.tag_size,
+            queue: self.queues[pid].as_slice(),
+        }
+    }
+
+    /// These views, to be read where they lie.
+    pub fn as_ref(&self) -> ViewsRef<'_>
+        ensures { result ≡ self.now }
+    {
+        ViewsRef { views: Some(self) }
+    }
+}
+
+/// What the processes see in a superstep, read where it lies; nothing where there is no such superstep.
+#[derive(Drop)]
+pub struct ViewsRef<'a> {
+    views: Option<&'a Views>,
+}
+
+impl<'a> Model for ViewsRef<'a> {
+    ghost use Rattle.std.specs.Prelude.{List, option_map};
+    ghost use Rattle.bsp_step.specs.ViewParts.{ViewParts};
+    ghost use Rattle.bsp_run.specs.Inside.ViewsRef.{views_there};
+
+    ghost Value = { List ViewParts };
+
+    ghost view = { λ r. views_there (option_map (λ v. v.now) r.views) };
+}
+
+impl<'a> ViewsRef<'a> {
+    /// Where there is no superstep.
+    pub fn none() -> ViewsRef<'a>
+        ensures { result ≡ [] }
+    {
+        ViewsRef { views: None }
+    }
+
+    /// The number of processes.
+    pub fn len(&self) -> usize
+        ensures { result ≡ length self.now }
+    {
+        match self.views {
+            Some(views) => views.len(),
+            None => 0,
+        }
+    }
+
+    /// Whether there is no process.
+    pub fn is_empty(&self) -> bool
+        ensures { result ≡ nat_eq (length self.now) 0 }
+    {
+        self.len() == 0
+    }
+
+    /// The views, where there is such a superstep.
+    pub fn views(&self) -> Option<&'a Views>
+        ensures some { IfSome result (λ views. views.now ≡ self.now) }
+        ensures none { IfNone result (self.now ≡ []) }
+    {
+        self.views
+    }
+
+    /// What a process sees.
+    pub fn get(&self, pid: usize) -> View<'a>
+        requires { pid < length self.now }
+        ensures { result ≡ slice_index_or self.now pid no_view }
+    {
+        match self.views {
+            Some(views) => views.get(pid),
+            None => unreachable!(),
+        }
+    }
+}
