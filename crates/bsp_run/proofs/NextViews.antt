@@ -10,7 +10,7 @@ use Rattle.bsp_run.specs.Inside.Opening.{view_with}
 use Rattle.bsp_run.specs.Condition.{IsRun, IsTurned}
 use Rattle.bsp_run.proofs.Conditions.{count_of_outcomes}
 use Rattle.bsp_run.proofs.Phases.{can_open_next, count-next_state, is_turned_run, next_counts}
-use Rattle.bsp_run.proofs.Views.{view_within}
+use Rattle.bsp_run.proofs.ViewsOfStates.{view_within}
 use Rattle.bsp_run.specs.declared.phase.Phase.TheVariants.{Turned}
 
 -- The parts of a process's view in the next superstep.
