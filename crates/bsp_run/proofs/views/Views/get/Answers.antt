@@ -49,7 +49,8 @@ parts_of c =
     let args : c.as_slice-2.result.now ≡ get_or v.setting.args c.args.pid [] =
     c.as_slice-2.ensures ∙ c.index-as_slice-pid.is ∙ ap (λ (xs : List (List ℕ)). get_or xs c.args.pid c.index-as_slice-pid.result) c.as_slice.ensures
     ∙ get_or_default v.setting.args c.args.pid c.index-as_slice-pid.result [] (omega (arith, l, c.self.invariant.opens.same_args)) in
-    let queue : c.as_slice-3.result.now ≡ get_or v.queues.items c.args.pid [] = ? in
+    let queue : c.as_slice-3.result.now ≡ get_or v.queues.items c.args.pid [] =
+    c.as_slice-3.ensures ∙ c.index.ensures ∙ get_or_default v.queues.items c.args.pid c.index.result.now [] (omega (arith, l, c.self.invariant.queues)) in
     λ i. record { nprocs = count i; pid = c.args.pid; step = v.setting.step; args = args i; memory = c.get.ensures i; table = v.setting.table; tag_size = v.setting.tag_size; queue = queue i }
 
 pub invariant_of-result : goal.invariant_of-result
