@@ -4,6 +4,7 @@ pub mod MadeAgain
 pub mod Pages
 pub mod Ranges
 pub mod Rests
+pub mod RowsBetween
 pub mod RowsOf
 pub mod RowRanges
 pub mod SameRanges

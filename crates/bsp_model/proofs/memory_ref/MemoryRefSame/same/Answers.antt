@@ -13,8 +13,7 @@ returns-then-self-other c =
 pub returns-then-not-are_same_pages : goal.returns-then-not-are_same_pages
 returns-then-not-are_same_pages c =
     let other : HasPages c.other.inside.pages.now c.other.inside.last.now c.self.inside.len = rw c.if-self-other.false c.other.invariant in
-    let there : words_of (c.other.inside.pages.now ++ c.other.inside.last.now ∷ []) c.self.inside.len ≡ c.args.other.now = rw c.if-self-other.false c.other.view_is in
-    (
+    let there : words_of (c.other.inside.pages.now ++ c.other.inside.last.now ∷ []) c.self.inside.len ≡ c.args.other.now = rw c.if-self-other.false c.other.view_is in (
       λ h. absurd (false≢true h),
       λ h. absurd (false≢true (sym c.if-not-are_same_pages.true ∙ c.are_same_pages.ensures.1 (same_full _ _ _ _ _ c.self.invariant other (c.self.view_is ∙ h ∙ sym there)))),
     )
@@ -22,8 +21,7 @@ returns-then-not-are_same_pages c =
 pub returns : goal.returns
 returns c =
     let other : HasPages c.other.inside.pages.now c.other.inside.last.now c.self.inside.len = rw c.if-self-other.false c.other.invariant in
-    let there : words_of (c.other.inside.pages.now ++ c.other.inside.last.now ∷ []) c.self.inside.len ≡ c.args.other.now = rw c.if-self-other.false c.other.view_is in
-    (
+    let there : words_of (c.other.inside.pages.now ++ c.other.inside.last.now ∷ []) c.self.inside.len ≡ c.args.other.now = rw c.if-self-other.false c.other.view_is in (
       λ h. sym c.self.view_is ∙ same_words _ _ _ _ _ c.self.invariant other (c.are_same_pages.ensures.0 c.if-not-are_same_pages.false) (c.are_same_words.ensures.0 h) ∙ there,
       λ h. c.are_same_words.ensures.1 (same_last _ _ _ _ _ c.self.invariant other (c.self.view_is ∙ h ∙ sym there)),
     )
