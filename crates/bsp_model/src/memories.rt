@@ -32,10 +32,7 @@ impl Model for Memories {
 }
 
 /// Adds copies of the full pages of several memories, which share the pages. After `OutOfMemory` some of them are added.
-fn add_copies(
-    pages: &mut Vec<SharedSeq<Page>>,
-    more: &[SharedSeq<Page>],
-) -> Result<(), OutOfMemory>
+fn add_copies(pages: &mut Vec<SharedSeq<Page>>, more: &[SharedSeq<Page>]) -> Result<(), OutOfMemory>
     ensures { OnOk result (pages.new.items ≡ pages.old.items ++ more.now) }
 {
     for full in more {
@@ -49,9 +46,16 @@ impl Memories {
     pub fn with_capacity(alloc: Global, count: usize) -> Result<Memories, OutOfMemory>
         ensures { IfOk result (λ m. m ≡ []) }
     {
+        Memories::with_room(alloc, count, 0)
+    }
+
+    /// No memories, with room for so many, and for so many words behind their full pages.
+    fn with_room(alloc: Global, count: usize, words: usize) -> Result<Memories, OutOfMemory>
+        ensures { IfOk result (λ m. m ≡ []) }
+    {
         Ok(Memories {
             pages: Vec::with_capacity(alloc, count)?,
-            lasts: Rows::with_capacity(alloc, count, 0)?,
+            lasts: Rows::with_capacity(alloc, count, words)?,
         })
     }
 
@@ -115,7 +119,8 @@ impl Memories {
         requires count { length memories.items ≡ length processes.now }
         ensures { IfOk result (λ m. m ≡ replaced self.now processes.now memories.items) }
     {
-        let mut new = Memories::with_capacity(*self.pages.allocator(), self.len())?;
+        let alloc = *self.pages.allocator();
+        let mut new = Memories::with_room(alloc, self.len(), self.lasts.count_of_items())?;
         let mut memories = memories.into_iter();
         for process in processes {
             let done = new.len();

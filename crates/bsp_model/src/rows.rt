@@ -77,6 +77,11 @@ impl<T> Rows<T> {
         self.ends.len()
     }
 
+    /// The number of items of all rows.
+    pub(crate) fn count_of_items(&self) -> usize {
+        self.items.len()
+    }
+
     /// Whether there is no row.
     pub fn is_empty(&self) -> bool
         ensures { result ≡ nat_eq (length self.now) 0 }

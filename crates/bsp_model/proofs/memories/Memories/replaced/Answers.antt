@@ -17,8 +17,8 @@ loop-process-preserved c =
     let items : into_iter_items c.loop-process.memories ≡ memory ∷ into_iter_items c.next.new.self = rw c.unwrap.ensures at c.next.ensures.items in
     let within : get_or processes k 0 < length self = All-get_or (λ p. p < length self) processes k 0 c.loop-process-test.true c.requires.known in
     let next : (length c.push.new.self ≡ get_or processes k 0 + 1)
-        × (replaced (c.push.new.self ++ drop (length c.push.new.self) self) (drop (k + 1) processes) (into_iter_items c.next.new.self)
-            ≡ replaced (front ++ drop (length front) self) (drop k processes) (into_iter_items c.loop-process.memories)) =
+    × (replaced (c.push.new.self ++ drop (length c.push.new.self) self) (drop (k + 1) processes) (into_iter_items c.next.new.self)
+    ≡ replaced (front ++ drop (length front) self) (drop k processes) (into_iter_items c.loop-process.memories)) =
     replaced-next front c.in_ok-new-2.new c.push.new.self self memory processes (into_iter_items c.loop-process.memories) (into_iter_items c.next.new.self) k
     c.loop-process-test.true (c.loop-process.invariant.below k (omega arith) c.loop-process-test.true) within before c.in_ok-push.ensures.ok items in
     record {
