@@ -1,7 +1,7 @@
 use Rattle.std.proofs.Common.{◌≡◌, ◌≤◌, ◌+◌, ◌++◌, List, ℕ, length, take, drop, arith}
 use Rattle.std.proofs.Math.Seq.{take-add}
 use Rattle.std.proofs.lemmas.Grind.{common_steps}
-use Rattle.bsp_model.proofs.memory.Memory.read.Goals as goal
+use Rattle.bsp_model.proofs.memory_ref.MemoryRef.read.Goals as goal
 
 -- the words of a page follow those that were copied before
 read_more : (memory words page all : List ℕ) (start copied count q : ℕ) → copied ≤ length words → take copied words ≡ take copied (drop start memory) → page ≡ take q (drop (start + copied) memory) → count ≤ length page → all ≡ take copied words ++ take count page ++ drop (copied + length (take count page)) words → take (copied + count) all ≡ take (copied + count) (drop start memory)

@@ -1,5 +1,5 @@
 use Rattle.std.proofs.Common.{◌≡◌, ◌≤◌, ◌-◌, length, take, drop}
-use Rattle.bsp_model.proofs.memory.Memory.read.Given as goal
+use Rattle.bsp_model.proofs.memory_ref.MemoryRef.read.Given as goal
 
 -- the words so far are those from the start on
 abbrev pub invariant-loop-copied : goal.invariant-loop-copied

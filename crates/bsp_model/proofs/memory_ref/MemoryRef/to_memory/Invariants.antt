@@ -1,6 +1,6 @@
 use Rattle.std.proofs.Common.{◌≡◌, take, length, vec_len}
 use Rattle.std.specs.Vec.{vec_capacity}
-use Rattle.bsp_model.proofs.memory.MemoryTryCopy.copy.Given as goal
+use Rattle.bsp_model.proofs.memory_ref.MemoryRef.to_memory.Given as goal
 
 abbrev pub invariant-loop-page : goal.invariant-loop-page
 invariant-loop-page l = record {
