@@ -20,17 +20,3 @@ view_within args step s p h same l =
       table = h.table;
       queue = h.queues p [] (omega (arith, same));
     }
-
--- the cell that is first among those that are left
-pub first_left : (cells left : List (List ℕ × List Message)) (p : ℕ) (cell : List ℕ × List Message) → left ≡ drop p cells → p < length cells → cell ≡ get_or left 0 cell → cell ≡ get_or cells p cell
-first_left cells left p cell e l is = is ∙ ap (λ xs. get_or xs 0 cell) e ∙ grind (arith, common_steps)
-
--- the parts of a cell make its view
-pub view_with-at : (args : List (List ℕ)) (nprocs step p tag : ℕ) (own : List ℕ) (cells : List (List ℕ × List Message)) (table : List (List Area)) (cell : List ℕ × List Message)
-    → nprocs ≡ length cells → p < length cells → p < length args → cell ≡ get_or cells p cell → own ≡ get_or args p own → view_with nprocs p step own cell table tag ≡ view_of args step (state_of cells table tag) p
-view_with-at args nprocs step p tag own cells table cell n l k is owned =
-    let count : nprocs ≡ length (map (λ (c : List ℕ × List Message). c.0) cells) = n ∙ sym (length-map cells (λ (c : List ℕ × List Message). c.0)) in
-    let memory : cell.0 ≡ get_or (map (λ (c : List ℕ × List Message). c.0) cells) p [] = ap (λ (c : List ℕ × List Message). c.0) is ∙ sym (get_or-map (λ (c : List ℕ × List Message). c.0) cells p cell [] l) in
-    let queue : cell.1 ≡ get_or (map (λ (c : List ℕ × List Message). c.1) cells) p [] = ap (λ (c : List ℕ × List Message). c.1) is ∙ sym (get_or-map (λ (c : List ℕ × List Message). c.1) cells p cell [] l) in
-    let arguments : own ≡ get_or args p [] = owned ∙ get_or_default args p own [] k in
-    λ i. record { nprocs = count i; pid = p; step = step; args = arguments i; memory = memory i; table = table; tag_size = tag; queue = queue i }
