@@ -1,7 +1,7 @@
 //! Lists that are those of the run before but for some items.
 
 ghost use Rattle.std.specs.Prelude.{◌≡◌, ◌<◌, All, IfOk, length};
-ghost use Rattle.bsp_incr.specs.Inside.Replaced.{replaced};
+ghost use Rattle.bsp_model.specs.Replaced.{replaced};
 
 use bsp_model::{OutOfMemory, Shared, TryCopy};
 use bsp_run::take_next;
