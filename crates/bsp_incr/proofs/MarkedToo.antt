@@ -5,7 +5,7 @@ use Rattle.std.proofs.lemmas.List.{get_or_default}
 use Rattle.std.proofs.lemmas.List.FromFn.{fill_by_all, length-map-range_with_len}
 use Rattle.bsp_deliver.specs.Requests.{each_below}
 use Rattle.bsp_incr.specs.Inside.Changes.{processes_where}
-use Rattle.bsp_incr.specs.Inside.Replaced.{replaced}
+use Rattle.bsp_model.specs.Replaced.{replaced}
 use Rattle.bsp_incr.proofs.Gathering.{answer_at}
 use Rattle.bsp_incr.proofs.Patching.{patched, patched_at, length-replaced}
 

@@ -7,7 +7,7 @@ use Rattle.std.proofs.lemmas.Bool.{cases_lt}
 use Rattle.std.proofs.lemmas.List.{get_or-set_same, get_or-set_other}
 use Rattle.std.proofs.lemmas.List.FromFn.{fill_by_all}
 use Rattle.bsp_deliver.specs.Requests.{each_below}
-use Rattle.bsp_incr.specs.Inside.Replaced.{replaced}
+use Rattle.bsp_model.specs.Replaced.{replaced}
 use Rattle.bsp_incr.specs.Inside.Changes.{processes_where}
 
 pub length-replaced : {X : Type 0} (items : List X) (ps : List ℕ) (xs : List X) → length (replaced items ps xs) ≡ length items

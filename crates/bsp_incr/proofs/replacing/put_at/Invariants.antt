@@ -1,6 +1,6 @@
 use Rattle.std.proofs.Common.{◌≡◌, ◌-◌, length, drop}
 use Rattle.std.specs.Vec.Iter.{into_iter_items, into_iter_len}
-use Rattle.bsp_incr.specs.Inside.Replaced.{replaced}
+use Rattle.bsp_model.specs.Replaced.{replaced}
 use Rattle.bsp_incr.proofs.replacing.put_at.Given as goal
 
 -- what is left to put
