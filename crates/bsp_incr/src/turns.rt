@@ -41,12 +41,7 @@ fn needs_turn<P: Program>(
     if p >= old_views.len() {
         return true;
     }
-    !serves(
-        program,
-        &old_views.get(p),
-        &views.get(p),
-        same_table,
-    )
+    !serves(program, &old_views.get(p), &views.get(p), same_table)
 }
 
 /// Of the doubtful processes, those whose turn has to be taken, and then those for which the recorded one serves.
@@ -92,12 +87,7 @@ fn served_turn<P: Program>(
     requires serves { differs (P.looks program.now) old_views.now views.now p ≡ false }
     ensures { IfOk result (λ o. o ≡ turn_of (P.acts program.now) (P.ending program.now) (slice_index_or views.now p no_view)) }
 {
-    let outcome = reuse(
-        program,
-        &old_views.get(p),
-        &old_outcomes[p],
-        &views.get(p),
-    )?;
+    let outcome = reuse(program, &old_views.get(p), &old_outcomes[p], &views.get(p))?;
     Ok(Shared::new(alloc, outcome)?)
 }
 
