@@ -7,7 +7,7 @@ ghost use Rattle.bsp_engine.specs.Text.{cost_line, memory_line};
 
 use crate::lines::push_line;
 use crate::reporting::{push_cost, push_lines, push_memory_line, push_status};
-use bsp_model::{CostRow, Memory, OutOfMemory, Same, Shared};
+use bsp_model::{CostRow, Memory, MemoryRef, OutOfMemory, Same, Shared};
 use bsp_run::{Lines, RunResult};
 
 /// The item at a place, if there is one.
@@ -23,14 +23,14 @@ pub fn push_other_memory(
     text: &mut Vec<u8>,
     pid: u64,
     old: Option<&Memory>,
-    new: &Memory,
+    new: &MemoryRef<'_>,
 ) -> Result<bool, OutOfMemory>
     ensures text { OnOk result (text.new.items ≡ text.old.items ++
         piece_if memory_line pid (other same_words (option_map (λ m. m.now) old.entry) new.now)) }
     ensures same { IfOk result (λ another. another ≡ false → option_map (λ m. m.now) old.entry ≡ Some new.now) }
 {
     if let Some(old) = old {
-        if new.same(old) {
+        if new.same(&old.as_ref()) {
             return Ok(false);
         }
     }
@@ -47,7 +47,7 @@ fn push_other_memories(
         numbered (piece_if memory_line) 0 (others same_words olds.now news.now)) }
 {
     for (pid, new) in news.iter().enumerate() {
-        push_other_memory(text, pid as u64, item_at(olds, pid), new)?;
+        push_other_memory(text, pid as u64, item_at(olds, pid), &new.as_ref())?;
     }
     Ok(())
 }

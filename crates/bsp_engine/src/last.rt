@@ -77,8 +77,8 @@ fn tell_memory(
     let Some(new) = history.memory(pid as u64) else {
         return Ok(());
     };
-    if push_other_memory(text, pid as u64, item_at(olds.as_slice(), pid), new)? {
-        olds.set(pid, new.copy()?);
+    if push_other_memory(text, pid as u64, item_at(olds.as_slice(), pid), &new)? {
+        olds.set(pid, new.to_memory()?);
     }
     Ok(())
 }
@@ -119,7 +119,7 @@ fn tell_lines(
     let Some(new) = history.lines(pid as u64) else {
         return Ok(());
     };
-    if push_other_lines(text, pid as u64, item_at(olds.as_slice(), pid), new)? {
+    if push_other_lines(text, pid as u64, item_at(olds.as_slice(), pid), &new)? {
         let alloc = olds.allocator();
         olds.set(pid, Shared::new(alloc, new.copy()?)?);
     }

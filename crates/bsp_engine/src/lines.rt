@@ -3,7 +3,7 @@
 ghost use Rattle.std.specs.Prelude.{◌≡◌, ◌++◌, ◌∷◌, ◌*◌, ◌≤◌, OnOk, drop, length};
 ghost use Rattle.bsp_engine.specs.Lines.{field, fields, line};
 
-use bsp_model::{Memory, OutOfMemory};
+use bsp_model::{MemoryRef, OutOfMemory};
 use itoa::write_digits;
 
 /// The most bytes of a number of 64 bits, with the space before it.
@@ -61,7 +61,7 @@ pub fn push_fields(text: &mut Vec<u8>, numbers: &[u64]) -> Result<(), OutOfMemor
 }
 
 /// Appends each word of a memory after a space.
-pub fn push_memory(text: &mut Vec<u8>, memory: &Memory) -> Result<(), OutOfMemory>
+pub fn push_memory(text: &mut Vec<u8>, memory: &MemoryRef<'_>) -> Result<(), OutOfMemory>
     ensures { OnOk result (text.new.items ≡ text.old.items ++ fields memory.now) }
 {
     let mut address = 0;

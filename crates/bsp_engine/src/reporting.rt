@@ -8,7 +8,7 @@ ghost use Rattle.bsp_engine.specs.Text.{fault_word, fault_numbers, process_fault
 use crate::lines::{push_field, push_line, push_long_line, push_memory};
 use crate::places::push_places;
 use bsp_incr::{EditFault, EditRefusal, Update};
-use bsp_model::{CostRow, Fault, Memory, OutOfMemory, Shared, SyncFault};
+use bsp_model::{CostRow, Fault, Memory, MemoryRef, OutOfMemory, Shared, SyncFault};
 use bsp_run::{Lines, ProcessFault, RunResult, Status};
 
 fn fault_word(fault: Fault) -> &'static str
@@ -100,7 +100,11 @@ pub fn push_status(text: &mut Vec<u8>, status: &Status) -> Result<(), OutOfMemor
     }
 }
 
-pub fn push_memory_line(text: &mut Vec<u8>, pid: u64, memory: &Memory) -> Result<(), OutOfMemory>
+pub fn push_memory_line(
+    text: &mut Vec<u8>,
+    pid: u64,
+    memory: &MemoryRef<'_>,
+) -> Result<(), OutOfMemory>
     ensures { OnOk result (text.new.items ≡ text.old.items ++ memory_line pid memory.now) }
 {
     text.extend_from_slice(b"memory")?;
@@ -113,7 +117,7 @@ fn push_memories(text: &mut Vec<u8>, memories: &[Memory]) -> Result<(), OutOfMem
     ensures { OnOk result (text.new.items ≡ text.old.items ++ numbered memory_line 0 memories.now) }
 {
     for (pid, memory) in memories.iter().enumerate() {
-        push_memory_line(text, pid as u64, memory)?;
+        push_memory_line(text, pid as u64, &memory.as_ref())?;
     }
     Ok(())
 }

@@ -1,9 +1,12 @@
 pub mod Inputs
 pub mod IssuedRows
 pub mod MadeAgain
+pub mod PagedMemories
 pub mod Pages
 pub mod Ranges
+pub mod Replaced
 pub mod Rests
+pub mod RowsBetween
 pub mod RowsOf
 pub mod RowRanges
 pub mod SameRanges

@@ -69,15 +69,14 @@ loaded_full full page last words len a v e pages h here there =
     ∙ sym there in
     ap Some (sym w) ∙ sym (slice_get-get_or words a 0 (omega (arith, words_len (full ++ last ∷ []) len words e)))
 
-pub loaded_last : (full : List (List ℕ)) (last words : List ℕ) (len a v : ℕ) → words_of (full ++ last ∷ []) len ≡ words → HasPages full last len → length full ≤ a / 64 → a < len → v ≡ get_or last (a % 64) v → Some v ≡ slice_get words a
-loaded_last full last words len a v e pages h within there =
+pub loaded_last : (full : List (List ℕ)) (last words : List ℕ) (len a : ℕ) → words_of (full ++ last ∷ []) len ≡ words → HasPages full last len → length full ≤ a / 64 → a < len → Some (get_or last (a % 64) 0) ≡ slice_get words a
+loaded_last full last words len a e pages h within =
     let short = pages.short in
     let count = pages.count in
-    let w : get_or words a 0 ≡ v =
+    let w : get_or words a 0 ≡ get_or last (a % 64) 0 =
     ap (λ (ws : List ℕ). get_or ws a 0) (sym e)
     ∙ get_or-words_of (full ++ last ∷ []) len a 0 within
-    ∙ in_last full last a (a % 64) (omega arith) (place_below a)
-    ∙ sym (there ∙ get_or_default last (a % 64) v 0 (omega arith)) in
+    ∙ in_last full last a (a % 64) (omega arith) (place_below a) in
     ap Some (sym w) ∙ sym (slice_get-get_or words a 0 (omega (arith, words_len (full ++ last ∷ []) len words e)))
 
 pub loaded_past : (pages : List (List ℕ)) (words : List ℕ) (len a : ℕ) → words_of pages len ≡ words → len ≤ a → None ≡ slice_get words a

@@ -1,5 +1,5 @@
 -- Rows of words that lie in one list, each with a head.
-use Rattle.std.proofs.Common.{◌≡◌, ◌≤◌, ◌<◌, ℕ, zero, suc, ◌+◌, ◌-◌, List, [], ◌∷◌, ◌++◌, length, get_or, take, drop, refl, sym, ap, ◌∙◌, arith, rules, subst, Some}
+use Rattle.std.proofs.Common.{◌≡◌, ◌≤◌, ◌<◌, ℕ, zero, suc, ◌+◌, ◌-◌, List, [], ◌∷◌, ◌++◌, length, get_or, drop, refl, sym, ap, ◌∙◌, arith, rules, subst, Some}
 use Rattle.std.specs.Prelude.{slice_range, slice_get}
 use Rattle.std.proofs.lemmas.List.{same_lists, places, drop_all, drop-drop, take-append-drop}
 use Rattle.std.proofs.lemmas.List.Edits.{length-between}

@@ -27,16 +27,6 @@ end-within start [] count i are within = absurd (omega arith)
 end-within start (end ∷ ends) count zero are within = start-within end ends count are.1
 end-within start (end ∷ ends) count (suc i) are within = end-within end ends count i are.1 (omega arith)
 
-pub start-below : (start : ℕ) (ends : List ℕ) (count i : ℕ) → AreEnds start ends count → i < length ends → get_or (start ∷ ends) i 0 ≤ get_or ends i 0
-start-below start [] count i are within = absurd (omega arith)
-start-below start (end ∷ ends) count zero are within = are.0
-start-below start (end ∷ ends) count (suc i) are within = start-below end ends count i are.1 (omega arith)
-
--- a row begins where the one before it ends
-pub start-behind : (start : ℕ) (ends : List ℕ) (i : ℕ) → 0 < i → get_or ends (i - 1) 0 ≡ get_or (start ∷ ends) i 0
-start-behind start ends zero some = absurd (omega arith)
-start-behind start ends (suc i) some = let same : suc i - 1 ≡ i = omega arith in ap (λ (k : ℕ). get_or ends k 0) same
-
 -- more rows behind
 
 range-before : {X : Type 0} (items more : List X) (i j : ℕ) → j ≤ length items → slice_range (items ++ more) i j ≡ slice_range items i j

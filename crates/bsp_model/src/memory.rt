@@ -8,8 +8,8 @@ ghost use Rattle.bsp_model.specs.Memory.{memory_written, rest_of_page};
 mod tests;
 
 use crate::page::{Page, WORDS_OF_A_PAGE, replace_words};
-use crate::paging::{are_same_pages, full_pages, write_pages};
-use crate::{OutOfMemory, Same, TryCopy, are_same_words};
+use crate::paging::{full_pages, write_pages};
+use crate::{MemoryRef, OutOfMemory, Same, TryCopy};
 use std::alloc::Global;
 use std::marker::Model;
 
@@ -17,11 +17,11 @@ use std::marker::Model;
 #[derive(Debug, Drop)]
 pub struct Memory {
     /// The pages that are full.
-    pages: Vec<Page>,
+    pub(crate) pages: Vec<Page>,
     /// The words behind them, fewer than a page has. They are this memory's alone.
-    last: Vec<u64>,
+    pub(crate) last: Vec<u64>,
     /// The number of all words.
-    len: usize,
+    pub(crate) len: usize,
 }
 
 impl Model for Memory {
@@ -48,50 +48,49 @@ impl Memory {
         })
     }
 
+    /// This memory, to be read where it lies.
+    #[inline]
+    pub fn as_ref(&self) -> MemoryRef<'_>
+        ensures { result ≡ self.now }
+    {
+        MemoryRef {
+            alloc: *self.pages.allocator(),
+            pages: self.pages.as_slice(),
+            last: self.last.as_slice(),
+            len: self.len,
+        }
+    }
+
     /// The number of words.
+    #[inline]
     pub fn len(&self) -> usize
         ensures { result ≡ length self.now }
     {
-        self.len
+        self.as_ref().len()
     }
 
     /// Whether there is no word.
+    #[inline]
     pub fn is_empty(&self) -> bool
         ensures { result ≡ nat_le (length self.now) 0 }
     {
-        self.len == 0
+        self.as_ref().is_empty()
     }
 
     /// The word at `address`, if there is one.
+    #[inline]
     pub fn load(&self, address: u64) -> Option<u64>
         ensures { result ≡ slice_get self.now address }
     {
-        let number = address as usize / WORDS_OF_A_PAGE;
-        let place = address as usize % WORDS_OF_A_PAGE;
-        if number < self.pages.len() {
-            let page = &self.pages[number];
-            return Some(page.load(place));
-        }
-        if address >= self.len as u64 {
-            return None;
-        }
-        Some(self.last[place])
+        self.as_ref().load(address)
     }
 
     /// The words from `address` on, to the end of the page that they are in: at least one, but none past the end of the memory.
+    #[inline]
     pub fn words_from(&self, address: u64) -> &[u64]
         ensures { result.now ≡ rest_of_page self.now address }
     {
-        let number = address as usize / WORDS_OF_A_PAGE;
-        let place = address as usize % WORDS_OF_A_PAGE;
-        if number < self.pages.len() {
-            let page = &self.pages[number];
-            return page.words_from(place);
-        }
-        if address >= self.len as u64 {
-            return &[];
-        }
-        &self.last[place..]
+        self.as_ref().words_from(address)
     }
 
     /// Copies the words from `start` on to `words`. False, and nothing is copied, where they pass the end.
@@ -100,18 +99,7 @@ impl Memory {
         ensures read { OnTrue result (words.new ≡ take (length words.old) (drop start self.now)) }
         ensures past { OnFalse result (words.new ≡ words.old) }
     {
-        let len = self.len() as u64;
-        if start > len || words.len() as u64 > len - start {
-            return false;
-        }
-        let mut copied = 0;
-        while copied < words.len() {
-            let page = self.words_from(start + copied as u64);
-            let count = page.len().min(words.len() - copied);
-            replace_words(words, copied, &page[..count]);
-            copied += count;
-        }
-        true
+        self.as_ref().read(start, words)
     }
 
     /// Makes `value` the word at `address`. False, and nothing changes, where there is no such word; after `OutOfMemory` nothing has changed.
@@ -157,26 +145,12 @@ impl Memory {
 
 impl TryCopy for Memory {
     fn copy(&self) -> Result<Memory, OutOfMemory> {
-        let mut pages = Vec::with_capacity(*self.pages.allocator(), self.pages.len())?;
-        for page in &self.pages {
-            pages.push_reserved(page.copy()?);
-        }
-        Ok(Memory {
-            pages,
-            last: self.last.clone()?,
-            len: self.len,
-        })
+        self.as_ref().to_memory()
     }
 }
 
 impl Same for Memory {
     fn same(&self, other: &Memory) -> bool {
-        if self.len != other.len {
-            return false;
-        }
-        if !are_same_pages(self.pages.as_slice(), other.pages.as_slice()) {
-            return false;
-        }
-        are_same_words(self.last.as_slice(), other.last.as_slice())
+        self.as_ref().same(&other.as_ref())
     }
 }

@@ -4,30 +4,34 @@ ghost use Rattle.std.specs.Prelude.{◌≡◌, ◌+◌, length, IfOk, nat_le, sl
 ghost use Rattle.std.specs.Bool.{OnTrue, OnFalse};
 ghost use Rattle.bsp_model.specs.Memory.{rest_of_page};
 
-use crate::{Memory, OutOfMemory, Same, TryCopy};
+use crate::page::{Page, WORDS_OF_A_PAGE, replace_words};
+use crate::paging::are_same_pages;
+use crate::{Memory, OutOfMemory, Same, TryCopy, are_same_words};
+use std::alloc::Global;
 use std::marker::Model;
 
 /// The words of a memory, wherever they lie.
 #[derive(Drop)]
 pub struct MemoryRef<'a> {
-    memory: &'a Memory,
+    /// What a memory of these words is kept by.
+    pub(crate) alloc: Global,
+    /// The pages that are full.
+    pub(crate) pages: &'a [Page],
+    /// The words behind them, fewer than a page has.
+    pub(crate) last: &'a [u64],
+    /// The number of all words.
+    pub(crate) len: usize,
 }
 
 impl<'a> Model for MemoryRef<'a> {
-    ghost use Rattle.std.specs.Prelude.{List, ℕ};
+    ghost use Rattle.std.specs.Prelude.{List, ℕ, ◌++◌, ◌∷◌, []};
+    ghost use Rattle.bsp_model.specs.Inside.Pages.{words_of, HasPages};
 
     ghost Value = { List ℕ };
 
-    ghost view = { λ m. m.memory.now };
-}
+    ghost view = { λ m. words_of (m.pages.now ++ m.last.now ∷ []) m.len };
 
-impl Memory {
-    /// This memory, to be read where it lies.
-    pub fn as_ref(&self) -> MemoryRef<'_>
-        ensures { result ≡ self.now }
-    {
-        MemoryRef { memory: self }
-    }
+    ghost invariant = { λ m. HasPages m.pages.now m.last.now m.len };
 }
 
 impl<'a> MemoryRef<'a> {
@@ -35,47 +39,92 @@ impl<'a> MemoryRef<'a> {
     pub fn len(&self) -> usize
         ensures { result ≡ length self.now }
     {
-        let memory = self.memory;
-        memory.len()
+        self.len
     }
 
     /// Whether there is no word.
     pub fn is_empty(&self) -> bool
         ensures { result ≡ nat_le (length self.now) 0 }
     {
-        let memory = self.memory;
-        memory.is_empty()
+        self.len == 0
     }
 
     /// The word at `address`, if there is one.
     pub fn load(&self, address: u64) -> Option<u64>
         ensures { result ≡ slice_get self.now address }
     {
-        let memory = self.memory;
-        memory.load(address)
+        let number = address as usize / WORDS_OF_A_PAGE;
+        let place = address as usize % WORDS_OF_A_PAGE;
+        if number < self.pages.len() {
+            let page = &self.pages[number];
+            return Some(page.load(place));
+        }
+        if address >= self.len as u64 {
+            return None;
+        }
+        Some(self.last[place])
     }
 
     /// The words from `address` on, to the end of the page that they are in: at least one, but none past the end of the memory.
     pub fn words_from(&self, address: u64) -> &'a [u64]
         ensures { result.now ≡ rest_of_page self.now address }
     {
-        let memory = self.memory;
-        memory.words_from(address)
+        let number = address as usize / WORDS_OF_A_PAGE;
+        let place = address as usize % WORDS_OF_A_PAGE;
+        if number < self.pages.len() {
+            let page = &self.pages[number];
+            return page.words_from(place);
+        }
+        if address >= self.len as u64 {
+            return &[];
+        }
+        &self.last[place..]
+    }
+
+    /// Copies the words from `start` on to `words`. False, and nothing is copied, where they pass the end.
+    pub fn read(&self, start: u64, words: &mut [u64]) -> bool
+        ensures within { result ≡ nat_le (start + length words.old) (length self.now) }
+        ensures read { OnTrue result (words.new ≡ take (length words.old) (drop start self.now)) }
+        ensures past { OnFalse result (words.new ≡ words.old) }
+    {
+        let len = self.len() as u64;
+        if start > len || words.len() as u64 > len - start {
+            return false;
+        }
+        let mut copied = 0;
+        while copied < words.len() {
+            let page = self.words_from(start + copied as u64);
+            let count = page.len().min(words.len() - copied);
+            replace_words(words, copied, &page[..count]);
+            copied += count;
+        }
+        true
     }
 
     /// A memory of these words, which shares the pages that are full, or `OutOfMemory`.
     pub fn to_memory(&self) -> Result<Memory, OutOfMemory>
         ensures { IfOk result (λ m. m ≡ self.now) }
     {
-        let memory = self.memory;
-        memory.copy()
+        let mut pages = Vec::with_capacity(self.alloc, self.pages.len())?;
+        for page in self.pages {
+            pages.push_reserved(page.copy()?);
+        }
+        Ok(Memory {
+            pages,
+            last: self.last.to_vec(self.alloc)?,
+            len: self.len,
+        })
     }
 }
 
 impl<'a> Same for MemoryRef<'a> {
     fn same(&self, other: &MemoryRef<'a>) -> bool {
-        let one = self.memory;
-        let another = other.memory;
-        one.same(another)
+        if self.len != other.len {
+            return false;
+        }
+        if !are_same_pages(self.pages, other.pages) {
+            return false;
+        }
+        are_same_words(self.last, other.last)
     }
 }

@@ -113,15 +113,3 @@ impl Same for Message {
         self.tag.same(&other.tag) && self.words.same(&other.words)
     }
 }
-
-impl TryCopy for Store {
-    fn copy(&self) -> Result<Store, OutOfMemory> {
-        Ok(*self)
-    }
-}
-
-impl Same for Store {
-    fn same(&self, other: &Store) -> bool {
-        *self == *other
-    }
-}

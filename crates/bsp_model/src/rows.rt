@@ -1,6 +1,6 @@
 //! A list of rows, kept in two lists.
 
-ghost use Rattle.std.specs.Prelude.{◌≡◌, ◌<◌, ◌≤◌, ◌+◌, ◌^◌, ◌++◌, ◌∷◌, [], length, map, nat_eq, option_map, slice_get, slice_index, slice_index_or, EachIndex, OnErr, OnOk, vec_capacity, vec_len};
+ghost use Rattle.std.specs.Prelude.{◌≡◌, ◌<◌, ◌≤◌, ◌+◌, ◌^◌, ◌++◌, ◌∷◌, [], length, map, nat_eq, ◌-◌, option_map, slice_get, slice_index, slice_index_or, slice_range, EachIndex, IfOk, OnErr, OnOk, vec_capacity, vec_len};
 ghost use Rattle.bsp_model.specs.Inside.Rows.{AreEnds};
 
 use crate::seq::are_same;
@@ -26,27 +26,36 @@ impl<T> Model for Rows<T> {
     ghost invariant = { λ r. AreEnds 0 r.ends.items (length r.items.items) };
 }
 
-/// Where a row begins, and where it ends.
-fn bounds_of(ends: &[usize], count: usize, number: usize) -> (usize, usize)
+/// Where a row begins; where the last one ends, at the number of rows.
+fn start_of(ends: &[usize], number: usize) -> usize
+    requires { number ≤ length ends.now }
+    ensures { result ≡ slice_index_or (0 ∷ ends.now) number 0 }
+{
+    if number == 0 { 0 } else { ends[number - 1] }
+}
+
+/// Where the rows from `from` on, and before `to`, begin, and where they end.
+fn bounds_of(ends: &[usize], count: usize, from: usize, to: usize) -> (usize, usize)
     requires ends { AreEnds 0 ends.now count }
-    requires row { number < length ends.now }
-    ensures start { result.0 ≡ slice_index_or (0 ∷ ends.now) number 0 }
-    ensures end { result.1 ≡ slice_index_or ends.now number 0 }
+    requires order { from ≤ to }
+    requires rows { to ≤ length ends.now }
+    ensures start { result.0 ≡ slice_index_or (0 ∷ ends.now) from 0 }
+    ensures end { result.1 ≡ slice_index_or (0 ∷ ends.now) to 0 }
     ensures order { result.0 ≤ result.1 }
     ensures inside { result.1 ≤ count }
 {
-    let start = if number == 0 { 0 } else { ends[number - 1] };
-    (start, ends[number])
+    (start_of(ends, from), start_of(ends, to))
 }
 
-/// Adds the ends of rows whose items lie behind so many others. There is room for them.
-fn add_ends(ends: &mut Vec<usize>, before: usize, more: &[usize])
+/// Adds the ends of rows whose items lay behind `start` others and now lie behind `before` others. There is room for them.
+fn add_ends(ends: &mut Vec<usize>, before: usize, start: usize, more: &[usize])
     requires room { vec_len ends.old + length more.now ≤ vec_capacity ends.old }
-    requires fits { EachIndex more.now (λ k. before + slice_index more.now k < 2 ^ 64) }
-    ensures { ends.new.items ≡ ends.old.items ++ map (λ end. before + end) more.now }
+    requires behind { EachIndex more.now (λ k. start ≤ slice_index more.now k) }
+    requires fits { EachIndex more.now (λ k. before + (slice_index more.now k - start) < 2 ^ 64) }
+    ensures { ends.new.items ≡ ends.old.items ++ map (λ end. before + (end - start)) more.now }
 {
     for end in more {
-        ends.push_reserved(before + *end);
+        ends.push_reserved(before + (*end - start));
     }
 }
 
@@ -68,6 +77,11 @@ impl<T> Rows<T> {
         self.ends.len()
     }
 
+    /// The number of items of all rows.
+    pub(crate) fn count_of_items(&self) -> usize {
+        self.items.len()
+    }
+
     /// Whether there is no row.
     pub fn is_empty(&self) -> bool
         ensures { result ≡ nat_eq (length self.now) 0 }
@@ -80,7 +94,7 @@ impl<T> Rows<T> {
         requires { number < length self.now }
         ensures { result.now ≡ slice_index_or self.now number [] }
     {
-        let (start, end) = bounds_of(self.ends.as_slice(), self.items.len(), number);
+        let (start, end) = bounds_of(self.ends.as_slice(), self.items.len(), number, number + 1);
         &self.items[start..end]
     }
 
@@ -96,6 +110,20 @@ impl<T> Rows<T> {
 }
 
 impl<T: Copy> Rows<T> {
+    /// No rows, with room for so many rows and so many items in all, or `OutOfMemory`.
+    pub(crate) fn with_capacity(
+        alloc: Global,
+        rows: usize,
+        items: usize,
+    ) -> Result<Rows<T>, OutOfMemory>
+        ensures { IfOk result (λ r. r ≡ []) }
+    {
+        Ok(Rows {
+            items: Vec::with_capacity(alloc, items)?,
+            ends: Vec::with_capacity(alloc, rows)?,
+        })
+    }
+
     /// Puts a row of these items at the end. After `OutOfMemory` nothing has changed.
     pub fn push(&mut self, row: &[T]) -> Result<(), OutOfMemory>
         ensures ok { OnOk result (self.new ≡ self.old ++ row.now ∷ []) }
@@ -112,10 +140,26 @@ impl<T: Copy> Rows<T> {
         ensures ok { OnOk result (self.new ≡ self.old ++ more.now) }
         ensures err { OnErr result (self.new ≡ self.old) }
     {
-        self.ends.reserve(more.ends.len())?;
+        self.append_range(more, 0, more.len())
+    }
+
+    /// Puts the rows of another list from `from` on, and before `to`, at the end. After `OutOfMemory` nothing has changed.
+    pub(crate) fn append_range(
+        &mut self,
+        more: &Rows<T>,
+        from: usize,
+        to: usize,
+    ) -> Result<(), OutOfMemory>
+        requires order { from ≤ to }
+        requires inside { to ≤ length more.now }
+        ensures ok { OnOk result (self.new ≡ self.old ++ slice_range more.now from to) }
+        ensures err { OnErr result (self.new ≡ self.old) }
+    {
+        let (start, end) = bounds_of(more.ends.as_slice(), more.items.len(), from, to);
+        self.ends.reserve(to - from)?;
         let before = self.items.len();
-        self.items.extend_from_slice(more.items.as_slice())?;
-        add_ends(&mut self.ends, before, more.ends.as_slice());
+        self.items.extend_from_slice(&more.items[start..end])?;
+        add_ends(&mut self.ends, before, start, &more.ends[from..to]);
         Ok(())
     }
 }

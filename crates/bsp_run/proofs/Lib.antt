@@ -1,5 +1,5 @@
 pub mod Lists
-pub mod Views
+pub mod ViewsOfStates
 pub mod Conditions
 pub mod Deliveries
 pub mod Phases

@@ -13,6 +13,7 @@ use Rattle.bsp_step.specs.ViewParts.{ViewParts, IsQueue, IsTableFor, IsShortMess
 use Rattle.bsp_deliver.specs.Condition.{AreDeliverable}
 use Rattle.bsp_step.specs.OutcomeParts.{OutcomeParts}
 use Rattle.bsp_run.specs.declared.phase.Phase.TheVariants.{Open}
+use Rattle.bsp_run.specs.declared.setting.Setting.{Setting}
 use Rattle.bsp_run.specs.declared.superstep.Superstep.{Superstep}
 use Rattle.bsp_run.specs.State.{State, first_state, no_messages, view_of, views_of}
 use Rattle.bsp_run.specs.Run.{start, open_views}
@@ -92,25 +93,20 @@ first_length : (input : Input) → length (first_state input).memories ≡ lengt
 unfolding first_state
 first_length input = refl
 
-pub first_is : (input : Input) (cells : List (List ℕ × List Message)) (table : List (List Area)) → cells ≡ map (λ m. (m, no_messages m)) input.mems → table ≡ [] → state_of cells table 0 ≡ first_state input
-first_is input cells table ec et = ap (λ xs. state_of xs table 0) ec ∙ ap (λ slots. state_of (map (λ m. (m, no_messages m)) input.mems) slots 0) et ∙ first_state-cells input
+-- what all processes see alike in superstep 0
+abbrev pub first_setting : Input → Setting
+first_setting input = record { step = 0; args = input.args; table = []; tag_size = 0 }
 
--- the first cells may be opened
-pub can_open_first : (input : Input) (args : List (List ℕ)) (cells : List (List ℕ × List Message)) (table : List (List Area)) → IsLawfulInput input → args ≡ input.args → cells ≡ map (λ m. (m, no_messages m)) input.mems → table ≡ [] → CanOpen args (state_of cells table 0)
-can_open_first input args cells table h ea ec et =
-    subst (CanOpen args) (sym (first_is input cells table ec et))
-    (subst (λ xs. CanOpen xs (first_state input)) (sym ea)
+first_is : (input : Input) (setting : Setting) (cells : List (List ℕ × List Message)) → setting ≡ first_setting input → cells ≡ map (λ m. (m, no_messages m)) input.mems → state_of cells setting.table setting.tag_size ≡ first_state input
+first_is input setting cells known made =
+    ap (λ (s : Setting). state_of cells s.table s.tag_size) known ∙ ap (λ xs. state_of xs [] 0) made ∙ first_state-cells input
+
+-- the first cells may be opened ..
+pub opens_first : (input : Input) (setting : Setting) (cells : List (List ℕ × List Message)) → IsLawfulInput input → setting ≡ first_setting input → cells ≡ map (λ m. (m, no_messages m)) input.mems → CanOpen setting.args (state_of cells setting.table setting.tag_size)
+opens_first input setting cells h known made =
+    subst (CanOpen setting.args) (sym (first_is input setting cells known made))
+    (subst (λ xs. CanOpen xs (first_state input)) (sym (ap (λ (s : Setting). s.args) known))
     (can_open input.args (first_state input) (first_state_within input h) (h.same_count ∙ sym (first_length input)) h.short_arguments))
-
--- the parts that an input gives make its first views
-pub first_view-is : (input : Input) (p nprocs : ℕ) (own memory : List ℕ) (queue : List Message) (table : List (List Area)) → IsLawfulInput input → p < length input.mems → nprocs ≡ length input.mems → own ≡ get_or input.args p own → memory ≡ get_or input.mems p memory → queue ≡ [] → table ≡ []
-    → view_with nprocs p 0 own (memory, queue) table 0 ≡ view_of input.args 0 (first_state input) p
-unfolding first_state
-first_view-is input p nprocs own memory queue table h l n a m q t =
-    let args : own ≡ get_or input.args p [] = a ∙ get_or_default input.args p own [] (omega (arith, l, h.same_count)) in
-    let words : memory ≡ get_or input.mems p [] = m ∙ get_or_default input.mems p memory [] l in
-    let messages : queue ≡ get_or (map no_messages input.mems) p [] = q ∙ sym (get_or-map no_messages input.mems p [] [] l) in
-    λ i. record { nprocs = n i; pid = p; step = 0; args = args i; memory = words i; table = t i; tag_size = 0; queue = messages i }
 
 first_counts : (input : Input) → length (first_state input).queues ≡ length (first_state input).memories
 unfolding first_state
@@ -128,11 +124,11 @@ first_tag : (input : Input) → (first_state input).tag_size ≡ 0
 unfolding first_state
 first_tag input = refl
 
--- the first views show the arguments of the input
-pub seen_first : (input : Input) (vs : List ViewParts) → IsLawfulInput input → vs ≡ open_views (start input) → map (λ (v : ViewParts). v.args) vs ≡ input.args
-seen_first input vs h e =
-    ap (map (λ (v : ViewParts). v.args)) (e ∙ started input)
-    ∙ part_of_views (λ (v : ViewParts). v.args) input.args 0 (first_state input) input.args [] (h.same_count ∙ sym (first_length input)) (λ p. refl)
+-- .. and make the first views
+pub views_first : (input : Input) (setting : Setting) (cells : List (List ℕ × List Message)) → setting ≡ first_setting input → cells ≡ map (λ m. (m, no_messages m)) input.mems
+    → views_of setting.args setting.step (state_of cells setting.table setting.tag_size) ≡ open_views (start input)
+views_first input setting cells known made =
+    ap (λ (s : Setting). views_of s.args s.step (state_of cells setting.table setting.tag_size)) known ∙ ap (views_of input.args 0) (first_is input setting cells known made) ∙ sym (started input)
 
 -- a tape that was opened with the first views is the start of a run
 pub opened_as : (input : Input) (args : List (List ℕ)) (past : List Superstep) (os : List OutcomeParts) (table : List (List Area)) (vs : List ViewParts) → IsLawfulInput input → args ≡ input.args → past ≡ [] → os ≡ []

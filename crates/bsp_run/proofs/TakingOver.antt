@@ -17,9 +17,9 @@ use Rattle.bsp_run.specs.Supersteps.{no_superstep, superstep_at, outcomes_of}
 use Rattle.bsp_run.specs.Inside.Opening.{state_of}
 use Rattle.bsp_run.specs.Ending.{end_of}
 use Rattle.bsp_run.specs.Run.{Run, open_views, after_turns, after_delivery, phase_after}
-use Rattle.bsp_run.specs.Condition.{IsRun, IsInPhase, IsOpen, AreOutcomesOf, deliveries_of}
+use Rattle.bsp_run.specs.Condition.{IsRun, IsInPhase, IsOpen, AreOutcomesOf, deliveries_of, no_view}
 use Rattle.bsp_run.proofs.Opens.{state_seen}
-use Rattle.bsp_run.proofs.Conditions.{length-views_of}
+use Rattle.bsp_run.proofs.Conditions.{length-views_of, view-views_of}
 use Rattle.bsp_run.proofs.Phases.{count-next_state, turned_is_run, next_is_run, next_table-is, next_tag-is, cells_are, delivered_is, delivered_views}
 
 -- What is put in the fields of a tape: the superstep, the views after it with their table and tag size, and what comes next.
@@ -77,10 +77,9 @@ first_taken r os step h turns =
     omega (arith, length-views_of r.args step (next_state r.state os), count-next_state r.args (length r.past) r.state os turns, h.state.some)
 
 -- it sees the next table and the next tag size
-pub first_view : (args : List (List ℕ)) (step : ℕ) (s : State) (v : ViewParts) → 0 < length (views_of args step s) → v ≡ get_or (views_of args step s) 0 v → (v.table ≡ s.table) × (v.tag_size ≡ s.tag_size)
-unfolding views_of
-first_view args step s v some is =
-    let same : v ≡ view_of args step s 0 = is ∙ get_or-map-range_with_len (view_of args step s) 0 (length s.memories) 0 0 v (omega (arith, some, length-views_of args step s)) refl in
+pub first_seen : (args : List (List ℕ)) (step : ℕ) (s : State) (vs : List ViewParts) → vs ≡ views_of args step s → 0 < length (views_of args step s) → ((get_or vs 0 no_view).table ≡ s.table) × ((get_or vs 0 no_view).tag_size ≡ s.tag_size)
+first_seen args step s vs seen some =
+    let same : get_or vs 0 no_view ≡ view_of args step s 0 = ap (λ (xs : List ViewParts). get_or xs 0 no_view) seen ∙ view-views_of args step s 0 (omega (arith, some, length-views_of args step s)) in
     (ap (λ (w : ViewParts). w.table) same, ap (λ (w : ViewParts). w.tag_size) same)
 
 -- an open superstep has no outcomes yet

@@ -14,7 +14,7 @@ use Rattle.bsp_run.specs.Run.{Run, open_views}
 use Rattle.bsp_run.specs.Condition.{AreOutcomesOf, IsRun, no_view}
 use Rattle.bsp_run.proofs.Deliveries.{All-each_below}
 use Rattle.bsp_run.proofs.Opens.{can_open}
-use Rattle.bsp_run.proofs.Views.{view_within}
+use Rattle.bsp_run.proofs.ViewsOfStates.{view_within}
 
 -- the views of an open superstep are within the limits
 pub views_within : (r : Run) → IsRun r → All IsView (open_views r)

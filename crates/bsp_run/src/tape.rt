@@ -123,6 +123,7 @@ impl Tape {
         ensures { IfOk result (λ tape. tape ≡ start input.now) }
     {
         let table = Table::new(alloc, input.mems.len())?;
+        let views = Shared::new(alloc, views)?;
         Ok(Tape {
             args,
             limit: input.limit,
@@ -130,7 +131,7 @@ impl Tape {
             l: input.l,
             past: Vec::new(alloc),
             costs: Vec::new(alloc),
-            views: Shared::new(alloc, views)?,
+            views,
             outcomes: SharedSeq::new(),
             table,
             tag_size: 0,

@@ -6,9 +6,9 @@ ghost use Rattle.bsp_run.specs.State.{cell_of, views_of};
 ghost use Rattle.bsp_run.specs.Condition.{no_view};
 ghost use Rattle.bsp_run.specs.Inside.Opening.{CanOpen, state_of};
 
-use crate::taking::take_next;
+use crate::replacing::{copied, put_at};
 use crate::{Arguments, Setting};
-use bsp_model::{Memories, Memory, OutOfMemory, TryCopy};
+use bsp_model::{Memories, Memory, OutOfMemory};
 use bsp_step::{Queue, View};
 use std::alloc::Global;
 use std::marker::Model;
@@ -38,46 +38,29 @@ impl Model for Views {
 fn apart(
     alloc: Global,
     cells: Vec<(Memory, Queue)>,
-) -> Result<(Memories, Vec<Queue>), OutOfMemory>
-    ensures memories { IfOk result (λ r. r.0 ≡ map (λ c. c.0) cells.items) }
+) -> Result<(Vec<Memory>, Vec<Queue>), OutOfMemory>
+    ensures memories { IfOk result (λ r. r.0.items ≡ map (λ c. c.0) cells.items) }
     ensures queues { IfOk result (λ r. r.1.items ≡ map (λ c. c.1) cells.items) }
 {
-    let count = cells.len();
-    let mut memories = Memories::with_capacity(alloc, count)?;
-    let mut queues = Vec::with_capacity(alloc, count)?;
-    let mut cells = cells.into_iter();
-    for _pid in 0..count {
-        let (memory, queue) = take_next(&mut cells);
+    let mut memories = Vec::with_capacity(alloc, cells.len())?;
+    let mut queues = Vec::with_capacity(alloc, cells.len())?;
+    for cell in cells {
+        let (memory, queue) = cell;
         memories.push(memory)?;
         queues.push(queue)?;
     }
     Ok((memories, queues))
 }
 
-/// These queues, but for new ones of some processes. Beside them stand the new memories of these processes.
-fn with_cells(
-    alloc: Global,
-    queues: &[Queue],
-    processes: &[usize],
-    cells: Vec<(Memory, Queue)>,
-) -> Result<(Vec<Memory>, Vec<Queue>), OutOfMemory>
-    requires known { All (λ p. p < length queues.now) processes.now }
-    requires count { length cells.items ≡ length processes.now }
-    ensures memories { IfOk result (λ r. r.0.items ≡ map (λ c. c.0) cells.items) }
-    ensures queues { IfOk result (λ r. r.1.items ≡ replaced queues.now processes.now (map (λ c. c.1) cells.items)) }
+/// These memories, in flat lists.
+fn flat(alloc: Global, memories: Vec<Memory>) -> Result<Memories, OutOfMemory>
+    ensures { IfOk result (λ m. m ≡ memories.items) }
 {
-    let mut memories = Vec::with_capacity(alloc, processes.len())?;
-    let mut all = Vec::with_capacity(alloc, queues.len())?;
-    for queue in queues {
-        all.push_reserved(queue.copy()?);
+    let mut all = Memories::with_capacity(alloc, memories.len())?;
+    for memory in memories {
+        all.push(memory)?;
     }
-    let mut cells = cells.into_iter();
-    for process in processes {
-        let (memory, queue) = take_next(&mut cells);
-        memories.push(memory)?;
-        all[*process] = queue;
-    }
-    Ok((memories, all))
+    Ok(all)
 }
 
 impl Views {
@@ -94,7 +77,7 @@ impl Views {
         let (memories, queues) = apart(alloc, cells)?;
         Ok(Views {
             setting,
-            memories,
+            memories: flat(alloc, memories)?,
             queues,
         })
     }
@@ -115,7 +98,9 @@ impl Views {
         ensures { IfOk result (λ v. v ≡ views_of setting.args setting.step
             (state_of (replaced (map cell_of self.now) processes.now cells.items) setting.table setting.tag_size)) }
     {
-        let (memories, queues) = with_cells(alloc, self.queues.as_slice(), processes, cells)?;
+        let (memories, new) = apart(alloc, cells)?;
+        let mut queues = copied(alloc, self.queues.as_slice())?;
+        put_at(&mut queues, processes, new);
         Ok(Views {
             setting,
             memories: self.memories.replaced(processes, memories)?,
@@ -134,7 +119,7 @@ impl Views {
     pub fn is_empty(&self) -> bool
         ensures { result ≡ nat_eq (length self.now) 0 }
     {
-        self.queues.is_empty()
+        self.len() == 0
     }
 
     /// What a process sees.

@@ -1,5 +1,5 @@
 -- Puts and messages from the rows in which their words lie.
-use Rattle.std.specs.Prelude.{ℕ, ◌≤◌, List, length, take, drop, All}
+use Rattle.std.specs.Prelude.{ℕ, ◌≤◌, List, length, take, drop}
 use Rattle.bsp_model.specs.declared.request.Put.{Put}
 use Rattle.bsp_model.specs.declared.request.Send.{Send}
 use Rattle.bsp_model.specs.declared.puts.PutHead.{PutHead}

@@ -1,5 +1,5 @@
 -- The pages in which the words of a memory are kept.
-use Rattle.std.specs.Prelude.{ℕ, ◌+◌, ◌*◌, ◌/◌, ◌%◌, ◌-◌, ◌<◌, ◌≡◌, List, [], length, map, get_or, nat_le, nat_lt, ◌&&◌, if◌then◌else◌}
+use Rattle.std.specs.Prelude.{ℕ, ◌+◌, ◌*◌, ◌/◌, ◌%◌, ◌^◌, ◌-◌, ◌<◌, ◌≡◌, List, [], length, map, get_or, nat_le, nat_lt, ◌&&◌, if◌then◌else◌}
 use Rattle.std.specs.List.{range_with_len}
 use Rattle.bsp_model.specs.declared.page.TheConstants.{WORDS_OF_A_PAGE}
 
@@ -11,10 +11,11 @@ paged_word pages address = get_or (get_or pages (address / WORDS_OF_A_PAGE) []) 
 unfoldable pub words_of : List (List ℕ) → ℕ → List ℕ
 words_of pages len = map (paged_word pages) (range_with_len 0 len)
 
--- So many words are in the full pages and the last, which is not full.
+-- So many words are in the full pages and the last, which is not full, and they can be counted.
 pub record HasPages (full : List (List ℕ)) (last : List ℕ) (len : ℕ) : Type 0 where
   pub short : length last < WORDS_OF_A_PAGE
   pub count : len ≡ WORDS_OF_A_PAGE * length full + length last
+  pub fits : len < 2 ^ 64
 
 -- The word at an address after such a write.
 abbrev pub word_after : (ℕ → ℕ) → ℕ → List ℕ → ℕ → ℕ

@@ -22,17 +22,15 @@ fn have_equal_copies<T: TryCopy + Same + Drop>(items: &[Shared<T>]) -> Result<bo
     Ok(true)
 }
 
-/// Whether there are views and outcomes of a superstep, all the same as their copies.
+/// Whether there are outcomes of a superstep, all the same as their copies.
 fn has_equal_copies(history: &History, step: u64) -> Result<bool, OutOfMemory> {
-    match (history.views(step), history.outcomes(step)) {
-        (Some(views), Some(outcomes)) => {
-            Ok(have_equal_copies(views)? && have_equal_copies(outcomes)?)
-        }
-        _ => Ok(false),
+    match history.outcomes(step) {
+        Some(outcomes) => have_equal_copies(outcomes),
+        None => Ok(false),
     }
 }
 
-/// How many supersteps a run has before the first with a view or an outcome that is not the same as its copy, or before its end.
+/// How many supersteps a run has before the first with an outcome that is not the same as its copy, or before its end.
 fn count_of_equal(history: &History) -> Result<u64, OutOfMemory> {
     let steps = history.steps() as u64;
     for step in 0..steps {
@@ -43,7 +41,7 @@ fn count_of_equal(history: &History) -> Result<u64, OutOfMemory> {
     Ok(steps)
 }
 
-/// How many supersteps of a known run have views and outcomes that are all the same as their copies.
+/// How many supersteps of a known run have outcomes that are all the same as their copies.
 fn count_in<P: Program>(alloc: Global, program: &P, known: Known) -> Result<u64, RunError> {
     let history = history_of(alloc, program, row(known))?;
     let found = count_of_equal(&history);
@@ -60,7 +58,7 @@ const ACTS: Asks = Asks {
 };
 
 #[test]
-fn views_and_outcomes(rt: HostRuntime) {
+fn outcomes(rt: HostRuntime) {
     find_plain(&rt, rt.alloc(), &ACTS, Known::Acted);
     assert!(rt; count_in(rt.alloc(), &ACTS, Known::Acted) == Ok(3));
     assert!(rt; count_in(rt.alloc(), &Clash, Known::Clash) == Ok(3));

@@ -1,7 +1,7 @@
 //! Runs, and what they have to give.
 
 use super::known::{Known, row};
-use bsp_model::{CostRow, Fault, Input, Memory, OutOfMemory, Seq, Words};
+use bsp_model::{CostRow, Fault, Input, Memory, MemoryRef, OutOfMemory, Seq, Words};
 use bsp_run::{History, Lines, ProcessFault, RunError, RunResult, Status, run_plain, run_result};
 use bsp_step::Program;
 use std::alloc::Global;
@@ -67,7 +67,7 @@ impl Row {
     }
 }
 
-fn is_memory(memory: &Memory, want: &[u64]) -> bool {
+fn is_memory(memory: &MemoryRef<'_>, want: &[u64]) -> bool {
     for address in 0..want.len() {
         if memory.load(address as u64) != Some(want[address]) {
             return false;
@@ -81,7 +81,7 @@ fn are_memories(memories: &[Memory], want: &[&[u64]]) -> bool {
         return false;
     }
     for pid in 0..want.len() {
-        if !is_memory(&memories[pid], want[pid]) {
+        if !is_memory(&memories[pid].as_ref(), want[pid]) {
             return false;
         }
     }
@@ -127,7 +127,7 @@ fn is_finish(status: &Status, want: Finish) -> bool {
 fn has_memories(history: &History, want: &[&[u64]]) -> bool {
     for pid in 0..want.len() {
         match history.memory(pid as u64) {
-            Some(memory) if is_memory(memory, want[pid]) => {}
+            Some(memory) if is_memory(&memory, want[pid]) => {}
             _ => return false,
         }
     }

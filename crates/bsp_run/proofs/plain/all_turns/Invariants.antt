@@ -2,5 +2,5 @@ use Rattle.std.proofs.Common.{◌≡◌, map, take}
 use Rattle.bsp_step.specs.Turn.{turn_of}
 use Rattle.bsp_run.proofs.plain.all_turns.Given as goal
 
-abbrev pub invariant-loop-view : goal.invariant-loop-view
-invariant-loop-view g l = l.outcomes.items ≡ map (turn_of (g.P.Program.acts l.program) (g.P.Program.ending l.program)) (take l.view-index l.views)
+abbrev pub invariant-loop-pid : goal.invariant-loop-pid
+invariant-loop-pid g l = l.outcomes.items ≡ map (turn_of (g.P.Program.acts l.program) (g.P.Program.ending l.program)) (take l.pid l.views)

@@ -16,7 +16,7 @@ end_of-requires-clause-some g c =
     let input : Input = c.args.input.now in
     let u : IsUnderway (turn_of (g.P.Program.acts c.args.program.now) (g.P.Program.ending c.args.program.now)) c.args.input.now (c.args.input.now.limit - c.loop-step.step) c.loop-step.kept = c.loop-step.invariant in
     let os : List OutcomeParts = c.as_slice-outcomes.result.now in
-    let made = turns_are (g.P.Program.acts c.args.program.now) (g.P.Program.ending c.args.program.now) input c.loop-step.kept u.so_far c.as_slice.result.now os u.same c.as_slice.ensures (c.as_slice-outcomes.ensures.value ∙ c.in_ok-outcomes.ensures) in
+    let made = turns_are (g.P.Program.acts c.args.program.now) (g.P.Program.ending c.args.program.now) input c.loop-step.kept u.so_far c.loop-step.kept.views os u.same refl (c.as_slice-outcomes.ensures.value ∙ c.in_ok-outcomes.ensures) in
     some_turns input c.loop-step.kept u.so_far os u.same made.1
 
 pub end_of-requires-clause-slots : goal.end_of-requires-clause-slots
@@ -24,7 +24,7 @@ end_of-requires-clause-slots g c =
     let input : Input = c.args.input.now in
     let u : IsUnderway (turn_of (g.P.Program.acts c.args.program.now) (g.P.Program.ending c.args.program.now)) c.args.input.now (c.args.input.now.limit - c.loop-step.step) c.loop-step.kept = c.loop-step.invariant in
     let os : List OutcomeParts = c.as_slice-outcomes.result.now in
-    let made = turns_are (g.P.Program.acts c.args.program.now) (g.P.Program.ending c.args.program.now) input c.loop-step.kept u.so_far c.as_slice.result.now os u.same c.as_slice.ensures (c.as_slice-outcomes.ensures.value ∙ c.in_ok-outcomes.ensures) in
+    let made = turns_are (g.P.Program.acts c.args.program.now) (g.P.Program.ending c.args.program.now) input c.loop-step.kept u.so_far c.loop-step.kept.views os u.same refl (c.as_slice-outcomes.ensures.value ∙ c.in_ok-outcomes.ensures) in
     slots_are input c.loop-step.kept u.so_far os u.same made.1
 
 pub ended-requires-clause-few : goal.ended-requires-clause-few
@@ -45,7 +45,7 @@ returns-in-Some-clause-result g c =
     let input : Input = c.args.input.now in
     let u : IsUnderway (turn_of (g.P.Program.acts c.args.program.now) (g.P.Program.ending c.args.program.now)) c.args.input.now (c.args.input.now.limit - c.loop-step.step) c.loop-step.kept = c.loop-step.invariant in
     let os : List OutcomeParts = c.as_slice-outcomes.result.now in
-    let made = turns_are (g.P.Program.acts c.args.program.now) (g.P.Program.ending c.args.program.now) input c.loop-step.kept u.so_far c.as_slice.result.now os u.same c.as_slice.ensures (c.as_slice-outcomes.ensures.value ∙ c.in_ok-outcomes.ensures) in
+    let made = turns_are (g.P.Program.acts c.args.program.now) (g.P.Program.ending c.args.program.now) input c.loop-step.kept u.so_far c.loop-step.kept.views os u.same refl (c.as_slice-outcomes.ensures.value ∙ c.in_ok-outcomes.ensures) in
     let at = step_is (turn_of (g.P.Program.acts c.args.program.now) (g.P.Program.ending c.args.program.now)) input (input.limit - c.loop-step.step) c.loop-step.kept u c.loop-step.step c.loop-step-test.true refl in
     let ends = end_is input c.loop-step.kept u.so_far os c.loop-step.step (Some c.in-Some.status) u.same at (sym c.in-Some.is ∙ c.in_ok-status.ensures) in
     let left : input.limit - c.loop-step.step ≡ suc (input.limit - (c.loop-step.step + 1)) = omega (arith, c.loop-step-test.true) in
@@ -56,7 +56,7 @@ go_on-requires-clause-sync g c =
     let input : Input = c.args.input.now in
     let u : IsUnderway (turn_of (g.P.Program.acts c.args.program.now) (g.P.Program.ending c.args.program.now)) c.args.input.now (c.args.input.now.limit - c.loop-step.step) c.loop-step.kept = c.loop-step.invariant in
     let os : List OutcomeParts = c.as_slice-outcomes.result.now in
-    let made = turns_are (g.P.Program.acts c.args.program.now) (g.P.Program.ending c.args.program.now) input c.loop-step.kept u.so_far c.as_slice.result.now os u.same c.as_slice.ensures (c.as_slice-outcomes.ensures.value ∙ c.in_ok-outcomes.ensures) in
+    let made = turns_are (g.P.Program.acts c.args.program.now) (g.P.Program.ending c.args.program.now) input c.loop-step.kept u.so_far c.loop-step.kept.views os u.same refl (c.as_slice-outcomes.ensures.value ∙ c.in_ok-outcomes.ensures) in
     let at = step_is (turn_of (g.P.Program.acts c.args.program.now) (g.P.Program.ending c.args.program.now)) input (input.limit - c.loop-step.step) c.loop-step.kept u c.loop-step.step c.loop-step-test.true refl in
     let none = end_is input c.loop-step.kept u.so_far os c.loop-step.step None u.same at (sym c.in_default.is ∙ c.in_ok-status.ensures) in
     let left : input.limit - c.loop-step.step ≡ suc (input.limit - (c.loop-step.step + 1)) = omega (arith, c.loop-step-test.true) in
@@ -68,7 +68,7 @@ go_on-requires-clause-deliverable g c =
     let input : Input = c.args.input.now in
     let u : IsUnderway (turn_of (g.P.Program.acts c.args.program.now) (g.P.Program.ending c.args.program.now)) c.args.input.now (c.args.input.now.limit - c.loop-step.step) c.loop-step.kept = c.loop-step.invariant in
     let os : List OutcomeParts = c.as_slice-outcomes.result.now in
-    let made = turns_are (g.P.Program.acts c.args.program.now) (g.P.Program.ending c.args.program.now) input c.loop-step.kept u.so_far c.as_slice.result.now os u.same c.as_slice.ensures (c.as_slice-outcomes.ensures.value ∙ c.in_ok-outcomes.ensures) in
+    let made = turns_are (g.P.Program.acts c.args.program.now) (g.P.Program.ending c.args.program.now) input c.loop-step.kept u.so_far c.loop-step.kept.views os u.same refl (c.as_slice-outcomes.ensures.value ∙ c.in_ok-outcomes.ensures) in
     let at = step_is (turn_of (g.P.Program.acts c.args.program.now) (g.P.Program.ending c.args.program.now)) input (input.limit - c.loop-step.step) c.loop-step.kept u c.loop-step.step c.loop-step-test.true refl in
     let none = end_is input c.loop-step.kept u.so_far os c.loop-step.step None u.same at (sym c.in_default.is ∙ c.in_ok-status.ensures) in
     let left : input.limit - c.loop-step.step ≡ suc (input.limit - (c.loop-step.step + 1)) = omega (arith, c.loop-step-test.true) in
@@ -80,7 +80,7 @@ go_on-requires-clause-opens g c =
     let input : Input = c.args.input.now in
     let u : IsUnderway (turn_of (g.P.Program.acts c.args.program.now) (g.P.Program.ending c.args.program.now)) c.args.input.now (c.args.input.now.limit - c.loop-step.step) c.loop-step.kept = c.loop-step.invariant in
     let os : List OutcomeParts = c.as_slice-outcomes.result.now in
-    let made = turns_are (g.P.Program.acts c.args.program.now) (g.P.Program.ending c.args.program.now) input c.loop-step.kept u.so_far c.as_slice.result.now os u.same c.as_slice.ensures (c.as_slice-outcomes.ensures.value ∙ c.in_ok-outcomes.ensures) in
+    let made = turns_are (g.P.Program.acts c.args.program.now) (g.P.Program.ending c.args.program.now) input c.loop-step.kept u.so_far c.loop-step.kept.views os u.same refl (c.as_slice-outcomes.ensures.value ∙ c.in_ok-outcomes.ensures) in
     let at = step_is (turn_of (g.P.Program.acts c.args.program.now) (g.P.Program.ending c.args.program.now)) input (input.limit - c.loop-step.step) c.loop-step.kept u c.loop-step.step c.loop-step-test.true refl in
     let none = end_is input c.loop-step.kept u.so_far os c.loop-step.step None u.same at (sym c.in_default.is ∙ c.in_ok-status.ensures) in
     let left : input.limit - c.loop-step.step ≡ suc (input.limit - (c.loop-step.step + 1)) = omega (arith, c.loop-step-test.true) in
@@ -98,7 +98,7 @@ loop-step-preserved g c =
     let input : Input = c.args.input.now in
     let u : IsUnderway (turn_of (g.P.Program.acts c.args.program.now) (g.P.Program.ending c.args.program.now)) c.args.input.now (c.args.input.now.limit - c.loop-step.step) c.loop-step.kept = c.loop-step.invariant in
     let os : List OutcomeParts = c.as_slice-outcomes.result.now in
-    let made = turns_are (g.P.Program.acts c.args.program.now) (g.P.Program.ending c.args.program.now) input c.loop-step.kept u.so_far c.as_slice.result.now os u.same c.as_slice.ensures (c.as_slice-outcomes.ensures.value ∙ c.in_ok-outcomes.ensures) in
+    let made = turns_are (g.P.Program.acts c.args.program.now) (g.P.Program.ending c.args.program.now) input c.loop-step.kept u.so_far c.loop-step.kept.views os u.same refl (c.as_slice-outcomes.ensures.value ∙ c.in_ok-outcomes.ensures) in
     let at = step_is (turn_of (g.P.Program.acts c.args.program.now) (g.P.Program.ending c.args.program.now)) input (input.limit - c.loop-step.step) c.loop-step.kept u c.loop-step.step c.loop-step-test.true refl in
     let none = end_is input c.loop-step.kept u.so_far os c.loop-step.step None u.same at (sym c.in_default.is ∙ c.in_ok-status.ensures) in
     let left : input.limit - c.loop-step.step ≡ suc (input.limit - (c.loop-step.step + 1)) = omega (arith, c.loop-step-test.true) in

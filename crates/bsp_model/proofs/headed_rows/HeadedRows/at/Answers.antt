@@ -1,4 +1,4 @@
-use Rattle.std.proofs.Common.{◌≡◌, ◌<◌, length, get_or, take, drop, sym, ap, ◌∙◌, arith, Some}
+use Rattle.std.proofs.Common.{◌≡◌, ◌<◌, length, get_or, sym, ap, ◌∙◌, arith, Some}
 use Rattle.std.specs.Prelude.{slice_get, slice_range}
 use Rattle.bsp_model.specs.Inside.HeadedRows.{start_at}
 use Rattle.bsp_model.proofs.RowRanges.{length-rows_from, row_at}

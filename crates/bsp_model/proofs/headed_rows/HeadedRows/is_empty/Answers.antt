@@ -1,4 +1,4 @@
-use Rattle.std.proofs.Common.{◌≡◌, length, nat_eq, sym, ap, ◌∙◌, arith}
+use Rattle.std.proofs.Common.{◌≡◌, length, nat_eq, ap, ◌∙◌, arith}
 use Rattle.bsp_model.proofs.RowRanges.{length-rows_from}
 use Rattle.bsp_model.proofs.headed_rows.HeadedRows.is_empty.Goals as goal
 

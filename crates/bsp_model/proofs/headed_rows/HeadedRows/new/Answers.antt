@@ -1,4 +1,4 @@
-use Rattle.std.proofs.Common.{List, ℕ, ap}
+use Rattle.std.proofs.Common.{ap}
 use Rattle.bsp_model.specs.Inside.HeadedRows.{rows_from}
 use Rattle.bsp_model.proofs.headed_rows.HeadedRows.new.Goals as goal
 

@@ -1,4 +1,4 @@
-use Rattle.std.proofs.Common.{List, ℕ, sym, ap, ◌∙◌}
+use Rattle.std.proofs.Common.{sym, ap, ◌∙◌}
 use Rattle.std.proofs.lemmas.Bool.{false≢true}
 use Rattle.bsp_model.specs.Inside.HeadedRows.{rows_from}
 use Rattle.bsp_model.proofs.RowRanges.{same_rows}

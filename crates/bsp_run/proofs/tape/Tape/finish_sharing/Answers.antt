@@ -27,7 +27,7 @@ lines_are c =
     let r : Run = run_of c.self.inside in
     let turns : List Superstep → Option (List OutcomeParts) → List (List OutcomeParts) = λ past last. outcomes_of past ++ option_to_list last in
     c.in_ok-lines.ensures
-    ∙ ap (λ n. each_below n (lines_of_process (turns c.as_slice-past.result.now (option_map (λ o. o.now) c.last_turn-last.result)))) (c.len.ensures ∙ sym (length-map c.self.inside.views (λ (v : ViewParts). v.memory)))
+    ∙ ap (λ n. each_below n (lines_of_process (turns c.as_slice-past.result.now (option_map (λ o. o.now) c.last_turn-last.result)))) (c.len.ensures ∙ ap (λ (vs : List ViewParts). length vs) c.deref.ensures ∙ sym (length-map c.self.inside.views (λ (v : ViewParts). v.memory)))
     ∙ ap (λ (past : List Superstep). each_below (length r.state.memories) (lines_of_process (turns past (option_map (λ o. o.now) c.last_turn-last.result)))) c.as_slice-past.ensures.value
     ∙ ap (λ (last : Option (List OutcomeParts)). each_below (length r.state.memories) (lines_of_process (turns r.past last))) (last_is c)
     ∙ ap (λ (os : List (List OutcomeParts)). each_below (length r.state.memories) (lines_of_process os)) (sym (outcomes-ended r (has_ended c)))

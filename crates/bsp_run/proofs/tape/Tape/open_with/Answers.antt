@@ -12,17 +12,17 @@ pub invariant_of-result : goal.invariant_of-result
 invariant_of-result c =
     let input = c.args.input.now in
     let h = lawful_input input c.requires.lawful in
-    let is = opened_as input c.args.args c.new-2.result.items c.new-4.result c.in_ok-table.table c.args.views h c.requires.args c.new-2.ensures.items c.new-4.ensures c.in_ok-table.ensures c.requires.views in
+    let is = opened_as input c.args.args c.new-3.result.items c.new-5.result c.in_ok-table.table c.in_ok-views.views h c.requires.args c.new-3.ensures.items c.new-5.ensures c.in_ok-table.ensures (c.in_ok-views.ensures ∙ c.requires.views) in
     record {
-      views = c.requires.views ∙ ap open_views (sym is);
+      views = c.in_ok-views.ensures ∙ c.requires.views ∙ ap open_views (sym is);
       run = subst IsRun (sym is) (start_is_run input h);
-      costs = c.new-3.ensures.items ∙ sym (ap (λ (past : List Superstep). map (cost_of_delivery input.g input.l) (map (λ (s : Superstep). s.outcomes) past)) c.new-2.ensures.items);
-      small = subst (All IsSmall) (sym c.new-3.ensures.items) (All-nil IsSmall);
+      costs = c.new-4.ensures.items ∙ sym (ap (λ (past : List Superstep). map (cost_of_delivery input.g input.l) (map (λ (s : Superstep). s.outcomes) past)) c.new-3.ensures.items);
+      small = subst (All IsSmall) (sym c.new-4.ensures.items) (All-nil IsSmall);
     }
 
 pub returns : goal.returns
 returns c =
     let input = c.args.input.now in
     let h = lawful_input input c.requires.lawful in
-    let is = opened_as input c.args.args c.new-2.result.items c.new-4.result c.in_ok-table.table c.args.views h c.requires.args c.new-2.ensures.items c.new-4.ensures c.in_ok-table.ensures c.requires.views in
+    let is = opened_as input c.args.args c.new-3.result.items c.new-5.result c.in_ok-table.table c.in_ok-views.views h c.requires.args c.new-3.ensures.items c.new-5.ensures c.in_ok-table.ensures (c.in_ok-views.ensures ∙ c.requires.views) in
     is

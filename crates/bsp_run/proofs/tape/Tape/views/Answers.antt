@@ -8,4 +8,4 @@ use Rattle.bsp_run.proofs.tape.Tape.views.Goals as goal
 pub returns-in_default-clause-limits : goal.returns-in_default-clause-limits
 returns-in_default-clause-limits c e =
     let r : Run = run_of c.self.inside in
-    subst (All IsView) (sym (c.as_slice-in_default.ensures ∙ c.self.invariant.views)) (views_within r c.self.invariant.run)
+    subst (All IsView) (sym (c.as_ref-in_default.ensures ∙ c.deref-in_default.ensures ∙ c.self.invariant.views)) (views_within r c.self.invariant.run)

@@ -1,0 +1,88 @@
+-- What a list is in which items are replaced.
+use Rattle.std.proofs.Common.{◌≡◌, ◌≢◌, ◌<◌, ◌≤◌, ◌+◌, ℕ, zero, suc, List, [], ◌∷◌, ◌++◌, length, get_or, drop, map, refl, sym, ap, ◌∙◌, arith, append_assoc, add-one}
+use Rattle.std.specs.Prelude.{slice_range, slice_set}
+use Rattle.std.proofs.Math.ListN.{length-set}
+use Rattle.std.proofs.Math.Seq.{set-append_seam, drop-cons}
+use Rattle.std.proofs.lemmas.List.{length-append, take_rest, drop_all, map-set, get_or-set_same, get_or-set_other}
+use Rattle.std.proofs.lemmas.List.Folds.{drop_split}
+use Rattle.std.proofs.lemmas.List.Edits.{length-between}
+use Rattle.bsp_model.specs.Replaced.{replaced, IsAscending}
+
+pub length-replaced : {X : Type 0} (items : List X) (ps : List ℕ) (xs : List X) → length (replaced items ps xs) ≡ length items
+length-replaced items [] xs = refl
+length-replaced items (p ∷ ps) [] = refl
+length-replaced items (p ∷ ps) (x ∷ xs) = length-replaced (slice_set items p x) ps xs ∙ length-set items p x
+
+-- items that are replaced from the front on
+
+-- the items up to a place behind those in front
+pub front-grows : {X : Type 0} (front items : List X) (p : ℕ) → length front ≤ p → (front ++ slice_range items (length front) p) ++ drop p items ≡ front ++ drop (length front) items
+front-grows front items p order =
+    append_assoc front (slice_range items (length front) p) (drop p items) ∙ ap (λ rest. front ++ rest) (sym (drop_split items (length front) p order))
+
+pub length-front : {X : Type 0} (front items : List X) (p : ℕ) → length front ≤ p → p ≤ length items → length (front ++ slice_range items (length front) p) ≡ p
+length-front front items p order within = omega (arith, length-append front (slice_range items (length front) p), length-between items (length front) p within)
+
+-- an item is put behind those in front
+pub front-put : {X : Type 0} (front items : List X) (x : X) → length front < length items → (front ++ x ∷ []) ++ drop (length (front ++ x ∷ [])) items ≡ slice_set (front ++ drop (length front) items) (length front) x
+front-put front items x within =
+    let more : length (front ++ x ∷ []) ≡ suc (length front) = omega (arith, length-append front (x ∷ [])) in
+    append_assoc front (x ∷ []) (drop (length (front ++ x ∷ [])) items)
+    ∙ ap (λ n. front ++ x ∷ drop n items) more
+    ∙ sym (set-append_seam front (get_or items (length front) x) (drop (suc (length front)) items) x)
+    ∙ ap (λ rest. slice_set (front ++ rest) (length front) x) (sym (drop-cons items (length front) x within))
+
+-- the item at the next place is replaced
+pub replaced-next : {X : Type 0} (front before new items : List X) (x : X) (ps : List ℕ) (xs later : List X) (k : ℕ) → k < length ps → length front ≤ get_or ps k 0 → get_or ps k 0 < length items
+    → before ≡ front ++ slice_range items (length front) (get_or ps k 0) → new ≡ before ++ x ∷ [] → xs ≡ x ∷ later
+    → (length new ≡ get_or ps k 0 + 1) × (replaced (new ++ drop (length new) items) (drop (k + 1) ps) later ≡ replaced (front ++ drop (length front) items) (drop k ps) xs)
+replaced-next {X = X} front before new items x ps xs later k inside order within before_is new_is xs_is =
+    let p = get_or ps k 0 in
+    let long : length before ≡ p = ap length before_is ∙ length-front front items p order (omega (arith, within)) in
+    let short : length before < length items = omega (arith, within, long) in
+    let grown : before ++ drop (length before) items ≡ front ++ drop (length front) items =
+    ap (λ n. before ++ drop n items) long ∙ ap (λ rest. rest ++ drop p items) before_is ∙ front-grows front items p order in
+    let put : new ++ drop (length new) items ≡ slice_set (front ++ drop (length front) items) p x =
+    ap (λ (js : List X). js ++ drop (length js) items) new_is
+    ∙ front-put before items x short
+    ∙ ap (λ js. slice_set js (length before) x) grown
+    ∙ ap (λ n. slice_set (front ++ drop (length front) items) n x) long in
+    let first : drop k ps ≡ p ∷ drop (k + 1) ps = rw add-one (drop-cons ps k 0 inside) in (
+      omega (arith, ap length new_is, length-append before (x ∷ []), long),
+      ap (λ js. replaced js (drop (k + 1) ps) later) put
+          ∙ ap (λ qs. replaced (front ++ drop (length front) items) qs (x ∷ later)) (sym first)
+          ∙ ap (λ ys. replaced (front ++ drop (length front) items) (drop k ps) ys) (sym xs_is),
+    )
+
+-- no place is left
+pub replaced-last : {X : Type 0} (front items : List X) (ps : List ℕ) (xs : List X) (k : ℕ) → length ps ≤ k → front ++ slice_range items (length front) (length items) ≡ replaced (front ++ drop (length front) items) (drop k ps) xs
+replaced-last front items ps xs k past =
+    ap (λ rest. front ++ rest) (take_rest items (length front)) ∙ ap (λ qs. replaced (front ++ drop (length front) items) qs xs) (sym (drop_all k ps past))
+
+-- what is made of each item
+pub map-replaced : {X Y : Type 0} (f : X → Y) (items : List X) (ps : List ℕ) (xs : List X) → map f (replaced items ps xs) ≡ replaced (map f items) ps (map f xs)
+map-replaced f items [] xs = refl
+map-replaced f items (p ∷ ps) [] = refl
+map-replaced f items (p ∷ ps) (x ∷ xs) = map-replaced f (slice_set items p x) ps xs ∙ ap (λ js. replaced js ps (map f xs)) (map-set f items p x)
+
+-- an item whose place is none of these stays
+pub replaced-elsewhere : {X : Type 0} (items : List X) (ps : List ℕ) (xs : List X) (i : ℕ) (d : X) → ((k : ℕ) → k < length ps → i ≢ get_or ps k 0) → get_or (replaced items ps xs) i d ≡ get_or items i d
+replaced-elsewhere items [] xs i d other = refl
+replaced-elsewhere items (p ∷ ps) [] i d other = refl
+replaced-elsewhere items (p ∷ ps) (x ∷ xs) i d other =
+    replaced-elsewhere (slice_set items p x) ps xs i d (λ k inside. other (suc k) (omega arith)) ∙ get_or-set_other items p i x d (other 0 (omega arith))
+
+later-ascending : (p : ℕ) (ps : List ℕ) → IsAscending (p ∷ ps) → IsAscending ps
+later-ascending p ps ascending j k order inside = ascending (suc j) (suc k) (omega arith) (omega arith)
+
+first-below : (p : ℕ) (ps : List ℕ) → IsAscending (p ∷ ps) → (k : ℕ) → k < length ps → p ≢ get_or ps k 0
+first-below p ps ascending k inside same = absurd (omega (arith, same, ascending 0 (suc k) (omega arith) (omega arith)))
+
+-- at each of these places, which ascend, there is the new item
+pub replaced-there : {X : Type 0} (items : List X) (ps : List ℕ) (xs : List X) (k : ℕ) (d : X) → IsAscending ps → k < length ps → k < length xs → get_or ps k 0 < length items → get_or (replaced items ps xs) (get_or ps k 0) d ≡ get_or xs k d
+replaced-there items [] xs k d ascending inside new within = absurd (omega arith)
+replaced-there items (p ∷ ps) [] k d ascending inside new within = absurd (omega arith)
+replaced-there items (p ∷ ps) (x ∷ xs) zero d ascending inside new within =
+    replaced-elsewhere (slice_set items p x) ps xs p d (first-below p ps ascending) ∙ get_or-set_same items p x d within
+replaced-there items (p ∷ ps) (x ∷ xs) (suc k) d ascending inside new within =
+    replaced-there (slice_set items p x) ps xs k d (later-ascending p ps ascending) (omega arith) (omega arith) (omega (arith, within, length-set items p x))

@@ -1,5 +1,0 @@
-use Rattle.bsp_model.proofs.Pages.{words_len}
-use Rattle.bsp_model.proofs.memory.Memory.len.Goals as goal
-
-pub returns : goal.returns
-returns c = words_len _ _ _ c.self.view_is
