@@ -9,7 +9,7 @@ use crate::before::first_views_before;
 use crate::given::Given;
 use crate::places::processes_where;
 use bsp_model::{OutOfMemory, Seq, SharedSeq, TryCopy, Words};
-use bsp_run::{Arguments, Tape};
+use bsp_run::{Arguments, Tape, copied};
 use bsp_step::Program;
 use std::alloc::Global;
 
@@ -28,10 +28,7 @@ fn args_again(
     if others.is_empty() {
         return old.copy();
     }
-    let mut all = Vec::with_capacity(alloc, old.len())?;
-    for args in old.as_slice() {
-        all.push_reserved(args.copy()?);
-    }
+    let mut all = copied(alloc, old.as_slice())?;
     for process in others {
         let args = &input.as_slice()[*process];
         all[*process] = args.copy()?.share()?;

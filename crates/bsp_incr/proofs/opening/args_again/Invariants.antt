@@ -1,15 +1,6 @@
-use Rattle.std.proofs.Common.{◌≡◌, [], take, drop, map, length, get_or, vec_len}
-use Rattle.std.specs.Vec.{vec_capacity}
+use Rattle.std.proofs.Common.{◌≡◌, [], drop, map, length, get_or}
 use Rattle.bsp_model.specs.Replaced.{replaced}
 use Rattle.bsp_incr.proofs.opening.args_again.Given as goal
-
--- the arguments so far
-abbrev pub invariant-loop-args : goal.invariant-loop-args
-invariant-loop-args l = record {
-  all : l.all.items ≡ take l.args-index l.args-items;
-  count : vec_len l.all ≡ l.args-index;
-  room : vec_capacity l.all ≡ length l.old;
-}
 
 -- the arguments that are put, and those that are left
 abbrev pub invariant-loop-process : goal.invariant-loop-process
