@@ -125,10 +125,7 @@ open_goes_on Open h = refl
 open_goes_on Turned h = cc
 open_goes_on (Ended status) h = cc
 
--- an open run shows the views of its open superstep
-pub views_shown-open : (r : Run) → is_open r.phase ≡ true → (superstep_shown r).views ≡ open_views r
-views_shown-open r h = ap (λ (x : Superstep). x.views) (shown_if r.phase (superstep_at r.past (length r.past - 1)) (open_superstep r) (open_goes_on r.phase h))
-
+-- a run whose turns are taken shows their outcomes
 pub outcomes_shown-turned : (r : Run) → r.phase ≡ Turned → (superstep_shown r).outcomes ≡ r.outcomes
 outcomes_shown-turned r h = ap (λ (x : Superstep). x.outcomes) (shown_if r.phase (superstep_at r.past (length r.past - 1)) (open_superstep r) (ap is_ended h))
 

@@ -14,7 +14,7 @@ use Rattle.bsp_run.specs.Run.{Run, open_views, after_turns}
 use Rattle.bsp_run.specs.Condition.{AreOutcomesOf, no_view, is_open, is_turned, deliveries_of}
 use Rattle.bsp_run.specs.Supersteps.{superstep_shown}
 use Rattle.bsp_run.specs.Shares.{turns_of, deliveries_to}
-use Rattle.bsp_run.proofs.Runs.{views_shown-open, outcomes_shown-turned, turned_phase_is}
+use Rattle.bsp_run.proofs.Runs.{outcomes_shown-turned, turned_phase_is}
 use Rattle.bsp_run.proofs.Turns.{AreOutcomesOf-turns}
 
 -- the turns of all processes, by number, are those of all views
@@ -33,10 +33,9 @@ pub record AreTurnsOf (turn : ViewParts → OutcomeParts) (r : Run) (vs : List V
   pub outcomes : AreOutcomesOf (open_views r) os
   pub count : length os ≡ length vs
 
-pub turns_made : (acts : ViewParts → List Act) (ending : ViewParts → End) (r : Run) (vs : List ViewParts) (ps : List ℕ) (os : List OutcomeParts) → is_open r.phase ≡ true → vs ≡ (superstep_shown r).views → All IsView vs → ps ≡ range_with_len 0 (length vs) → os ≡ turns_of (turn_of acts ending) vs ps → AreTurnsOf (turn_of acts ending) r vs os
-turns_made acts ending r vs ps os h shown limits all made =
+pub turns_made : (acts : ViewParts → List Act) (ending : ViewParts → End) (r : Run) (vs : List ViewParts) (ps : List ℕ) (os : List OutcomeParts) → vs ≡ open_views r → All IsView vs → ps ≡ range_with_len 0 (length vs) → os ≡ turns_of (turn_of acts ending) vs ps → AreTurnsOf (turn_of acts ending) r vs os
+turns_made acts ending r vs ps os views limits all made =
     let turn = turn_of acts ending in
-    let views : vs ≡ open_views r = shown ∙ views_shown-open r h in
     let turns : os ≡ map turn vs = made ∙ ap (turns_of turn vs) all ∙ turns_of-all turn vs in
     record {
       turns = turns ∙ ap (map turn) views;

@@ -70,6 +70,7 @@ impl Tape {
         ensures { IfOk result (λ views. views ≡ next_views self.now) }
     {
         let alloc = *self.past.allocator();
-        like.replaced(alloc, setting, processes, cells)
+        let views = like.replaced(alloc, setting, processes, cells)?;
+        Ok(views)
     }
 }

@@ -10,4 +10,4 @@ replaced-requires-clause-opens c =
     opens_next c.args.self.now c.args.setting (replaced (map cell_of c.args.like.now) c.args.processes.now c.args.cells.items) (subst IsRun c.self.view_is c.self.invariant.run) c.requires.turned c.requires.setting c.requires.cells
 
 pub returns : goal.returns
-returns c = c.replaced.ensures ∙ views_next c.args.self.now c.args.setting (replaced (map cell_of c.args.like.now) c.args.processes.now c.args.cells.items) c.requires.setting c.requires.cells
+returns c = c.in_ok-views.ensures ∙ views_next c.args.self.now c.args.setting (replaced (map cell_of c.args.like.now) c.args.processes.now c.args.cells.items) c.requires.setting c.requires.cells
