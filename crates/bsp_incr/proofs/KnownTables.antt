@@ -8,7 +8,6 @@ use Rattle.bsp_step.specs.ViewParts.{ViewParts}
 use Rattle.bsp_step.specs.OutcomeParts.{OutcomeParts}
 use Rattle.bsp_deliver.specs.SyncFault.{next_tag_size}
 use Rattle.bsp_run.specs.declared.superstep.Superstep.{Superstep}
-use Rattle.bsp_run.specs.declared.phase.Phase.TheVariants.{Turned}
 use Rattle.bsp_run.specs.State.{State, next_state, pops_of, pushes_of, view_of}
 use Rattle.bsp_run.specs.Ending.{end_of}
 use Rattle.bsp_run.specs.Run.{Run, open_views, after_turns, after_delivery, phase_after}
@@ -24,7 +23,6 @@ use Rattle.bsp_incr.specs.declared.known_table.KnownTable.TheVariants.{AsBefore,
 use Rattle.bsp_incr.specs.Inside.Alike.{AllEndAlike}
 use Rattle.bsp_incr.specs.Inside.Before.{taken_before, delivered_outcomes, views_after, IsBefore}
 use Rattle.bsp_incr.specs.Inside.Known.{HaveSameTable, IsKnown, KnowsTable, KnowsNextTable}
-use Rattle.bsp_incr.specs.Inside.Next.{IsNextOf}
 use Rattle.bsp_incr.proofs.EndLikeness.{same_end, same_next_table, same_next_tag_size}
 use Rattle.bsp_incr.proofs.Propagation.{view-in}
 use Rattle.bsp_incr.proofs.RunBefore.{record_of_law, taken-in, some_taken, nothing_taken, delivered-in, some_delivered, nothing_delivered, views_after-some}
@@ -71,16 +69,16 @@ table-delivered r l = ap (λ (v : ViewParts). v.table) (first_open (after_delive
 tag-delivered : (r : Run) → 1 ≤ length r.outcomes → (get_or (open_views (after_delivery r)) 0 no_view).tag_size ≡ (next_state r.state r.outcomes).tag_size
 tag-delivered r l = ap (λ (v : ViewParts). v.tag_size) (first_open (after_delivery r) (some-delivered r l)) ∙ ap (λ (s : State). s.tag_size) (state-delivered r)
 
--- What is known of the next table as what a view sees, and back.
-pub next_of_known : (r : Run) (views : List ViewParts) → r.phase ≡ Turned → 1 ≤ length r.outcomes → HaveSameTable views (open_views (after_delivery r)) → IsNextOf r (get_or views 0 no_view)
-next_of_known r views turned some h = record { turned = turned; table = h.table ∙ table-delivered r some; tag_size = h.tag_size ∙ tag-delivered r some }
+-- What is known of the next table as what the next setting has, and back.
+pub table_of_known : (r : Run) (views : List ViewParts) → 1 ≤ length r.outcomes → HaveSameTable views (open_views (after_delivery r)) → (get_or views 0 no_view).table ≡ (next_state r.state r.outcomes).table
+table_of_known r views some h = h.table ∙ table-delivered r some
 
-pub known_of_next : (r : Run) (views : List ViewParts) → 1 ≤ length r.outcomes → 0 < length views → IsNextOf r (get_or views 0 no_view) → HaveSameTable views (open_views (after_delivery r))
-known_of_next r views some seen h = record { some = seen; table = h.table ∙ sym (table-delivered r some); tag_size = h.tag_size ∙ sym (tag-delivered r some) }
+pub tag_of_known : (r : Run) (views : List ViewParts) → 1 ≤ length r.outcomes → HaveSameTable views (open_views (after_delivery r)) → (get_or views 0 no_view).tag_size ≡ (next_state r.state r.outcomes).tag_size
+tag_of_known r views some h = h.tag_size ∙ tag-delivered r some
 
--- the same of the views after the delivery of the run before
-pub knows_next : (old : Option Run) (r : Run) (views : List ViewParts) → views ≡ views_after old (length r.past) → 1 ≤ length r.outcomes → 0 < length views → IsNextOf r (get_or views 0 no_view) → KnowsNextTable old r AsBefore
-knows_next old r views e some seen h = λ _. subst (λ (vs : List ViewParts). HaveSameTable vs (open_views (after_delivery r))) e (known_of_next r views some seen h)
+pub known_of_next : (r : Run) (views : List ViewParts) → 1 ≤ length r.outcomes → 0 < length views → (get_or views 0 no_view).table ≡ (next_state r.state r.outcomes).table → (get_or views 0 no_view).tag_size ≡ (next_state r.state r.outcomes).tag_size
+    → HaveSameTable views (open_views (after_delivery r))
+known_of_next r views some seen table tag = record { some = seen; table = table ∙ sym (table-delivered r some); tag_size = tag ∙ sym (tag-delivered r some) }
 
 -- Where the open superstep has the table of the run before, the states share it.
 shares_open : (turn : ViewParts → OutcomeParts) (input : Input) (k r : Run) (h : IsBefore turn input (Some k)) → IsRecord turn input r → HaveSameTable (taken_before (Some k) (length r.past)) (open_views r) → SharesTable (state_at turn h.input_before (length r.past)) r.state

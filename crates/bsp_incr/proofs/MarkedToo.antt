@@ -5,9 +5,10 @@ use Rattle.std.proofs.lemmas.List.{get_or_default}
 use Rattle.std.proofs.lemmas.List.FromFn.{fill_by_all, length-map-range_with_len}
 use Rattle.bsp_deliver.specs.Requests.{each_below}
 use Rattle.bsp_incr.specs.Inside.Changes.{processes_where}
-use Rattle.bsp_incr.specs.Inside.Replaced.{replaced}
+use Rattle.bsp_model.specs.Replaced.{replaced}
 use Rattle.bsp_incr.proofs.Gathering.{answer_at}
-use Rattle.bsp_incr.proofs.Patching.{patched, patched_at, length-replaced}
+use Rattle.bsp_incr.proofs.Patching.{patched, patched_at}
+use Rattle.bsp_model.proofs.Replaced.{length-replaced}
 
 or_either : (a b : Bool) → cond b true a ≡ (a || b)
 or_either true true = refl

@@ -7,13 +7,9 @@ use Rattle.std.proofs.lemmas.Bool.{cases_lt}
 use Rattle.std.proofs.lemmas.List.{get_or-set_same, get_or-set_other}
 use Rattle.std.proofs.lemmas.List.FromFn.{fill_by_all}
 use Rattle.bsp_deliver.specs.Requests.{each_below}
-use Rattle.bsp_incr.specs.Inside.Replaced.{replaced}
+use Rattle.bsp_model.specs.Replaced.{replaced}
+use Rattle.bsp_model.proofs.Replaced.{length-replaced}
 use Rattle.bsp_incr.specs.Inside.Changes.{processes_where}
-
-pub length-replaced : {X : Type 0} (items : List X) (ps : List ℕ) (xs : List X) → length (replaced items ps xs) ≡ length items
-length-replaced items [] xs = refl
-length-replaced items (p ∷ ps) [] = refl
-length-replaced items (p ∷ ps) (x ∷ xs) = length-replaced (slice_set items p x) ps xs ∙ length-set items p x
 
 -- the items, with what f gives at these places
 abbrev pub patched : {X : Type 0} → (ℕ → X) → List X → List ℕ → List X

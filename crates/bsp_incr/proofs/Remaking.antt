@@ -8,30 +8,23 @@ use Rattle.bsp_model.specs.declared.input.Input.{Input}
 use Rattle.bsp_step.specs.ViewParts.{ViewParts}
 use Rattle.bsp_step.specs.OutcomeParts.{OutcomeParts}
 use Rattle.bsp_deliver.specs.Requests.{each_below, outcome_of, no_outcome}
-use Rattle.bsp_deliver.specs.Delivery.{delivery_parts, next_memory}
+use Rattle.bsp_deliver.specs.Delivery.{delivery_parts}
 use Rattle.bsp_run.specs.declared.superstep.Superstep.{Superstep}
 use Rattle.bsp_run.specs.Run.{Run, start, open_views, after_turns, after_delivery}
-use Rattle.bsp_run.specs.State.{State, next_state, view_of, views_of}
 use Rattle.bsp_run.specs.Supersteps.{supersteps_of}
-use Rattle.bsp_run.specs.Law.{state_at, views_in, outcomes_in}
+use Rattle.bsp_run.specs.Law.{views_in, outcomes_in}
 use Rattle.bsp_run.specs.Inside.Record.{IsRecord}
 use Rattle.bsp_run.specs.Condition.{no_view, is_open, is_turned}
 use Rattle.bsp_run.proofs.Runs.{open_phase, turns_closed}
-use Rattle.bsp_run.proofs.Records.{superstep, state_at-next, past-delivered, open_views-in, count-views_in, count-outcomes_in, IsRecord-turned, IsRecord-goes_on, IsRecord-start}
+use Rattle.bsp_run.proofs.Records.{superstep, past-delivered, open_views-in, count-views_in, count-outcomes_in, IsRecord-turned, IsRecord-goes_on, IsRecord-start}
 use Rattle.bsp_incr.specs.declared.reply.Update.{Update}
 use Rattle.bsp_incr.specs.Inside.Marks.{AreMarked, AreAlikeButForTable, ViewsDifferAtMost, OutcomesDifferAtMost}
 use Rattle.bsp_incr.specs.Inside.Changes.{differ, differ_in, touched, touched_in, is_touched, processes_where, update_of}
 use Rattle.bsp_incr.specs.Exact.{supersteps_before, delivered_before}
-use Rattle.bsp_incr.specs.Inside.Next.{next_view}
-use Rattle.bsp_incr.specs.Inside.Before.{taken_before, delivered_outcomes, IsBefore, HasSameArgs, AreArgsMarked, AreAlikeAfter, AreFirstMarked, HasSameMemory, IsUnderWay}
+use Rattle.bsp_incr.specs.Inside.Before.{taken_before, delivered_outcomes, IsBefore, HasSameArgs, AreArgsMarked, AreFirstMarked, HasSameMemory, IsUnderWay}
 use Rattle.bsp_incr.proofs.Updating.{same_update, updated_turned, updated_delivered}
-use Rattle.bsp_incr.proofs.Propagation.{propagated, view-in, first_alike, untouched_is}
-use Rattle.bsp_incr.proofs.RunBefore.{record_of_law, args_before, memory_before, taken-in, some_taken, nothing_taken, delivered-in, some_delivered, nothing_delivered, views_after-some}
-
--- the next views, process by process
-pub next_views-are : (r : Run) → each_below (length r.outcomes) (next_view r) ≡ views_of r.args (length r.past + 1) (next_state r.state r.outcomes)
-unfolding views_of next_state
-next_views-are r = ap (λ n. each_below n (next_view r)) (sym (length-map-range_with_len (λ d. next_memory (delivery_parts r.outcomes d)) 0 (length r.outcomes)))
+use Rattle.bsp_incr.proofs.Propagation.{propagated, first_alike, untouched_is}
+use Rattle.bsp_incr.proofs.RunBefore.{args_before, memory_before, taken-in, some_taken, nothing_taken, delivered-in, some_delivered, nothing_delivered}
 
 -- A process that is known to see what it saw leaves what it left.
 unchanged_by : (turn : ViewParts → OutcomeParts) (vs ws : List ViewParts) (p : ℕ) → p < length vs → p < length ws → get_or vs p no_view ≡ get_or ws p no_view → outcome_of (map turn vs) p ≡ outcome_of (map turn ws) p
@@ -59,30 +52,6 @@ count_taken turn input None s ws h is l = absurd (nothing_taken s 0 l)
 count_taken turn input (Some k) s ws h is l =
     ap (λ (vs : List ViewParts). length vs) (taken-in turn input k s h (some_taken k s 0 l)) ∙ count-views_in turn h.input_before s ∙ h.stands
     ∙ sym (count-views_in turn input s) ∙ sym (ap (λ (vs : List ViewParts). length vs) is)
-
--- What a process sees next, once the turns are taken.
-next_view-in : (turn : ViewParts → OutcomeParts) (input : Input) (t : Run) (p : ℕ) → IsRecord turn input t → t.outcomes ≡ outcomes_in turn input (length t.past) → p < length input.mems → get_or (views_in turn input (length t.past + 1)) p no_view ≡ next_view t p
-next_view-in turn input t p h o l =
-    let s = length t.past in
-    view-in turn input (s + 1) p l
-    ∙ ap (λ (x : State). view_of input.args (s + 1) x p) (state_at-next turn input s)
-    ∙ ap (λ (os : List OutcomeParts). view_of input.args (s + 1) (next_state (state_at turn input s) os) p) (sym o)
-    ∙ ap (λ (x : State). view_of input.args (s + 1) (next_state x t.outcomes) p) (sym h.state)
-    ∙ ap (λ (args : List (List ℕ)). view_of args (s + 1) (next_state t.state t.outcomes) p) (sym h.args)
-
--- It is what it saw in the run before, where the delivery to it stays and its arguments are the same.
-pub alike_after : (turn : ViewParts → OutcomeParts) (input : Input) (old : Option Run) (t : Run) (always : List Bool) → IsBefore turn input old → AreArgsMarked old input always → IsRecord turn input t → t.outcomes ≡ outcomes_in turn input (length t.past) → AreAlikeAfter old t always
-alike_after turn input None t always h a made o = λ p l f c. absurd (nothing_delivered (length t.past) p (untouched_is (delivered_outcomes None (length t.past)) t.outcomes p f).0)
-alike_after turn input (Some k) t always h a made o = λ p l f c.
-    let s = length t.past in
-    let same = untouched_is (delivered_outcomes (Some k) s) t.outcomes p f in
-    let past = some_delivered k s p same.0 in
-    let here : p < length input.mems = omega (arith, l, ap (λ (os : List OutcomeParts). length os) o, count-outcomes_in turn input s) in
-    let views = views_after-some k s past ∙ (record_of_law turn h.input_before k h.lawful h.law).views (s + 1) (omega (arith, past)) in
-    let parts = ap (λ (xs : List OutcomeParts). delivery_parts xs p) (sym (delivered-in turn input k s h past)) ∙ same.1 ∙ ap (λ (xs : List OutcomeParts). delivery_parts xs p) o in
-    subst (λ (vs : List ViewParts). AreAlikeButForTable (get_or vs p no_view) (next_view t p)) (sym views)
-    (subst (AreAlikeButForTable (get_or (views_in turn h.input_before (s + 1)) p no_view)) (next_view-in turn input t p made o here)
-    (propagated turn h.input_before input s p h.stands here (args_before turn input k p h here (a.clean p here c)) parts))
 
 or_false : (a b : Bool) → (a || b) ≡ false → (a ≡ false) × (b ≡ false)
 or_false true b e = cc

@@ -14,9 +14,10 @@ use Rattle.bsp_run.proofs.Shares.{turns_of-all}
 use Rattle.bsp_incr.specs.Inside.Reuse.{needs_turn, serves}
 use Rattle.bsp_incr.specs.Inside.Changes.{differs, processes_where}
 use Rattle.bsp_incr.specs.Inside.Marks.{AreMarked, ViewsDifferAtMost, HaveOneTable}
-use Rattle.bsp_incr.specs.Inside.Replaced.{replaced}
+use Rattle.bsp_model.specs.Replaced.{replaced}
 use Rattle.bsp_incr.proofs.Gathering.{filter_from, filter_twice, all_where, processes_where-below}
-use Rattle.bsp_incr.proofs.Patching.{patched, patched_at, patched_is, put_or_there, length-replaced}
+use Rattle.bsp_incr.proofs.Patching.{patched, patched_at, patched_is, put_or_there}
+use Rattle.bsp_model.proofs.Replaced.{length-replaced}
 use Rattle.bsp_incr.proofs.Serving.{serves-itself}
 use Rattle.bsp_incr.proofs.Propagation.{same_view}
 

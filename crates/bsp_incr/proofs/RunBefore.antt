@@ -1,18 +1,21 @@
 -- The run before, superstep by superstep.
-use Rattle.std.proofs.Common.{◌≡◌, ◌≤◌, ◌<◌, ◌+◌, ℕ, Bool, true, false, cond, List, [], Option, None, Some, map, length, get_or, arith, refl, sym, ap, ◌∙◌, subst, inl, inr}
-use Rattle.std.specs.Prelude.{nat_lt}
+use Rattle.std.proofs.Common.{◌≡◌, ◌≤◌, ◌<◌, ◌+◌, ℕ, Bool, true, false, cond, List, [], ◌∷◌, Option, None, Some, map, length, get_or, arith, refl, sym, ap, ◌∙◌, subst, inl, inr}
+use Rattle.std.specs.Prelude.{nat_lt, slice_get}
 use Rattle.std.proofs.lemmas.Bool.{cases_lt}
 use Rattle.std.proofs.lemmas.Bool.Decides.{nat_tests}
-use Rattle.std.proofs.lemmas.List.{ext_get_or, get_or_default}
+use Rattle.std.proofs.lemmas.List.{get_or_default, get_or-map, length-map}
+use Rattle.std.proofs.lemmas.Option.{slice_get-get_or, slice_get_past}
+use Rattle.std.proofs.lemmas.List.FromFn.{fill_by_all}
 use Rattle.std.proofs.lemmas.Grind.{common_steps}
 use Rattle.bsp_model.specs.declared.input.Input.{Input}
 use Rattle.bsp_model.specs.Input.{input_fault}
+use Rattle.bsp_model.specs.Replaced.{replaced}
 use Rattle.bsp_model.proofs.Inputs.{lawful_input}
 use Rattle.bsp_step.specs.ViewParts.{ViewParts}
 use Rattle.bsp_step.specs.OutcomeParts.{OutcomeParts}
 use Rattle.bsp_run.specs.declared.superstep.Superstep.{Superstep}
 use Rattle.bsp_run.specs.Run.{Run, open_views}
-use Rattle.bsp_run.specs.Supersteps.{supersteps_of, supersteps_opened, superstep_at}
+use Rattle.bsp_run.specs.Supersteps.{no_superstep, supersteps_of, supersteps_opened, superstep_at}
 use Rattle.bsp_run.specs.State.{view_of}
 use Rattle.bsp_run.specs.Law.{state_at, views_in, outcomes_in, IsBspRun}
 use Rattle.bsp_run.specs.Condition.{no_view}
@@ -25,8 +28,8 @@ use Rattle.bsp_incr.specs.Exact.{supersteps_before}
 use Rattle.bsp_incr.specs.Inside.Before.{taken_before, outcomes_before, delivered_outcomes, views_after, first_view_before, IsBefore, IsBeforeEdits, HasSameArgs, HasSameMemory, AreArgsMarked}
 use Rattle.bsp_incr.specs.Inside.Changes.{processes_where}
 use Rattle.bsp_incr.specs.declared.edit.Edit.{Edit}
-use Rattle.bsp_incr.proofs.Carrying.{not_listed}
 use Rattle.bsp_incr.proofs.Lawful.{edited_count}
+use Rattle.bsp_incr.proofs.Patching.{patched, patched_is}
 use Rattle.bsp_incr.proofs.Propagation.{one_table, view-in, first_memory, memory-in, queue-in}
 
 -- the run of a lawful input is its record
@@ -47,22 +50,25 @@ first_view turn input k p h l = ap (λ (vs : List ViewParts). get_or vs p no_vie
 pub args_before : (turn : ViewParts → OutcomeParts) (input : Input) (k : Run) (p : ℕ) (h : IsBefore turn input (Some k)) → p < length input.mems → HasSameArgs (Some k) input p → get_or h.input_before.args p [] ≡ get_or input.args p []
 args_before turn input k p h l same = sym (ap (λ (v : ViewParts). v.args) (first_view turn input k p h l)) ∙ same k refl
 
--- where nobody is marked, the lists of arguments are the same
-pub all_args_before : (turn : ViewParts → OutcomeParts) (input : Input) (k : Run) (always : List Bool) (others : List ℕ) (h : IsBefore turn input (Some k)) → input_fault input ≡ None → AreArgsMarked (Some k) input always
-    → others ≡ processes_where (length always) (λ p. get_or always p false) → others ≡ [] → k.args ≡ input.args
-all_args_before turn input k always others h lawful marked listed none =
-    let i = h.input_before in
+-- there are arguments for as many processes
+pub count_args : (turn : ViewParts → OutcomeParts) (input : Input) (k : Run) (h : IsBefore turn input (Some k)) → input_fault input ≡ None → length k.args ≡ length input.args
+count_args turn input k h lawful =
+    ap (λ (lists : List (List ℕ)). length lists) h.law.args ∙ (lawful_input h.input_before h.lawful).same_count ∙ h.stands ∙ sym (lawful_input input lawful).same_count
+
+-- The arguments of the run before, with those of the marked processes in their places, are the new ones.
+pub args_in_place : (turn : ViewParts → OutcomeParts) (input : Input) (k : Run) (always : List Bool) (others : List ℕ) (h : IsBefore turn input (Some k)) → input_fault input ≡ None → AreArgsMarked (Some k) input always
+    → others ≡ processes_where (length always) (λ p. get_or always p false) → replaced k.args others (map (λ p. get_or input.args p []) others) ≡ input.args
+args_in_place turn input k always others h lawful marked listed =
+    let n = length input.mems in
+    let f : ℕ → List ℕ = λ p. get_or input.args p [] in
     let test : ℕ → Bool = λ p. get_or always p false in
-    let new = lawful_input input lawful in
-    let old = lawful_input i h.lawful in
-    let long : length i.args ≡ length input.args = old.same_count ∙ h.stands ∙ sym new.same_count in
-    h.law.args
-    ∙ ext_get_or [] i.args input.args long
-    (λ p l.
-    let here : p < length input.mems = omega (arith, l, long, new.same_count) in
-    let there : p < length always = omega (arith, here, marked.count) in
-    let unmarked : test p ≡ false = not_listed test (length always) p [] (sym none ∙ listed) there (λ j m. absurd (omega (arith, m))) in
-    args_before turn input k p h here (marked.clean p here (get_or_default always p true false there ∙ unmarked)))
+    let long : length k.args ≡ n = count_args turn input k h lawful ∙ (lawful_input input lawful).same_count in
+    let there : (p : ℕ) → p < n → test p ≡ false → get_or k.args p [] ≡ f p =
+    λ p l t.
+    let clean : get_or always p true ≡ false = get_or_default always p true false (omega (arith, l, marked.count)) ∙ t in
+    ap (λ (lists : List (List ℕ)). get_or lists p []) h.law.args ∙ args_before turn input k p h l (marked.clean p l clean) in
+    ap (λ (ps : List ℕ). patched f k.args ps) (listed ∙ ap (λ m. processes_where m test) marked.count) ∙ patched_is f test n k.args [] long there
+    ∙ sym (fill_by_all f input.args n [] (lawful_input input lawful).same_count (λ p l. refl))
 
 pub memory_before : (turn : ViewParts → OutcomeParts) (input : Input) (k : Run) (p : ℕ) (h : IsBefore turn input (Some k)) → p < length input.mems → HasSameMemory (Some k) input p → get_or h.input_before.mems p [] ≡ get_or input.mems p []
 memory_before turn input k p h l same = sym (first_memory turn h.input_before p) ∙ sym (ap (λ (v : ViewParts). v.memory) (first_view turn input k p h l)) ∙ same k refl
@@ -132,6 +138,19 @@ views_after-some k s l = let t : nat_lt s (length k.past) ≡ true = grind (arit
 views_after-none : (k : Run) (s : ℕ) → length k.past ≤ s → views_after (Some k) s ≡ []
 views_after-none k s l = let t : nat_lt s (length k.past) ≡ false = grind (arith, nat_tests) in ap (λ b. cond b (superstep_at (supersteps_opened k) (s + 1)).views []) t
 
+-- what is got from the views of some supersteps
+pub seen_there : (supersteps : List Superstep) (s : ℕ) (views : List ViewParts) → slice_get (map (λ (x : Superstep). x.views) supersteps) s ≡ Some views → (superstep_at supersteps s).views ≡ views
+seen_there [] s views e = let nobody : List (List ViewParts) = [] in let none : slice_get nobody s ≡ None = slice_get_past nobody s (omega arith) in let both : None ≡ Some views = sym none ∙ e in cc
+seen_there (x ∷ supersteps) s views e =
+    let seen : List (List ViewParts) = map (λ (y : Superstep). y.views) (x ∷ supersteps) in
+    elim (cases_lt s (length seen)) [
+      | inl w ↦
+          let got : Some (get_or seen s []) ≡ Some views = sym (slice_get-get_or seen s [] w) ∙ e in
+          let same : get_or seen s [] ≡ views = cc in
+          sym (get_or-map (λ (y : Superstep). y.views) (x ∷ supersteps) s no_superstep [] (omega (arith, w, length-map (x ∷ supersteps) (λ (y : Superstep). y.views)))) ∙ same
+      | inr w ↦ let none : slice_get seen s ≡ None = slice_get_past seen s w in let both : None ≡ Some views = sym none ∙ e in cc
+    ]
+
 none_delivered : (views : List ViewParts) (os : List OutcomeParts) → views ≡ [] → length os ≡ 0 → AreDelivered os views
 none_delivered views os e l =
     record { count = ap (λ (vs : List ViewParts). length vs) e ∙ sym l; memory = λ d m. absurd (omega arith); queue = λ d m. absurd (omega arith) }
@@ -156,13 +175,4 @@ delivered_before_is turn input (Some k) s h =
           subst (λ (os : List OutcomeParts). AreDelivered os (views_after (Some k) s)) (sym (delivered-in turn input k s h w))
           (subst (AreDelivered (outcomes_in turn h.input_before s)) (sym views) (delivered_views turn h.input_before s))
       | inr w ↦ none_delivered (views_after (Some k) s) (delivered_outcomes (Some k) s) (views_after-none k s w) (ap (λ (x : Superstep). length x.outcomes) (superstep_at-past_end k.past s w))
-    ]
-
--- the processes see one table in them
-pub table_after : (turn : ViewParts → OutcomeParts) (input : Input) (old : Option Run) (s : ℕ) → IsBefore turn input old → HaveOneTable (views_after old s)
-table_after turn input None s h = no_table
-table_after turn input (Some k) s h =
-    elim (cases_lt s (length k.past)) [
-      | inl w ↦ subst HaveOneTable (sym (views_after-some k s w ∙ (record_of_law turn h.input_before k h.lawful h.law).views (s + 1) (omega arith))) (one_table turn h.input_before (s + 1))
-      | inr w ↦ subst HaveOneTable (sym (views_after-none k s w)) no_table
     ]

@@ -3,8 +3,6 @@ pub mod Comparing
 pub mod Reuse
 pub mod Changes
 pub mod Marks
-pub mod Next
-pub mod Replaced
 pub mod Before
 pub mod Replies
 pub mod Marking

@@ -1,25 +1,24 @@
 //! What is read of the run before when a run is made again.
 
-ghost use Rattle.std.specs.Prelude.{◌≡◌, ◌<◌, IfSome, length, option_map};
-ghost use Rattle.std.specs.Option.{ForSome};
+ghost use Rattle.std.specs.Prelude.{◌≡◌, ◌<◌, [], IfNone, IfSome, length, option_map};
 ghost use Rattle.bsp_deliver.specs.Condition.{AreDeliverable};
 ghost use Rattle.bsp_incr.specs.Inside.Before.{taken_before, outcomes_before, delivered_outcomes, views_after};
-ghost use Rattle.bsp_incr.specs.Inside.Before.{first_views_before, first_view_before};
+ghost use Rattle.bsp_incr.specs.Inside.Before.{first_views_before};
 
 use bsp_model::Shared;
-use bsp_run::History;
-use bsp_step::{Outcome, View};
+use bsp_run::{History, Views, ViewsRef};
+use bsp_step::Outcome;
 
 /// The views of a superstep of the run before; none where it took no turns of such a superstep.
-pub fn taken_before<'a>(old: Option<&'a History>, step: usize) -> &'a [Shared<View>]
-    ensures { result.now ≡ taken_before (option_map (λ k. k.now) old.entry) step }
+pub fn taken_before<'a>(old: Option<&'a History>, step: usize) -> ViewsRef<'a>
+    ensures { result ≡ taken_before (option_map (λ k. k.now) old.entry) step }
 {
     match old {
         Some(history) if step < history.steps() => match history.views(step as u64) {
-            Some(views) => views,
-            None => &[],
+            Some(views) => views.as_ref(),
+            None => ViewsRef::none(),
         },
-        _ => &[],
+        _ => ViewsRef::none(),
     }
 }
 
@@ -50,36 +49,29 @@ pub fn delivered_outcomes<'a>(old: Option<&'a History>, step: usize) -> &'a [Sha
     }
 }
 
-/// The views after that delivery.
-pub fn views_after<'a>(old: Option<&'a History>, step: usize) -> &'a [Shared<View>]
-    ensures { result.now ≡ views_after (option_map (λ k. k.now) old.entry) step }
+/// The views after that delivery, of one process or more; none where there was no such delivery.
+pub fn views_after<'a>(old: Option<&'a History>, step: usize) -> Option<&'a Views>
+    ensures views { IfSome result (λ v. v.now ≡ views_after (option_map (λ k. k.now) old.entry) step) }
+    ensures some { IfSome result (λ v. 0 < length v.now) }
+    ensures none { IfNone result (views_after (option_map (λ k. k.now) old.entry) step ≡ []) }
 {
-    let Some(history) = old else {
-        return &[];
-    };
+    let history = old?;
     if step >= history.past().len() {
-        return &[];
+        return None;
     }
-    match history.views((step + 1) as u64) {
-        Some(views) => views,
-        None => &[],
+    let views = history.views((step + 1) as u64)?;
+    if views.is_empty() {
+        return None;
     }
+    Some(views)
 }
 
 /// What the processes saw in superstep 0.
-pub fn first_views_before(old: &History) -> &[Shared<View>]
+pub fn first_views_before(old: &History) -> &Views
     ensures { result.now ≡ first_views_before old.now }
 {
     match old.views(0) {
         Some(views) => views,
-        None => &[],
+        None => unreachable!(),
     }
-}
-
-/// What a process saw in superstep 0 of the run before, if there was one.
-pub fn first_view_before<'a>(old: Option<&'a History>, p: usize) -> Option<&'a View>
-    ensures { IfSome result (λ view. ForSome (option_map (λ k. k.now) old.entry) (λ r. view.now ≡ first_view_before r p)) }
-{
-    let view: &View = first_views_before(old?).get(p)?;
-    Some(view)
 }

@@ -5,11 +5,10 @@ ghost use Rattle.bsp_incr.specs.Inside.Marks.{AreMarked, HaveOneTable};
 ghost use Rattle.bsp_incr.specs.Inside.Known.{AreDoubtful, HaveSameTable, IsKnown};
 
 use crate::known_table::KnownTable;
-use crate::looking::see;
+use crate::looking::have_same_table;
 use crate::places::{all_processes, processes_where};
-use bsp_model::{OutOfMemory, Shared};
-use bsp_run::seen_by;
-use bsp_step::View;
+use bsp_model::OutOfMemory;
+use bsp_run::{Views, ViewsRef};
 use std::alloc::Global;
 
 /// What may be another in a superstep than in the run before.
@@ -22,7 +21,7 @@ pub struct Doubtful {
 }
 
 /// Whether the processes of two supersteps see the same table and tag size. False where one of them has no process.
-fn is_same_table(old: &[Shared<View>], new: &[Shared<View>], known: KnownTable) -> bool
+fn is_same_table(old: &ViewsRef<'_>, new: &Views, known: KnownTable) -> bool
     requires { IsKnown known old.now new.now }
     ensures { result ≡ true → HaveSameTable old.now new.now }
 {
@@ -31,10 +30,7 @@ fn is_same_table(old: &[Shared<View>], new: &[Shared<View>], known: KnownTable) 
     }
     match known {
         KnownTable::AsBefore => true,
-        KnownTable::Unknown => {
-            let view = seen_by(new, 0);
-            see(old, &view.table, view.tag_size)
-        }
+        KnownTable::Unknown => have_same_table(&old.get(0), &new.get(0)),
     }
 }
 
@@ -42,8 +38,8 @@ impl Doubtful {
     /// The processes that are marked, where the table and the tag size are those of the run before, and else all.
     pub fn among(
         alloc: Global,
-        old_views: &[Shared<View>],
-        views: &[Shared<View>],
+        old_views: &ViewsRef<'_>,
+        views: &Views,
         marks: &[bool],
         known: KnownTable,
     ) -> Result<Doubtful, OutOfMemory>

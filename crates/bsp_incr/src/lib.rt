@@ -19,7 +19,6 @@ mod marks;
 mod moving;
 mod opening;
 mod places;
-mod replacing;
 mod replies;
 mod reply;
 mod rerun;

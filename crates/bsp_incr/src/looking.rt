@@ -1,54 +1,64 @@
 //! Whether the recorded turn of a view serves for another view.
 
-ghost use Rattle.std.specs.Prelude.{◌≡◌, ℕ, ◌+◌, ◌≤◌, ◌<◌, ◌↔◌, IsTrue, true, length, slice_index, slice_index_or};
+ghost use Rattle.std.specs.Prelude.{◌≡◌, ℕ, ◌+◌, ◌≤◌, ◌<◌, ◌↔◌, IsTrue, true, length, slice_index};
 ghost use Rattle.bsp_step.specs.Footprint.{AreAlikeButForWords};
-ghost use Rattle.bsp_run.specs.Condition.{no_view};
 ghost use Rattle.bsp_incr.specs.Inside.Reuse.{same_where_looked_at, serves};
 
 use bsp_model::limits::MOST_MEMORY_WORDS;
-use bsp_model::{Same, Shared, are_same_words};
-use bsp_run::seen_by;
+use bsp_model::{Message, Same, are_same_words};
 use bsp_step::{Program, View};
 use bsp_table::Table;
 
 /// Whether a view has this table and this tag size.
-fn has_table(view: &View, table: &Table, tag_size: u64) -> bool
-    ensures { result ≡ true → (view.now.table ≡ table.now) × (view.now.tag_size ≡ tag_size) }
+pub fn has_table(view: &View<'_>, table: &Table, tag_size: u64) -> bool
+    ensures table { result ≡ true → view.now.table ≡ table.now }
+    ensures tag_size { result ≡ true → view.now.tag_size ≡ tag_size }
 {
     view.table.same(table) && view.tag_size == tag_size
 }
 
-/// Whether the first of these views has this table and this tag size. False where there is no view.
-pub fn see(views: &[Shared<View>], table: &Table, tag_size: u64) -> bool
-    ensures some { result ≡ true → 0 < length views.now }
-    ensures table { result ≡ true → (slice_index_or views.now 0 no_view).table ≡ table.now }
-    ensures tag_size { result ≡ true → (slice_index_or views.now 0 no_view).tag_size ≡ tag_size }
+/// Whether two views have the same table and the same tag size.
+pub fn have_same_table(old: &View<'_>, new: &View<'_>) -> bool
+    ensures table { result ≡ true → old.now.table ≡ new.now.table }
+    ensures tag_size { result ≡ true → old.now.tag_size ≡ new.now.tag_size }
 {
-    if views.is_empty() {
+    has_table(old, new.table, new.tag_size)
+}
+
+/// Whether two lists of messages are equal.
+fn are_same_messages(old: &[Message], new: &[Message]) -> bool
+    ensures { IsTrue result ↔ (old.now ≡ new.now) }
+{
+    if old.len() != new.len() {
         return false;
     }
-    has_table(seen_by(views, 0), table, tag_size)
+    for place in 0..old.len() {
+        if !old[place].same(&new[place]) {
+            return false;
+        }
+    }
+    true
 }
 
 /// Whether two views are equal but for the words of their memories. The tables need not be compared where they are known to be the same.
-fn is_alike_but_for_words(old: &View, new: &View, same_table: bool) -> bool
+fn is_alike_but_for_words(old: &View<'_>, new: &View<'_>, same_table: bool) -> bool
     requires { same_table ≡ true → old.now.table ≡ new.now.table }
     ensures { IsTrue result ↔ AreAlikeButForWords old.now new.now }
 {
     old.nprocs == new.nprocs
         && old.pid == new.pid
         && old.step == new.step
-        && old.args.same(&new.args)
-        && (same_table || old.table.same(&new.table))
+        && are_same_words(old.args, new.args)
+        && (same_table || old.table.same(new.table))
         && old.tag_size == new.tag_size
-        && old.queue.same(&new.queue)
+        && are_same_messages(old.queue, new.queue)
         && old.memory.len() == new.memory.len()
 }
 
 /// Whether words of two views are equal at each address at which the program looks. The first of them are at the address `first`.
 fn are_alike_from<P: Program>(
     program: &P,
-    view: &View,
+    view: &View<'_>,
     first: u64,
     old: &[u64],
     new: &[u64],
@@ -69,7 +79,7 @@ fn are_alike_from<P: Program>(
 }
 
 /// Whether the words are equal at each address at which the program looks.
-fn is_alike_where_looked_at<P: Program>(program: &P, old: &View, new: &View) -> bool
+fn is_alike_where_looked_at<P: Program>(program: &P, old: &View<'_>, new: &View<'_>) -> bool
     requires { length old.now.memory ≡ length new.now.memory }
     ensures { result ≡ same_where_looked_at (P.looks program.now old.now) old.now.memory new.now.memory }
 {
@@ -86,7 +96,7 @@ fn is_alike_where_looked_at<P: Program>(program: &P, old: &View, new: &View) -> 
 }
 
 /// Whether the turn of the first view serves for the second. It takes no memory. The tables are not compared where they are known to be the same.
-pub fn serves<P: Program>(program: &P, old: &View, new: &View, same_table: bool) -> bool
+pub fn serves<P: Program>(program: &P, old: &View<'_>, new: &View<'_>, same_table: bool) -> bool
     requires { same_table ≡ true → old.now.table ≡ new.now.table }
     ensures { result ≡ serves (P.looks program.now) old.now new.now }
 {

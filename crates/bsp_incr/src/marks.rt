@@ -4,7 +4,7 @@ ghost use Rattle.std.specs.Prelude.{◌≡◌, ◌<◌, All, IfOk, None, Some, l
 ghost use Rattle.bsp_incr.specs.Inside.Before.{IsBeforeEdits, AreArgsMarked, AreFirstMarked};
 ghost use Rattle.bsp_incr.specs.Inside.Marking.{word_before, word_now, arg_before, arg_now, word_place, arg_place};
 ghost use Rattle.bsp_incr.specs.Inside.Marking.{marked_if, marked_at, all_marked};
-ghost use Rattle.bsp_incr.specs.Inside.Replaced.{replaced};
+ghost use Rattle.bsp_model.specs.Replaced.{replaced};
 
 use crate::Edit;
 use crate::before::first_views_before;
@@ -44,9 +44,11 @@ pub fn all_marks(alloc: Global, input: &Input) -> Result<Marks, OutOfMemory>
 fn word_before(old: &History, pid: u64, addr: u64) -> u64
     ensures { result ≡ word_before old.now pid addr }
 {
-    let Some(view) = first_views_before(old).get(pid as usize) else {
+    let views = first_views_before(old);
+    if pid >= views.len() as u64 {
         return 0;
-    };
+    }
+    let view = views.get(pid as usize);
     match view.memory.load(addr) {
         Some(word) => word,
         None => 0,
@@ -57,10 +59,12 @@ fn word_before(old: &History, pid: u64, addr: u64) -> u64
 fn arg_before(old: &History, pid: u64, index: u64) -> u64
     ensures { result ≡ arg_before old.now pid index }
 {
-    let Some(view) = first_views_before(old).get(pid as usize) else {
+    let views = first_views_before(old);
+    if pid >= views.len() as u64 {
         return 0;
-    };
-    match view.args.as_slice().get(index as usize) {
+    }
+    let view = views.get(pid as usize);
+    match view.args.get(index as usize) {
         Some(arg) => *arg,
         None => 0,
     }

@@ -51,7 +51,6 @@ pub fn rerun<P: Program, G: Gate, R: Threads + Sync>(
         first: mut marks,
     } = marks;
     let other_args = processes_where(alloc, always.as_slice())?;
-    let mut tape = opened(alloc, old, input, marks.as_slice(), other_args.as_slice())?;
     let mut update = Update {
         executed: Seq::new(alloc),
         redelivered: Seq::new(alloc),
@@ -65,6 +64,7 @@ pub fn rerun<P: Program, G: Gate, R: Threads + Sync>(
         always: always.as_slice(),
         other_args: other_args.as_slice(),
     };
+    let mut tape = opened(&given, marks.as_slice())?;
     let mut table = KnownTable::Unknown;
     while tape.is_open() {
         advance(

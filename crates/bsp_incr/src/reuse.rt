@@ -10,9 +10,9 @@ use bsp_step::{Outcome, Program, View};
 /// The turn at a view for which the recorded turn of another view serves: no call is made.
 pub fn reuse<P: Program>(
     program: &P,
-    recorded: &View,
+    recorded: &View<'_>,
     outcome: &Outcome,
-    view: &View,
+    view: &View<'_>,
 ) -> Result<Outcome, OutOfMemory>
     requires serves { serves (P.looks program.now) recorded.now view.now ≡ true }
     requires outcome { outcome.now ≡ turn_of (P.acts program.now) (P.ending program.now) recorded.now }
@@ -20,7 +20,7 @@ pub fn reuse<P: Program>(
 {
     // That a view keeps its limits is known where a field of it is read.
     let _step = recorded.step;
-    let mut memory = view.memory.copy()?;
+    let mut memory = view.memory.to_memory()?;
     outcome.stores.make_again(&mut memory)?;
     let mut reused = outcome.copy()?;
     reused.memory = memory;

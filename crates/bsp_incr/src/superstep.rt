@@ -86,9 +86,9 @@ fn take_turns<P: Program, G: Gate, R: Threads + Sync>(
         given.alloc,
         given.program,
         step as u64,
-        old_views,
+        &old_views,
         old_outcomes,
-        tape.views(),
+        tape.open_views(),
         doubtful,
         executed,
         counts,
@@ -165,8 +165,8 @@ pub fn advance<P: Program, G: Gate, R: Threads + Sync>(
     let old_views = taken_before(given.old, step);
     let doubtful = Doubtful::among(
         given.alloc,
-        old_views,
-        tape.views(),
+        &old_views,
+        tape.open_views(),
         marks.as_slice(),
         *table,
     )?;

@@ -14,21 +14,20 @@ use crate::counts::Counts;
 use crate::doubtful::Doubtful;
 use crate::looking::serves;
 use crate::places::add_places;
-use crate::replacing::{copied, put_at};
 use crate::reuse::reuse;
 use crate::workers::Workers;
 use bsp_model::{OutOfMemory, Seq, Shared};
 use bsp_pool::Gate;
-use bsp_run::{seen_by, wide_turns};
-use bsp_step::{Outcome, Program, View};
+use bsp_run::{Views, ViewsRef, copied, put_at, wide_turns};
+use bsp_step::{Outcome, Program};
 use std::alloc::Global;
 use std::thread::Threads;
 
 /// Whether the turn of a process has to be taken. The tables are not compared where all processes are known to see the same.
 fn needs_turn<P: Program>(
     program: &P,
-    old_views: &[Shared<View>],
-    views: &[Shared<View>],
+    old_views: &ViewsRef<'_>,
+    views: &Views,
     p: usize,
     same_table: bool,
 ) -> bool
@@ -41,20 +40,15 @@ fn needs_turn<P: Program>(
     if p >= old_views.len() {
         return true;
     }
-    !serves(
-        program,
-        seen_by(old_views, p),
-        seen_by(views, p),
-        same_table,
-    )
+    !serves(program, &old_views.get(p), &views.get(p), same_table)
 }
 
 /// Of the doubtful processes, those whose turn has to be taken, and then those for which the recorded one serves.
 fn needed_turns<P: Program>(
     alloc: Global,
     program: &P,
-    old_views: &[Shared<View>],
-    views: &[Shared<View>],
+    old_views: &ViewsRef<'_>,
+    views: &Views,
     doubtful: &Doubtful,
     counts: &mut Counts,
 ) -> Result<(Vec<usize>, Vec<usize>), OutOfMemory>
@@ -82,9 +76,9 @@ fn needed_turns<P: Program>(
 fn served_turn<P: Program>(
     alloc: Global,
     program: &P,
-    old_views: &[Shared<View>],
+    old_views: &ViewsRef<'_>,
     old_outcomes: &[Shared<Outcome>],
-    views: &[Shared<View>],
+    views: &Views,
     p: usize,
 ) -> Result<Shared<Outcome>, OutOfMemory>
     requires place { p < length views.now }
@@ -92,12 +86,7 @@ fn served_turn<P: Program>(
     requires serves { differs (P.looks program.now) old_views.now views.now p ≡ false }
     ensures { IfOk result (λ o. o ≡ turn_of (P.acts program.now) (P.ending program.now) (slice_index_or views.now p no_view)) }
 {
-    let outcome = reuse(
-        program,
-        seen_by(old_views, p),
-        &old_outcomes[p],
-        seen_by(views, p),
-    )?;
+    let outcome = reuse(program, &old_views.get(p), &old_outcomes[p], &views.get(p))?;
     Ok(Shared::new(alloc, outcome)?)
 }
 
@@ -105,9 +94,9 @@ fn served_turn<P: Program>(
 fn served_turns<P: Program>(
     alloc: Global,
     program: &P,
-    old_views: &[Shared<View>],
+    old_views: &ViewsRef<'_>,
     old_outcomes: &[Shared<Outcome>],
-    views: &[Shared<View>],
+    views: &Views,
     processes: &[usize],
 ) -> Result<Vec<Shared<Outcome>>, OutOfMemory>
     requires known { All (λ p. p < length views.now) processes.now }
@@ -129,9 +118,9 @@ pub fn turns_again<P: Program, G: Gate, R: Threads + Sync>(
     alloc: Global,
     program: &P,
     step: u64,
-    old_views: &[Shared<View>],
+    old_views: &ViewsRef<'_>,
     old_outcomes: &[Shared<Outcome>],
-    views: &[Shared<View>],
+    views: &Views,
     doubtful: &Doubtful,
     executed: &mut Seq<Place>,
     counts: &mut Counts,

@@ -13,10 +13,9 @@ use Rattle.bsp_incr.specs.declared.reply.Update.{Update}
 use Rattle.bsp_incr.specs.declared.edit.Edit.{Edit}
 use Rattle.bsp_incr.specs.Edits.{edited}
 use Rattle.bsp_run.specs.Inside.Record.{IsRecord}
-use Rattle.bsp_incr.specs.Inside.Marks.{AreMarked, AreAlikeButForTable}
-use Rattle.bsp_incr.specs.Inside.Next.{next_view}
+use Rattle.bsp_incr.specs.Inside.Marks.{AreMarked}
 use Rattle.bsp_incr.specs.Exact.{supersteps_before, delivered_before}
-use Rattle.bsp_incr.specs.Inside.Changes.{is_touched, update_of}
+use Rattle.bsp_incr.specs.Inside.Changes.{update_of}
 
 -- the superstep that the run before took under this number, and the outcomes of the one that it delivered
 abbrev pub taken_before : Option Run → ℕ → List ViewParts
@@ -69,12 +68,6 @@ pub record AreArgsMarked (old : Option Run) (input : Input) (marks : List Bool) 
   pub count : length marks ≡ length input.mems
   pub clean : (p : ℕ) → p < length input.mems → slice_index_or marks p true ≡ false → HasSameArgs old input p
   pub other : (p : ℕ) → p < length input.mems → slice_index_or marks p false ≡ true → HasOtherArgs old input p
-
--- Once the turns of a superstep are taken, a process to which the delivery stays, and whose arguments are not marked, sees next what it saw in the run
--- before, the table and the tag size aside.
-abbrev pub AreAlikeAfter : Option Run → Run → List Bool → Type 0
-AreAlikeAfter old r always = (p : ℕ) → p < length r.outcomes → is_touched (delivered_outcomes old (length r.past)) r.outcomes p ≡ false → slice_index_or always p true ≡ false
-    → AreAlikeButForTable (slice_index_or (views_after old (length r.past)) p no_view) (next_view r p)
 
 -- Between the supersteps of the new run: the run before, the new run's record, the marks of its open superstep, and the update so far.
 pub record IsUnderWay (turn : ViewParts → OutcomeParts) (looks : ViewParts → ℕ → Bool) (old : Option Run) (input : Input) (r : Run) (marks : List Bool) (update : Update) : Type 0 where

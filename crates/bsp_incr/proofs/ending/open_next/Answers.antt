@@ -1,17 +1,54 @@
-use Rattle.std.proofs.Common.{◌∙◌, Option, ap}
+use Rattle.std.proofs.Common.{◌≡◌, ◌<◌, ◌∙◌, ℕ, Bool, Option, List, All, ap, sym, subst, length, map, arith}
+use Rattle.std.proofs.lemmas.List.{length-map}
 use Rattle.std.specs.Prelude.{option_map}
-use Rattle.bsp_run.specs.Run.{Run}
-use Rattle.bsp_incr.specs.Inside.Before.{views_after}
-use Rattle.bsp_incr.proofs.KnownTables.{knows_next}
-use Rattle.bsp_incr.proofs.Remaking.{next_views-are}
+use Rattle.bsp_model.specs.Replaced.{replaced, IsAscending}
+use Rattle.bsp_step.specs.ViewParts.{ViewParts}
+use Rattle.bsp_step.specs.OutcomeParts.{OutcomeParts}
+use Rattle.bsp_deliver.specs.Delivery.{delivery_parts, next_memory, next_queue}
+use Rattle.bsp_run.specs.State.{cell_of}
+use Rattle.bsp_run.specs.Run.{Run, open_views, after_delivery}
+use Rattle.bsp_incr.specs.Inside.Changes.{is_touched}
+use Rattle.bsp_incr.specs.Inside.Marks.{AreDelivered}
+use Rattle.bsp_incr.specs.Inside.Before.{delivered_outcomes, views_after}
+use Rattle.bsp_incr.specs.Inside.Known.{IsKnown}
+use Rattle.bsp_incr.proofs.Carrying.{cells_in_place, cells_of_none}
+use Rattle.bsp_incr.proofs.Gathering.{listed_below, processes_where-ascending}
 use Rattle.bsp_incr.proofs.ending.open_next.Goals as goal
 
-pub delivered_as-requires-clause-views : goal.delivered_as-requires-clause-views
-delivered_as-requires-clause-views g c = c.in_ok-from_vec.ensures ∙ c.in_ok-views.ensures ∙ next_views-are c.args.tape.now
-
-pub returns-in_ok-delivered_as-clause-known : goal.returns-in_ok-delivered_as-clause-known
-returns-in_ok-delivered_as-clause-known g c =
+pub delivered-requires-clause-cells : goal.delivered-requires-clause-cells
+delivered-requires-clause-cells g c =
     let old : Option Run = option_map (λ k. k.now) c.args.given.now.old in
-    let same = c.in_ok-has_table_as_before.ensures in
-    knows_next old c.args.tape.now c.views_after-old_next.result.now (c.views_after-old_next.ensures ∙ ap (views_after old) c.step-step.ensures)
-    c.requires.comparable.after.some (same.some c.if-branch.true) (same.next c.if-branch.true)
+    let r : Run = c.args.tape.now in
+    let seen : length (views_after old (length r.past)) ≡ 0 = ap (λ n. length (views_after old n)) (sym c.step.ensures) ∙ ap (λ (vs : List ViewParts). length vs) c.in_default.ensures.none in
+    cells_of_none (delivered_outcomes old (length r.past)) r.outcomes c.args.touched.now c.args.made.items (sym c.requires.next.count ∙ seen) c.requires.touched c.requires.made
+
+-- the views after the delivery, by another name
+next_are : (old : Option Run) (s n : ℕ) (views : List ViewParts) → n ≡ s → views ≡ views_after old n → AreDelivered (delivered_outcomes old s) (views_after old s) → AreDelivered (delivered_outcomes old s) views
+next_are old s n views e h d = subst (AreDelivered (delivered_outcomes old s)) (sym (h ∙ ap (views_after old) e)) d
+
+pub next_views_like-requires-clause-known : goal.next_views_like-requires-clause-known
+next_views_like-requires-clause-known g c =
+    let old : Option Run = option_map (λ k. k.now) c.args.given.now.old in
+    let r : Run = c.args.tape.now in
+    let os = delivered_outcomes old (length r.past) in
+    let views = c.in-Some.old_next.now in
+    let next = next_are old (length r.past) c.step.result views c.step.ensures c.in-Some.ensures.views c.requires.next in
+    let some : 0 < length views = c.in-Some.ensures.some in
+    let long : length views ≡ length r.outcomes = next.count ∙ c.requires.comparable.count (omega (arith, some, next.count)) in
+    subst (λ n. All (λ p. p < n) c.args.touched.now) (sym long) (listed_below (length r.outcomes) (is_touched os r.outcomes) c.args.touched.now c.requires.touched)
+
+pub next_views_like-requires-clause-ascending : goal.next_views_like-requires-clause-ascending
+next_views_like-requires-clause-ascending g c =
+    let old : Option Run = option_map (λ k. k.now) c.args.given.now.old in
+    let r : Run = c.args.tape.now in
+    subst IsAscending (sym c.requires.touched) (processes_where-ascending (length r.outcomes) (is_touched (delivered_outcomes old (length r.past)) r.outcomes))
+
+pub next_views_like-requires-clause-cells : goal.next_views_like-requires-clause-cells
+next_views_like-requires-clause-cells g c =
+    let old : Option Run = option_map (λ k. k.now) c.args.given.now.old in
+    let r : Run = c.args.tape.now in
+    let views = c.in-Some.old_next.now in
+    let next = next_are old (length r.past) c.step.result views c.step.ensures c.in-Some.ensures.views c.requires.next in
+    let some : 0 < length views = c.in-Some.ensures.some in
+    let long = c.requires.comparable.count (omega (arith, some, next.count)) in
+    cells_in_place (delivered_outcomes old (length r.past)) r.outcomes views c.args.touched.now c.args.made.items next long c.requires.touched c.requires.made

@@ -1,5 +1,5 @@
 use Rattle.std.proofs.Common.{◌≡◌, true, map, drop, length}
-use Rattle.bsp_incr.specs.Inside.Replaced.{replaced}
+use Rattle.bsp_model.specs.Replaced.{replaced}
 use Rattle.bsp_incr.proofs.marks.mark_too.Given as goal
 
 -- the processes that are marked, and those that are left

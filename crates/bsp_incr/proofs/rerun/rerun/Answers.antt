@@ -14,7 +14,6 @@ use Rattle.bsp_incr.specs.Inside.Before.{IsBefore, AreArgsMarked}
 use Rattle.bsp_incr.specs.Inside.Stays.{LinesStayBut}
 use Rattle.bsp_incr.proofs.Lasting.{lines_stay}
 use Rattle.bsp_incr.proofs.Remaking.{under_way_start}
-use Rattle.bsp_incr.proofs.RunBefore.{all_args_before}
 use Rattle.bsp_incr.proofs.rerun.rerun.Goals as goal
 
 pub loop-given-init : goal.loop-given-init
@@ -82,21 +81,12 @@ returns-clause-update g c =
     subst (λ (r : Run). c.loop-given.update ≡ update_of (g.P.Program.looks c.args.program.now) (option_map (λ k. k.now) c.args.old) r) (sym c.in_ok-history.ensures) c.loop-given.invariant.under_way.updated
 
 pub opened-requires-clause-before : goal.opened-requires-clause-before
-opened-requires-clause-before g c = (turn_of (g.P.Program.acts c.args.program.now) (g.P.Program.ending c.args.program.now), c.requires.before)
-
-pub opened-requires-clause-other_args : goal.opened-requires-clause-other_args
-opened-requires-clause-other_args g c = λ none r e.
-    let turn = turn_of (g.P.Program.acts c.args.program.now) (g.P.Program.ending c.args.program.now) in
-    let input : Input = c.args.input.now in
-    let always : List Bool = c.args.marks.args.items in
-    let listed = c.as_slice-3.ensures.value ∙ c.in_ok-other_args.ensures ∙ ap (λ (bs : List Bool). processes_where (length bs) (λ p. get_or bs p false)) c.as_slice.ensures.value in
-    all_args_before turn input r always c.as_slice-3.result.now (subst (IsBefore turn input) e c.requires.before) c.requires.lawful
-    (subst (λ (o : Option Run). AreArgsMarked o input always) e c.requires.args) listed none
+opened-requires-clause-before g c κs within = (turn_of (g.P.Program.acts c.args.program.now) (g.P.Program.ending c.args.program.now), c.requires.before)
 
 pub invariant_of-given : goal.invariant_of-given
 invariant_of-given g c =
     record {
-      marked = subst (AreArgsMarked (option_map (λ k. k.now) c.args.old) c.args.input.now) (sym c.as_slice-4.ensures.value) c.requires.args;
+      marked = subst (AreArgsMarked (option_map (λ k. k.now) c.args.old) c.args.input.now) (sym c.as_slice-2.ensures.value) c.requires.args;
       lawful = c.requires.lawful;
-      listed = c.as_slice-5.ensures.value ∙ c.in_ok-other_args.ensures ∙ ap (λ (bs : List Bool). processes_where (length bs) (λ p. get_or bs p false)) (c.as_slice.ensures.value ∙ sym c.as_slice-4.ensures.value);
+      listed = c.as_slice-3.ensures.value ∙ c.in_ok-other_args.ensures ∙ ap (λ (bs : List Bool). processes_where (length bs) (λ p. get_or bs p false)) (c.as_slice.ensures.value ∙ sym c.as_slice-2.ensures.value);
     }

@@ -6,17 +6,15 @@ use Rattle.bsp_deliver.specs.Requests.{each_below}
 use Rattle.bsp_run.specs.declared.superstep.Superstep.{Superstep}
 use Rattle.bsp_run.specs.Run.{Run, after_delivery, open_views}
 use Rattle.bsp_run.specs.Condition.{is_turned}
-use Rattle.bsp_run.specs.Law.{outcomes_in}
-use Rattle.bsp_run.specs.Inside.Record.{IsRecord}
 use Rattle.bsp_run.proofs.Runs.{open_phase, advance-delivers, advance-ends}
-use Rattle.bsp_run.proofs.Records.{past-turned, open_views-in, count-outcomes_in, IsRecord-turned}
+use Rattle.bsp_run.proofs.Records.{past-turned, open_views-in, count-outcomes_in}
 use Rattle.bsp_incr.specs.declared.reply.Place.{Place}
 use Rattle.bsp_incr.specs.Inside.Changes.{touched_in, is_touched}
 use Rattle.bsp_incr.specs.Inside.Marks.{OutcomesDifferAtMost}
 use Rattle.bsp_incr.specs.Inside.Before.{delivered_outcomes}
 use Rattle.bsp_incr.proofs.KnownTables.{knows_delivered, knows_ended}
-use Rattle.bsp_incr.proofs.RunBefore.{count_before, delivered_before_is, table_after}
-use Rattle.bsp_incr.proofs.Remaking.{turns-in, unchanged_among, alike_after, outcomes-turned, under_way_turned, under_way_delivered}
+use Rattle.bsp_incr.proofs.RunBefore.{count_before, delivered_before_is}
+use Rattle.bsp_incr.proofs.Remaking.{turns-in, unchanged_among, outcomes-turned, under_way_turned, under_way_delivered}
 use Rattle.bsp_incr.proofs.superstep.make_again.Goals as goal
 
 pub make_deliveries-requires-clause-count : goal.make_deliveries-requires-clause-count
@@ -37,10 +35,6 @@ pub make_deliveries-requires-clause-next : goal.make_deliveries-requires-clause-
 make_deliveries-requires-clause-next g c κs within =
     delivered_before_is (turn_of (g.P.Program.acts c.args.given.now.program.now) (g.P.Program.ending c.args.given.now.program.now)) c.args.given.now.input.now (option_map (λ k. k.now) c.args.given.now.old) (length c.take_turns.new.tape.past) c.requires.under_way.before
 
-pub make_deliveries-requires-clause-old_table : goal.make_deliveries-requires-clause-old_table
-make_deliveries-requires-clause-old_table g c κs within =
-    table_after (turn_of (g.P.Program.acts c.args.given.now.program.now) (g.P.Program.ending c.args.given.now.program.now)) c.args.given.now.input.now (option_map (λ k. k.now) c.args.given.now.old) (length c.take_turns.new.tape.past) c.requires.under_way.before
-
 pub make_deliveries-requires-clause-doubtful : goal.make_deliveries-requires-clause-doubtful
 make_deliveries-requires-clause-doubtful g c κs within =
     let turn = turn_of (g.P.Program.acts c.args.given.now.program.now) (g.P.Program.ending c.args.given.now.program.now) in
@@ -55,18 +49,6 @@ make_deliveries-requires-clause-doubtful g c κs within =
     subst (OutcomesDifferAtMost (delivered_outcomes old (length c.take_turns.new.tape.past)) c.take_turns.new.tape.outcomes) (sym c.as_slice-processes.ensures.value)
     (subst (λ (os : List OutcomeParts). OutcomesDifferAtMost (delivered_outcomes old (length c.take_turns.new.tape.past)) os processes) (sym outcomes)
     (subst (λ n. OutcomesDifferAtMost (delivered_outcomes old n) us processes) (sym steps) unchanged))
-
-pub make_deliveries-requires-clause-alike : goal.make_deliveries-requires-clause-alike
-make_deliveries-requires-clause-alike g c κs within =
-    let turn = turn_of (g.P.Program.acts c.args.given.now.program.now) (g.P.Program.ending c.args.given.now.program.now) in
-    let old : Option Run = option_map (λ k. k.now) c.args.given.now.old in
-    let r : Run = c.args.tape.now in
-    let us = map turn (open_views r) in
-    let is = c.in_ok-known.ensures.turned in
-    let steps = ap (λ (x : Run). length x.past) is ∙ ap (λ (xs : List Superstep). length xs) (past-turned r us) in
-    let made : IsRecord turn c.args.given.now.input.now c.take_turns.new.tape = subst (IsRecord turn c.args.given.now.input.now) (sym is) (IsRecord-turned turn c.args.given.now.input.now r c.requires.under_way.made (open_phase r.phase c.requires.open)) in
-    let outcomes = ap (λ (x : Run). x.outcomes) is ∙ outcomes-turned r us ∙ turns-in turn c.args.given.now.input.now r c.requires.under_way.made ∙ ap (outcomes_in turn c.args.given.now.input.now) (sym steps) in
-    alike_after turn c.args.given.now.input.now old c.take_turns.new.tape c.args.given.now.always.now c.requires.under_way.before c.args.given.now.marked made outcomes
 
 pub make_deliveries-requires-clause-always : goal.make_deliveries-requires-clause-always
 make_deliveries-requires-clause-always g c κs within =

@@ -5,7 +5,7 @@ use Rattle.bsp_step.specs.Turn.{turn_of}
 use Rattle.bsp_run.specs.Run.{Run}
 use Rattle.bsp_run.specs.Condition.{AreOutcomesOf}
 use Rattle.bsp_run.proofs.Records.{open_views-in}
-use Rattle.bsp_run.proofs.Runs.{views_shown-open, open_phase}
+use Rattle.bsp_run.proofs.Runs.{open_phase}
 use Rattle.bsp_run.proofs.Turns.{AreOutcomesOf-turns}
 use Rattle.bsp_incr.specs.Inside.Before.{taken_before}
 use Rattle.bsp_incr.specs.Inside.Marks.{HaveOneTable}
@@ -21,17 +21,17 @@ turns_again-requires-clause-count g c κs within =
     let old : Option Run = option_map (λ k. k.now) c.args.given.now.old in
     let r : Run = c.args.tape.now in
     let before = c.taken_before-old_views.ensures ∙ ap (taken_before old) c.step-step.ensures in
-    let now = c.views.ensures.views ∙ views_shown-open r c.requires.open ∙ open_views-in turn input r c.requires.made in
-    subst (λ (vs : List ViewParts). 0 < length vs → length vs ≡ length c.views.result.now) (sym before)
-    (count_taken turn input old (length r.past) c.views.result.now c.requires.before now)
+    let now = c.open_views.ensures.views ∙ open_views-in turn input r c.requires.made in
+    subst (λ (vs : List ViewParts). 0 < length vs → length vs ≡ length c.open_views.result.now) (sym before)
+    (count_taken turn input old (length r.past) c.open_views.result.now c.requires.before now)
 
 pub turns_again-requires-clause-doubtful : goal.turns_again-requires-clause-doubtful
 turns_again-requires-clause-doubtful g c κs within =
     let old : Option Run = option_map (λ k. k.now) c.args.given.now.old in
     let r : Run = c.args.tape.now in
     let before = c.taken_before-old_views.ensures ∙ ap (taken_before old) c.step-step.ensures in
-    let now = c.views.ensures.views ∙ views_shown-open r c.requires.open in
-    subst (λ (vs : List ViewParts). AreDoubtful vs c.views.result.now c.args.doubtful.now) (sym before)
+    let now = c.open_views.ensures.views in
+    subst (λ (vs : List ViewParts). AreDoubtful vs c.open_views.result.now c.args.doubtful.now) (sym before)
     (subst (λ (vs : List ViewParts). AreDoubtful (taken_before old (length r.past)) vs c.args.doubtful.now) (sym now) c.requires.doubtful)
 
 pub turns_again-requires-clause-recorded : goal.turns_again-requires-clause-recorded
@@ -51,12 +51,12 @@ pub turns_again-requires-clause-table : goal.turns_again-requires-clause-table
 turns_again-requires-clause-table g c κs within =
     let turn = turn_of (g.P.Program.acts c.args.given.now.program.now) (g.P.Program.ending c.args.given.now.program.now) in
     let r : Run = c.args.tape.now in
-    subst HaveOneTable (sym (c.views.ensures.views ∙ views_shown-open r c.requires.open)) (open_table turn c.args.given.now.input.now r c.requires.made)
+    subst HaveOneTable (sym c.open_views.ensures.views) (open_table turn c.args.given.now.input.now r c.requires.made)
 
 pub end_turns-requires-clause-within : goal.end_turns-requires-clause-within
 end_turns-requires-clause-within g c κs within =
     let acts = g.P.Program.acts c.args.given.now.program.now in
     let ending = g.P.Program.ending c.args.given.now.program.now in
     let r : Run = c.args.tape.now in
-    subst (λ (vs : List ViewParts). AreOutcomesOf vs c.in_ok-outcomes.outcomes.items) (c.views.ensures.views ∙ views_shown-open r c.requires.open)
-    (subst (AreOutcomesOf c.views.result.now) (sym c.in_ok-outcomes.ensures.turns) (AreOutcomesOf-turns acts ending c.views.result.now (c.views.ensures.limits (open_phase r.phase c.requires.open))))
+    subst (λ (vs : List ViewParts). AreOutcomesOf vs c.in_ok-outcomes.outcomes.items) c.open_views.ensures.views
+    (subst (AreOutcomesOf c.open_views.result.now) (sym c.in_ok-outcomes.ensures.turns) (AreOutcomesOf-turns acts ending c.open_views.result.now (c.open_views.ensures.limits (open_phase r.phase c.requires.open))))

@@ -9,8 +9,8 @@ use Rattle.bsp_incr.specs.Inside.Reuse.{serves}
 use Rattle.bsp_incr.proofs.Retaking.{unneeded}
 use Rattle.bsp_incr.proofs.turns.served_turn.Goals as goal
 
-pub seen_by-requires : goal.seen_by-requires
-seen_by-requires g c = (unneeded (g.P.Program.looks c.args.program.now) c.args.old_views.now c.args.views.now c.args.p c.requires.serves).0
+pub get-requires : goal.get-requires
+get-requires g c = (unneeded (g.P.Program.looks c.args.program.now) c.args.old_views.now c.args.views.now c.args.p c.requires.serves).0
 
 pub bounds-old_outcomes-p : goal.bounds-old_outcomes-p
 bounds-old_outcomes-p g c =
@@ -24,9 +24,9 @@ reuse-requires-clause-serves g c κs within =
     let looks = g.P.Program.looks c.args.program.now in
     let old = c.args.old_views.now in let new = c.args.views.now in let p = c.args.p in
     let served = unneeded looks old new p c.requires.serves in
-    let v = c.seen_by.ensures in
-    let w = c.seen_by-2.ensures in
-    ap (λ (x : ViewParts). serves looks x c.seen_by-2.result.now) v ∙ ap (serves looks (get_or old p no_view)) w ∙ served.1
+    let v = c.get.ensures in
+    let w = c.get-2.ensures in
+    ap (λ (x : ViewParts). serves looks x c.get-2.result) v ∙ ap (serves looks (get_or old p no_view)) w ∙ served.1
 
 pub reuse-requires-clause-outcome : goal.reuse-requires-clause-outcome
 reuse-requires-clause-outcome g c κs within =
@@ -34,12 +34,12 @@ reuse-requires-clause-outcome g c κs within =
     let old = c.args.old_views.now in let p = c.args.p in let os = c.args.old_outcomes.now in
     let here : p < length old = (unneeded (g.P.Program.looks c.args.program.now) old c.args.views.now p c.requires.serves).0 in
     let long : length os ≡ length old = ap (λ (xs : List OutcomeParts). length xs) c.requires.recorded ∙ length-map old turn in
-    let v = c.seen_by.ensures in
+    let v = c.get.ensures in
     let o = c.deref.ensures ∙ c.index-old_outcomes-p.is ∙ get_or_default os p c.index-old_outcomes-p.result no_outcome (omega arith) in
     o ∙ ap (λ (xs : List OutcomeParts). get_or xs p no_outcome) c.requires.recorded ∙ get_or-map turn old p no_view no_outcome here ∙ ap turn (sym v)
 
 pub returns : goal.returns
 returns g c =
     let turn = turn_of (g.P.Program.acts c.args.program.now) (g.P.Program.ending c.args.program.now) in
-    let w = c.seen_by-2.ensures in
+    let w = c.get-2.ensures in
     c.in_ok-new.ensures ∙ c.in_ok-outcome.ensures ∙ ap turn w

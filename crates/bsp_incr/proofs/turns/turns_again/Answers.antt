@@ -7,9 +7,9 @@ use Rattle.bsp_step.specs.OutcomeParts.{OutcomeParts}
 use Rattle.bsp_step.specs.Turn.{turn_of}
 use Rattle.bsp_run.specs.Shares.{turns_of}
 use Rattle.bsp_incr.specs.Inside.Changes.{differs, places_of}
-use Rattle.bsp_incr.specs.Inside.Replaced.{replaced}
+use Rattle.bsp_model.specs.Replaced.{replaced}
 use Rattle.bsp_incr.proofs.Gathering.{not_empty}
-use Rattle.bsp_incr.proofs.Patching.{length-replaced}
+use Rattle.bsp_model.proofs.Replaced.{length-replaced}
 use Rattle.bsp_incr.proofs.Retaking.{needed_among, turns_in_place, turns_of_none, differ_below, not_true}
 use Rattle.bsp_incr.proofs.turns.turns_again.Goals as goal
 

@@ -1,4 +1,5 @@
-use Rattle.std.proofs.Common.{◌∙◌}
+use Rattle.std.proofs.Common.{◌∙◌, true, ap}
+use Rattle.bsp_incr.specs.Inside.Changes.{processes_where}
 use Rattle.bsp_incr.proofs.Retaking.{marked_differ, all_differ}
 use Rattle.bsp_incr.proofs.doubtful.Doubtful.among.Goals as goal
 use Rattle.bsp_incr.proofs.doubtful.Doubtful.among.Goals.{then-same_table+in_ok-processes, else-same_table+in_ok-processes-2}
@@ -17,7 +18,7 @@ returns c =
           }
       | else-same_table+in_ok-processes-2 w ↦
           record {
-            processes = all_differ old new c.if-same_table.processes.items ((λ i. (w.processes-is i).items) ∙ w.in_ok-processes-2.ensures);
+            processes = all_differ old new c.if-same_table.processes.items ((λ i. (w.processes-is i).items) ∙ w.in_ok-processes-2.ensures ∙ ap (λ n. processes_where n (λ _. true)) w.len.ensures);
             same_table = c.is_same_table-same_table.ensures;
           }
     ]
