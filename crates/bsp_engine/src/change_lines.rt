@@ -19,11 +19,11 @@ pub fn item_at<T>(items: &[T], at: usize) -> Option<&T>
 }
 
 /// Appends the line of a memory, unless it is the same as before. Whether it is another.
-pub fn push_other_memory(
+pub fn push_other_memory<'a>(
     text: &mut Vec<u8>,
     pid: u64,
-    old: Option<&Memory>,
-    new: &MemoryRef<'_>,
+    old: Option<&'a Memory>,
+    new: &MemoryRef<'a>,
 ) -> Result<bool, OutOfMemory>
     ensures text { OnOk result (text.new.items ≡ text.old.items ++
         piece_if memory_line pid (other same_words (option_map (λ m. m.now) old.entry) new.now)) }
