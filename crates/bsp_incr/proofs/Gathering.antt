@@ -77,9 +77,6 @@ filter_twice f g (p ∷ ps) = twice_if f g (f p) p ps (filter_twice f g ps)
 pub all_where : (n : ℕ) (test : ℕ → Bool) → ((p : ℕ) → p < n → test p ≡ true) → processes_where n test ≡ range_with_len 0 n
 all_where n test holds = filter_from test (λ _. true) 0 n (λ k low high. holds k (omega arith)) ∙ filter_all (range_with_len 0 n)
 
-pub head_same : {X : Type 0} (x y : X) (xs ys : List X) → x ∷ xs ≡ y ∷ ys → x ≡ y
-head_same x y xs ys e = cc
-
 -- a list that is not empty has an item
 pub not_empty : {X : Type 0} (xs : List X) → nat_eq (length xs) 0 ≡ false → 0 < length xs
 not_empty [] e = cc

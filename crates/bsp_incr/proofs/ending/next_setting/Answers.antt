@@ -2,7 +2,7 @@ use Rattle.std.proofs.Common.{◌∙◌, ap, sym, subst}
 use Rattle.bsp_step.specs.ViewParts.{ViewParts}
 use Rattle.bsp_run.specs.declared.setting.Setting.{Setting}
 use Rattle.bsp_run.specs.Run.{open_views, after_delivery}
-use Rattle.bsp_incr.specs.Inside.Known.{HaveSameTable, IsKnown}
+use Rattle.bsp_incr.specs.Inside.Known.{IsKnown}
 use Rattle.bsp_incr.specs.declared.known_table.KnownTable.TheVariants.{AsBefore}
 use Rattle.bsp_incr.proofs.KnownTables.{table_of_known, tag_of_known, known_of_next}
 use Rattle.bsp_incr.proofs.ending.next_setting.Goals as goal

@@ -1,16 +1,11 @@
-use Rattle.std.proofs.Common.{◌≡◌, ◌<◌, ◌∙◌, ℕ, Bool, Option, List, All, ap, sym, subst, length, map, arith}
-use Rattle.std.proofs.lemmas.List.{length-map}
+use Rattle.std.proofs.Common.{◌≡◌, ◌<◌, ◌∙◌, ℕ, Option, List, All, ap, sym, subst, length, arith}
 use Rattle.std.specs.Prelude.{option_map}
-use Rattle.bsp_model.specs.Replaced.{replaced, IsAscending}
+use Rattle.bsp_model.specs.Replaced.{IsAscending}
 use Rattle.bsp_step.specs.ViewParts.{ViewParts}
-use Rattle.bsp_step.specs.OutcomeParts.{OutcomeParts}
-use Rattle.bsp_deliver.specs.Delivery.{delivery_parts, next_memory, next_queue}
-use Rattle.bsp_run.specs.State.{cell_of}
-use Rattle.bsp_run.specs.Run.{Run, open_views, after_delivery}
+use Rattle.bsp_run.specs.Run.{Run}
 use Rattle.bsp_incr.specs.Inside.Changes.{is_touched}
 use Rattle.bsp_incr.specs.Inside.Marks.{AreDelivered}
 use Rattle.bsp_incr.specs.Inside.Before.{delivered_outcomes, views_after}
-use Rattle.bsp_incr.specs.Inside.Known.{IsKnown}
 use Rattle.bsp_incr.proofs.Carrying.{cells_in_place, cells_of_none}
 use Rattle.bsp_incr.proofs.Gathering.{listed_below, processes_where-ascending}
 use Rattle.bsp_incr.proofs.ending.open_next.Goals as goal

@@ -1,4 +1,4 @@
-use Rattle.std.proofs.Common.{◌≡◌, ◌<◌, ◌+◌, ℕ, length, get_or, ap, ◌∙◌, arith}
+use Rattle.std.proofs.Common.{◌≡◌, ◌<◌, ℕ, length, ap, ◌∙◌, arith}
 use Rattle.bsp_model.specs.declared.request.Put.{Put}
 use Rattle.bsp_deliver.specs.Cost.{Transfer, put_transfer}
 use Rattle.bsp_deliver.proofs.Senders.{item_at}

@@ -2,7 +2,6 @@ use Rattle.std.proofs.Common.{◌≡◌, sym, subst, None}
 use Rattle.bsp_model.specs.declared.input.Input.{Input}
 use Rattle.bsp_model.specs.Input.{input_fault}
 use Rattle.bsp_step.specs.Turn.{turn_of}
-use Rattle.bsp_incr.proofs.RunBefore.{record_of_law}
 use Rattle.bsp_incr.proofs.Lawful.{edited_lawful}
 use Rattle.bsp_incr.proofs.rerun.rerun_edited.Goals as goal
 
