@@ -157,10 +157,7 @@ impl History {
 }
 
 /// The memories of these views.
-pub(crate) fn memories_of_views(
-    alloc: Global,
-    views: &Views,
-) -> Result<Seq<Memory>, OutOfMemory>
+pub(crate) fn memories_of_views(alloc: Global, views: &Views) -> Result<Seq<Memory>, OutOfMemory>
     ensures { IfOk result (λ all. all ≡ map (λ v. v.memory) views.now) }
 {
     let mut all = Seq::new(alloc);

@@ -23,7 +23,11 @@ pub struct Setting {
 
 impl Setting {
     /// That of superstep 0: no slots, and tag size 0.
-    pub(crate) fn first(alloc: Global, args: &Arguments, nprocs: usize) -> Result<Setting, OutOfMemory>
+    pub(crate) fn first(
+        alloc: Global,
+        args: &Arguments,
+        nprocs: usize,
+    ) -> Result<Setting, OutOfMemory>
         requires some { 1 ≤ nprocs }
         requires few { nprocs ≤ MOST_PROCESSES }
         ensures { IfOk result (λ s. s ≡ record { step = 0; args = args.now; table = []; tag_size = 0 }) }

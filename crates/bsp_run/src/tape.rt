@@ -18,9 +18,7 @@ use crate::ending::end_of;
 use crate::keeping::{keep_superstep, phase_after, phase_at};
 use crate::next::table_seen;
 use crate::opening::{first_cells, first_cells_of, shared_args};
-use crate::{
-    Arguments, Outcomes, Phase, RunError, Setting, Status, Superstep, Views, ViewsRef,
-};
+use crate::{Arguments, Outcomes, Phase, RunError, Setting, Status, Superstep, Views, ViewsRef};
 use bsp_model::{CostRow, Input, Memory, OutOfMemory, Shared, SharedSeq, TryCopy};
 use bsp_step::{Outcome, Queue, View};
 use bsp_table::Table;

@@ -16,9 +16,7 @@ mod remote;
 
 use crate::{Ended, Outcome, Stop, View};
 use bsp_model::limits::MOST_REQUESTS;
-use bsp_model::{
-    End, Fault, Get, Memory, Message, OutOfMemory, Puts, Rows, Sends, Seq, Stores,
-};
+use bsp_model::{End, Fault, Get, Memory, Message, OutOfMemory, Puts, Rows, Sends, Seq, Stores};
 use bsp_table::Area;
 use std::alloc::Global;
 use std::marker::Model;
