@@ -25,7 +25,8 @@ for word; do case $word in --scratch | --places | --changes) name=$name-${word#-
 cat "$here/$name" 2> /dev/null || { echo fault write >&2; exit 1; }"""
 
 # Writes STUB_BEGIN and STUB_END, and makes allocations in between: 16 for each byte of the document where STUB_ALLOCATES is `bytes`, so many for each as it
-# has quotation marks where it is `product`, 1 where it is anything else, and none where it is not there. Does nothing where its first word is not STUB_TEST.
+# has quotation marks where it is `product`, one for each 64 pairs of bytes where it is `square`, 1 where it is anything else, and none where it is not
+# there. Does nothing where its first word is not STUB_TEST.
 ALLOCATING = r"""#include <stdlib.h>
 #include <string.h>
 #include <unistd.h>
@@ -35,7 +36,7 @@ static long wanted(const char *how) {
     long bytes = 0, quotes = 0;
     for (ssize_t got; (got = read(0, all, sizeof all)) > 0; bytes += got)
         for (ssize_t i = 0; i < got; i++) quotes += all[i] == '"';
-    return !how ? 0 : !strcmp(how, "bytes") ? 16 * bytes : !strcmp(how, "product") ? bytes * quotes : 1;
+    return !how ? 0 : !strcmp(how, "bytes") ? 16 * bytes : !strcmp(how, "product") ? bytes * quotes : !strcmp(how, "square") ? bytes * bytes / 64 : 1;
 }
 int main(int words, char **word) {
     if (words > 1 && getenv("STUB_TEST") && strcmp(word[1], getenv("STUB_TEST"))) return 0;

@@ -8,9 +8,9 @@ use Rattle.std.proofs.lemmas.List.Folds.{flat_map-map}
 use Rattle.std.proofs.lemmas.List.FromFn.{fill_by_all}
 use Rattle.bsp_model.specs.declared.request.Message.{Message}
 use Rattle.bsp_model.specs.declared.request.Send.{Send}
-use Rattle.bsp_step.specs.OutcomeParts.{OutcomeParts}
+use Rattle.bsp_step.specs.OutcomeParts.{OutcomeParts, no_outcome, outcome_of}
 use Rattle.bsp_deliver.specs.Delivery.{delivery_parts, message_of, next_queue}
-use Rattle.bsp_deliver.specs.Requests.{all_sends, no_outcome, outcome_of, requests_from}
+use Rattle.bsp_deliver.specs.Requests.{all_sends, requests_from}
 use Rattle.bsp_collectives.specs.Messages.{joined}
 use Rattle.bsp_collectives.specs.Arrivals.{arrived}
 use Rattle.bsp_collectives.proofs.MessagesSent.{words_to}

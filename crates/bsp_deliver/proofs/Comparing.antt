@@ -4,8 +4,8 @@ use Rattle.std.proofs.lemmas.List.{drop_more, drop_all, map-append, map-id}
 use Rattle.std.proofs.lemmas.List.Elements.{filter-append}
 use Rattle.std.proofs.lemmas.Bool.{eq-eqb, eqb-true, ne_eqb}
 use Rattle.std.proofs.lemmas.Option.{slice_get_cases}
-use Rattle.bsp_step.specs.OutcomeParts.{OutcomeParts}
-use Rattle.bsp_deliver.specs.Requests.{requests_from, outcome_of}
+use Rattle.bsp_step.specs.OutcomeParts.{OutcomeParts, outcome_of}
+use Rattle.bsp_deliver.specs.Requests.{requests_from}
 use Rattle.bsp_deliver.proofs.Senders.{map_twice, passing_pairs}
 
 -- at a place that passes, the rest begins with what stands there

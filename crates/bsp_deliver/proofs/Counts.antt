@@ -9,9 +9,9 @@ use Rattle.std.proofs.lemmas.Grind.{common_steps, fold-append}
 use Rattle.bsp_model.specs.declared.request.Put.{Put}
 use Rattle.bsp_model.specs.declared.request.Get.{Get}
 use Rattle.bsp_model.specs.declared.request.Send.{Send}
-use Rattle.bsp_step.specs.OutcomeParts.{OutcomeParts, IsShortSend}
+use Rattle.bsp_step.specs.OutcomeParts.{OutcomeParts, IsShortSend, outcome_of}
 use Rattle.bsp_deliver.specs.declared.cost.Sums.{Sums}
-use Rattle.bsp_deliver.specs.Requests.{each_below, outcome_of, requests_from, all_puts, all_gets, all_sends}
+use Rattle.bsp_deliver.specs.Requests.{each_below, requests_from, all_puts, all_gets, all_sends}
 use Rattle.bsp_deliver.specs.Condition.{sizes_of, AreRequestsInside, AreDeliverable}
 use Rattle.bsp_deliver.specs.Cost.{Transfer, put_transfer, get_transfer, send_transfer, transfers, count_sent, count_received}
 use Rattle.bsp_deliver.specs.Inside.Sums.{raised, counted, no_words, transfers_of, transfers_from, HasRoom, IsSmall}

@@ -1,7 +1,7 @@
 -- One pass over all requests leaves at each place what the requests to it alone would.
 use Rattle.std.proofs.Common.{◌≡◌, ℕ, ◌+◌, ◌<◌, ◌≤◌, ◌==◌, Bool, cond, List, [], ◌∷◌, ◌++◌, map, filter, fold, take, length, set, zip, replicate, All, refl, sym, ◌∙◌, ap, arith, get_or, subst, inl, inr, ◌⊎◌, append_assoc, append-nil}
 use Rattle.std.proofs.lemmas.Bool.{eq-eqb, ne_eqb, cases_eq}
-use Rattle.std.proofs.lemmas.List.{length-set, length-map, length-replicate, get_or-map, get_or-replicate, get_or-set_same, get_or-set_other, ext_get_or, nil_from_length}
+use Rattle.std.proofs.lemmas.List.{length-set, length-map, length-replicate, get_or-map, get_or-replicate, get_or-set_same, get_or-set_other, ext_get_or}
 use Rattle.std.proofs.lemmas.List.Elements.{All-head, All-tail}
 use Rattle.std.proofs.lemmas.Grind.{fold-append}
 use Rattle.std.proofs.lemmas.List.Folds.{fold-map}
@@ -184,10 +184,3 @@ placed_all n i ps places l h = record {
     λ e. subst (λ x. get_or places x 0 ≡ k) e (h.here k (omega (arith, lk, l))),
   );
 }
-
--- the cells that are made, and those left
-pub zip_nothing : {X Y : Type 0} (made : List (X × Y)) (xs : List X) (ys : List Y) → length xs ≡ 0 → made ≡ made ++ zip xs ys
-zip_nothing made xs ys e = sym (ap (λ zs. made ++ zip zs ys) (nil_from_length xs e) ∙ append-nil made)
-
-pub zip_next : {X Y : Type 0} (made : List (X × Y)) (x : X) (y : Y) (xs us : List X) (ys vs : List Y) → us ≡ x ∷ xs → vs ≡ y ∷ ys → (made ++ (x, y) ∷ []) ++ zip xs ys ≡ made ++ zip us vs
-zip_next made x y xs us ys vs e f = append_assoc made ((x, y) ∷ []) (zip xs ys) ∙ sym (ap (λ zs. made ++ zip zs vs) e ∙ ap (λ zs. made ++ zip (x ∷ xs) zs) f)

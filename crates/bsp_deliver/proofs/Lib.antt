@@ -6,8 +6,10 @@ pub mod Counts
 pub mod Comparing
 pub mod Unmarked
 pub mod Aligned
-pub mod Formers
 pub mod SameParts
 pub mod SameDelivery
 pub mod Gathered
 mod Origins
+pub mod ReadWords
+pub mod WrittenAt
+pub mod Zipped

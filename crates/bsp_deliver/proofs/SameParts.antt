@@ -1,15 +1,17 @@
 -- Deliveries that depend on the same in two lists of outcomes.
-use Rattle.std.proofs.Common.{◌≡◌, ℕ, ◌+◌, ◌<◌, ◌==◌, Bool, List, map, length, All, sym, ◌∙◌, ap, arith, inl, inr, below_more}
+use Rattle.std.proofs.Common.{◌≡◌, ℕ, ◌+◌, ◌<◌, ◌==◌, Bool, true, false, List, map, length, get_or, All, sym, ◌∙◌, ap, arith, inl, inr, below_more}
 use Rattle.std.specs.Prelude.{◌↔◌}
 use Rattle.std.proofs.lemmas.List.{get_or_default}
 use Rattle.std.proofs.lemmas.Bool.{cases_lt}
 use Rattle.bsp_model.specs.declared.request.Put.{Put}
+use Rattle.bsp_model.specs.declared.request.Get.{Get}
 use Rattle.bsp_model.specs.declared.request.Send.{Send}
-use Rattle.bsp_step.specs.OutcomeParts.{OutcomeParts}
-use Rattle.bsp_deliver.specs.Requests.{all_puts, all_sends, no_outcome, outcome_of, words_read}
+use Rattle.bsp_step.specs.OutcomeParts.{OutcomeParts, no_outcome, outcome_of}
+use Rattle.bsp_deliver.specs.Requests.{each_below, all_puts, all_sends, words_read}
 use Rattle.bsp_deliver.specs.Delivery.{DeliveryParts, delivery_parts}
 use Rattle.bsp_deliver.specs.Inside.Comparison.{HasSameParcel, HasSameOwn, IsReadable}
 use Rattle.bsp_deliver.specs.Condition.{AreDeliverable}
+use Rattle.bsp_deliver.specs.Touched.{AreSameUnlessMarked}
 use Rattle.bsp_deliver.specs.Inside.Marks.{AreMarkedUnless, AreToKnown}
 use Rattle.bsp_deliver.proofs.Senders.{length-sizes_of, readable_gets}
 use Rattle.bsp_deliver.proofs.Comparing.{same_from_senders, senders_from_same, pairs_from, pairs_apart}
@@ -78,6 +80,15 @@ same_below-more os us n xs ys zs ws h k own =
         own = λ l. elim (cases_lt d n) [ inl w ↦ s.0.own w | inr w ↦ s.1.1 (omega (arith, l, w)) ];
       },
     ))
+
+-- what a process without a mark keeps
+pub unmarked_same : (os us : List OutcomeParts) (marks : List Bool) (p : ℕ) → AreSameUnlessMarked os us marks → length marks ≡ length us → p < length us → get_or marks p false ≡ false → outcome_of os p ≡ outcome_of us p
+unmarked_same os us marks p same long known unmarked = same p known (get_or_default marks p true false (omega (arith, known, long)) ∙ unmarked)
+
+-- and what gets of its words read
+pub unmarked_words : (os us : List OutcomeParts) (marks : List Bool) (g : Get) → AreSameUnlessMarked os us marks → length marks ≡ length us → g.owner < length us → get_or marks g.owner false ≡ false → words_read os g ≡ words_read us g
+unmarked_words os us marks g same long known unmarked =
+    ap (λ (o : OutcomeParts). each_below g.len (λ i. get_or o.memory (g.start + i) 0)) (unmarked_same os us marks g.owner same long known unmarked)
 
 -- the requests of a deliverable outcome are to processes that there are
 pub to_known : (os : List OutcomeParts) (k n : ℕ) → AreDeliverable os → k < length os → n ≡ length os → AreToKnown n (outcome_of os k)

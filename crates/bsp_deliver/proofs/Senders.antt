@@ -7,8 +7,8 @@ use Rattle.std.proofs.lemmas.List.Elements.{filter_more, filter-append, filter_p
 use Rattle.std.proofs.lemmas.Bool.{eqb-true}
 use Rattle.std.proofs.lemmas.Grind.{common_steps}
 use Rattle.bsp_model.specs.declared.request.Put.{Put}
-use Rattle.bsp_step.specs.OutcomeParts.{OutcomeParts}
-use Rattle.bsp_deliver.specs.Requests.{requests_from, all_puts, no_outcome, outcome_of}
+use Rattle.bsp_step.specs.OutcomeParts.{OutcomeParts, no_outcome, outcome_of}
+use Rattle.bsp_deliver.specs.Requests.{requests_from, all_puts}
 use Rattle.bsp_deliver.specs.Delivery.{delivery_parts}
 use Rattle.bsp_deliver.specs.Condition.{sizes_of, IsPutInside, AreRequestsInside, AreDeliverable}
 use Rattle.bsp_deliver.specs.Inside.Comparison.{IsReadable}
@@ -98,6 +98,14 @@ length-sizes_of os = length-map os (λ (x : OutcomeParts). length x.memory)
 
 pub outcome_of-item : (os : List OutcomeParts) (d : ℕ) (o : OutcomeParts) → d < length os → o ≡ get_or os d o → outcome_of os d ≡ o
 outcome_of-item os d o l e = get_or_default os d no_outcome o l ∙ sym e
+
+-- an outcome, as what stands at its place
+pub outcome_at : (os : List OutcomeParts) (d : ℕ) → d < length os → outcome_of os d ≡ get_or os d (outcome_of os d)
+outcome_at os d l = get_or_default os d no_outcome (outcome_of os d) l
+
+-- what holds of the outcome of each process holds of all
+pub each_outcome : (P : OutcomeParts → Type 0) (os : List OutcomeParts) → ((k : ℕ) → k < length os → P (outcome_of os k)) → All P os
+each_outcome P os h = λ k o l. subst P (get_or_default os k no_outcome o l) (h k l)
 
 -- the words that the gets of a process read are there
 pub readable_gets : (os : List OutcomeParts) (d : ℕ) (o : OutcomeParts) → AreDeliverable os → d < length os → o ≡ get_or os d o → All (IsReadable os) o.gets

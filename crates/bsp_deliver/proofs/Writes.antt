@@ -7,8 +7,8 @@ use Rattle.std.proofs.lemmas.List.FromFn.{length-map-range_with_len, get_or-map-
 use Rattle.std.proofs.lemmas.Grind.{common_steps}
 use Rattle.bsp_model.specs.Memory.{memory_written}
 use Rattle.bsp_model.specs.declared.request.Get.{Get}
-use Rattle.bsp_step.specs.OutcomeParts.{OutcomeParts}
-use Rattle.bsp_deliver.specs.Requests.{each_below, outcome_of, words_read}
+use Rattle.bsp_step.specs.OutcomeParts.{OutcomeParts, outcome_of}
+use Rattle.bsp_deliver.specs.Requests.{each_below, words_read}
 use Rattle.bsp_deliver.specs.Delivery.{DeliveryParts, Write, put_write, get_write, later, last_of, covers, word_of, written, next_word, next_memory}
 use Rattle.bsp_deliver.specs.Inside.Gathering.{overlay}
 
@@ -92,3 +92,9 @@ length-words_read os g = length-each_below g.len (λ i. get_or (outcome_of os g.
 pub length-next_memory : (parts : DeliveryParts) → length (next_memory parts) ≡ length parts.memory
 unfolding next_memory
 length-next_memory parts = length-each_below (length parts.memory) (next_word parts)
+
+-- the words that a get reads
+pub get_written : (os : List OutcomeParts) (g : Get) (m words : List ℕ) → g.into + g.len ≤ length m → words ≡ words_read os g → memory_written m g.into words ≡ overlay m (get_write (g, words_read os g) ∷ [])
+get_written os g m words room words_is =
+    let fits : g.into + length (words_read os g) ≤ length m = omega (arith, room, length-words_read os g) in
+    ap (memory_written m g.into) words_is ∙ memory_written-overlay m (words_read os g) g.into fits

@@ -1,11 +1,10 @@
 -- The requests of a superstep, with their senders.
-use Rattle.std.specs.Prelude.{ℕ, ◌+◌, List, [], ◌∷◌, ◌++◌, map, slice_index, slice_index_or, None}
+use Rattle.std.specs.Prelude.{ℕ, ◌+◌, List, [], ◌∷◌, ◌++◌, map, slice_index}
 use Rattle.std.specs.List.{range_with_len}
 use Rattle.bsp_model.specs.declared.request.Put.{Put}
 use Rattle.bsp_model.specs.declared.request.Get.{Get}
 use Rattle.bsp_model.specs.declared.request.Send.{Send}
-use Rattle.bsp_step.specs.declared.outcome.Ended.TheVariants.{Halt}
-use Rattle.bsp_step.specs.OutcomeParts.{OutcomeParts}
+use Rattle.bsp_step.specs.OutcomeParts.{OutcomeParts, outcome_of}
 
 -- f of each number below n, in order
 abbrev pub each_below : {X : Type 0} → ℕ → (ℕ → X) → List X
@@ -24,27 +23,6 @@ all_gets os = requests_from (λ o. o.gets) 0 os
 
 unfoldable pub all_sends : List OutcomeParts → List (ℕ × Send)
 all_sends os = requests_from (λ o. o.sends) 0 os
-
--- the outcome of a process that there is not
-abbrev pub no_outcome : OutcomeParts
-no_outcome =
-    record {
-      fault = None;
-      ended = Halt;
-      memory = [];
-      stores = [];
-      puts = [];
-      gets = [];
-      sends = [];
-      pops = [];
-      pushes = [];
-      tag = None;
-      lines = [];
-      work = 0;
-    }
-
-abbrev pub outcome_of : List OutcomeParts → ℕ → OutcomeParts
-outcome_of os p = slice_index_or os p no_outcome
 
 -- The words that a get reads: those of the owner's memory after computing (Hill et al. 1998).
 abbrev pub words_read : List OutcomeParts → Get → List ℕ

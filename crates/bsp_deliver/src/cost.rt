@@ -1,13 +1,13 @@
 //! The h-relation of a superstep.
 
 ghost use Rattle.std.specs.Prelude.{◌≡◌, ℕ, ◌+◌, ◌^◌, ◌<◌, ◌≤◌, length, map, fold, All};
-ghost use Rattle.bsp_deliver.specs.Requests.{outcome_of};
+ghost use Rattle.bsp_step.specs.OutcomeParts.{outcome_of};
 ghost use Rattle.bsp_deliver.specs.Condition.{AreDeliverable};
 ghost use Rattle.bsp_deliver.specs.Cost.{put_transfer, get_transfer, send_transfer, largest, h_relation};
 
 use bsp_model::limits::{MOST_PROCESSES, MOST_REQUESTS};
-use bsp_model::{Get, Puts, Sends, Shared};
-use bsp_step::Outcome;
+use bsp_model::{Get, PutsRef, SendsRef};
+use bsp_step::Outcomes;
 
 /// The words that each process sends to and receives from others.
 #[derive(Clone, Copy)]
@@ -32,7 +32,7 @@ impl Sums {
     }
 
     /// Counts the words of a sender's puts.
-    fn count_puts(&mut self, sender: u64, puts: &Puts)
+    fn count_puts(&mut self, sender: u64, puts: &PutsRef<'_>)
         requires small { All (λ p. IsSmall (put_transfer sender p)) puts.now }
         requires room { HasRoom self.old (length puts.now) }
         ensures { self.new ≡ fold counted self.old (map (put_transfer sender) puts.now) }
@@ -55,7 +55,7 @@ impl Sums {
     }
 
     /// Counts the words of a sender's messages, tags and payloads.
-    fn count_sends(&mut self, sender: u64, sends: &Sends)
+    fn count_sends(&mut self, sender: u64, sends: &SendsRef<'_>)
         requires small { All (λ m. IsSmall (send_transfer sender m)) sends.now }
         requires room { HasRoom self.old (length sends.now) }
         ensures { self.new ≡ fold counted self.old (map (send_transfer sender) sends.now) }
@@ -68,21 +68,21 @@ impl Sums {
     }
 
     /// Counts all requests of a process.
-    fn count_requests(&mut self, outcomes: &[Shared<Outcome>], p: usize)
+    fn count_requests(&mut self, outcomes: &Outcomes, p: usize)
         requires known { p < length outcomes.now }
         requires deliverable { AreDeliverable outcomes.now }
         requires room { HasRoom self.old MOST_REQUESTS }
         ensures sums { self.new ≡ fold counted self.old (transfers_of p (outcome_of outcomes.now p)) }
         ensures room { (n : ℕ) → HasRoom self.old (MOST_REQUESTS + n) → HasRoom self.new n }
     {
-        let own: &Outcome = &outcomes[p];
+        let own = outcomes.get(p);
         self.count_puts(p as u64, &own.puts);
-        self.count_gets(p as u64, own.gets.as_slice());
+        self.count_gets(p as u64, own.gets);
         self.count_sends(p as u64, &own.sends);
     }
 
     /// The sums over all requests.
-    fn of(outcomes: &[Shared<Outcome>]) -> Sums
+    fn of(outcomes: &Outcomes) -> Sums
         requires { AreDeliverable outcomes.now }
         ensures sums { result ≡ fold counted no_words (transfers_from 0 outcomes.now) }
         ensures room { HasRoom result 0 }
@@ -112,7 +112,7 @@ fn largest(numbers: &[u64]) -> u64
 /// The h-relation of a superstep that ends by delivery: the largest number of words that a process sends or receives. A put counts its words
 /// from sender to target, a get from owner to requester, a message its tag and payload; words to oneself count nowhere (the usual additive BSP
 /// cost formula; what counts: this profile). It takes no memory.
-pub fn h_of(outcomes: &[Shared<Outcome>]) -> u64
+pub fn h_of(outcomes: &Outcomes) -> u64
     requires { AreDeliverable outcomes.now }
     ensures value { result ≡ h_relation outcomes.now }
     ensures small { result < 2 ^ 29 }

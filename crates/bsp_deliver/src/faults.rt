@@ -5,39 +5,50 @@ ghost use Rattle.std.specs.List.{list_any, list_all};
 ghost use Rattle.bsp_table.specs.NextTable.{AreSlots};
 ghost use Rattle.bsp_deliver.specs.SyncFault.{is_sync, same_tag, sync_fault, next_tag_size};
 
+use bsp_model::SyncFault;
 use bsp_model::limits::MOST_TAG_WORDS;
-use bsp_model::{Shared, SyncFault};
-use bsp_step::{Ended, Outcome};
+use bsp_step::{Ended, OutcomeRef, Outcomes};
 use bsp_table::Table;
 
 /// Whether some process ended by sync. It takes no memory.
-pub fn has_sync(outcomes: &[Shared<Outcome>]) -> bool
+pub fn has_sync(outcomes: &Outcomes) -> bool
     ensures { result ≡ list_any (λ o. is_sync o.ended) outcomes.now }
 {
-    outcomes
-        .iter()
-        .any(|outcome| matches!(outcome.ended, Ended::Sync))
+    for pid in 0..outcomes.len() {
+        if matches!(outcomes.get(pid).ended, Ended::Sync) {
+            return true;
+        }
+    }
+    false
 }
 
 /// Whether some process ended by halt.
-fn has_halt(outcomes: &[Shared<Outcome>]) -> bool
+fn has_halt(outcomes: &Outcomes) -> bool
     ensures { result ≡ list_any (λ o. not (is_sync o.ended)) outcomes.now }
 {
-    outcomes
-        .iter()
-        .any(|outcome| matches!(outcome.ended, Ended::Halt))
+    for pid in 0..outcomes.len() {
+        if matches!(outcomes.get(pid).ended, Ended::Halt) {
+            return true;
+        }
+    }
+    false
 }
 
 /// Whether all processes made the same choice as the first.
-fn is_same_choice(first: &Shared<Outcome>, outcomes: &[Shared<Outcome>]) -> bool
+fn is_same_choice(first: &OutcomeRef<'_>, outcomes: &Outcomes) -> bool
     ensures { result ≡ list_all (λ o. same_tag first.now.tag o.tag) outcomes.now }
 {
-    outcomes.iter().all(|outcome| first.tag == outcome.tag)
+    for pid in 0..outcomes.len() {
+        if first.tag != outcomes.get(pid).tag {
+            return false;
+        }
+    }
+    true
 }
 
 /// The first of S1 `MixedEnd`, S2 `TagMismatch`, S3 `PopMismatch`, S4 `PushMismatch` and S5 `TooManySlots` that holds, and none where all
 /// processes halt (this profile). It takes no memory.
-pub fn sync_fault(outcomes: &[Shared<Outcome>], table: &Table) -> Option<SyncFault>
+pub fn sync_fault(outcomes: &Outcomes, table: &Table) -> Option<SyncFault>
     requires some { 1 ≤ length outcomes.now }
     requires slots { All (λ o. AreSlots table.now o.pops) outcomes.now }
     ensures { result ≡ sync_fault outcomes.now table.now }
@@ -49,18 +60,17 @@ pub fn sync_fault(outcomes: &[Shared<Outcome>], table: &Table) -> Option<SyncFau
     if !syncs {
         return None;
     }
-    if !is_same_choice(&outcomes[0], outcomes) {
+    if !is_same_choice(&outcomes.get(0), outcomes) {
         return Some(SyncFault::TagMismatch);
     }
     table.fault(outcomes)
 }
 
 /// The tag size of the next superstep, in words: the common choice, or the old size where none was made (Hill et al. 1998). It takes no memory.
-pub fn next_tag_size(old: u64, outcomes: &[Shared<Outcome>]) -> u64
+pub fn next_tag_size(old: u64, outcomes: &Outcomes) -> u64
     requires { 1 ≤ length outcomes.now }
     ensures choice { result ≡ next_tag_size old outcomes.now }
     ensures small { old ≤ MOST_TAG_WORDS → result ≤ MOST_TAG_WORDS }
 {
-    let first: &Outcome = &outcomes[0];
-    first.tag.unwrap_or(old)
+    outcomes.get(0).tag.unwrap_or(old)
 }

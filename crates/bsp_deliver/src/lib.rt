@@ -2,6 +2,7 @@
 #![tactic(auto)]
 
 mod addressed;
+mod cells;
 mod cost;
 mod delivery;
 mod faults;
@@ -12,8 +13,10 @@ mod marking;
 mod same;
 mod sorting;
 mod touched;
+mod writing;
 
 pub use addressed::inbox;
+pub use cells::Cells;
 pub use cost::h_of;
 pub use delivery::{deliver, deliver_inbox};
 pub use faults::{has_sync, next_tag_size, sync_fault};

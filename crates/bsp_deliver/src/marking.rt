@@ -6,12 +6,16 @@ ghost use Rattle.bsp_deliver.specs.Inside.Marks.{AreMarkedUnless, AreToKnown};
 
 use crate::addressed::Addressed;
 use crate::same::are_same_to;
-use bsp_model::{Put, Send, Shared};
-use bsp_step::Outcome;
+use bsp_model::{Put, Send};
+use bsp_step::OutcomeRef;
 
 /// Marks the processes to which the requests at the first places differ, as far as the requests at each place are to one process in both
 /// lists. Returns how far that is.
-fn mark_aligned<R: Addressed>(marks: &mut [bool], old: &Outcome, new: &Outcome) -> usize
+fn mark_aligned<R: Addressed>(
+    marks: &mut [bool],
+    old: &OutcomeRef<'_>,
+    new: &OutcomeRef<'_>,
+) -> usize
     requires { All (λ r. R.addressee r < length marks.old) (R.issued old.now) }
     ensures in_old { result ≤ length (R.issued old.now) }
     ensures in_new { result ≤ length (R.issued new.now) }
@@ -32,7 +36,12 @@ fn mark_aligned<R: Addressed>(marks: &mut [bool], old: &Outcome, new: &Outcome) 
 }
 
 /// Marks the processes to which the requests differ from a place on.
-fn mark_unaligned<R: Addressed>(marks: &mut [bool], old: &Outcome, new: &Outcome, from: usize)
+fn mark_unaligned<R: Addressed>(
+    marks: &mut [bool],
+    old: &OutcomeRef<'_>,
+    new: &OutcomeRef<'_>,
+    from: usize,
+)
     requires in_old { from ≤ length (R.issued old.now) }
     requires in_new { from ≤ length (R.issued new.now) }
     ensures { AreMarkedUnless (λ d. filter (λ r. R.addressee r == d) (drop from (R.issued old.now)) ≡ filter (λ r. R.addressee r == d) (drop from (R.issued new.now))) marks.old marks.new }
@@ -48,7 +57,7 @@ fn mark_unaligned<R: Addressed>(marks: &mut [bool], old: &Outcome, new: &Outcome
 }
 
 /// Marks the processes to which a sender's requests differ.
-fn mark_changes<R: Addressed>(marks: &mut [bool], old: &Outcome, new: &Outcome)
+fn mark_changes<R: Addressed>(marks: &mut [bool], old: &OutcomeRef<'_>, new: &OutcomeRef<'_>)
     requires { All (λ r. R.addressee r < length marks.old) (R.issued old.now) }
     ensures { AreMarkedUnless (λ d. filter (λ r. R.addressee r == d) (R.issued old.now) ≡ filter (λ r. R.addressee r == d) (R.issued new.now)) marks.old marks.new }
 {
@@ -57,12 +66,10 @@ fn mark_changes<R: Addressed>(marks: &mut [bool], old: &Outcome, new: &Outcome)
 }
 
 /// Marks the processes to which an outcome brings other puts or messages than before.
-pub fn mark_parcels(marks: &mut [bool], old: &Shared<Outcome>, new: &Shared<Outcome>)
+pub fn mark_parcels(marks: &mut [bool], old: &OutcomeRef<'_>, new: &OutcomeRef<'_>)
     requires { AreToKnown (length marks.old) old.now }
     ensures { AreMarkedUnless (λ d. HasSameParcel d old.now new.now) marks.old marks.new }
 {
-    let earlier: &Outcome = old;
-    let later: &Outcome = new;
-    mark_changes::<Put>(marks, earlier, later);
-    mark_changes::<Send>(marks, earlier, later);
+    mark_changes::<Put>(marks, old, new);
+    mark_changes::<Send>(marks, old, new);
 }

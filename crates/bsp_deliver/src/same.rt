@@ -8,11 +8,11 @@ ghost use Rattle.bsp_deliver.specs.Inside.Comparison.{HasSameParcel, IsReadable}
 
 use crate::addressed::Addressed;
 use bsp_model::limits::MOST_MEMORY_WORDS;
-use bsp_model::{Get, Memory, Put, Same, Send, Shared};
-use bsp_step::Outcome;
+use bsp_model::{Get, MemoryRef, Put, Send, are_same};
+use bsp_step::{OutcomeRef, Outcomes};
 
 /// The place of the next request to `d`, or the number of requests.
-fn next_to<R: Addressed>(outcome: &Outcome, d: u64, from: usize) -> usize
+fn next_to<R: Addressed>(outcome: &OutcomeRef<'_>, d: u64, from: usize) -> usize
     requires { from ≤ length (R.issued outcome.now) }
     ensures within { result ≤ length (R.issued outcome.now) }
     ensures later { from ≤ result }
@@ -29,7 +29,12 @@ fn next_to<R: Addressed>(outcome: &Outcome, d: u64, from: usize) -> usize
 }
 
 /// Whether the requests of one sender to `d`, from a place on, are equal lists.
-pub(crate) fn are_same_to<R: Addressed>(old: &Outcome, new: &Outcome, from: usize, d: u64) -> bool
+pub(crate) fn are_same_to<R: Addressed>(
+    old: &OutcomeRef<'_>,
+    new: &OutcomeRef<'_>,
+    from: usize,
+    d: u64,
+) -> bool
     requires in_old { from ≤ length (R.issued old.now) }
     requires in_new { from ≤ length (R.issued new.now) }
     ensures { IsTrue result ↔ (filter (λ r. R.addressee r == d) (drop from (R.issued old.now)) ≡ filter (λ r. R.addressee r == d) (drop from (R.issued new.now))) }
@@ -49,21 +54,19 @@ pub(crate) fn are_same_to<R: Addressed>(old: &Outcome, new: &Outcome, from: usiz
 }
 
 /// Whether one sender puts and sends the same to `d`.
-fn is_same_parcel(old: &Shared<Outcome>, new: &Shared<Outcome>, d: u64) -> bool
+fn is_same_parcel(old: &OutcomeRef<'_>, new: &OutcomeRef<'_>, d: u64) -> bool
     ensures { IsTrue result ↔ HasSameParcel d old.now new.now }
 {
-    let earlier: &Outcome = old;
-    let later: &Outcome = new;
-    are_same_to::<Put>(earlier, later, 0, d) && are_same_to::<Send>(earlier, later, 0, d)
+    are_same_to::<Put>(old, new, 0, d) && are_same_to::<Send>(old, new, 0, d)
 }
 
 /// Whether the puts and the sends to `d` are equal lists, senders kept. It takes no memory.
-pub fn parcel_same(old: &[Shared<Outcome>], new: &[Shared<Outcome>], d: usize) -> bool
+pub fn parcel_same(old: &Outcomes, new: &Outcomes, d: usize) -> bool
     requires as_many { length old.now ≡ length new.now }
     ensures { IsTrue result ↔ ((delivery_parts old.now d).puts ≡ (delivery_parts new.now d).puts) × ((delivery_parts old.now d).sends ≡ (delivery_parts new.now d).sends) }
 {
     for sender in 0..old.len() {
-        if !is_same_parcel(&old[sender], &new[sender], d as u64) {
+        if !is_same_parcel(&old.get(sender), &new.get(sender), d as u64) {
             return false;
         }
     }
@@ -71,7 +74,7 @@ pub fn parcel_same(old: &[Shared<Outcome>], new: &[Shared<Outcome>], d: usize) -
 }
 
 /// Whether the words of two memories from an address on are equal.
-fn are_same_words(old: &Memory, new: &Memory, start: u64, len: u64) -> bool
+fn are_same_words(old: &MemoryRef<'_>, new: &MemoryRef<'_>, start: u64, len: u64) -> bool
     requires old { start + len ≤ length old.now }
     requires new { start + len ≤ length new.now }
     requires short { length old.now ≤ MOST_MEMORY_WORDS }
@@ -87,32 +90,20 @@ fn are_same_words(old: &Memory, new: &Memory, start: u64, len: u64) -> bool
     true
 }
 
-/// Whether the words of two memories after computing are equal from an address on.
-pub(crate) fn leave_same_words(
-    old: &Shared<Outcome>,
-    new: &Shared<Outcome>,
-    start: u64,
-    len: u64,
-) -> bool
-    requires old { start + len ≤ length old.now.memory }
-    requires new { start + len ≤ length new.now.memory }
-    ensures { IsTrue result ↔ (each_below len (λ i. slice_index old.now.memory (start + i)) ≡ each_below len (λ i. slice_index new.now.memory (start + i))) }
-{
-    are_same_words(&old.memory, &new.memory, start, len)
-}
-
 /// Whether a get reads the same words.
-fn is_same_answer(old: &[Shared<Outcome>], new: &[Shared<Outcome>], get: &Get) -> bool
+pub(crate) fn is_same_answer(old: &Outcomes, new: &Outcomes, get: &Get) -> bool
     requires old { IsReadable old.now get.now }
     requires new { IsReadable new.now get.now }
     ensures { IsTrue result ↔ (words_read old.now get.now ≡ words_read new.now get.now) }
 {
     let owner = get.owner as usize;
-    leave_same_words(&old[owner], &new[owner], get.start, get.len)
+    let earlier = old.get(owner);
+    let later = new.get(owner);
+    are_same_words(&earlier.memory, &later.memory, get.start, get.len)
 }
 
 /// Whether gets read the same words.
-fn are_same_answers(old: &[Shared<Outcome>], new: &[Shared<Outcome>], gets: &[Get]) -> bool
+fn are_same_answers(old: &Outcomes, new: &Outcomes, gets: &[Get]) -> bool
     requires old { All (IsReadable old.now) gets.now }
     requires new { All (IsReadable new.now) gets.now }
     ensures { IsTrue result ↔ (map (words_read old.now) gets.now ≡ map (words_read new.now) gets.now) }
@@ -126,14 +117,14 @@ fn are_same_answers(old: &[Shared<Outcome>], new: &[Shared<Outcome>], gets: &[Ge
 }
 
 /// Whether the gets of `d` are equal lists, and the words that they read are equal. It takes no memory.
-pub fn answers_same(old: &[Shared<Outcome>], new: &[Shared<Outcome>], d: usize) -> bool
+pub fn answers_same(old: &Outcomes, new: &Outcomes, d: usize) -> bool
     requires known { d < length old.now }
     requires as_many { length old.now ≡ length new.now }
     requires old { AreDeliverable old.now }
     requires new { AreDeliverable new.now }
     ensures { IsTrue result ↔ ((delivery_parts old.now d).gets ≡ (delivery_parts new.now d).gets) }
 {
-    let before: &Outcome = &old[d];
-    let after: &Outcome = &new[d];
-    before.gets.same(&after.gets) && are_same_answers(old, new, before.gets.as_slice())
+    let before = old.get(d);
+    let after = new.get(d);
+    are_same(before.gets, after.gets) && are_same_answers(old, new, before.gets)
 }

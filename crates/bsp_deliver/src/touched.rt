@@ -1,124 +1,110 @@
 //! To which processes a delivery depends on something else, where some outcomes have changed.
 
-ghost use Rattle.std.specs.Prelude.{◌≡◌, ◌<◌, ◌≤◌, ◌+◌, ◌↔◌, IsTrue, IfOk, All, length, map, slice_index};
-ghost use Rattle.bsp_deliver.specs.Requests.{each_below, outcome_of, words_read};
+ghost use Rattle.std.specs.Prelude.{◌≡◌, ◌<◌, ◌↔◌, IsTrue, IfOk, All, length, map};
+ghost use Rattle.bsp_deliver.specs.Requests.{words_read};
+ghost use Rattle.bsp_step.specs.OutcomeParts.{outcome_of};
 ghost use Rattle.bsp_deliver.specs.Delivery.{delivery_parts};
 ghost use Rattle.bsp_deliver.specs.Condition.{AreDeliverable};
 ghost use Rattle.bsp_deliver.specs.Inside.Comparison.{HasSameParcel, HasSameOwn, IsReadable};
 ghost use Rattle.bsp_deliver.specs.Inside.Marks.{AreMarkedUnless, AreToKnown};
-ghost use Rattle.bsp_deliver.specs.Touched.{former_or, outcomes_before, AreTouched};
+ghost use Rattle.bsp_deliver.specs.Touched.{AreSameUnlessMarked, AreTouched};
 
 use crate::marking::mark_parcels;
-use crate::same::leave_same_words;
-use bsp_model::{Get, OutOfMemory, Same, Shared};
-use bsp_step::Outcome;
+use crate::same::is_same_answer;
+use bsp_model::{Get, OutOfMemory, Same, are_same};
+use bsp_step::Outcomes;
 use std::alloc::Global;
 
-/// Whether the words of a process's memory from an address on are those that it had before.
-fn has_same_words(
-    former: Option<&Shared<Outcome>>,
-    outcome: &Shared<Outcome>,
-    start: u64,
-    len: u64,
-) -> bool
-    requires before { start + len ≤ length (former_or outcome.now former).memory }
-    requires after { start + len ≤ length outcome.now.memory }
-    ensures { IsTrue result ↔ (each_below len (λ i. slice_index (former_or outcome.now former.entry).memory (start + i)) ≡ each_below len (λ i. slice_index outcome.now.memory (start + i))) }
-{
-    match former {
-        Some(former) => leave_same_words(former, outcome, start, len),
-        None => true,
-    }
-}
-
 /// Whether a get reads the words that it read before. Those of an owner whose outcome has not changed are the same.
-fn reads_same_words(
-    formers: &[Option<&Shared<Outcome>>],
-    outcomes: &[Shared<Outcome>],
-    get: &Get,
-) -> bool
-    requires count { length formers.now ≡ length outcomes.now }
-    requires before { IsReadable (outcomes_before formers.now outcomes.now) get.now }
-    requires after { IsReadable outcomes.now get.now }
-    ensures { IsTrue result ↔ (words_read (outcomes_before formers.now outcomes.now) get.now ≡ words_read outcomes.now get.now) }
+fn reads_same_words(old: &Outcomes, new: &Outcomes, changed: &[bool], get: &Get) -> bool
+    requires marks { length changed.now ≡ length new.now }
+    requires before { IsReadable old.now get.now }
+    requires after { IsReadable new.now get.now }
+    requires unchanged { AreSameUnlessMarked old.now new.now changed.now }
+    ensures { IsTrue result ↔ (words_read old.now get.now ≡ words_read new.now get.now) }
 {
-    let owner = get.owner as usize;
-    has_same_words(formers[owner], &outcomes[owner], get.start, get.len)
+    if !changed[get.owner as usize] {
+        return true;
+    }
+    is_same_answer(old, new, get)
 }
 
 /// Whether gets read the words that they read before.
-fn read_same_words(
-    formers: &[Option<&Shared<Outcome>>],
-    outcomes: &[Shared<Outcome>],
-    gets: &[Get],
-) -> bool
-    requires count { length formers.now ≡ length outcomes.now }
-    requires before { All (IsReadable (outcomes_before formers.now outcomes.now)) gets.now }
-    requires after { All (IsReadable outcomes.now) gets.now }
-    ensures { IsTrue result ↔ (map (words_read (outcomes_before formers.now outcomes.now)) gets.now ≡ map (words_read outcomes.now) gets.now) }
+fn read_same_words(old: &Outcomes, new: &Outcomes, changed: &[bool], gets: &[Get]) -> bool
+    requires marks { length changed.now ≡ length new.now }
+    requires before { All (IsReadable old.now) gets.now }
+    requires after { All (IsReadable new.now) gets.now }
+    requires unchanged { AreSameUnlessMarked old.now new.now changed.now }
+    ensures { IsTrue result ↔ (map (words_read old.now) gets.now ≡ map (words_read new.now) gets.now) }
 {
     for get in gets {
-        if !reads_same_words(formers, outcomes, get) {
+        if !reads_same_words(old, new, changed, get) {
             return false;
         }
     }
     true
 }
 
-/// Whether an outcome has the memory and the gets that it had before.
-fn has_same_own(former: Option<&Shared<Outcome>>, outcome: &Shared<Outcome>) -> bool
-    ensures { IsTrue result ↔ ((former_or outcome.now former.entry).memory ≡ outcome.now.memory) × ((former_or outcome.now former.entry).gets ≡ outcome.now.gets) }
+/// Whether a process has the memory and the gets that it had before.
+fn has_same_own<'a>(old: &'a Outcomes, new: &'a Outcomes, changed: &[bool], p: usize) -> bool
+    requires known { p < length new.now }
+    requires count { length old.now ≡ length new.now }
+    requires marks { length changed.now ≡ length new.now }
+    requires unchanged { AreSameUnlessMarked old.now new.now changed.now }
+    ensures { IsTrue result ↔ ((outcome_of old.now p).memory ≡ (outcome_of new.now p).memory) × ((outcome_of old.now p).gets ≡ (outcome_of new.now p).gets) }
 {
-    match former {
-        Some(former) => former.memory.same(&outcome.memory) && former.gets.same(&outcome.gets),
-        None => true,
+    if !changed[p] {
+        return true;
     }
+    let earlier = old.get(p);
+    let later = new.get(p);
+    earlier.memory.same(&later.memory) && are_same(earlier.gets, later.gets)
 }
 
 /// Whether the memory of `p` after computing is the same as before, and so are its gets with the words that they read.
-fn is_same_own(formers: &[Option<&Shared<Outcome>>], outcomes: &[Shared<Outcome>], p: usize) -> bool
-    requires known { p < length outcomes.now }
-    requires count { length formers.now ≡ length outcomes.now }
-    requires before { AreDeliverable (outcomes_before formers.now outcomes.now) }
-    requires after { AreDeliverable outcomes.now }
-    ensures { IsTrue result ↔ HasSameOwn (outcomes_before formers.now outcomes.now) outcomes.now p }
+fn is_same_own<'a>(old: &'a Outcomes, new: &'a Outcomes, changed: &[bool], p: usize) -> bool
+    requires known { p < length new.now }
+    requires count { length old.now ≡ length new.now }
+    requires marks { length changed.now ≡ length new.now }
+    requires before { AreDeliverable old.now }
+    requires after { AreDeliverable new.now }
+    requires unchanged { AreSameUnlessMarked old.now new.now changed.now }
+    ensures { IsTrue result ↔ HasSameOwn old.now new.now p }
 {
-    let outcome = &outcomes[p];
-    if !has_same_own(formers[p], outcome) {
+    if !has_same_own(old, new, changed, p) {
         return false;
     }
-    read_same_words(formers, outcomes, outcome.gets.as_slice())
+    let outcome = new.get(p);
+    read_same_words(old, new, changed, outcome.gets)
 }
 
-/// Marks the processes to which an outcome brings other puts or messages than before.
-fn mark_parcels_since(
-    marks: &mut [bool],
-    former: Option<&Shared<Outcome>>,
-    outcome: &Shared<Outcome>,
-)
-    requires { AreToKnown (length marks.old) (former_or outcome.now former) }
-    ensures { AreMarkedUnless (λ d. HasSameParcel d (former_or outcome.now former.entry) outcome.now) marks.old marks.new }
+/// Marks the processes to which a process brings other puts or messages than before.
+fn mark_parcels_of(marks: &mut [bool], old: &Outcomes, new: &Outcomes, changed: &[bool], p: usize)
+    requires known { p < length new.now }
+    requires count { length old.now ≡ length new.now }
+    requires marks { length changed.now ≡ length new.now }
+    requires before { AreToKnown (length marks.old) (outcome_of old.now p) }
+    requires unchanged { AreSameUnlessMarked old.now new.now changed.now }
+    ensures { AreMarkedUnless (λ d. HasSameParcel d (outcome_of old.now p) (outcome_of new.now p)) marks.old marks.new }
 {
-    if let Some(former) = former {
-        mark_parcels(marks, former, outcome);
+    if changed[p] {
+        mark_parcels(marks, &old.get(p), &new.get(p));
     }
 }
 
 /// Marks the processes to which a delivery depends on something else than before.
-fn mark_touched(
-    marks: &mut [bool],
-    formers: &[Option<&Shared<Outcome>>],
-    outcomes: &[Shared<Outcome>],
-)
-    requires marks { length marks.old ≡ length outcomes.now }
-    requires count { length formers.now ≡ length outcomes.now }
-    requires before { AreDeliverable (outcomes_before formers.now outcomes.now) }
-    requires after { AreDeliverable outcomes.now }
-    ensures { AreMarkedUnless (λ d. delivery_parts (outcomes_before formers.now outcomes.now) d ≡ delivery_parts outcomes.now d) marks.old marks.new }
+fn mark_touched<'a>(marks: &mut [bool], old: &'a Outcomes, new: &'a Outcomes, changed: &[bool])
+    requires as_many { length marks.old ≡ length new.now }
+    requires count { length old.now ≡ length new.now }
+    requires marks { length changed.now ≡ length new.now }
+    requires before { AreDeliverable old.now }
+    requires after { AreDeliverable new.now }
+    requires unchanged { AreSameUnlessMarked old.now new.now changed.now }
+    ensures { AreMarkedUnless (λ d. delivery_parts old.now d ≡ delivery_parts new.now d) marks.old marks.new }
 {
-    for p in 0..outcomes.len() {
-        mark_parcels_since(marks, formers[p], &outcomes[p]);
-        if !marks[p] && !is_same_own(formers, outcomes, p) {
+    for p in 0..new.len() {
+        mark_parcels_of(marks, old, new, changed, p);
+        if !marks[p] && !is_same_own(old, new, changed, p) {
             marks[p] = true;
         }
     }
@@ -127,22 +113,25 @@ fn mark_touched(
 /// To which processes a delivery depends on something else than before, by process: whether its memory after computing, its gets or the words
 /// that they read, or the puts or messages to it are others.
 ///
-/// `formers` has a place for each process: the outcome that it had before where `outcomes` may have another one now, else `None`. What an
-/// outcome brings to others is compared only where it has a former one, and so are the words that gets read of its memory.
+/// `changed` has a mark for each process whose outcome may be another one than before. What an outcome brings to others, and the words that gets
+/// read of its memory, are compared only where it is marked.
 ///
 /// # Errors
 /// `OutOfMemory` where there is none for the answer.
-pub fn touched_by_changes(
+pub fn touched_by_changes<'a>(
     alloc: Global,
-    formers: &[Option<&Shared<Outcome>>],
-    outcomes: &[Shared<Outcome>],
+    old: &'a Outcomes,
+    new: &'a Outcomes,
+    changed: &[bool],
 ) -> Result<Vec<bool>, OutOfMemory>
-    requires count { length formers.now ≡ length outcomes.now }
-    requires before { AreDeliverable (outcomes_before formers.now outcomes.now) }
-    requires after { AreDeliverable outcomes.now }
-    ensures { IfOk result (λ touched. AreTouched (outcomes_before formers.now outcomes.now) outcomes.now touched.items) }
+    requires count { length old.now ≡ length new.now }
+    requires marks { length changed.now ≡ length new.now }
+    requires before { AreDeliverable old.now }
+    requires after { AreDeliverable new.now }
+    requires unchanged { AreSameUnlessMarked old.now new.now changed.now }
+    ensures { IfOk result (λ touched. AreTouched old.now new.now touched.items) }
 {
-    let mut touched = vec![in alloc; false; outcomes.len()]?;
-    mark_touched(touched.as_mut_slice(), formers, outcomes);
+    let mut touched = vec![in alloc; false; new.len()]?;
+    mark_touched(touched.as_mut_slice(), old, new, changed);
     Ok(touched)
 }

@@ -5,8 +5,7 @@ use Rattle.std.proofs.lemmas.List.FromFn.{get_or-map-range_with_len, length-map-
 use Rattle.bsp_model.specs.declared.input.Input.{Input}
 use Rattle.bsp_model.specs.declared.cost.CostRow.{CostRow}
 use Rattle.bsp_step.specs.ViewParts.{ViewParts}
-use Rattle.bsp_step.specs.OutcomeParts.{OutcomeParts}
-use Rattle.bsp_deliver.specs.Requests.{no_outcome, outcome_of}
+use Rattle.bsp_step.specs.OutcomeParts.{OutcomeParts, no_outcome, outcome_of}
 use Rattle.bsp_run.specs.declared.result.Status.TheVariants.{Halted, Limit, Faulted, SyncFaulted}
 use Rattle.bsp_run.specs.declared.phase.Phase.{Phase}
 use Rattle.bsp_run.specs.declared.phase.Phase.TheVariants.{Open, Turned, Ended}

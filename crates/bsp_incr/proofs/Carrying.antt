@@ -1,26 +1,24 @@
 -- What is carried over from the run before to the next superstep, and what is put in its places.
-use Rattle.std.proofs.Common.{◌≡◌, ◌≢◌, ◌<◌, ◌≤◌, ◌+◌, ℕ, zero, suc, Bool, true, false, cond, Option, None, Some, List, [], ◌∷◌, map, length, get_or, arith, refl, sym, ap, ◌∙◌, subst, inl, inr}
-use Rattle.std.specs.Prelude.{filter, slice_set, nat_lt}
-use Rattle.std.specs.Slice.{IsItemAt}
-use Rattle.std.specs.Borrow.{Bor}
+use Rattle.std.proofs.Common.{◌≡◌, ◌≢◌, ◌<◌, ◌≤◌, ◌+◌, ℕ, zero, suc, Bool, true, false, cond, List, [], ◌∷◌, map, replicate, length, get_or, arith, refl, sym, ap, ◌∙◌, subst, inl, inr}
+use Rattle.std.specs.Prelude.{filter}
 use Rattle.std.specs.List.{range_with_len}
 use Rattle.std.proofs.lemmas.Bool.{cases_lt, false≢true}
-use Rattle.std.proofs.lemmas.Bool.Decides.{eqb_tells, nat_tests}
-use Rattle.std.proofs.lemmas.List.{get_or_default, get_or-map, get_or-set_same, get_or-set_other, length-map}
+use Rattle.std.proofs.lemmas.List.{get_or-map, length-map, length-replicate}
 use Rattle.bsp_model.specs.declared.request.Message.{Message}
 use Rattle.bsp_step.specs.ViewParts.{ViewParts}
 use Rattle.bsp_step.specs.OutcomeParts.{OutcomeParts}
-use Rattle.bsp_deliver.specs.Requests.{each_below, outcome_of, no_outcome}
+use Rattle.bsp_deliver.specs.Requests.{each_below}
 use Rattle.bsp_deliver.specs.Delivery.{delivery_parts, next_memory, next_queue}
-use Rattle.bsp_deliver.specs.Touched.{former_or}
+use Rattle.bsp_deliver.specs.Touched.{AreSameUnlessMarked}
 use Rattle.bsp_run.specs.State.{cell_of}
 use Rattle.bsp_run.specs.Condition.{no_view, deliveries_of}
 use Rattle.bsp_run.specs.Shares.{deliveries_to}
 use Rattle.bsp_run.proofs.Shares.{deliveries_to-all}
 use Rattle.bsp_incr.specs.Inside.Changes.{is_touched, processes_where}
-use Rattle.bsp_incr.specs.Inside.Marks.{AreDelivered}
-use Rattle.bsp_model.specs.Replaced.{replaced}
-use Rattle.bsp_incr.proofs.Gathering.{all_where}
+use Rattle.bsp_incr.specs.Inside.Marks.{AreDelivered, OutcomesDifferAtMost}
+use Rattle.bsp_model.specs.Replaced.{replaced, IsAscending}
+use Rattle.bsp_model.proofs.Replaced.{replaced-there}
+use Rattle.bsp_incr.proofs.Gathering.{all_where, listed_below, processes_where-ascending}
 use Rattle.bsp_incr.proofs.Patching.{patched, patched_is}
 use Rattle.bsp_incr.proofs.Propagation.{untouched_is, touched-none}
 
@@ -84,20 +82,19 @@ pub not_listed : (test : ℕ → Bool) (n p : ℕ) (ps : List ℕ) → ps ≡ pr
 not_listed test n p ps e l none =
     is_not (test p) (λ t. comes_from test 0 n p (omega arith) (omega arith) t (subst (λ (qs : List ℕ). (j : ℕ) → j < length qs → get_or qs j 0 ≢ p) e none))
 
--- one former outcome more
-pub former_set : (new old : ℕ → OutcomeParts) (formers : List (Option (Bor OutcomeParts))) (at : ℕ) (former : Option (Bor OutcomeParts)) (p : ℕ) → at < length formers → former_or (new at) former ≡ old at → (p ≢ at → former_or (new p) (get_or formers p None) ≡ old p)
-    → former_or (new p) (get_or (slice_set formers at former) p None) ≡ old p
-former_set new old formers at former p l here there =
-    elim (eqb_tells p at) [
-      | inl w ↦
-          ap (λ k. former_or (new k) (get_or (slice_set formers at former) k None)) w.1 ∙ ap (former_or (new at)) (get_or-set_same formers at former None l) ∙ here ∙ ap old (sym w.1)
-      | inr w ↦ ap (former_or (new p)) (get_or-set_other formers at p former None w.1) ∙ there w.1
-    ]
-
--- the outcome that a process had before, got from their list
-pub former_got : (new : OutcomeParts) (old : List OutcomeParts) (p : ℕ) (former : Option (Bor OutcomeParts)) → p < length old → IsItemAt old p former → former_or new former ≡ outcome_of old p
-former_got new old p None l e = let here : nat_lt p (length old) ≡ true = grind (arith, nat_tests) in absurd (false≢true (e.0 ∙ here))
-former_got new old p (Some former) l e = e.1 ∙ get_or_default old p former.now no_outcome l
+-- Processes without a mark have the outcomes that they had.
+pub unmarked_same : (old new : List OutcomeParts) (doubtful : List ℕ) → length old ≡ length new → OutcomesDifferAtMost old new doubtful → AreSameUnlessMarked old new (replaced (replicate (length new) false) doubtful (map (λ _. true) doubtful))
+unmarked_same old new doubtful long h p within unmarked =
+    let n = length new in
+    let marks : List Bool = replaced (replicate n false) doubtful (map (λ _. true) doubtful) in
+    let ascending : IsAscending doubtful = subst IsAscending (sym h.listed) (processes_where-ascending n h.test) in
+    h.same p (omega (arith, within, long)) within
+    (not_listed h.test n p doubtful h.listed within
+    (λ j l e. false≢true (
+    sym unmarked ∙ ap (λ q. get_or marks q true) (sym e)
+    ∙ replaced-there (replicate n false) doubtful (map (λ _. true) doubtful) j true ascending l (omega (arith, l, length-map doubtful (λ _. true))) (omega (arith, listed_below n h.test doubtful h.listed j 0 l, length-replicate n false))
+    ∙ get_or-map (λ _. true) doubtful j 0 true l
+    )))
 
 -- what comes neither here nor later
 pub later_or_here : (ps : List ℕ) (i p : ℕ) → p ≢ get_or ps i 0 → ((j : ℕ) → i + 1 ≤ j → j < length ps → get_or ps j 0 ≢ p) → (j : ℕ) → i ≤ j → j < length ps → get_or ps j 0 ≢ p

@@ -6,8 +6,7 @@ use Rattle.bsp_model.specs.declared.fault.SyncFault.{SyncFault}
 use Rattle.bsp_model.specs.declared.fault.SyncFault.TheVariants.{MixedEnd, TagMismatch}
 use Rattle.bsp_table.specs.declared.area.Area.{Area}
 use Rattle.bsp_table.specs.NextTable.{are_alike, next_table, table_fault}
-use Rattle.bsp_step.specs.OutcomeParts.{OutcomeParts}
-use Rattle.bsp_deliver.specs.Requests.{outcome_of}
+use Rattle.bsp_step.specs.OutcomeParts.{OutcomeParts, outcome_of}
 use Rattle.bsp_deliver.specs.SyncFault.{is_sync, next_tag_size, same_tag, sync_fault}
 use Rattle.bsp_run.specs.declared.result.Status.TheVariants.{Faulted, Halted}
 use Rattle.bsp_run.specs.State.{pops_of, pushes_of}

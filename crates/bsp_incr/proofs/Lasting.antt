@@ -6,11 +6,10 @@ use Rattle.bsp_model.specs.declared.input.Input.{Input}
 use Rattle.bsp_model.specs.Input.{input_fault}
 use Rattle.bsp_model.specs.declared.fault.End.{End}
 use Rattle.bsp_step.specs.ViewParts.{ViewParts}
-use Rattle.bsp_step.specs.OutcomeParts.{OutcomeParts}
+use Rattle.bsp_step.specs.OutcomeParts.{OutcomeParts, outcome_of, no_outcome}
 use Rattle.bsp_step.specs.Act.{Act}
 use Rattle.bsp_step.specs.Turn.{turn_of}
 use Rattle.bsp_step.specs.Footprint.{IsFootprint}
-use Rattle.bsp_deliver.specs.Requests.{outcome_of, no_outcome}
 use Rattle.bsp_run.specs.Run.{Run}
 use Rattle.bsp_run.specs.Law.{IsBspRun, outcomes_in}
 use Rattle.bsp_run.specs.Supersteps.{supersteps_of}

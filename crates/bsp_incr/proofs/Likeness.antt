@@ -2,8 +2,8 @@
 use Rattle.std.proofs.Common.{◌≡◌, ◌<◌, ◌+◌, ℕ, suc, List, [], ◌∷◌, ◌++◌, map, length, arith, refl, sym, ap, ◌∙◌}
 use Rattle.std.specs.Prelude.{max}
 use Rattle.std.proofs.lemmas.List.{map-append}
-use Rattle.bsp_step.specs.OutcomeParts.{OutcomeParts}
-use Rattle.bsp_deliver.specs.Requests.{each_below, outcome_of, requests_from, all_puts, all_gets, all_sends}
+use Rattle.bsp_step.specs.OutcomeParts.{OutcomeParts, outcome_of}
+use Rattle.bsp_deliver.specs.Requests.{each_below, requests_from, all_puts, all_gets, all_sends}
 use Rattle.bsp_deliver.specs.Cost.{Transfer, transfers, put_transfer, get_transfer, send_transfer, count_sent, count_received, largest, h_relation}
 use Rattle.bsp_run.specs.Result.{largest_work}
 use Rattle.bsp_run.proofs.Lists.{map_twice}

@@ -6,8 +6,7 @@ use Rattle.std.proofs.lemmas.Bool.{cases_lt, false≢true}
 use Rattle.std.proofs.lemmas.List.{get_or_default, get_or-map, length-map}
 use Rattle.std.proofs.lemmas.Option.{slice_get-get_or, slice_get_past}
 use Rattle.bsp_step.specs.ViewParts.{ViewParts}
-use Rattle.bsp_step.specs.OutcomeParts.{OutcomeParts}
-use Rattle.bsp_deliver.specs.Requests.{no_outcome}
+use Rattle.bsp_step.specs.OutcomeParts.{OutcomeParts, no_outcome}
 use Rattle.bsp_run.specs.Condition.{no_view}
 use Rattle.bsp_run.specs.Shares.{turns_of}
 use Rattle.bsp_run.proofs.Shares.{turns_of-all}

@@ -1,64 +1,57 @@
 //! What the outcomes of a superstep have in common with those of the run before.
 
-ghost use Rattle.std.specs.Prelude.{◌≡◌, ◌<◌, ℕ, length, true};
-ghost use Rattle.bsp_deliver.specs.Requests.{outcome_of};
+ghost use Rattle.std.specs.Prelude.{◌≡◌, ◌<◌, ℕ, length, option_map, true};
+ghost use Rattle.bsp_step.specs.OutcomeParts.{outcome_of};
 ghost use Rattle.bsp_incr.specs.Inside.Alike.{AllEndAlike, CostsAlike, EndsAlike};
+ghost use Rattle.bsp_incr.specs.Inside.Before.{outcomes_if_any};
 ghost use Rattle.bsp_incr.specs.Inside.Marks.{OutcomesDifferAtMost};
 
 use crate::doubtful::Doubtful;
 use crate::moving::{gets_move_alike, puts_move_alike, sends_move_alike};
-use bsp_model::{Same, Shared};
-use bsp_step::Outcome;
-
-/// The outcome of a process.
-fn left_by(outcomes: &[Shared<Outcome>], pid: usize) -> &Outcome
-    requires { pid < length outcomes.now }
-    ensures { result.now ≡ outcome_of outcomes.now pid }
-{
-    &outcomes[pid]
-}
+use bsp_model::are_same;
+use bsp_step::{OutcomeRef, Outcomes};
 
 /// Whether two turns charged the same work, and moved as many words between the same processes.
-fn costs_alike(old: &Outcome, new: &Outcome) -> bool
+fn costs_alike(old: &OutcomeRef<'_>, new: &OutcomeRef<'_>) -> bool
     ensures { result ≡ true → CostsAlike old.now new.now }
 {
     old.work == new.work
         && puts_move_alike(&old.puts, &new.puts)
-        && gets_move_alike(old.gets.as_slice(), new.gets.as_slice())
+        && gets_move_alike(old.gets, new.gets)
         && sends_move_alike(&old.sends, &new.sends)
 }
 
 /// Whether two turns ended alike, and asked for the same table and tag size.
-fn ends_alike(old: &Outcome, new: &Outcome) -> bool
+fn ends_alike(old: &OutcomeRef<'_>, new: &OutcomeRef<'_>) -> bool
     ensures { result ≡ true → EndsAlike old.now new.now }
 {
     old.fault == new.fault
         && old.ended == new.ended
         && old.tag == new.tag
-        && old.pops.same(&new.pops)
-        && old.pushes.same(&new.pushes)
+        && are_same(old.pops, new.pops)
+        && are_same(old.pushes, new.pushes)
 }
 
 /// Whether the turns of a process charged and moved alike.
-fn costs_alike_at(old: &[Shared<Outcome>], new: &[Shared<Outcome>], p: usize) -> bool
+fn costs_alike_at(old: &Outcomes, new: &Outcomes, p: usize) -> bool
     requires old { p < length old.now }
     requires new { p < length new.now }
     ensures { result ≡ true → CostsAlike (outcome_of old.now p) (outcome_of new.now p) }
 {
-    costs_alike(left_by(old, p), left_by(new, p))
+    costs_alike(&old.get(p), &new.get(p))
 }
 
 /// Whether the turns of a process ended alike.
-fn ends_alike_at(old: &[Shared<Outcome>], new: &[Shared<Outcome>], p: usize) -> bool
+fn ends_alike_at(old: &Outcomes, new: &Outcomes, p: usize) -> bool
     requires old { p < length old.now }
     requires new { p < length new.now }
     ensures { result ≡ true → EndsAlike (outcome_of old.now p) (outcome_of new.now p) }
 {
-    ends_alike(left_by(old, p), left_by(new, p))
+    ends_alike(&old.get(p), &new.get(p))
 }
 
 /// Whether the turns of all processes charged and moved alike. Only those of the processes in `doubtful` are looked at, since the others left the same.
-pub fn all_cost_alike(old: &[Shared<Outcome>], new: &[Shared<Outcome>], doubtful: &[usize]) -> bool
+pub fn all_cost_alike(old: &Outcomes, new: &Outcomes, doubtful: &[usize]) -> bool
     requires count { length old.now ≡ length new.now }
     requires doubtful { OutcomesDifferAtMost old.now new.now doubtful.now }
     ensures { result ≡ true → (p : ℕ) → p < length new.now → CostsAlike (outcome_of old.now p) (outcome_of new.now p) }
@@ -72,7 +65,7 @@ pub fn all_cost_alike(old: &[Shared<Outcome>], new: &[Shared<Outcome>], doubtful
 }
 
 /// Whether the turns of all processes ended alike. Here too, only those in `doubtful` are looked at.
-pub fn all_end_alike(old: &[Shared<Outcome>], new: &[Shared<Outcome>], doubtful: &[usize]) -> bool
+pub fn all_end_alike(old: &Outcomes, new: &Outcomes, doubtful: &[usize]) -> bool
     requires count { length old.now ≡ length new.now }
     requires doubtful { OutcomesDifferAtMost old.now new.now doubtful.now }
     ensures { result ≡ true → AllEndAlike old.now new.now }
@@ -87,12 +80,17 @@ pub fn all_end_alike(old: &[Shared<Outcome>], new: &[Shared<Outcome>], doubtful:
 
 /// Whether a superstep is known to end by delivery and with the table and the tag size of the run before: there it opened with the same ones and ended
 /// by delivery, and all turns ended alike.
-pub fn ends_as_before(old: &[Shared<Outcome>], new: &[Shared<Outcome>], doubtful: &Doubtful) -> bool
-    requires count { 0 < length old.now → length old.now ≡ length new.now }
-    requires doubtful { OutcomesDifferAtMost old.now new.now doubtful.now.processes.items }
-    ensures some { result ≡ true → 0 < length old.now }
+pub fn ends_as_before(old: Option<&Outcomes>, new: &Outcomes, doubtful: &Doubtful) -> bool
+    requires count { 0 < length (outcomes_if_any (option_map (λ o. o.now) old)) → length (outcomes_if_any (option_map (λ o. o.now) old)) ≡ length new.now }
+    requires doubtful { OutcomesDifferAtMost (outcomes_if_any (option_map (λ o. o.now) old)) new.now doubtful.now.processes.items }
+    ensures some { result ≡ true → 0 < length (outcomes_if_any (option_map (λ o. o.now) old.entry)) }
     ensures table { result ≡ true → doubtful.now.same_table ≡ true }
-    ensures ends { result ≡ true → AllEndAlike old.now new.now }
+    ensures ends { result ≡ true → AllEndAlike (outcomes_if_any (option_map (λ o. o.now) old.entry)) new.now }
 {
-    doubtful.same_table && !old.is_empty() && all_end_alike(old, new, doubtful.processes.as_slice())
+    match old {
+        Some(old) if doubtful.same_table && !old.is_empty() => {
+            all_end_alike(old, new, doubtful.processes.as_slice())
+        }
+        _ => false,
+    }
 }

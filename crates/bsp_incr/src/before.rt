@@ -2,12 +2,11 @@
 
 ghost use Rattle.std.specs.Prelude.{◌≡◌, ◌<◌, [], IfNone, IfSome, length, option_map};
 ghost use Rattle.bsp_deliver.specs.Condition.{AreDeliverable};
-ghost use Rattle.bsp_incr.specs.Inside.Before.{taken_before, outcomes_before, delivered_outcomes, views_after};
+ghost use Rattle.bsp_incr.specs.Inside.Before.{taken_before, outcomes_if_any, outcomes_before, delivered_outcomes, views_after};
 ghost use Rattle.bsp_incr.specs.Inside.Before.{first_views_before};
 
-use bsp_model::Shared;
 use bsp_run::{History, Views, ViewsRef};
-use bsp_step::Outcome;
+use bsp_step::Outcomes;
 
 /// The views of a superstep of the run before; none where it took no turns of such a superstep.
 pub fn taken_before<'a>(old: Option<&'a History>, step: usize) -> ViewsRef<'a>
@@ -22,31 +21,22 @@ pub fn taken_before<'a>(old: Option<&'a History>, step: usize) -> ViewsRef<'a>
     }
 }
 
-/// The outcomes of these turns.
-pub fn outcomes_before<'a>(old: Option<&'a History>, step: usize) -> &'a [Shared<Outcome>]
-    ensures { result.now ≡ outcomes_before (option_map (λ k. k.now) old.entry) step }
+/// The outcomes of these turns; none where there were no such turns.
+pub fn outcomes_before<'a>(old: Option<&'a History>, step: usize) -> Option<&'a Outcomes>
+    ensures { outcomes_if_any (option_map (λ o. o.now) result) ≡ outcomes_before (option_map (λ k. k.now) old.entry) step }
 {
-    let Some(history) = old else {
-        return &[];
-    };
-    match history.outcomes(step as u64) {
-        Some(outcomes) => outcomes,
-        None => &[],
-    }
+    let history = old?;
+    history.outcomes(step as u64)
 }
 
 /// The outcomes of a superstep of the run before that ended by delivery; none where there is no such superstep.
-pub fn delivered_outcomes<'a>(old: Option<&'a History>, step: usize) -> &'a [Shared<Outcome>]
-    ensures outcomes { result.now ≡ delivered_outcomes (option_map (λ k. k.now) old.entry) step }
-    ensures deliverable { 0 < length result.now → AreDeliverable result.now }
+pub fn delivered_outcomes<'a>(old: Option<&'a History>, step: usize) -> Option<&'a Outcomes>
+    ensures outcomes { outcomes_if_any (option_map (λ o. o.now) result) ≡ delivered_outcomes (option_map (λ k. k.now) old.entry) step }
+    ensures deliverable { IfSome result (λ o. AreDeliverable o.now) }
 {
-    let Some(history) = old else {
-        return &[];
-    };
-    match history.past().get(step) {
-        Some(superstep) => superstep.outcomes.as_slice(),
-        None => &[],
-    }
+    let history = old?;
+    let superstep = history.past().get(step)?;
+    Some(&superstep.outcomes)
 }
 
 /// The views after that delivery, of one process or more; none where there was no such delivery.

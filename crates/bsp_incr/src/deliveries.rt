@@ -1,57 +1,24 @@
 //! Which deliveries of a superstep have to be made again: those that depend on something else than in the run before. The outcomes of a run before
 //! that has no such superstep, or none that ended by delivery, are empty.
 
-ghost use Rattle.std.specs.Prelude.{◌≡◌, ℕ, [], IfOk, None, length, slice_index_or};
+ghost use Rattle.std.specs.Prelude.{◌≡◌, [], IfOk, length, option_map};
 ghost use Rattle.bsp_deliver.specs.Requests.{each_below};
-ghost use Rattle.bsp_deliver.specs.Touched.{outcomes_before};
 ghost use Rattle.bsp_deliver.specs.Condition.{AreDeliverable};
+ghost use Rattle.bsp_incr.specs.Inside.Before.{outcomes_if_any};
 ghost use Rattle.bsp_incr.specs.Inside.Changes.{is_touched};
 ghost use Rattle.bsp_incr.specs.Inside.Marks.{AreComparable, OutcomesDifferAtMost};
 
+use crate::marks::mark_too;
 use bsp_deliver::touched_by_changes;
-use bsp_model::{OutOfMemory, Shared};
-use bsp_step::Outcome;
+use bsp_model::OutOfMemory;
+use bsp_step::Outcomes;
 use std::alloc::Global;
 
-/// For so many processes, that none may have another outcome.
-fn no_formers<'a>(
-    alloc: Global,
-    count: usize,
-) -> Result<Vec<Option<&'a Shared<Outcome>>>, OutOfMemory>
-    ensures count { IfOk result (λ formers. length formers.items ≡ count) }
-    ensures none { IfOk result (λ formers. (p : ℕ) → slice_index_or formers.items p None ≡ None) }
-{
-    let mut formers = Vec::with_capacity(alloc, count)?;
-    for _p in 0..count {
-        formers.push_reserved(None);
-    }
-    Ok(formers)
-}
-
-/// The outcomes in the run before that may be other ones now, by process: those of the processes in `doubtful`.
-fn formers<'a>(
-    alloc: Global,
-    old: &'a [Shared<Outcome>],
-    new: &[Shared<Outcome>],
-    doubtful: &[usize],
-) -> Result<Vec<Option<&'a Shared<Outcome>>>, OutOfMemory>
-    requires count { length old.now ≡ length new.now }
-    requires doubtful { OutcomesDifferAtMost old.now new.now doubtful.now }
-    ensures count { IfOk result (λ formers. length formers.items ≡ length new.now) }
-    ensures before { IfOk result (λ formers. outcomes_before formers.items new.now ≡ old.now) }
-{
-    let mut formers = no_formers(alloc, new.len())?;
-    for process in doubtful {
-        formers[*process] = old.get(*process);
-    }
-    Ok(formers)
-}
-
 /// Which deliveries have to be made, by process, where the run before made them too.
-fn touched_again(
+fn touched_again<'a>(
     alloc: Global,
-    old: &[Shared<Outcome>],
-    new: &[Shared<Outcome>],
+    old: &'a Outcomes,
+    new: &'a Outcomes,
     doubtful: &[usize],
 ) -> Result<Vec<bool>, OutOfMemory>
     requires count { length old.now ≡ length new.now }
@@ -60,12 +27,13 @@ fn touched_again(
     requires doubtful { OutcomesDifferAtMost old.now new.now doubtful.now }
     ensures { IfOk result (λ all. all.items ≡ each_below (length new.now) (is_touched old.now new.now)) }
 {
-    let formers = formers(alloc, old, new, doubtful)?;
-    Ok(touched_by_changes(alloc, formers.as_slice(), new)?)
+    let mut changed = vec![in alloc; false; new.len()]?;
+    mark_too(&mut changed, doubtful);
+    Ok(touched_by_changes(alloc, old, new, changed.as_slice())?)
 }
 
 /// Which deliveries have to be made, where the run before made none.
-fn all_touched(alloc: Global, new: &[Shared<Outcome>]) -> Result<Vec<bool>, OutOfMemory>
+fn all_touched(alloc: Global, new: &Outcomes) -> Result<Vec<bool>, OutOfMemory>
     ensures { IfOk result (λ all. all.items ≡ each_below (length new.now) (is_touched [] new.now)) }
 {
     let mut touched = Vec::new(alloc);
@@ -76,19 +44,18 @@ fn all_touched(alloc: Global, new: &[Shared<Outcome>]) -> Result<Vec<bool>, OutO
 }
 
 /// Which deliveries have to be made, by process.
-pub fn touched(
+pub fn touched<'a>(
     alloc: Global,
-    old: &[Shared<Outcome>],
-    new: &[Shared<Outcome>],
+    old: Option<&'a Outcomes>,
+    new: &'a Outcomes,
     doubtful: &[usize],
 ) -> Result<Vec<bool>, OutOfMemory>
-    requires comparable { AreComparable old.now new.now }
-    requires doubtful { OutcomesDifferAtMost old.now new.now doubtful.now }
-    ensures { IfOk result (λ all. all.items ≡ each_below (length new.now) (is_touched old.now new.now)) }
+    requires comparable { AreComparable (outcomes_if_any (option_map (λ o. o.now) old)) new.now }
+    requires doubtful { OutcomesDifferAtMost (outcomes_if_any (option_map (λ o. o.now) old)) new.now doubtful.now }
+    ensures { IfOk result (λ all. all.items ≡ each_below (length new.now) (is_touched (outcomes_if_any (option_map (λ o. o.now) old.entry)) new.now)) }
 {
-    if old.is_empty() {
-        all_touched(alloc, new)
-    } else {
-        touched_again(alloc, old, new, doubtful)
+    match old {
+        Some(old) if !old.is_empty() => touched_again(alloc, old, new, doubtful),
+        _ => all_touched(alloc, new),
     }
 }

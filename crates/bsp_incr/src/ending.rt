@@ -21,10 +21,11 @@ use crate::known_table::KnownTable;
 use crate::looking::has_table;
 use crate::marks::mark_too;
 use crate::places::{add_places, processes_where};
-use bsp_model::{CostRow, Memory, OutOfMemory, Seq};
+use bsp_deliver::Cells;
+use bsp_model::{CostRow, OutOfMemory, Seq};
 use bsp_pool::Gate;
 use bsp_run::{Phase, Setting, Tape, Views, wide_deliveries};
-use bsp_step::{Program, Queue};
+use bsp_step::Program;
 use std::thread::Threads;
 
 /// The cost of the superstep whose turns are taken: that of the run before, at the prices in force, where no turn that may be another one charged other
@@ -40,11 +41,13 @@ fn cost<P: Program, G: Gate, R: Threads + Sync>(
     ensures value { result ≡ cost_of_delivery tape.now.g tape.now.l tape.now.outcomes }
     ensures small { IsSmall result }
 {
-    let old_outcomes = delivered_outcomes(given.old, tape.step());
     let Some(history) = given.old else {
         return tape.cost();
     };
-    if old_outcomes.is_empty() || !all_cost_alike(old_outcomes, tape.outcomes(), doubtful) {
+    let Some(old) = delivered_outcomes(given.old, tape.step()) else {
+        return tape.cost();
+    };
+    if !all_cost_alike(old, tape.outcomes(), doubtful) {
         return tape.cost();
     }
     tape.cost_like(history)
@@ -85,14 +88,14 @@ fn open_next<P: Program, G: Gate, R: Threads + Sync>(
     tape: &mut Tape,
     doubtful: &[usize],
     touched: &[usize],
-    made: Vec<(Memory, Queue)>,
+    made: Cells,
     known: KnownTable,
 ) -> Result<KnownTable, OutOfMemory>
     requires turned { tape.old.phase ≡ Phase.Turned }
     requires comparable { AreComparable (delivered_outcomes (option_map (λ k. k.now) given.now.old) (length tape.old.past)) tape.old.outcomes }
     requires next { AreDelivered (delivered_outcomes (option_map (λ k. k.now) given.now.old) (length tape.old.past)) (views_after (option_map (λ k. k.now) given.now.old) (length tape.old.past)) }
     requires touched { touched.now ≡ processes_where (length tape.old.outcomes) (is_touched (delivered_outcomes (option_map (λ k. k.now) given.now.old) (length tape.old.past)) tape.old.outcomes) }
-    requires made { made.items ≡ deliveries_to tape.old.outcomes touched.now }
+    requires made { made ≡ deliveries_to tape.old.outcomes touched.now }
     requires doubtful { OutcomesDifferAtMost (delivered_outcomes (option_map (λ k. k.now) given.now.old) (length tape.old.past)) tape.old.outcomes doubtful.now }
     requires known { KnowsNextTable (option_map (λ k. k.now) given.now.old) tape.old known }
     ensures tape { OnOk result (tape.new ≡ after_delivery tape.old) }

@@ -5,7 +5,7 @@ ghost use Rattle.bsp_step.specs.Footprint.{AreAlikeButForWords};
 ghost use Rattle.bsp_incr.specs.Inside.Reuse.{same_where_looked_at, serves};
 
 use bsp_model::limits::MOST_MEMORY_WORDS;
-use bsp_model::{Message, Same, are_same_words};
+use bsp_model::{Same, are_same, are_same_words};
 use bsp_step::{Program, View};
 use bsp_table::Table;
 
@@ -25,21 +25,6 @@ pub fn have_same_table(old: &View<'_>, new: &View<'_>) -> bool
     has_table(old, new.table, new.tag_size)
 }
 
-/// Whether two lists of messages are equal.
-fn are_same_messages(old: &[Message], new: &[Message]) -> bool
-    ensures { IsTrue result ↔ (old.now ≡ new.now) }
-{
-    if old.len() != new.len() {
-        return false;
-    }
-    for place in 0..old.len() {
-        if !old[place].same(&new[place]) {
-            return false;
-        }
-    }
-    true
-}
-
 /// Whether two views are equal but for the words of their memories. The tables need not be compared where they are known to be the same.
 fn is_alike_but_for_words(old: &View<'_>, new: &View<'_>, same_table: bool) -> bool
     requires { same_table ≡ true → old.now.table ≡ new.now.table }
@@ -51,7 +36,7 @@ fn is_alike_but_for_words(old: &View<'_>, new: &View<'_>, same_table: bool) -> b
         && are_same_words(old.args, new.args)
         && (same_table || old.table.same(new.table))
         && old.tag_size == new.tag_size
-        && are_same_messages(old.queue, new.queue)
+        && are_same(old.queue, new.queue)
         && old.memory.len() == new.memory.len()
 }
 

@@ -3,10 +3,10 @@
 ghost use Rattle.std.specs.Prelude.{◌≡◌, ℕ, map, true};
 ghost use Rattle.bsp_deliver.specs.Cost.{put_transfer, get_transfer, send_transfer};
 
-use bsp_model::{Get, Puts, Sends};
+use bsp_model::{Get, PutsRef, SendsRef};
 
 /// True only where puts move alike, one by one.
-pub fn puts_move_alike(old: &Puts, new: &Puts) -> bool
+pub fn puts_move_alike(old: &PutsRef<'_>, new: &PutsRef<'_>) -> bool
     ensures { result ≡ true → (sender : ℕ) → map (put_transfer sender) old.now ≡ map (put_transfer sender) new.now }
 {
     if old.len() != new.len() {
@@ -38,7 +38,7 @@ pub fn gets_move_alike(old: &[Get], new: &[Get]) -> bool
 }
 
 /// True only where messages move alike, one by one.
-pub fn sends_move_alike(old: &Sends, new: &Sends) -> bool
+pub fn sends_move_alike(old: &SendsRef<'_>, new: &SendsRef<'_>) -> bool
     ensures { result ≡ true → (sender : ℕ) → map (send_transfer sender) old.now ≡ map (send_transfer sender) new.now }
 {
     if old.len() != new.len() {

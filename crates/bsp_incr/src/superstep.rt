@@ -18,10 +18,10 @@ use crate::given::Given;
 use crate::known_table::KnownTable;
 use crate::turns::turns_again;
 use crate::{Place, Update};
-use bsp_model::{OutOfMemory, Seq, Shared};
+use bsp_model::{OutOfMemory, Seq};
 use bsp_pool::Gate;
 use bsp_run::{History, Tape};
-use bsp_step::{Outcome, Program};
+use bsp_step::{Outcomes, Program};
 use std::thread::Threads;
 
 /// Takes the outcomes of the open superstep. It answers what is known of the next table, or none where the run has ended. How the superstep ends is
@@ -30,7 +30,7 @@ fn end_turns<P: Program, G: Gate, R: Threads + Sync>(
     given: &Given<'_, P, R, G>,
     tape: &mut Tape,
     doubtful: &Doubtful,
-    outcomes: Vec<Shared<Outcome>>,
+    outcomes: Outcomes,
 ) -> Result<Option<KnownTable>, OutOfMemory>
     requires open { is_open tape.old.phase ≡ true }
     requires before { IsBefore (turn_of (P.acts given.now.program.now) (P.ending given.now.program.now)) given.now.input.now
@@ -39,15 +39,15 @@ fn end_turns<P: Program, G: Gate, R: Threads + Sync>(
         tape.old }
     requires doubtful { AreDoubtful (taken_before (option_map (λ k. k.now) given.now.old) (length tape.old.past))
         (open_views tape.old) doubtful.now }
-    requires turns { outcomes.items ≡ map (turn_of (P.acts given.now.program.now) (P.ending given.now.program.now))
+    requires turns { outcomes ≡ map (turn_of (P.acts given.now.program.now) (P.ending given.now.program.now))
         (open_views tape.old) }
-    requires within { AreOutcomesOf (open_views tape.old) outcomes.items }
-    ensures turned { OnOk result (tape.new ≡ after_turns tape.old outcomes.items) }
+    requires within { AreOutcomesOf (open_views tape.old) outcomes }
+    ensures turned { OnOk result (tape.new ≡ after_turns tape.old outcomes) }
     ensures answer { IfOk result (λ next. is_some next ≡ is_turned tape.new.phase) }
     ensures known { IfOk result (λ next. IfSome next (KnowsNextTable (option_map (λ k. k.now) given.now.old) tape.new)) }
 {
     let before = delivered_outcomes(given.old, tape.step());
-    if ends_as_before(before, outcomes.as_slice(), doubtful) {
+    if ends_as_before(before, &outcomes, doubtful) {
         tape.turned_to_deliver(outcomes)?;
         return Ok(Some(KnownTable::AsBefore));
     }

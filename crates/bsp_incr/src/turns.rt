@@ -1,10 +1,11 @@
 //! The turns of a superstep, of which those that serve from the run before are not taken again. The views and outcomes of a run before that has
 //! no such superstep are empty.
 
-ghost use Rattle.std.specs.Prelude.{◌≡◌, ◌<◌, ◌++◌, All, IfOk, OnOk, filter, map, length, not, slice_index_or, true, false};
+ghost use Rattle.std.specs.Prelude.{◌≡◌, ◌<◌, ◌++◌, ◌∷◌, [], All, IfOk, OnOk, filter, map, length, not, option_map, slice_index_or, true, false};
 ghost use Rattle.bsp_step.specs.Turn.{turn_of};
 ghost use Rattle.bsp_run.specs.Condition.{no_view};
 ghost use Rattle.bsp_run.specs.Shares.{turns_of};
+ghost use Rattle.bsp_incr.specs.Inside.Before.{outcomes_if_any};
 ghost use Rattle.bsp_incr.specs.Inside.Changes.{differs, differ_in};
 ghost use Rattle.bsp_incr.specs.Inside.Marks.{HaveOneTable};
 ghost use Rattle.bsp_incr.specs.Inside.Known.{AreDoubtful};
@@ -16,10 +17,10 @@ use crate::looking::serves;
 use crate::places::add_places;
 use crate::reuse::reuse;
 use crate::workers::Workers;
-use bsp_model::{OutOfMemory, Seq, Shared};
+use bsp_model::{OutOfMemory, Seq};
 use bsp_pool::Gate;
-use bsp_run::{Views, ViewsRef, copied, put_at, wide_turns};
-use bsp_step::{Outcome, Program};
+use bsp_run::{Views, ViewsRef, wide_turns};
+use bsp_step::{OutcomeRows, Outcomes, Program};
 use std::alloc::Global;
 use std::thread::Threads;
 
@@ -72,22 +73,25 @@ fn needed_turns<P: Program>(
     Ok((needed, served))
 }
 
-/// The turn of a process for which the recorded one serves, over the memory that it sees now.
-fn served_turn<P: Program>(
-    alloc: Global,
+/// Adds the turn of a process for which the recorded one serves, over the memory that it sees now.
+fn add_served<P: Program>(
+    rows: &mut OutcomeRows,
     program: &P,
     old_views: &ViewsRef<'_>,
-    old_outcomes: &[Shared<Outcome>],
+    old_outcomes: &Outcomes,
     views: &Views,
     p: usize,
-) -> Result<Shared<Outcome>, OutOfMemory>
+) -> Result<(), OutOfMemory>
     requires place { p < length views.now }
     requires recorded { old_outcomes.now ≡ map (turn_of (P.acts program.now) (P.ending program.now)) old_views.now }
     requires serves { differs (P.looks program.now) old_views.now views.now p ≡ false }
-    ensures { IfOk result (λ o. o ≡ turn_of (P.acts program.now) (P.ending program.now) (slice_index_or views.now p no_view)) }
+    ensures { OnOk result (rows.new ≡ rows.old ++ turn_of (P.acts program.now) (P.ending program.now) (slice_index_or views.now p no_view) ∷ []) }
 {
-    let outcome = reuse(program, &old_views.get(p), &old_outcomes[p], &views.get(p))?;
-    Ok(Shared::new(alloc, outcome)?)
+    let recorded = old_views.get(p);
+    let outcome = old_outcomes.get(p);
+    let view = views.get(p);
+    reuse(rows, program, &recorded, outcome, &view)?;
+    Ok(())
 }
 
 /// The turns of processes for which the recorded ones serve.
@@ -95,19 +99,19 @@ fn served_turns<P: Program>(
     alloc: Global,
     program: &P,
     old_views: &ViewsRef<'_>,
-    old_outcomes: &[Shared<Outcome>],
+    old_outcomes: &Outcomes,
     views: &Views,
     processes: &[usize],
-) -> Result<Vec<Shared<Outcome>>, OutOfMemory>
+) -> Result<OutcomeRows, OutOfMemory>
     requires known { All (λ p. p < length views.now) processes.now }
     requires recorded { old_outcomes.now ≡ map (turn_of (P.acts program.now) (P.ending program.now)) old_views.now }
     requires serve { All (λ p. differs (P.looks program.now) old_views.now views.now p ≡ false) processes.now }
-    ensures { IfOk result (λ all. all.items ≡ turns_of (turn_of (P.acts program.now) (P.ending program.now)) views.now processes.now) }
+    ensures { IfOk result (λ all. all ≡ turns_of (turn_of (P.acts program.now) (P.ending program.now)) views.now processes.now) }
 {
-    let mut served = Vec::new(alloc);
+    let mut served = OutcomeRows::with_capacity(alloc, processes.len())?;
     for process in processes {
         let p = *process;
-        served.push(served_turn(alloc, program, old_views, old_outcomes, views, p)?)?;
+        add_served(&mut served, program, old_views, old_outcomes, views, p)?;
     }
     Ok(served)
 }
@@ -119,18 +123,18 @@ pub fn turns_again<P: Program, G: Gate, R: Threads + Sync>(
     program: &P,
     step: u64,
     old_views: &ViewsRef<'_>,
-    old_outcomes: &[Shared<Outcome>],
+    old_outcomes: Option<&Outcomes>,
     views: &Views,
     doubtful: &Doubtful,
     executed: &mut Seq<Place>,
     counts: &mut Counts,
-) -> Result<Vec<Shared<Outcome>>, OutOfMemory>
-    requires recorded { old_outcomes.now ≡ map (turn_of (P.acts program.now) (P.ending program.now)) old_views.now }
+) -> Result<Outcomes, OutOfMemory>
+    requires recorded { outcomes_if_any (option_map (λ o. o.now) old_outcomes) ≡ map (turn_of (P.acts program.now) (P.ending program.now)) old_views.now }
     requires count { 0 < length old_views.now → length old_views.now ≡ length views.now }
     requires doubtful { AreDoubtful old_views.now views.now doubtful.now }
     requires old_table { HaveOneTable old_views.now }
     requires table { HaveOneTable views.now }
-    ensures turns { IfOk result (λ all. all.items ≡ map (turn_of (P.acts program.now) (P.ending program.now)) views.now) }
+    ensures turns { IfOk result (λ all. all ≡ map (turn_of (P.acts program.now) (P.ending program.now)) views.now) }
     ensures executed { OnOk result (executed.new ≡ executed.old ++ differ_in (P.looks program.now) step old_views.now views.now) }
 {
     let (needed, served) = needed_turns(alloc, program, old_views, views, doubtful, counts)?;
@@ -145,8 +149,11 @@ pub fn turns_again<P: Program, G: Gate, R: Threads + Sync>(
         workers.gate,
     )?;
     if old_views.is_empty() {
-        return Ok(taken);
+        return Ok(taken.share()?);
     }
+    let Some(old_outcomes) = old_outcomes else {
+        return Ok(taken.share()?);
+    };
     let reused = served_turns(
         alloc,
         program,
@@ -155,8 +162,7 @@ pub fn turns_again<P: Program, G: Gate, R: Threads + Sync>(
         views,
         served.as_slice(),
     )?;
-    let mut outcomes = copied(alloc, old_outcomes)?;
-    put_at(&mut outcomes, served.as_slice(), reused);
-    put_at(&mut outcomes, needed.as_slice(), taken);
-    Ok(outcomes)
+    let renewed = old_outcomes.replaced(alloc, served.as_slice(), &reused)?;
+    let all = renewed.replaced(alloc, needed.as_slice(), &taken)?;
+    Ok(all)
 }

@@ -11,9 +11,9 @@ use Rattle.bsp_model.specs.declared.request.Put.{Put}
 use Rattle.bsp_model.specs.declared.request.Send.{Send}
 use Rattle.bsp_model.specs.declared.request.Get.{Get}
 use Rattle.bsp_step.specs.ViewParts.{ViewParts}
-use Rattle.bsp_step.specs.OutcomeParts.{OutcomeParts}
+use Rattle.bsp_step.specs.OutcomeParts.{OutcomeParts, no_outcome, outcome_of}
 use Rattle.bsp_step.specs.Footprint.{AreAlike}
-use Rattle.bsp_deliver.specs.Requests.{no_outcome, outcome_of, words_read}
+use Rattle.bsp_deliver.specs.Requests.{words_read}
 use Rattle.bsp_deliver.specs.Delivery.{delivery_parts}
 use Rattle.bsp_deliver.specs.Inside.Comparison.{HasSameParcel}
 use Rattle.bsp_deliver.proofs.SameParts.{same_parts, same_own}

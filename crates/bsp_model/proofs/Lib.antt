@@ -3,12 +3,16 @@ pub mod IssuedRows
 pub mod MadeAgain
 pub mod PagedMemories
 pub mod Pages
+pub mod PairedColumns
 pub mod Ranges
 pub mod Replaced
 pub mod Rests
+pub mod RowReplaced
 pub mod RowsBetween
+pub mod RowsCut
 pub mod RowsOf
 pub mod RowRanges
 pub mod SameRanges
 pub mod Writes
+pub mod WrittenMemories
 pub mod SameWords

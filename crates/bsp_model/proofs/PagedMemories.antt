@@ -1,8 +1,9 @@
 -- Memories of several processes: the full pages of each, and beside them the words behind those.
-use Rattle.std.proofs.Common.{◌≡◌, ◌<◌, ◌^◌, ℕ, zero, suc, ◌-◌, List, [], ◌∷◌, ◌++◌, length, get_or, take, drop, refl, sym, ap, ◌∙◌, arith}
+use Rattle.std.proofs.Common.{◌≡◌, ◌<◌, ◌^◌, ℕ, zero, suc, ◌-◌, List, [], ◌∷◌, ◌++◌, length, get_or, take, drop, set, refl, sym, ap, ◌∙◌, arith}
 use Rattle.std.specs.Prelude.{slice_range}
 use Rattle.std.proofs.lemmas.List.{get_or_default}
 use Rattle.bsp_model.specs.Inside.Pages.{words_of, HasPages}
+use Rattle.bsp_model.proofs.Pages.{words_len}
 use Rattle.bsp_model.specs.Inside.Memories.{count_of, memory_of, memories_of, ArePaged}
 
 pub length-lasts : (pages : List (List (List ℕ))) (lasts : List (List ℕ)) → ArePaged pages lasts → length lasts ≡ length pages
@@ -22,6 +23,9 @@ process-within pages lasts memories pid are is within = omega (arith, within, le
 
 pub pages_at : (pages : List (List (List ℕ))) (full found : List (List ℕ)) (pid : ℕ) → pid < length pages → full ≡ found → found ≡ get_or pages pid found → full ≡ get_or pages pid []
 pages_at pages full found pid within same there = same ∙ there ∙ get_or_default pages pid found [] within
+
+pub pages_now : (pages : List (List (List ℕ))) (found : List (List ℕ)) (pid : ℕ) → pid < length pages → found ≡ get_or pages pid found → found ≡ get_or pages pid []
+pages_now pages found pid within there = there ∙ get_or_default pages pid found [] within
 
 pub memory_at : (pages : List (List (List ℕ))) (lasts : List (List ℕ)) (i : ℕ) → ArePaged pages lasts → i < length pages → memory_of (get_or pages i []) (get_or lasts i []) ≡ get_or (memories_of pages lasts) i []
 memory_at [] lasts i are within = absurd (omega arith)
@@ -110,3 +114,37 @@ pub memories_of-push : (pages : List (List (List ℕ))) (lasts : List (List ℕ)
 memories_of-push pages lasts full last words len are has is =
     memories_of-append pages (full ∷ []) lasts (last ∷ []) are
     ∙ ap (λ ws. memories_of pages lasts ++ ws ∷ []) (ap (words_of (full ++ last ∷ [])) (sym has.count) ∙ is)
+
+-- the memory of one process is another
+
+pub memories_of-set : (pages : List (List (List ℕ))) (lasts : List (List ℕ)) (i : ℕ) (full : List (List ℕ)) (last : List ℕ) → ArePaged pages lasts → i < length pages → memories_of (set pages i full) (set lasts i last) ≡ set (memories_of pages lasts) i (memory_of full last)
+memories_of-set [] lasts i full last are within = absurd (omega arith)
+memories_of-set (first ∷ pages) [] i full last are within = absurd are
+memories_of-set (first ∷ pages) (its ∷ lasts) zero full last are within = refl
+memories_of-set (first ∷ pages) (its ∷ lasts) (suc i) full last are within = ap (λ rest. memory_of first its ∷ rest) (memories_of-set pages lasts i full last are.2 (omega arith))
+
+pub ArePaged-set : (pages : List (List (List ℕ))) (lasts : List (List ℕ)) (i : ℕ) (full : List (List ℕ)) (last : List ℕ) → ArePaged pages lasts → i < length pages → length last < 64 → count_of full last < 2 ^ 64 → ArePaged (set pages i full) (set lasts i last)
+ArePaged-set [] lasts i full last are within short fits = absurd (omega arith)
+ArePaged-set (first ∷ pages) [] i full last are within short fits = absurd are
+ArePaged-set (first ∷ pages) (its ∷ lasts) zero full last are within short fits = (short, fits, are.2)
+ArePaged-set (first ∷ pages) (its ∷ lasts) (suc i) full last are within short fits = (are.0, are.1, ArePaged-set pages lasts i full last are.2 (omega arith) short fits)
+
+-- What is known of the memory of a process.
+pub record IsMemory (pages : List (List (List ℕ))) (lasts : List (List ℕ)) (memories : List (List ℕ)) (pid : ℕ) : Type 0 where
+  pub within : pid < length pages
+  pub last_within : pid < length lasts
+  pub has : HasPages (get_or pages pid []) (get_or lasts pid []) (count_of (get_or pages pid []) (get_or lasts pid []))
+  pub is : memory_of (get_or pages pid []) (get_or lasts pid []) ≡ get_or memories pid []
+  pub long : length (get_or memories pid []) ≡ count_of (get_or pages pid []) (get_or lasts pid [])
+
+pub memory_of_process : (pages : List (List (List ℕ))) (lasts memories : List (List ℕ)) (pid : ℕ) → ArePaged pages lasts → memories_of pages lasts ≡ memories → pid < length memories → IsMemory pages lasts memories pid
+memory_of_process pages lasts memories pid are is within =
+    let there : pid < length pages = process-within pages lasts memories pid are is within in
+    let same : memory_of (get_or pages pid []) (get_or lasts pid []) ≡ get_or memories pid [] = memory_at pages lasts pid are there ∙ ap (λ (ms : List (List ℕ)). get_or ms pid []) is in
+    record {
+      within = there;
+      last_within = omega (arith, there, length-lasts pages lasts are);
+      has = record { short = short_at pages lasts pid are there; count = refl; fits = count_at pages lasts pid are there };
+      is = same;
+      long = sym (words_len _ _ _ same);
+    }

@@ -1,5 +1,5 @@
 -- What a list is in which items are replaced.
-use Rattle.std.proofs.Common.{◌≡◌, ◌≢◌, ◌<◌, ◌≤◌, ◌+◌, ℕ, zero, suc, List, [], ◌∷◌, ◌++◌, length, get_or, drop, map, refl, sym, ap, ◌∙◌, arith, append_assoc, add-one}
+use Rattle.std.proofs.Common.{◌≡◌, ◌≢◌, ◌<◌, ◌≤◌, ◌+◌, ◌-◌, ℕ, zero, suc, List, [], ◌∷◌, ◌++◌, length, get_or, take, drop, map, refl, sym, ap, ◌∙◌, arith, append_assoc, add-one}
 use Rattle.std.specs.Prelude.{slice_range, slice_set}
 use Rattle.std.proofs.Math.ListN.{length-set}
 use Rattle.std.proofs.Math.Seq.{set-append_seam, drop-cons}
@@ -31,6 +31,15 @@ front-put front items x within =
     ∙ ap (λ n. front ++ x ∷ drop n items) more
     ∙ sym (set-append_seam front (get_or items (length front) x) (drop (suc (length front)) items) x)
     ∙ ap (λ rest. slice_set (front ++ rest) (length front) x) (sym (drop-cons items (length front) x within))
+
+-- the items from a place on begin with the one there
+pub first_left : {X : Type 0} (items : List X) (k : ℕ) (none : X) → k < length items → drop k items ≡ get_or items k none ∷ drop (k + 1) items
+first_left items k none within = rw add-one (drop-cons items k none within)
+
+pub range-one : {X : Type 0} (items : List X) (k : ℕ) (none : X) → k < length items → slice_range items k (k + 1) ≡ get_or items k none ∷ []
+range-one items k none within =
+    let one : (k + 1) - k ≡ 1 = omega arith in
+    ap (λ n. take n (drop k items)) one ∙ ap (take 1) (first_left items k none within)
 
 -- the item at the next place is replaced
 pub replaced-next : {X : Type 0} (front before new items : List X) (x : X) (ps : List ℕ) (xs later : List X) (k : ℕ) → k < length ps → length front ≤ get_or ps k 0 → get_or ps k 0 < length items

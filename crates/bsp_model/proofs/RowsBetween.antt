@@ -34,12 +34,12 @@ AreEnds-drop start (end ∷ ends) count (suc from) are within = AreEnds-drop end
 
 -- the rows before a place
 
-take-rows_of : {X : Type 0} (start : ℕ) (items : List X) (ends : List ℕ) (n : ℕ) → take n (rows_of start items ends) ≡ rows_of start items (take n ends)
+pub take-rows_of : {X : Type 0} (start : ℕ) (items : List X) (ends : List ℕ) (n : ℕ) → take n (rows_of start items ends) ≡ rows_of start items (take n ends)
 take-rows_of start items ends zero = refl
 take-rows_of start items [] (suc n) = refl
 take-rows_of start items (end ∷ ends) (suc n) = ap (λ rows. slice_range items start end ∷ rows) (take-rows_of end items ends n)
 
-AreEnds-take : (start : ℕ) (ends : List ℕ) (count n : ℕ) → AreEnds start ends count → n ≤ length ends → AreEnds start (take n ends) (start_at start ends n)
+pub AreEnds-take : (start : ℕ) (ends : List ℕ) (count n : ℕ) → AreEnds start ends count → n ≤ length ends → AreEnds start (take n ends) (start_at start ends n)
 AreEnds-take start ends count zero are within = refl
 AreEnds-take start [] count (suc n) are within = absurd (omega arith)
 AreEnds-take start (end ∷ ends) count (suc n) are within = (are.0, AreEnds-take end ends count n are.1 (omega arith))

@@ -8,6 +8,8 @@ use Rattle.std.proofs.lemmas.List.{get_or-set_same, get_or-set_other, get_or_app
 use borrow.Rule.Slice.PartMut.{put_mid}
 use mathlib.Core.Logic.{inl, inr}
 use Rattle.bsp_model.specs.Memory.{memory_written}
+use Rattle.bsp_model.specs.Inside.Cut.{IsCut}
+use Rattle.bsp_model.specs.declared.paging.Cut.{Cut}
 use Rattle.bsp_model.specs.Inside.Pages.{paged_word, words_of, HasPages, word_after}
 use Rattle.bsp_model.proofs.Pages.{words_of-each, get_or-words_of, words_len, paged_word_at, parts, place_below, in_full, in_last}
 
@@ -244,6 +246,19 @@ written full full' last last' words front behind old len start n place e pages i
       | inl low ↦ front_word full full' last last' words front start n i count n_is front_is (changed i) low
       | inr from ↦ last_word full full' last last' words behind start n place i count short n_is behind_is place_is (omega arith) last'_is from (omega arith)
     ])
+
+-- a whole write whose words are cut
+pub cut_written : (full full' : List (List ℕ)) (last last' words old : List ℕ) (len count start : ℕ) (cut : Cut) → words_of (full ++ last ∷ []) len ≡ old → HasPages full last len → count ≡ 64 * length full → IsCut count len start words cut → length full' ≡ length full → ((i : ℕ) → paged_word full' i ≡ word_after (paged_word full) cut.start cut.front.now i) → last' ≡ take cut.place last ++ cut.behind.now ++ drop (cut.place + length cut.behind.now) last → words_of (full' ++ last' ∷ []) len ≡ memory_written old start words
+cut_written full full' last last' words old len count start cut e pages count_is is same changed last'_is =
+    let n = min (length words) (64 * length full - start) in
+    let at : min (length words) (count - start) ≡ n = ap (λ (k : ℕ). min (length words) (k - start)) count_is in
+    let first : cut.start ≡ min start (64 * length full) = is.start ∙ ap (min start) count_is in
+    written full full' last last' words cut.front.now cut.behind.now old len start n cut.place e pages is.inside same refl
+    (is.front ∙ ap (λ (k : ℕ). take k words) at)
+    (is.behind ∙ ap (λ (k : ℕ). drop k words) at)
+    (λ i. changed i ∙ ap (λ (k : ℕ). word_after (paged_word full) k cut.front.now i) first)
+    (is.place ∙ ap (λ (k : ℕ). start + k - count) at ∙ ap (λ (k : ℕ). start + n - k) count_is)
+    last'_is
 
 pub not_written : (pages : List (List ℕ)) (words old : List ℕ) (len start : ℕ) → words_of pages len ≡ old → len < start + length words → old ≡ memory_written old start words
 not_written pages words old len start e past =

@@ -1,3 +1,5 @@
+pub mod Columns
+pub mod Cut
 pub mod HeadedRows
 pub mod Issued
 pub mod LawfulInput

@@ -1,3 +1,4 @@
+pub mod Columns
 pub mod Input
 pub mod Limits
 pub mod Memory

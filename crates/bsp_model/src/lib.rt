@@ -1,6 +1,7 @@
 //! The words, memories, input and requests of a BSP computation.
 #![tactic(auto)]
 
+mod columns;
 mod copying;
 mod cost;
 mod fault;
@@ -14,6 +15,7 @@ mod page;
 mod paging;
 mod puts;
 mod request;
+mod row_ends;
 mod rows;
 mod sends;
 mod seq;
@@ -22,6 +24,7 @@ mod shared_seq;
 mod stores;
 mod words;
 
+pub use columns::{Column, LineColumn, PutColumn, SendColumn, StoreColumn};
 pub use copying::{Same, TryCopy};
 pub use cost::CostRow;
 pub use fault::{End, Fault, InputFault, SyncFault};
@@ -29,15 +32,15 @@ pub use input::Input;
 pub use memories::Memories;
 pub use memory::Memory;
 pub use memory_ref::MemoryRef;
-pub use puts::{PutView, Puts};
+pub use puts::{PutView, Puts, PutsRef};
 pub use request::{Get, Message, Put, Send, Store};
-pub use rows::Rows;
-pub use sends::{SendView, Sends};
-pub use seq::Seq;
+pub use rows::{Rows, RowsRef};
+pub use sends::{SendView, Sends, SendsRef};
+pub use seq::{Seq, are_same};
 pub use shared::Shared;
 pub use shared_seq::SharedSeq;
 pub use std::alloc::AllocError as OutOfMemory;
-pub use stores::Stores;
+pub use stores::{Stores, StoresRef};
 pub use words::are_same_words;
 
 /// A list of 64-bit words.

@@ -1,12 +1,14 @@
 //! The memories of several processes.
 
-ghost use Rattle.std.specs.Prelude.{◌≡◌, ◌<◌, ◌≤◌, ◌++◌, ◌∷◌, [], All, IfOk, OnErr, OnOk, length, slice_index_or, slice_range};
+ghost use Rattle.std.specs.Prelude.{◌≡◌, ◌<◌, ◌≤◌, ◌+◌, ◌++◌, ◌∷◌, [], All, IfOk, OnErr, OnOk, length, nat_le, slice_index_or, slice_range, slice_set};
+ghost use Rattle.bsp_model.specs.Memory.{memory_written};
 ghost use Rattle.bsp_model.specs.Replaced.{replaced, IsAscending};
 
 #[cfg(test)]
 mod tests;
 
 use crate::page::{Page, WORDS_OF_A_PAGE};
+use crate::paging::{cut_write, shared_pages, write_shared_pages};
 use crate::{Memory, MemoryRef, OutOfMemory, Rows, SharedSeq, TryCopy};
 use std::alloc::Global;
 use std::marker::Model;
@@ -59,6 +61,13 @@ impl Memories {
         })
     }
 
+    /// No memories, with the room that these take beside their full pages, or `OutOfMemory`.
+    pub fn with_room_of(alloc: Global, like: &Memories) -> Result<Memories, OutOfMemory>
+        ensures { IfOk result (λ m. m ≡ []) }
+    {
+        Memories::with_room(alloc, like.pages.len(), like.lasts.count_of_items())
+    }
+
     /// The number of memories.
     pub fn len(&self) -> usize
         ensures { result ≡ length self.now }
@@ -67,6 +76,7 @@ impl Memories {
     }
 
     /// The memory of a process.
+    #[inline(always)]
     pub fn get(&self, pid: usize) -> MemoryRef<'_>
         requires { pid < length self.now }
         ensures { result ≡ slice_index_or self.now pid [] }
@@ -81,20 +91,71 @@ impl Memories {
         }
     }
 
-    /// Adds the memory of one process more. After `OutOfMemory` nothing has changed.
-    pub fn push(&mut self, memory: Memory) -> Result<(), OutOfMemory>
+    /// Adds the memory of one process more, and answers a memory without words, whose room serves again. After `OutOfMemory` nothing has
+    /// changed.
+    #[inline(always)]
+    pub fn push(&mut self, memory: Memory) -> Result<Memory, OutOfMemory>
         ensures ok { OnOk result (self.new ≡ self.old ++ memory ∷ []) }
         ensures err { OnErr result (self.new ≡ self.old) }
+        ensures empty { IfOk result (λ m. m ≡ []) }
     {
-        let pages = SharedSeq::from_vec(memory.pages)?;
+        let Memory {
+            pages,
+            mut last,
+            ..
+        } = memory;
+        let alloc = *self.pages.allocator();
+        let full = SharedSeq::from_vec(pages)?;
         self.pages.reserve(1)?;
-        self.lasts.push(memory.last.as_slice())?;
+        self.lasts.push(last.as_slice())?;
+        self.pages.push_reserved(full);
+        last.clear();
+        Ok(Memory {
+            pages: Vec::new(alloc),
+            last,
+            len: 0,
+        })
+    }
+
+    /// Adds a copy of a memory, which shares the pages that are full. After `OutOfMemory` nothing has changed.
+    pub fn push_copy(&mut self, memory: &MemoryRef<'_>) -> Result<(), OutOfMemory>
+        ensures ok { OnOk result (self.new ≡ self.old ++ memory.now ∷ []) }
+        ensures err { OnErr result (self.new ≡ self.old) }
+    {
+        let pages = shared_pages(*self.pages.allocator(), memory.pages)?;
+        self.pages.reserve(1)?;
+        self.lasts.push(memory.last)?;
         self.pages.push_reserved(pages);
         Ok(())
     }
 
-    /// These memories, and behind them those of another list from `from` on, and before `to`.
-    fn with_range(self, more: &Memories, from: usize, to: usize) -> Result<Memories, OutOfMemory>
+    /// Makes `words` the words of a process's memory from `start` on. False, and nothing changes, where they pass the end; after `OutOfMemory`
+    /// nothing has changed. Other copies of the memory stay as they are.
+    pub fn write(&mut self, pid: usize, start: u64, words: &[u64]) -> Result<bool, OutOfMemory>
+        requires { pid < length self.old }
+        ensures within { IfOk result (λ found. found ≡ nat_le (start + length words.now) (length (slice_index_or self.old pid []))) }
+        ensures written { IfOk result (λ found. self.new ≡ slice_set self.old pid (memory_written (slice_index_or self.old pid []) start words.now)) }
+        ensures err { OnErr result (self.new ≡ self.old) }
+    {
+        let full = WORDS_OF_A_PAGE * self.pages[pid].len();
+        let len = full + self.lasts.row(pid).len();
+        let Some(cut) = cut_write(full, len, start, words) else {
+            return Ok(false);
+        };
+        let alloc = *self.pages.allocator();
+        let pages = &mut self.pages[pid];
+        write_shared_pages(alloc, pages, cut.start, cut.front)?;
+        self.lasts.replace(pid, cut.place, cut.behind);
+        Ok(true)
+    }
+
+    /// These memories, and behind them those of another list from `from` on, and before `to`, or `OutOfMemory`. Full pages are shared.
+    pub fn with_range(
+        self,
+        more: &Memories,
+        from: usize,
+        to: usize,
+    ) -> Result<Memories, OutOfMemory>
         requires order { from ≤ to }
         requires inside { to ≤ length more.now }
         ensures { IfOk result (λ m. m ≡ self ++ slice_range more.now from to) }
@@ -103,7 +164,7 @@ impl Memories {
             mut pages,
             mut lasts,
         } = self;
-        lasts.append_range(&more.lasts, from, to)?;
+        lasts.append_range(&more.lasts.as_ref(), from, to)?;
         add_copies(&mut pages, &more.pages[from..to])?;
         Ok(Memories { pages, lasts })
     }
@@ -112,20 +173,19 @@ impl Memories {
     pub fn replaced(
         &self,
         processes: &[usize],
-        memories: Vec<Memory>,
+        memories: &Memories,
     ) -> Result<Memories, OutOfMemory>
         requires known { All (λ p. p < length self.now) processes.now }
         requires ascending { IsAscending processes.now }
-        requires count { length memories.items ≡ length processes.now }
-        ensures { IfOk result (λ m. m ≡ replaced self.now processes.now memories.items) }
+        requires count { length memories.now ≡ length processes.now }
+        ensures { IfOk result (λ m. m ≡ replaced self.now processes.now memories.now) }
     {
         let alloc = *self.pages.allocator();
         let mut new = Memories::with_room(alloc, self.len(), self.lasts.count_of_items())?;
-        let mut memories = memories.into_iter();
-        for process in processes {
+        for place in 0..processes.len() {
             let done = new.len();
-            new = new.with_range(self, done, *process)?;
-            new.push(memories.next().unwrap())?;
+            new = new.with_range(self, done, processes[place])?;
+            new = new.with_range(memories, place, place + 1)?;
         }
         let done = new.len();
         new.with_range(self, done, self.len())

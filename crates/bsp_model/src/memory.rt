@@ -1,14 +1,15 @@
 //! The memory of a process.
 
-ghost use Rattle.std.specs.Prelude.{◌≡◌, ◌+◌, length, IfOk, nat_lt, nat_le, slice_set, slice_get, take, drop, OnErr};
+ghost use Rattle.std.specs.Prelude.{◌≡◌, ◌+◌, [], length, IfOk, nat_lt, nat_le, slice_set, slice_get, take, drop, OnErr};
 ghost use Rattle.std.specs.Bool.{OnTrue, OnFalse};
 ghost use Rattle.bsp_model.specs.Memory.{memory_written, rest_of_page};
 
 #[cfg(test)]
 mod tests;
 
-use crate::page::{Page, WORDS_OF_A_PAGE, replace_words};
-use crate::paging::{full_pages, write_pages};
+use crate::page::{Page, WORDS_OF_A_PAGE};
+use crate::paging::{cut_write, full_pages, write_pages};
+use crate::seq::replace_items;
 use crate::{MemoryRef, OutOfMemory, Same, TryCopy};
 use std::alloc::Global;
 use std::marker::Model;
@@ -36,6 +37,18 @@ impl Model for Memory {
 }
 
 impl Memory {
+    /// No words, which take no memory.
+    #[inline(always)]
+    pub fn new(alloc: Global) -> Memory
+        ensures { result ≡ [] }
+    {
+        Memory {
+            pages: Vec::new(alloc),
+            last: Vec::new(alloc),
+            len: 0,
+        }
+    }
+
     /// A memory of these words, or `OutOfMemory`.
     pub fn from_words(alloc: Global, words: &[u64]) -> Result<Memory, OutOfMemory>
         ensures { IfOk result (λ m. m ≡ words.now) }
@@ -45,6 +58,28 @@ impl Memory {
             pages: full_pages(alloc, full)?,
             last: last.to_vec(alloc)?,
             len: words.len(),
+        })
+    }
+
+    /// A memory of the words of `source`, with which it shares the pages that are full; the words behind them are copied into the room of this
+    /// memory, whose own words are gone. After `OutOfMemory` this memory is dropped.
+    #[inline(always)]
+    pub fn loaded_from(self, source: &MemoryRef<'_>) -> Result<Memory, OutOfMemory>
+        ensures { IfOk result (λ m. m ≡ source.now) }
+    {
+        let mut pages = self.pages;
+        let mut last = self.last;
+        pages.clear();
+        pages.reserve(source.pages.len())?;
+        for page in source.pages {
+            pages.push_reserved(page.copy()?);
+        }
+        last.clear();
+        last.extend_from_slice(source.last)?;
+        Ok(Memory {
+            pages,
+            last,
+            len: source.len,
         })
     }
 
@@ -129,16 +164,13 @@ impl Memory {
         ensures written { IfOk result (λ found. self.new ≡ memory_written self.old start words.now) }
         ensures err { OnErr result (self.new ≡ self.old) }
     {
-        if start > self.len as u64 || words.len() > self.len - start as usize {
-            return Ok(false);
-        }
-        let start = start as usize;
         let full = self.len - self.last.len();
-        let (front, behind) = words.split_at(words.len().min(full.saturating_sub(start)));
+        let Some(cut) = cut_write(full, self.len, start, words) else {
+            return Ok(false);
+        };
         let alloc = *self.pages.allocator();
-        write_pages(alloc, self.pages.as_mut_slice(), start.min(full), front)?;
-        let place = (start + front.len()).saturating_sub(full);
-        replace_words(self.last.as_mut_slice(), place, behind);
+        write_pages(alloc, self.pages.as_mut_slice(), cut.start, cut.front)?;
+        replace_items(self.last.as_mut_slice(), cut.place, cut.behind);
         Ok(true)
     }
 }

@@ -4,9 +4,10 @@ ghost use Rattle.std.specs.Prelude.{◌≡◌, ◌+◌, length, IfOk, nat_le, sl
 ghost use Rattle.std.specs.Bool.{OnTrue, OnFalse};
 ghost use Rattle.bsp_model.specs.Memory.{rest_of_page};
 
-use crate::page::{Page, WORDS_OF_A_PAGE, replace_words};
+use crate::page::{Page, WORDS_OF_A_PAGE};
 use crate::paging::are_same_pages;
-use crate::{Memory, OutOfMemory, Same, TryCopy, are_same_words};
+use crate::seq::replace_items;
+use crate::{Memory, OutOfMemory, Same, are_same_words};
 use std::alloc::Global;
 use std::marker::Model;
 
@@ -95,7 +96,7 @@ impl<'a> MemoryRef<'a> {
         while copied < words.len() {
             let page = self.words_from(start + copied as u64);
             let count = page.len().min(words.len() - copied);
-            replace_words(words, copied, &page[..count]);
+            replace_items(words, copied, &page[..count]);
             copied += count;
         }
         true
@@ -105,15 +106,7 @@ impl<'a> MemoryRef<'a> {
     pub fn to_memory(&self) -> Result<Memory, OutOfMemory>
         ensures { IfOk result (λ m. m ≡ self.now) }
     {
-        let mut pages = Vec::with_capacity(self.alloc, self.pages.len())?;
-        for page in self.pages {
-            pages.push_reserved(page.copy()?);
-        }
-        Ok(Memory {
-            pages,
-            last: self.last.to_vec(self.alloc)?,
-            len: self.len,
-        })
+        Memory::new(self.alloc).loaded_from(self)
     }
 }
 

@@ -2,6 +2,7 @@
 
 ghost use Rattle.std.specs.Prelude.{◌≡◌, ◌+◌, ◌≤◌, ◌<◌, ◌++◌, ◌↔◌, IsTrue, IfOk, OnOk, OnErr, length, take, drop, slice_index, slice_set};
 
+use crate::seq::replace_items;
 use crate::{OutOfMemory, TryCopy, are_same_words};
 use std::alloc::{AllocError, Global};
 use std::marker::Model;
@@ -25,14 +26,6 @@ impl Model for Page {
     ghost view = { λ p. arc_value p.words };
 
     ghost invariant = { λ p. length (arc_value p.words) ≡ 64 };
-}
-
-/// Makes `words` the words of a list from `start` on.
-pub fn replace_words(all: &mut [u64], start: usize, words: &[u64])
-    requires { start + length words.now ≤ length all.old }
-    ensures { all.new ≡ take start all.old ++ words.now ++ drop (start + length words.now) all.old }
-{
-    all[start..start + words.len()].copy_from_slice(words);
 }
 
 impl Page {
@@ -107,7 +100,7 @@ impl Page {
         ensures len { length self.now ≡ WORDS_OF_A_PAGE }
     {
         let mut all: [u64; WORDS_OF_A_PAGE] = *self.words;
-        replace_words(&mut all, start, words);
+        replace_items(&mut all, start, words);
         Page::new(alloc, all)
     }
 
@@ -139,7 +132,7 @@ impl Page {
     {
         match Arc::get_mut(&mut self.words) {
             Some(all) => {
-                replace_words(all, start, words);
+                replace_items(all, start, words);
             }
             None => {
                 *self = self.with_words(alloc, start, words)?;

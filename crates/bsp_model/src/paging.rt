@@ -1,11 +1,13 @@
 //! The full pages of a memory.
 
-ghost use Rattle.std.specs.Prelude.{◌≡◌, ℕ, ◌+◌, ◌*◌, ◌<◌, ◌≤◌, ◌↔◌, IsTrue, length, IfOk, OnOk, OnErr};
+ghost use Rattle.std.specs.Prelude.{◌≡◌, ℕ, ◌+◌, ◌*◌, ◌<◌, ◌≤◌, ◌↔◌, IsTrue, length, IfOk, MatchOption, OnOk, OnErr};
+ghost use Rattle.bsp_model.specs.Inside.Cut.{IsCut};
 ghost use Rattle.bsp_model.specs.Inside.Pages.{paged_word, word_after};
 
-use crate::OutOfMemory;
 use crate::page::{Page, WORDS_OF_A_PAGE};
+use crate::{OutOfMemory, SharedSeq, TryCopy};
 use std::alloc::Global;
+use std::sync::Arc;
 
 /// A page for each of these parts of a list of words.
 pub fn full_pages(alloc: Global, parts: &[[u64; WORDS_OF_A_PAGE]]) -> Result<Vec<Page>, OutOfMemory>
@@ -74,6 +76,81 @@ pub fn write_pages(
     let mut new = new_pages(alloc, pages, first, count, place, words)?;
     pages[first..first + count].swap_with_slice(new.as_mut_slice());
     Ok(())
+}
+
+/// Copies of these pages, which share their words, in a list of their own. For no page it takes no memory.
+fn copied_pages(alloc: Global, pages: &[Page]) -> Result<Vec<Page>, OutOfMemory>
+    ensures { IfOk result (λ new. new.items ≡ pages.now) }
+{
+    let mut new = Vec::with_capacity(alloc, pages.len())?;
+    for page in pages {
+        new.push_reserved(page.copy()?);
+    }
+    Ok(new)
+}
+
+/// Copies of these pages, which share their words, in a list that its copies share. For no page it takes no memory.
+pub fn shared_pages(alloc: Global, pages: &[Page]) -> Result<SharedSeq<Page>, OutOfMemory>
+    ensures { IfOk result (λ new. new ≡ pages.now) }
+{
+    SharedSeq::from_vec(copied_pages(alloc, pages)?)
+}
+
+/// What `write_pages` does, in pages whose list copies may share: in a list of its own then. After `OutOfMemory` nothing has changed.
+pub fn write_shared_pages(
+    alloc: Global,
+    pages: &mut SharedSeq<Page>,
+    start: usize,
+    words: &[u64],
+) -> Result<(), OutOfMemory>
+    requires { start + length words.now ≤ WORDS_OF_A_PAGE * length pages.old }
+    ensures count { length pages.new ≡ length pages.old }
+    ensures ok { OnOk result ((i : ℕ) → paged_word pages.new i ≡ word_after (paged_word pages.old) start words.now i) }
+    ensures err { OnErr result (pages.new ≡ pages.old) }
+{
+    if words.is_empty() {
+        return Ok(());
+    }
+    if let Some(shared) = &mut pages.items {
+        if let Some(own) = Arc::get_mut(shared) {
+            return write_pages(alloc, own.as_mut_slice(), start, words);
+        }
+    }
+    let mut own = copied_pages(alloc, pages.as_slice())?;
+    write_pages(alloc, own.as_mut_slice(), start, words)?;
+    *pages = SharedSeq::from_vec(own)?;
+    Ok(())
+}
+
+/// A write of words, cut where the full pages of a memory end.
+#[derive(Drop)]
+pub struct Cut<'a> {
+    /// Where the words for the full pages begin.
+    pub start: usize,
+    /// These words.
+    pub front: &'a [u64],
+    /// Where the others begin in what lies behind the full pages.
+    pub place: usize,
+    /// The others.
+    pub behind: &'a [u64],
+}
+
+/// The parts of a write of `words` from `start` on, in a memory of `len` words of which `full` lie in full pages; None where they pass the end.
+pub fn cut_write(full: usize, len: usize, start: u64, words: &[u64]) -> Option<Cut<'_>>
+    requires { full ≤ len }
+    ensures { MatchOption result (len < start + length words.now) (IsCut full len start words.now) }
+{
+    if start > len as u64 || words.len() > len - start as usize {
+        return None;
+    }
+    let start = start as usize;
+    let count = words.len().min(full.saturating_sub(start));
+    Some(Cut {
+        start: start.min(full),
+        front: &words[..count],
+        place: (start + count).saturating_sub(full),
+        behind: &words[count..],
+    })
 }
 
 /// Whether as many pages have the same words. It takes no memory.

@@ -2,14 +2,14 @@
 
 ghost use Rattle.std.specs.Prelude.{◌≡◌, ◌<◌, ◌++◌, ◌∷◌, [], length, OnErr, OnOk, IfOk, IsTrue, ◌↔◌, nat_eq, slice_get};
 
-use crate::headed_rows::HeadedRows;
+use crate::headed_rows::{HeadedRows, HeadedRowsRef};
 use crate::{OutOfMemory, Put, Same, TryCopy, Words};
 use std::alloc::Global;
 use std::marker::Model;
 
 /// What a put has beside its words.
 #[derive(Clone, Copy, Debug, PartialEq, Eq)]
-struct PutHead {
+pub(crate) struct PutHead {
     target: u64,
     start: u64,
 }
@@ -47,6 +47,22 @@ impl Model for Puts {
     ghost view = { λ p. map put_of p.rows };
 }
 
+/// Puts in the order in which they were issued, read where they lie.
+#[derive(Drop)]
+pub struct PutsRef<'a> {
+    pub(crate) rows: HeadedRowsRef<'a, PutHead>,
+}
+
+impl<'a> Model for PutsRef<'a> {
+    ghost use Rattle.std.specs.Prelude.{List, map};
+    ghost use Rattle.bsp_model.specs.declared.request.Put.{Put};
+    ghost use Rattle.bsp_model.specs.Inside.Issued.{put_of};
+
+    ghost Value = { List Put };
+
+    ghost view = { λ p. map put_of p.rows };
+}
+
 impl Puts {
     /// No puts, which take no memory.
     pub fn new(alloc: Global) -> Puts
@@ -64,48 +80,21 @@ impl Puts {
         self.rows.len()
     }
 
-    /// Whether there is no put.
-    pub fn is_empty(&self) -> bool
-        ensures { result ≡ nat_eq (length self.now) 0 }
+    /// These puts, to be read where they lie.
+    #[inline(always)]
+    pub fn as_ref(&self) -> PutsRef<'_>
+        ensures { result ≡ self.now }
     {
-        self.rows.is_empty()
-    }
-
-    /// The put at a place.
-    pub fn at(&self, place: usize) -> PutView<'_>
-        requires { place < length self.now }
-        ensures { slice_get self.now place ≡ Some (record { target = result.target; start = result.start; words = result.words.now }) }
-    {
-        let (head, words) = self.rows.at(place);
-        PutView {
-            target: head.target,
-            start: head.start,
-            words,
+        PutsRef {
+            rows: self.rows.as_ref(),
         }
     }
 
-    /// A copy of the put at a place, with words of its own.
-    pub fn copy_at(&self, place: usize) -> Result<Put, OutOfMemory>
-        requires { place < length self.now }
-        ensures { IfOk result (λ put. slice_get self.now place ≡ Some put) }
+    /// Takes all puts away. Their room stays.
+    pub fn clear(&mut self)
+        ensures { self.new ≡ [] }
     {
-        let put = self.at(place);
-        Ok(Put {
-            target: put.target,
-            start: put.start,
-            words: Words::from_slice(self.rows.allocator(), put.words)?,
-        })
-    }
-
-    /// Whether the put at a place is that of other puts at another.
-    pub fn same_at(&self, place: usize, others: &Puts, other: usize) -> bool
-        requires known { place < length self.now }
-        requires known_other { other < length others.now }
-        ensures { IsTrue result ↔ (slice_get self.now place ≡ slice_get others.now other) }
-    {
-        let one = self.at(place);
-        let another = others.at(other);
-        one.target == another.target && one.start == another.start && one.words == another.words
+        self.rows.clear();
     }
 
     /// Adds a put. After `OutOfMemory` nothing has changed.
@@ -118,16 +107,82 @@ impl Puts {
     }
 }
 
+impl<'a> PutsRef<'a> {
+    /// The number of puts.
+    pub fn len(&self) -> usize
+        ensures { result ≡ length self.now }
+    {
+        self.rows.len()
+    }
+
+    /// Whether there is no put.
+    pub fn is_empty(&self) -> bool
+        ensures { result ≡ nat_eq (length self.now) 0 }
+    {
+        self.rows.is_empty()
+    }
+
+    /// The put at a place.
+    pub fn at(&self, place: usize) -> PutView<'a>
+        requires { place < length self.now }
+        ensures { slice_get self.now place ≡ Some (record { target = result.target; start = result.start; words = result.words.now }) }
+    {
+        let (head, words) = self.rows.at(place);
+        PutView {
+            target: head.target,
+            start: head.start,
+            words,
+        }
+    }
+
+    /// A copy of the put at a place, with words of its own.
+    pub fn copy_at(&self, alloc: Global, place: usize) -> Result<Put, OutOfMemory>
+        requires { place < length self.now }
+        ensures { IfOk result (λ put. slice_get self.now place ≡ Some put) }
+    {
+        let put = self.at(place);
+        Ok(Put {
+            target: put.target,
+            start: put.start,
+            words: Words::from_slice(alloc, put.words)?,
+        })
+    }
+
+    /// Whether the put at a place is that of other puts at another.
+    pub fn same_at(&self, place: usize, others: &PutsRef<'_>, other: usize) -> bool
+        requires known { place < length self.now }
+        requires known_other { other < length others.now }
+        ensures { IsTrue result ↔ (slice_get self.now place ≡ slice_get others.now other) }
+    {
+        let one = self.at(place);
+        let another = others.at(other);
+        one.target == another.target && one.start == another.start && one.words == another.words
+    }
+
+    /// Puts of their own, equal to these, or `OutOfMemory`.
+    pub fn to_puts(&self, alloc: Global) -> Result<Puts, OutOfMemory>
+        ensures { IfOk result (λ puts. puts ≡ self.now) }
+    {
+        Ok(Puts {
+            rows: self.rows.to_rows(alloc)?,
+        })
+    }
+}
+
+impl<'a> Same for PutsRef<'a> {
+    fn same(&self, other: &PutsRef<'a>) -> bool {
+        self.rows.same(&other.rows)
+    }
+}
+
 impl TryCopy for Puts {
     fn copy(&self) -> Result<Puts, OutOfMemory> {
-        Ok(Puts {
-            rows: self.rows.copy()?,
-        })
+        self.as_ref().to_puts(self.rows.allocator())
     }
 }
 
 impl Same for Puts {
     fn same(&self, other: &Puts) -> bool {
-        self.rows.same(&other.rows)
+        self.as_ref().same(&other.as_ref())
     }
 }

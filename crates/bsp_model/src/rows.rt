@@ -1,9 +1,10 @@
 //! A list of rows, kept in two lists.
 
-ghost use Rattle.std.specs.Prelude.{◌≡◌, ◌<◌, ◌≤◌, ◌+◌, ◌^◌, ◌++◌, ◌∷◌, [], length, map, nat_eq, ◌-◌, option_map, slice_get, slice_index, slice_index_or, slice_range, EachIndex, IfOk, OnErr, OnOk, vec_capacity, vec_len};
-ghost use Rattle.bsp_model.specs.Inside.Rows.{AreEnds};
+ghost use Rattle.std.specs.Prelude.{◌≡◌, ◌<◌, ◌≤◌, ◌+◌, ◌^◌, ◌++◌, ◌∷◌, [], ℕ, drop, length, map, nat_eq, ◌-◌, option_map, slice_get, slice_index, slice_index_or, slice_range, slice_set, take, EachIndex, IfOk, OnErr, OnOk, vec_capacity, vec_len};
+ghost use Rattle.bsp_model.specs.Columns.{row_at};
 
-use crate::seq::are_same;
+use crate::row_ends::{add_ends, bounds_of, start_of};
+use crate::seq::{are_same, replace_items};
 use crate::{OutOfMemory, Same, TryCopy};
 use std::alloc::Global;
 use std::marker::Model;
@@ -26,37 +27,24 @@ impl<T> Model for Rows<T> {
     ghost invariant = { λ r. AreEnds 0 r.ends.items (length r.items.items) };
 }
 
-/// Where a row begins; where the last one ends, at the number of rows.
-fn start_of(ends: &[usize], number: usize) -> usize
-    requires { number ≤ length ends.now }
-    ensures { result ≡ slice_index_or (0 ∷ ends.now) number 0 }
-{
-    if number == 0 { 0 } else { ends[number - 1] }
+/// A list of rows, read where they lie.
+#[derive(Drop)]
+pub struct RowsRef<'a, T> {
+    /// The items of all rows.
+    pub(crate) items: &'a [T],
+    /// Where each row ends.
+    pub(crate) ends: &'a [usize],
 }
 
-/// Where the rows from `from` on, and before `to`, begin, and where they end.
-fn bounds_of(ends: &[usize], count: usize, from: usize, to: usize) -> (usize, usize)
-    requires ends { AreEnds 0 ends.now count }
-    requires order { from ≤ to }
-    requires rows { to ≤ length ends.now }
-    ensures start { result.0 ≡ slice_index_or (0 ∷ ends.now) from 0 }
-    ensures end { result.1 ≡ slice_index_or (0 ∷ ends.now) to 0 }
-    ensures order { result.0 ≤ result.1 }
-    ensures inside { result.1 ≤ count }
-{
-    (start_of(ends, from), start_of(ends, to))
-}
+impl<'a, T> Model for RowsRef<'a, T> {
+    ghost use Rattle.std.specs.Prelude.{List, length};
+    ghost use Rattle.bsp_model.specs.Inside.Rows.{rows_of, AreEnds};
 
-/// Adds the ends of rows whose items lay behind `start` others and now lie behind `before` others. There is room for them.
-fn add_ends(ends: &mut Vec<usize>, before: usize, start: usize, more: &[usize])
-    requires room { vec_len ends.old + length more.now ≤ vec_capacity ends.old }
-    requires behind { EachIndex more.now (λ k. start ≤ slice_index more.now k) }
-    requires fits { EachIndex more.now (λ k. before + (slice_index more.now k - start) < 2 ^ 64) }
-    ensures { ends.new.items ≡ ends.old.items ++ map (λ end. before + (end - start)) more.now }
-{
-    for end in more {
-        ends.push_reserved(before + (*end - start));
-    }
+    ghost Value = { List (List T) };
+
+    ghost view = { λ r. rows_of 0 r.items.now r.ends.now };
+
+    ghost invariant = { λ r. AreEnds 0 r.ends.now (length r.items.now) };
 }
 
 impl<T> Rows<T> {
@@ -70,11 +58,23 @@ impl<T> Rows<T> {
         }
     }
 
+    /// These rows, to be read where they lie.
+    #[inline(always)]
+    pub fn as_ref(&self) -> RowsRef<'_, T>
+        ensures { result ≡ self.now }
+    {
+        RowsRef {
+            items: self.items.as_slice(),
+            ends: self.ends.as_slice(),
+        }
+    }
+
     /// The number of rows.
+    #[inline(always)]
     pub fn len(&self) -> usize
         ensures { result ≡ length self.now }
     {
-        self.ends.len()
+        self.as_ref().len()
     }
 
     /// The number of items of all rows.
@@ -83,19 +83,20 @@ impl<T> Rows<T> {
     }
 
     /// Whether there is no row.
+    #[inline(always)]
     pub fn is_empty(&self) -> bool
         ensures { result ≡ nat_eq (length self.now) 0 }
     {
-        self.ends.is_empty()
+        self.as_ref().is_empty()
     }
 
     /// The items of the row at a place.
+    #[inline(always)]
     pub fn row(&self, number: usize) -> &[T]
         requires { number < length self.now }
         ensures { result.now ≡ slice_index_or self.now number [] }
     {
-        let (start, end) = bounds_of(self.ends.as_slice(), self.items.len(), number, number + 1);
-        &self.items[start..end]
+        self.as_ref().row(number)
     }
 
     /// The items of the row at a place, if there is one.
@@ -106,6 +107,47 @@ impl<T> Rows<T> {
             return None;
         }
         Some(self.row(number))
+    }
+}
+
+impl<'a, T> RowsRef<'a, T> {
+    /// The items of the row at a place; none where there is no row.
+    #[inline(always)]
+    pub(crate) fn row_or_empty(&self, number: usize) -> &'a [T]
+        ensures { result.now ≡ row_at self.now number }
+    {
+        if number < self.ends.len() {
+            self.row(number)
+        } else {
+            &[]
+        }
+    }
+
+    /// The number of rows.
+    #[inline(always)]
+    pub fn len(&self) -> usize
+        ensures { result ≡ length self.now }
+    {
+        self.ends.len()
+    }
+
+    /// Whether there is no row.
+    #[inline(always)]
+    pub fn is_empty(&self) -> bool
+        ensures { result ≡ nat_eq (length self.now) 0 }
+    {
+        self.ends.is_empty()
+    }
+
+    /// The items of the row at a place.
+    #[inline(always)]
+    pub fn row(&self, number: usize) -> &'a [T]
+        requires { number < length self.now }
+        ensures { result.now ≡ slice_index_or self.now number [] }
+    {
+        let ends = self.ends;
+        let (start, end) = bounds_of(ends, self.items.len(), number, number + 1);
+        &self.items[start..end]
     }
 }
 
@@ -124,6 +166,21 @@ impl<T: Copy> Rows<T> {
         })
     }
 
+    /// Takes all rows away. Their room stays.
+    pub fn clear(&mut self)
+        ensures { self.new ≡ [] }
+    {
+        self.items.clear();
+        self.ends.clear();
+    }
+
+    /// No rows, with the room that these take, or `OutOfMemory`.
+    pub(crate) fn with_room_of(alloc: Global, like: &Rows<T>) -> Result<Rows<T>, OutOfMemory>
+        ensures { IfOk result (λ r. r ≡ []) }
+    {
+        Rows::with_capacity(alloc, like.ends.len(), like.items.len())
+    }
+
     /// Puts a row of these items at the end. After `OutOfMemory` nothing has changed.
     pub fn push(&mut self, row: &[T]) -> Result<(), OutOfMemory>
         ensures ok { OnOk result (self.new ≡ self.old ++ row.now ∷ []) }
@@ -135,8 +192,42 @@ impl<T: Copy> Rows<T> {
         Ok(())
     }
 
+    /// Keeps the first `count` rows alone, or all where there are no more.
+    pub(crate) fn truncate(&mut self, count: usize)
+        ensures { self.new ≡ take count self.old }
+    {
+        if count < self.ends.len() {
+            self.items.truncate(start_of(self.ends.as_slice(), count));
+            self.ends.truncate(count);
+        }
+    }
+
+    /// Puts empty rows at the end until there are `count`, or none where there are as many. After `OutOfMemory` some of them are put.
+    pub(crate) fn fill(&mut self, count: usize) -> Result<(), OutOfMemory>
+        requires { length self.old ≤ count }
+        ensures same { (k : ℕ) → row_at self.new k ≡ row_at self.old k }
+        ensures few { length self.new ≤ count }
+        ensures count { OnOk result (length self.new ≡ count) }
+    {
+        while self.ends.len() < count {
+            self.ends.push(self.items.len())?;
+        }
+        Ok(())
+    }
+
+    /// Makes `items` the items of the row `number` from `place` on.
+    pub(crate) fn replace(&mut self, number: usize, place: usize, items: &[T])
+        requires known { number < length self.old }
+        requires inside { place + length items.now ≤ length (slice_index_or self.old number []) }
+        ensures { let row = slice_index_or self.old number [] in
+            self.new ≡ slice_set self.old number (take place row ++ items.now ++ drop (place + length items.now) row) }
+    {
+        let start = start_of(self.ends.as_slice(), number) + place;
+        replace_items(self.items.as_mut_slice(), start, items);
+    }
+
     /// Puts the rows of another list at the end. After `OutOfMemory` nothing has changed.
-    pub fn append(&mut self, more: &Rows<T>) -> Result<(), OutOfMemory>
+    pub fn append(&mut self, more: &RowsRef<'_, T>) -> Result<(), OutOfMemory>
         ensures ok { OnOk result (self.new ≡ self.old ++ more.now) }
         ensures err { OnErr result (self.new ≡ self.old) }
     {
@@ -146,7 +237,7 @@ impl<T: Copy> Rows<T> {
     /// Puts the rows of another list from `from` on, and before `to`, at the end. After `OutOfMemory` nothing has changed.
     pub(crate) fn append_range(
         &mut self,
-        more: &Rows<T>,
+        more: &RowsRef<'_, T>,
         from: usize,
         to: usize,
     ) -> Result<(), OutOfMemory>
@@ -155,28 +246,42 @@ impl<T: Copy> Rows<T> {
         ensures ok { OnOk result (self.new ≡ self.old ++ slice_range more.now from to) }
         ensures err { OnErr result (self.new ≡ self.old) }
     {
-        let (start, end) = bounds_of(more.ends.as_slice(), more.items.len(), from, to);
+        let ends = more.ends;
+        let (start, end) = bounds_of(ends, more.items.len(), from, to);
         self.ends.reserve(to - from)?;
         let before = self.items.len();
         self.items.extend_from_slice(&more.items[start..end])?;
-        add_ends(&mut self.ends, before, start, &more.ends[from..to]);
+        add_ends(&mut self.ends, before, start, &ends[from..to]);
         Ok(())
+    }
+}
+
+impl<'a, T: Copy> RowsRef<'a, T> {
+    /// Rows of their own, equal to these, or `OutOfMemory`.
+    pub fn to_rows(&self, alloc: Global) -> Result<Rows<T>, OutOfMemory>
+        ensures { IfOk result (λ rows. rows ≡ self.now) }
+    {
+        let mut items = Vec::new(alloc);
+        items.extend_from_slice(self.items)?;
+        let ends = self.ends.to_vec(alloc)?;
+        Ok(Rows { items, ends })
     }
 }
 
 impl<T: Copy> TryCopy for Rows<T> {
     fn copy(&self) -> Result<Rows<T>, OutOfMemory> {
-        let alloc = *self.items.allocator();
-        let mut items = Vec::with_capacity(alloc, self.items.len())?;
-        items.extend_from_slice(self.items.as_slice())?;
-        let ends = self.ends.clone()?;
-        Ok(Rows { items, ends })
+        self.as_ref().to_rows(*self.items.allocator())
+    }
+}
+
+impl<'a, T: Same> Same for RowsRef<'a, T> {
+    fn same(&self, other: &RowsRef<'a, T>) -> bool {
+        are_same(self.ends, other.ends) && are_same(self.items, other.items)
     }
 }
 
 impl<T: Same> Same for Rows<T> {
     fn same(&self, other: &Rows<T>) -> bool {
-        are_same(self.ends.as_slice(), other.ends.as_slice())
-            && are_same(self.items.as_slice(), other.items.as_slice())
+        self.as_ref().same(&other.as_ref())
     }
 }

@@ -1,6 +1,6 @@
 //! A list of values, kept in a `Vec`.
 
-ghost use Rattle.std.specs.Prelude.{◌≡◌, ◌++◌, ◌-◌, ◌∷◌, [], length, take, IfOk, OnErr, OnOk, nat_eq, option_to_list, slice_set, IsTrue, ◌↔◌};
+ghost use Rattle.std.specs.Prelude.{◌≡◌, ◌≤◌, ◌+◌, ◌++◌, ◌-◌, ◌∷◌, [], drop, length, take, IfOk, OnErr, OnOk, nat_eq, option_to_list, slice_set, IsTrue, ◌↔◌};
 
 use crate::{OutOfMemory, Same, SharedSeq, TryCopy};
 use std::alloc::Global;
@@ -114,6 +114,13 @@ impl<T: Drop> Seq<T> {
         self.items.pop()
     }
 
+    /// Takes all items away. Their room stays.
+    pub fn clear(&mut self)
+        ensures { self.new ≡ [] }
+    {
+        self.items.clear();
+    }
+
     /// Keeps the first `len` items alone, or all where there are no more.
     pub fn truncate(&mut self, len: usize)
         ensures { self.new ≡ take len self.old }
@@ -139,7 +146,7 @@ impl<T: Same> Same for Seq<T> {
 }
 
 /// Whether two lists have the same items, in the same order.
-pub(crate) fn are_same<T: Same>(items: &[T], others: &[T]) -> bool
+pub fn are_same<T: Same>(items: &[T], others: &[T]) -> bool
     ensures { IsTrue result ↔ (items.now ≡ others.now) }
 {
     if items.len() != others.len() {
@@ -151,6 +158,14 @@ pub(crate) fn are_same<T: Same>(items: &[T], others: &[T]) -> bool
         }
     }
     true
+}
+
+/// Makes `new` the items of a list from `start` on.
+pub(crate) fn replace_items<T: Copy>(items: &mut [T], start: usize, new: &[T])
+    requires { start + length new.now ≤ length items.old }
+    ensures { items.new ≡ take start items.old ++ new.now ++ drop (start + length new.now) items.old }
+{
+    items[start..start + new.len()].copy_from_slice(new);
 }
 
 impl Seq<u64> {

@@ -12,7 +12,7 @@ use std::sync::Arc;
 #[derive(Debug, Drop)]
 pub struct SharedSeq<T> {
     /// None where there is no value.
-    items: Option<Arc<Vec<T>, Global>>,
+    pub(crate) items: Option<Arc<Vec<T>, Global>>,
 }
 
 impl<T> Model for SharedSeq<T> {
@@ -33,6 +33,7 @@ impl<T> SharedSeq<T> {
     }
 
     /// The items.
+    #[inline(always)]
     pub fn as_slice(&self) -> &[T]
         ensures { result.now ≡ self.now }
     {

@@ -1,10 +1,10 @@
 //! The stores of a turn, kept as ranges of words.
 
-ghost use Rattle.std.specs.Prelude.{◌≡◌, ◌-◌, ◌<◌, ◌≤◌, ◌++◌, ◌∷◌, [], length, OnOk, OnErr, slice_set};
+ghost use Rattle.std.specs.Prelude.{◌≡◌, ◌-◌, ◌<◌, ◌≤◌, ◌++◌, ◌∷◌, [], length, IfOk, OnOk, OnErr, slice_set};
 ghost use Rattle.bsp_model.specs.Memory.{memory_written};
 ghost use Rattle.bsp_model.specs.Stores.{records, made_again};
 
-mod range;
+pub(crate) mod range;
 #[cfg(test)]
 mod tests;
 
@@ -35,6 +35,27 @@ impl Model for Stores {
     ghost invariant = { λ s. AreRanges s.ranges.items s.values.items };
 }
 
+/// Stores in the order in which they were made, read where they lie.
+#[derive(Drop)]
+pub struct StoresRef<'a> {
+    /// The ranges, in order. None of them goes on where the one before it ended.
+    pub(crate) ranges: &'a [Range],
+    /// The words that were stored, in order.
+    pub(crate) values: &'a [u64],
+}
+
+impl<'a> Model for StoresRef<'a> {
+    ghost use Rattle.std.specs.Prelude.{List};
+    ghost use Rattle.bsp_model.specs.declared.request.Store.{Store};
+    ghost use Rattle.bsp_model.specs.Inside.Ranges.{stores_of, AreRanges};
+
+    ghost Value = { List Store };
+
+    ghost view = { λ s. stores_of s.ranges.now s.values.now };
+
+    ghost invariant = { λ s. AreRanges s.ranges.now s.values.now };
+}
+
 impl Stores {
     /// No stores, which take no memory.
     pub fn new(alloc: Global) -> Stores
@@ -44,6 +65,25 @@ impl Stores {
             ranges: Vec::new(alloc),
             values: Vec::new(alloc),
         }
+    }
+
+    /// These stores, to be read where they lie.
+    #[inline(always)]
+    pub fn as_ref(&self) -> StoresRef<'_>
+        ensures { result ≡ self.now }
+    {
+        StoresRef {
+            ranges: self.ranges.as_slice(),
+            values: self.values.as_slice(),
+        }
+    }
+
+    /// Takes all stores away. Their room stays.
+    pub fn clear(&mut self)
+        ensures { self.new ≡ [] }
+    {
+        self.ranges.clear();
+        self.values.clear();
     }
 
     /// Makes a store in a memory, and keeps it. After `OutOfMemory` nothing has changed.
@@ -90,19 +130,6 @@ impl Stores {
         add_words(&mut self.ranges, start, words.len());
         Ok(())
     }
-
-    /// Makes the stores again in another memory, range by range. What lies past its end is left out. After `OutOfMemory` some of them are made.
-    pub fn make_again(&self, memory: &mut Memory) -> Result<(), OutOfMemory>
-        ensures { OnOk result (memory.new ≡ made_again memory.old self.now) }
-    {
-        let mut values = self.values.as_slice();
-        for range in &self.ranges {
-            let (words, later) = values.split_at(range.len);
-            write_inside(memory, range.start, words)?;
-            values = later;
-        }
-        Ok(())
-    }
 }
 
 /// Makes `words` the words of a memory from `start` on, as far as it has them.
@@ -115,18 +142,45 @@ fn write_inside(memory: &mut Memory, start: u64, words: &[u64]) -> Result<(), Ou
     Ok(())
 }
 
+impl<'a> StoresRef<'a> {
+    /// Makes the stores again in another memory, range by range. What lies past its end is left out. After `OutOfMemory` some of them are made.
+    pub fn make_again(&self, memory: &mut Memory) -> Result<(), OutOfMemory>
+        ensures { OnOk result (memory.new ≡ made_again memory.old self.now) }
+    {
+        let mut values = self.values;
+        for range in self.ranges {
+            let (words, later) = values.split_at(range.len);
+            write_inside(memory, range.start, words)?;
+            values = later;
+        }
+        Ok(())
+    }
+
+    /// Stores of their own, equal to these, or `OutOfMemory`.
+    pub fn to_stores(&self, alloc: Global) -> Result<Stores, OutOfMemory>
+        ensures { IfOk result (λ stores. stores ≡ self.now) }
+    {
+        let mut ranges = Vec::new(alloc);
+        ranges.extend_from_slice(self.ranges)?;
+        let values = self.values.to_vec(alloc)?;
+        Ok(Stores { ranges, values })
+    }
+}
+
+impl<'a> Same for StoresRef<'a> {
+    fn same(&self, other: &StoresRef<'a>) -> bool {
+        are_same(self.ranges, other.ranges) && are_same(self.values, other.values)
+    }
+}
+
 impl TryCopy for Stores {
     fn copy(&self) -> Result<Stores, OutOfMemory> {
-        Ok(Stores {
-            ranges: self.ranges.clone()?,
-            values: self.values.clone()?,
-        })
+        self.as_ref().to_stores(*self.values.allocator())
     }
 }
 
 impl Same for Stores {
     fn same(&self, other: &Stores) -> bool {
-        are_same(self.ranges.as_slice(), other.ranges.as_slice())
-            && are_same(self.values.as_slice(), other.values.as_slice())
+        self.as_ref().same(&other.as_ref())
     }
 }

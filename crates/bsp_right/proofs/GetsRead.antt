@@ -7,10 +7,10 @@ use Rattle.bsp_model.specs.declared.request.Get.{Get}
 use Rattle.bsp_table.specs.declared.area.Area.{Area}
 use Rattle.bsp_step.specs.Act.{get}
 use Rattle.bsp_step.specs.Context.{Context}
-use Rattle.bsp_step.specs.OutcomeParts.{OutcomeParts}
+use Rattle.bsp_step.specs.OutcomeParts.{OutcomeParts, outcome_of}
 use Rattle.bsp_step.specs.Perform.{area_fault, count_of_requests, fault_unless, first_fault, perform, performed, start_of, target_area}
 use Rattle.bsp_deliver.specs.Delivery.{Write, delivery_parts, get_write, next_memory, next_word, put_write, written}
-use Rattle.bsp_deliver.specs.Requests.{all_puts, each_below, outcome_of, words_read}
+use Rattle.bsp_deliver.specs.Requests.{all_puts, each_below, words_read}
 use Rattle.bsp_right.proofs.WordsWritten.{outcome_of-each_below, written-all, written_by}
 
 -- A get that is allowed.

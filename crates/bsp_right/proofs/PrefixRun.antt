@@ -2,8 +2,8 @@
 use Rattle.std.proofs.Common.{All, ◌≤◌, ◌%◌, ◌++◌, ◌<◌, [], ◌^◌, ap, arith, get_or, length, map, suc, zero, ℕ, ◌∙◌, ◌∷◌, ◌≡◌}
 use Rattle.std.specs.List.{range_with_len}
 use Rattle.bsp_model.specs.declared.input.Input.{Input}
-use Rattle.bsp_step.specs.OutcomeParts.{OutcomeParts}
-use Rattle.bsp_deliver.specs.Requests.{each_below, outcome_of}
+use Rattle.bsp_step.specs.OutcomeParts.{OutcomeParts, outcome_of}
+use Rattle.bsp_deliver.specs.Requests.{each_below}
 use Rattle.bsp_programs.specs.Doubling.{distance}
 use Rattle.bsp_run.specs.declared.result.Status.TheVariants.{Halted}
 use Rattle.bsp_run.specs.Run.{Run, run}

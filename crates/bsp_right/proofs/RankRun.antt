@@ -3,8 +3,8 @@ use Rattle.std.proofs.Common.{◌++◌, ◌-◌, ◌<◌, ◌==◌, [], ◌^◌,
 use Rattle.std.proofs.lemmas.Bool.{ne_eqb}
 use Rattle.std.specs.List.{range_with_len}
 use Rattle.bsp_model.specs.declared.input.Input.{Input}
-use Rattle.bsp_step.specs.OutcomeParts.{OutcomeParts}
-use Rattle.bsp_deliver.specs.Requests.{each_below, outcome_of}
+use Rattle.bsp_step.specs.OutcomeParts.{OutcomeParts, outcome_of}
+use Rattle.bsp_deliver.specs.Requests.{each_below}
 use Rattle.bsp_run.specs.declared.result.Status.TheVariants.{Halted}
 use Rattle.bsp_run.specs.Law.{outcomes_in}
 use Rattle.bsp_run.specs.Run.{Run, run}

@@ -7,9 +7,9 @@ use Rattle.std.proofs.lemmas.List.Elements.{filter-append}
 use Rattle.std.specs.List.{range_with_len}
 use Rattle.bsp_model.specs.declared.request.Get.{Get}
 use Rattle.bsp_model.specs.declared.request.Put.{Put}
-use Rattle.bsp_step.specs.OutcomeParts.{OutcomeParts}
+use Rattle.bsp_step.specs.OutcomeParts.{OutcomeParts, no_outcome, outcome_of}
 use Rattle.bsp_deliver.specs.Delivery.{Write, delivery_parts, get_write, next_memory, next_word, put_write, write_of, written}
-use Rattle.bsp_deliver.specs.Requests.{all_puts, each_below, no_outcome, outcome_of, requests_from, words_read}
+use Rattle.bsp_deliver.specs.Requests.{all_puts, each_below, requests_from, words_read}
 use Rattle.bsp_deliver.proofs.Writes.{written-append}
 
 -- what a process writes to process d

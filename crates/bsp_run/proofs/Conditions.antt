@@ -8,9 +8,8 @@ use Rattle.bsp_table.specs.declared.area.Area.{Area}
 use Rattle.bsp_table.specs.Table.{area_at, area_in}
 use Rattle.bsp_table.specs.NextTable.{AreSlotsInside, ArePushesInside, IsSlotInside, no_area, AreSlots, AreWithin}
 use Rattle.bsp_step.specs.ViewParts.{ViewParts}
-use Rattle.bsp_step.specs.OutcomeParts.{OutcomeParts, IsOutcome, IsOutcomeOf}
+use Rattle.bsp_step.specs.OutcomeParts.{OutcomeParts, IsOutcome, IsOutcomeOf, no_outcome, outcome_of}
 use Rattle.bsp_step.specs.Requests.{LiesIn}
-use Rattle.bsp_deliver.specs.Requests.{no_outcome, outcome_of}
 use Rattle.bsp_deliver.specs.Requests.{each_below}
 use Rattle.bsp_deliver.specs.Condition.{AreDeliverable, AreRequestsInside, sizes_of}
 use Rattle.bsp_run.specs.State.{State, view_of, views_of, pushes_of}

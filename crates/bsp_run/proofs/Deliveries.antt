@@ -6,8 +6,8 @@ use Rattle.std.proofs.lemmas.List.FromFn.{get_or-map-range_with_len, length-map-
 use Rattle.std.proofs.lemmas.List.Elements.{All-map, All-nil, All-append, All-filter, All-head, All-tail}
 use Rattle.bsp_model.specs.declared.request.Send.{Send}
 use Rattle.bsp_step.specs.ViewParts.{IsQueue, IsShortMessage}
-use Rattle.bsp_step.specs.OutcomeParts.{OutcomeParts, IsOutcome, IsShortSend, IsTagChoice}
-use Rattle.bsp_deliver.specs.Requests.{no_outcome, outcome_of, requests_from, all_sends}
+use Rattle.bsp_step.specs.OutcomeParts.{OutcomeParts, IsOutcome, IsShortSend, IsTagChoice, no_outcome, outcome_of}
+use Rattle.bsp_deliver.specs.Requests.{requests_from, all_sends}
 use Rattle.bsp_deliver.specs.Requests.{each_below}
 use Rattle.bsp_deliver.specs.Delivery.{delivery_parts, next_memory, next_queue, next_word, message_of}
 use Rattle.bsp_deliver.specs.Condition.{sizes_of}

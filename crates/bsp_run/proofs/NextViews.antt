@@ -3,7 +3,7 @@ use Rattle.std.proofs.Common.{◌≡◌, ◌+◌, ◌∙◌, List, ℕ, ap, sym,
 use Rattle.bsp_model.specs.declared.request.Message.{Message}
 use Rattle.bsp_run.specs.declared.setting.Setting.{Setting}
 use Rattle.bsp_run.specs.declared.phase.Phase.TheVariants.{Turned}
-use Rattle.bsp_run.specs.State.{State, next_state, views_of}
+use Rattle.bsp_run.specs.State.{next_state, views_of}
 use Rattle.bsp_run.specs.Setting.{next_setting, next_views}
 use Rattle.bsp_run.specs.Inside.Opening.{CanOpen, state_of}
 use Rattle.bsp_run.specs.Run.{Run}

@@ -6,12 +6,11 @@ use Rattle.std.proofs.lemmas.List.FromFn.{fill_by_all}
 use Rattle.bsp_model.specs.declared.request.Message.{Message}
 use Rattle.bsp_model.specs.declared.fault.End.{End}
 use Rattle.bsp_step.specs.ViewParts.{ViewParts, IsView}
-use Rattle.bsp_step.specs.OutcomeParts.{OutcomeParts}
+use Rattle.bsp_step.specs.OutcomeParts.{OutcomeParts, no_outcome}
 use Rattle.bsp_step.specs.Act.{Act}
 use Rattle.bsp_step.specs.Turn.{turn_of}
-use Rattle.bsp_deliver.specs.Requests.{no_outcome}
 use Rattle.bsp_run.specs.Run.{Run, open_views, after_turns}
-use Rattle.bsp_run.specs.Condition.{AreOutcomesOf, no_view, is_open, is_turned, deliveries_of}
+use Rattle.bsp_run.specs.Condition.{AreOutcomesOf, no_view, is_turned, deliveries_of}
 use Rattle.bsp_run.specs.Supersteps.{superstep_shown}
 use Rattle.bsp_run.specs.Shares.{turns_of, deliveries_to}
 use Rattle.bsp_run.proofs.Runs.{outcomes_shown-turned, turned_phase_is}

@@ -4,11 +4,10 @@ use Rattle.std.proofs.lemmas.List.{get_or-map, length-map}
 use Rattle.std.proofs.lemmas.List.Elements.{All-map, All-weaker}
 use Rattle.bsp_model.specs.declared.fault.End.{End}
 use Rattle.bsp_step.specs.ViewParts.{ViewParts, IsView}
-use Rattle.bsp_step.specs.OutcomeParts.{IsOutcome, IsOutcomeOf}
+use Rattle.bsp_step.specs.OutcomeParts.{IsOutcome, IsOutcomeOf, no_outcome}
 use Rattle.bsp_step.specs.Act.{Act}
 use Rattle.bsp_step.specs.Turn.{turn_of}
 use Rattle.bsp_step.proofs.Limits.{turn_of-limits, turn_of-issued}
-use Rattle.bsp_deliver.specs.Requests.{no_outcome}
 use Rattle.bsp_run.specs.State.{view_of, views_of}
 use Rattle.bsp_run.specs.Run.{Run, open_views}
 use Rattle.bsp_run.specs.Condition.{AreOutcomesOf, IsRun, no_view}

@@ -15,8 +15,8 @@ use Rattle.bsp_table.specs.NextTable.{AreSlots}
 use Rattle.bsp_step.specs.Act.{Act}
 use Rattle.bsp_step.specs.Turn.{turn_of}
 use Rattle.bsp_step.specs.ViewParts.{ViewParts}
-use Rattle.bsp_step.specs.OutcomeParts.{OutcomeParts}
-use Rattle.bsp_deliver.specs.Requests.{each_below, outcome_of}
+use Rattle.bsp_step.specs.OutcomeParts.{OutcomeParts, outcome_of}
+use Rattle.bsp_deliver.specs.Requests.{each_below}
 use Rattle.bsp_deliver.specs.Condition.{AreDeliverable}
 use Rattle.bsp_run.specs.declared.result.Status.{Status}
 use Rattle.bsp_run.specs.declared.result.Status.TheVariants.{Halted, Limit, Faulted, SyncFaulted}

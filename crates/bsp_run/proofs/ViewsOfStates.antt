@@ -1,12 +1,8 @@
 -- The views of a state.
-use Rattle.std.proofs.Common.{◌≡◌, ◌<◌, ℕ, List, [], map, length, drop, arith, get_or, sym, ap, ◌∙◌}
-use Rattle.std.proofs.lemmas.List.{get_or-map, length-map, get_or_default}
-use Rattle.std.proofs.lemmas.Grind.{common_steps}
-use Rattle.bsp_model.specs.declared.request.Message.{Message}
-use Rattle.bsp_table.specs.declared.area.Area.{Area}
+use Rattle.std.proofs.Common.{◌≡◌, ◌<◌, ℕ, List, [], length, arith}
 use Rattle.bsp_step.specs.ViewParts.{IsView}
 use Rattle.bsp_run.specs.State.{State, view_of}
-use Rattle.bsp_run.specs.Inside.Opening.{CanOpen, state_of, view_with}
+use Rattle.bsp_run.specs.Inside.Opening.{CanOpen}
 
 -- each view of a state within the limits is within them
 pub view_within : (args : List (List ℕ)) (step : ℕ) (s : State) (p : ℕ) → CanOpen args s → length s.queues ≡ length s.memories → p < length s.memories → IsView (view_of args step s p)

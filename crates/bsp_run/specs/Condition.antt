@@ -4,8 +4,8 @@ use Rattle.bsp_model.specs.Limits.{highest_price, most_arguments, most_memory_wo
 use Rattle.bsp_model.specs.declared.request.Message.{Message}
 use Rattle.bsp_table.specs.NextTable.{AreSlotsInside}
 use Rattle.bsp_step.specs.ViewParts.{ViewParts, IsQueue, IsTableFor}
-use Rattle.bsp_step.specs.OutcomeParts.{OutcomeParts, IsOutcome, IsOutcomeOf}
-use Rattle.bsp_deliver.specs.Requests.{no_outcome, each_below}
+use Rattle.bsp_step.specs.OutcomeParts.{OutcomeParts, IsOutcome, IsOutcomeOf, no_outcome}
+use Rattle.bsp_deliver.specs.Requests.{each_below}
 use Rattle.bsp_deliver.specs.Delivery.{delivery_parts, next_memory, next_queue}
 use Rattle.bsp_deliver.specs.Condition.{AreDeliverable}
 use Rattle.bsp_run.specs.declared.result.Status.{Status}

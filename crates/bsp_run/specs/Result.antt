@@ -2,8 +2,8 @@
 use Rattle.std.specs.Prelude.{◌<◌, ℕ, ◌+◌, ◌*◌, ◌^◌, List, ◌++◌, map, length, sum_by, if◌then◌else◌}
 use Rattle.std.specs.List.{flat_map}
 use Rattle.bsp_model.specs.declared.cost.CostRow.{CostRow}
-use Rattle.bsp_step.specs.OutcomeParts.{OutcomeParts}
-use Rattle.bsp_deliver.specs.Requests.{each_below, outcome_of}
+use Rattle.bsp_step.specs.OutcomeParts.{OutcomeParts, outcome_of}
+use Rattle.bsp_deliver.specs.Requests.{each_below}
 use Rattle.bsp_deliver.specs.Cost.{h_relation, largest}
 use Rattle.bsp_run.specs.declared.result.Status.{Status}
 use Rattle.bsp_run.specs.declared.result.Status.TheVariants.{Limit}

@@ -1,6 +1,6 @@
 -- Where two runs print the same.
 use Rattle.std.specs.Prelude.{◌≡◌, ◌<◌, ℕ, Bool, true, false, List, length, slice_index_or}
-use Rattle.bsp_deliver.specs.Requests.{outcome_of}
+use Rattle.bsp_step.specs.OutcomeParts.{outcome_of}
 use Rattle.bsp_run.specs.Run.{Run}
 use Rattle.bsp_run.specs.Supersteps.{supersteps_of, superstep_at}
 

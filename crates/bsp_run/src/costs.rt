@@ -6,18 +6,18 @@ ghost use Rattle.bsp_run.specs.Result.{largest_work, cost_of_delivery, cost_of_e
 
 use bsp_deliver::h_of;
 use bsp_model::limits::{HIGHEST_PRICE, MOST_SUPERSTEPS};
-use bsp_model::{CostRow, OutOfMemory, Shared, SharedSeq};
-use bsp_step::Outcome;
+use bsp_model::{CostRow, OutOfMemory, SharedSeq};
+use bsp_step::Outcomes;
 use std::alloc::Global;
 
 /// The largest work that a process charged.
-fn largest_work(outcomes: &[Shared<Outcome>]) -> u64
+fn largest_work(outcomes: &Outcomes) -> u64
     ensures value { result ≡ largest_work outcomes.now }
     ensures small { result < 2 ^ 32 }
 {
     let mut most = 0;
-    for outcome in outcomes {
-        most = most.max(outcome.work);
+    for pid in 0..outcomes.len() {
+        most = most.max(outcomes.get(pid).work);
     }
     most
 }
@@ -39,7 +39,7 @@ fn cost_row(g: u64, l: u64, work: u64, h: u64) -> CostRow
 }
 
 /// The cost of a superstep that ended by delivery.
-pub fn cost_of_delivery(g: u64, l: u64, outcomes: &[Shared<Outcome>]) -> CostRow
+pub fn cost_of_delivery(g: u64, l: u64, outcomes: &Outcomes) -> CostRow
     requires deliverable { AreDeliverable outcomes.now }
     requires small_g { g ≤ HIGHEST_PRICE }
     requires small_l { l ≤ HIGHEST_PRICE }
@@ -61,7 +61,7 @@ pub fn cost_at(g: u64, l: u64, row: &CostRow) -> CostRow
 }
 
 /// The cost of the superstep that ended the run.
-pub fn cost_of_end(outcomes: &[Shared<Outcome>]) -> CostRow
+pub fn cost_of_end(outcomes: &Outcomes) -> CostRow
     ensures value { result ≡ cost_of_end outcomes.now }
     ensures small { result.cost < 2 ^ 50 }
 {
@@ -77,7 +77,7 @@ pub fn cost_of_end(outcomes: &[Shared<Outcome>]) -> CostRow
 pub fn all_costs(
     alloc: Global,
     past: &[CostRow],
-    last: Option<&[Shared<Outcome>]>,
+    last: Option<&Outcomes>,
 ) -> Result<SharedSeq<CostRow>, OutOfMemory>
     requires { All (λ row. row.cost < 2 ^ 50) past.now }
     ensures rows { IfOk result (λ rows. rows ≡ past.now ++ map cost_of_end (option_to_list (option_map (λ o. o.now) last.entry))) }

@@ -8,16 +8,16 @@ ghost use Rattle.bsp_run.specs.Ending.{end_of, faults_from};
 
 use crate::{ProcessFault, Status};
 use bsp_deliver::{has_sync, sync_fault};
-use bsp_model::{OutOfMemory, Seq, Shared};
-use bsp_step::Outcome;
+use bsp_model::{OutOfMemory, Seq};
+use bsp_step::Outcomes;
 use bsp_table::Table;
 use std::alloc::Global;
 
-fn has_fault(outcomes: &[Shared<Outcome>]) -> bool
+fn has_fault(outcomes: &Outcomes) -> bool
     ensures { result ≡ list_any (λ o. is_some o.fault) outcomes.now }
 {
-    for outcome in outcomes {
-        if outcome.fault.is_some() {
+    for pid in 0..outcomes.len() {
+        if outcomes.get(pid).fault.is_some() {
             return true;
         }
     }
@@ -25,12 +25,12 @@ fn has_fault(outcomes: &[Shared<Outcome>]) -> bool
 }
 
 /// The faults of all processes, by process.
-fn faults(alloc: Global, outcomes: &[Shared<Outcome>]) -> Result<Seq<ProcessFault>, OutOfMemory>
+fn faults(alloc: Global, outcomes: &Outcomes) -> Result<Seq<ProcessFault>, OutOfMemory>
     ensures { IfOk result (λ faults. faults ≡ faults_from 0 outcomes.now) }
 {
     let mut faults = Seq::new(alloc);
     for pid in 0..outcomes.len() {
-        let outcome = &outcomes[pid];
+        let outcome = outcomes.get(pid);
         if let Some(fault) = outcome.fault {
             faults.push(ProcessFault {
                 pid: pid as u64,
@@ -47,7 +47,7 @@ pub fn end_of(
     alloc: Global,
     step: u64,
     table: &Table,
-    outcomes: &[Shared<Outcome>],
+    outcomes: &Outcomes,
 ) -> Result<Option<Status>, OutOfMemory>
     requires some { 1 ≤ length outcomes.now }
     requires slots { All (λ o. AreSlots table.now o.pops) outcomes.now }

@@ -13,7 +13,7 @@ use crate::keeping::{is_limit, last_turn};
 use crate::lines::all_lines;
 use crate::{Arguments, Lines, Phase, RunResult, Status, Superstep, Tape, Views};
 use bsp_model::{CostRow, Memory, MemoryRef, OutOfMemory, Seq, Shared, SharedSeq, TryCopy};
-use bsp_step::Outcome;
+use bsp_step::Outcomes;
 use std::alloc::Global;
 use std::marker::Model;
 
@@ -83,7 +83,7 @@ impl Tape {
     {
         let alloc = *self.past.allocator();
         let past = self.past.as_slice();
-        let last = last_turn(&self.phase, self.outcomes.as_slice());
+        let last = last_turn(&self.phase, &self.outcomes);
         let lines = all_lines(alloc, lines, marks, past, last, self.views.len())?;
         let costs = all_costs(alloc, self.costs.as_slice(), last)?;
         let total = total_of(costs.as_slice());
@@ -116,8 +116,11 @@ impl History {
         if is_limit(&run.phase) {
             memory_seen(&run.views, pid as usize)
         } else {
-            let outcome = run.outcomes.as_slice().get(pid as usize)?;
-            Some(outcome.memory.as_ref())
+            let pid = pid as usize;
+            if pid >= run.outcomes.len() {
+                return None;
+            }
+            Some(run.outcomes.get(pid).memory)
         }
     }
 
@@ -182,13 +185,13 @@ fn memory_seen(views: &Views, pid: usize) -> Option<MemoryRef<'_>>
 /// The memories of these outcomes.
 pub(crate) fn memories_of_outcomes(
     alloc: Global,
-    outcomes: &[Shared<Outcome>],
+    outcomes: &Outcomes,
 ) -> Result<Seq<Memory>, OutOfMemory>
     ensures { IfOk result (λ all. all ≡ map (λ o. o.memory) outcomes.now) }
 {
     let mut all = Seq::new(alloc);
-    for outcome in outcomes {
-        all.push(outcome.memory.copy()?)?;
+    for pid in 0..outcomes.len() {
+        all.push(outcomes.get(pid).memory.to_memory()?)?;
     }
     Ok(all)
 }
@@ -217,16 +220,14 @@ impl History {
     }
 
     /// The outcomes of a superstep, by process.
-    pub fn outcomes(&self, step: u64) -> Option<&[Shared<Outcome>]>
+    pub fn outcomes(&self, step: u64) -> Option<&Outcomes>
         ensures outcomes { option_map (λ o. o.now) result ≡ slice_get (outcomes_of (supersteps_of self.now)) step }
         ensures deliverable { IfSome result (λ o. AreDeliverable o.now) }
     {
         let run = &self.run;
         match run.past.as_slice().get(step as usize) {
-            Some(superstep) => Some(superstep.outcomes.as_slice()),
-            None if step as usize == run.past.len() => {
-                last_turn(&run.phase, run.outcomes.as_slice())
-            }
+            Some(superstep) => Some(&superstep.outcomes),
+            None if step as usize == run.past.len() => { last_turn(&run.phase, &run.outcomes) }
             None => None,
         }
     }
@@ -257,7 +258,7 @@ impl History {
         if is_limit(&run.phase) {
             memories_of_views(alloc, &run.views)
         } else {
-            memories_of_outcomes(alloc, run.outcomes.as_slice())
+            memories_of_outcomes(alloc, &run.outcomes)
         }
     }
 

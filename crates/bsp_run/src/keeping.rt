@@ -6,9 +6,9 @@ ghost use Rattle.bsp_run.specs.State.{pops_of, pushes_of};
 ghost use Rattle.bsp_run.specs.Run.{phase_after, is_limit};
 ghost use Rattle.bsp_run.specs.Inside.Condition.{CanSync};
 
-use crate::{Outcomes, Phase, Status, Superstep, Views};
-use bsp_model::{CostRow, OutOfMemory, Shared, SharedSeq};
-use bsp_step::Outcome;
+use crate::{Phase, Status, Superstep, Views};
+use bsp_model::{CostRow, OutOfMemory, Shared};
+use bsp_step::Outcomes;
 use bsp_table::{Table, TableFault};
 use std::alloc::AllocError;
 use std::mem;
@@ -35,7 +35,7 @@ pub fn phase_at(steps: u64, limit: u64) -> Phase
 }
 
 /// The table after a superstep whose end has no fault.
-pub fn next_table(table: &Table, outcomes: &[Shared<Outcome>]) -> Result<Table, OutOfMemory>
+pub fn next_table(table: &Table, outcomes: &Outcomes) -> Result<Table, OutOfMemory>
     requires { CanSync table.now outcomes.now }
     ensures next { IfOk result (λ t. t ≡ next_table table.now (pops_of outcomes.now) (pushes_of outcomes.now)) }
 {
@@ -68,7 +68,7 @@ pub fn keep_superstep(
     costs.reserve(1)?;
     past.push_reserved(Superstep {
         views: mem::replace(views, next),
-        outcomes: mem::replace(outcomes, SharedSeq::new()),
+        outcomes: mem::replace(outcomes, Outcomes::new()),
     });
     costs.push_reserved(row);
     Ok(())
@@ -82,10 +82,7 @@ pub fn is_limit(phase: &Phase) -> bool
 }
 
 /// The outcomes of the superstep that ended the run; at the limit there is none such.
-pub fn last_turn<'a>(
-    phase: &Phase,
-    outcomes: &'a [Shared<Outcome>],
-) -> Option<&'a [Shared<Outcome>]>
+pub fn last_turn<'a>(phase: &Phase, outcomes: &'a Outcomes) -> Option<&'a Outcomes>
     ensures { option_map (λ o. o.now) result ≡ (if is_limit phase.now then None else Some outcomes.now) }
 {
     if is_limit(phase) {

@@ -1,33 +1,31 @@
 //! The lines of a run.
 
 ghost use Rattle.std.specs.Prelude.{◌≡◌, ℕ, [], ◌+◌, ◌≤◌, ◌<◌, ◌++◌, length, option_map, option_to_list, slice_index_or, take, true, false, IfOk, IfSome, OnOk};
-ghost use Rattle.bsp_deliver.specs.Requests.{each_below, outcome_of};
+ghost use Rattle.bsp_deliver.specs.Requests.{each_below};
+ghost use Rattle.bsp_step.specs.OutcomeParts.{outcome_of};
 ghost use Rattle.bsp_run.specs.Supersteps.{outcomes_of};
 ghost use Rattle.bsp_run.specs.Result.{lines_of_process};
 ghost use Rattle.bsp_run.specs.Inside.Unrecorded.{lines_and};
 ghost use Rattle.bsp_run.specs.Inside.Lines.{AreLinesUnlessMarked};
 
 use crate::{Lines, Superstep};
-use bsp_model::{OutOfMemory, Rows, Shared, SharedSeq, TryCopy};
-use bsp_step::Outcome;
+use bsp_model::{OutOfMemory, Rows, RowsRef, Shared, SharedSeq, TryCopy};
+use bsp_step::Outcomes;
 use std::alloc::Global;
 
 /// Puts the lines of a process in one superstep behind the others.
 #[inline]
-fn add_lines(lines: &mut Lines, outcomes: &[Shared<Outcome>], pid: usize) -> Result<(), OutOfMemory>
+fn add_lines(lines: &mut Lines, outcomes: &Outcomes, pid: usize) -> Result<(), OutOfMemory>
     ensures { OnOk result (lines.new ≡ lines.old ++ (outcome_of outcomes.now pid).lines) }
 {
-    match outcomes.get(pid) {
-        Some(outcome) => lines.append(&outcome.lines),
-        None => Ok(()),
+    if pid >= outcomes.len() {
+        return Ok(());
     }
+    lines.append(&outcomes.get(pid).lines)
 }
 
 /// Adds the lines of each process in one superstep to those that it printed before.
-pub fn add_all_lines(
-    lines: &mut Vec<Lines>,
-    outcomes: &[Shared<Outcome>],
-) -> Result<(), OutOfMemory>
+pub fn add_all_lines(lines: &mut Vec<Lines>, outcomes: &Outcomes) -> Result<(), OutOfMemory>
     ensures { OnOk result (lines.new.items ≡ lines_and lines.old.items outcomes.now) }
 {
     for pid in 0..lines.len() {
@@ -64,7 +62,7 @@ fn lines_of_past(alloc: Global, past: &[Superstep], pid: usize) -> Result<Lines,
 {
     let mut lines = Rows::new(alloc);
     for superstep in past {
-        add_lines(&mut lines, superstep.outcomes.as_slice(), pid)?;
+        add_lines(&mut lines, &superstep.outcomes, pid)?;
     }
     Ok(lines)
 }
@@ -73,7 +71,7 @@ fn lines_of_past(alloc: Global, past: &[Superstep], pid: usize) -> Result<Lines,
 fn lines_of_run(
     alloc: Global,
     past: &[Superstep],
-    last: Option<&[Shared<Outcome>]>,
+    last: Option<&Outcomes>,
     pid: usize,
 ) -> Result<Lines, OutOfMemory>
     ensures { IfOk result (λ lines. lines ≡ lines_of_process (outcomes_of past.now ++ option_to_list (option_map (λ o. o.now) last.entry)) pid) }
@@ -86,7 +84,7 @@ fn lines_of_run(
 }
 
 /// The place behind more lines in a list, if they stand there from a place on.
-fn place_behind(lines: &Lines, at: usize, more: &Lines) -> Option<usize>
+fn place_behind(lines: &Lines, at: usize, more: &RowsRef<'_, u64>) -> Option<usize>
     requires { at ≤ length lines.now }
     ensures inside { IfSome result (λ behind. behind ≤ length lines.now) }
     ensures same { IfSome result (λ behind. take behind lines.now ≡ take at lines.now ++ more.now) }
@@ -103,35 +101,25 @@ fn place_behind(lines: &Lines, at: usize, more: &Lines) -> Option<usize>
 }
 
 /// The same for the lines of a process in one superstep.
-fn place_behind_printed(
-    lines: &Lines,
-    at: usize,
-    outcomes: &[Shared<Outcome>],
-    pid: usize,
-) -> Option<usize>
+fn place_behind_printed(lines: &Lines, at: usize, outcomes: &Outcomes, pid: usize) -> Option<usize>
     requires { at ≤ length lines.now }
     ensures inside { IfSome result (λ behind. behind ≤ length lines.now) }
     ensures same { IfSome result
         (λ behind. take behind lines.now ≡ take at lines.now ++ (outcome_of outcomes.now pid).lines) }
 {
-    match outcomes.get(pid) {
-        Some(outcome) => place_behind(lines, at, &outcome.lines),
-        None => Some(at),
+    if pid >= outcomes.len() {
+        return Some(at);
     }
+    place_behind(lines, at, &outcomes.get(pid).lines)
 }
 
 /// Whether these are the lines of a process. It takes no memory.
-fn are_lines_of(
-    lines: &Lines,
-    past: &[Superstep],
-    last: Option<&[Shared<Outcome>]>,
-    pid: usize,
-) -> bool
+fn are_lines_of(lines: &Lines, past: &[Superstep], last: Option<&Outcomes>, pid: usize) -> bool
     ensures { result ≡ true → lines.now ≡ lines_of_process (outcomes_of past.now ++ option_to_list (option_map (λ o. o.now) last.entry)) pid }
 {
     let mut at = 0;
     for superstep in past {
-        match place_behind_printed(lines, at, superstep.outcomes.as_slice(), pid) {
+        match place_behind_printed(lines, at, &superstep.outcomes, pid) {
             Some(behind) => at = behind,
             None => return false,
         }
@@ -170,7 +158,7 @@ fn shared_lines(
     before: &[Shared<Lines>],
     marks: &[bool],
     past: &[Superstep],
-    last: Option<&[Shared<Outcome>]>,
+    last: Option<&Outcomes>,
     pid: usize,
 ) -> Result<Shared<Lines>, OutOfMemory>
     requires { AreLinesUnlessMarked before.now marks.now
@@ -192,7 +180,7 @@ pub fn all_lines(
     before: &SharedSeq<Shared<Lines>>,
     marks: &[bool],
     past: &[Superstep],
-    last: Option<&[Shared<Outcome>]>,
+    last: Option<&Outcomes>,
     nprocs: usize,
 ) -> Result<SharedSeq<Shared<Lines>>, OutOfMemory>
     requires { AreLinesUnlessMarked before.now marks.now

@@ -8,9 +8,9 @@ ghost use Rattle.bsp_run.specs.Condition.{deliveries_of, no_view};
 
 use crate::keeping::next_table;
 use crate::{Phase, Setting, Tape, Views};
-use bsp_deliver::next_tag_size;
-use bsp_model::{Memory, OutOfMemory, TryCopy};
-use bsp_step::{Queue, View};
+use bsp_deliver::{Cells, next_tag_size};
+use bsp_model::{OutOfMemory, TryCopy};
+use bsp_step::View;
 use bsp_table::Table;
 
 /// The table and the tag size that the first process sees, as all do.
@@ -29,7 +29,7 @@ impl Tape {
         requires { self.now.phase ≡ Phase.Turned }
         ensures { IfOk result (λ setting. setting ≡ next_setting self.now) }
     {
-        let outcomes = self.outcomes.as_slice();
+        let outcomes = &self.outcomes;
         Ok(Setting {
             step: self.past.len() as u64 + 1,
             args: self.args.copy()?,
@@ -59,14 +59,14 @@ impl Tape {
         like: &Views,
         setting: Setting,
         processes: &[usize],
-        cells: Vec<(Memory, Queue)>,
+        cells: Cells,
     ) -> Result<Views, OutOfMemory>
         requires turned { self.now.phase ≡ Phase.Turned }
         requires setting { setting ≡ next_setting self.now }
         requires known { All (λ p. p < length like.now) processes.now }
         requires ascending { IsAscending processes.now }
-        requires count { length cells.items ≡ length processes.now }
-        requires cells { replaced (map cell_of like.now) processes.now cells.items ≡ deliveries_of self.now.outcomes }
+        requires count { length cells ≡ length processes.now }
+        requires cells { replaced (map cell_of like.now) processes.now cells ≡ deliveries_of self.now.outcomes }
         ensures { IfOk result (λ views. views ≡ next_views self.now) }
     {
         let alloc = *self.past.allocator();

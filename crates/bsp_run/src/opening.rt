@@ -4,17 +4,18 @@ ghost use Rattle.std.specs.Prelude.{◌≡◌, ◌<◌, All, IfOk, length, map};
 ghost use Rattle.bsp_run.specs.State.{first_cell, no_messages};
 
 use crate::Arguments;
+use bsp_deliver::Cells;
 use bsp_model::{Memory, OutOfMemory, Seq, TryCopy, Words};
 use bsp_step::Queue;
 use std::alloc::Global;
 
 /// The memory and the queue of each process in the first superstep.
-pub fn first_cells(alloc: Global, mems: &[Memory]) -> Result<Vec<(Memory, Queue)>, OutOfMemory>
-    ensures { IfOk result (λ cells. cells.items ≡ map (λ m. (m, no_messages m)) mems.now) }
+pub fn first_cells(alloc: Global, mems: &[Memory]) -> Result<Cells, OutOfMemory>
+    ensures { IfOk result (λ cells. cells ≡ map (λ m. (m, no_messages m)) mems.now) }
 {
-    let mut cells = Vec::with_capacity(alloc, mems.len())?;
+    let mut cells = Cells::with_capacity(alloc, mems.len())?;
     for memory in mems {
-        cells.push((memory.copy()?, Queue::new()))?;
+        cells.push_copy(&memory.as_ref(), Queue::new())?;
     }
     Ok(cells)
 }
@@ -35,14 +36,14 @@ pub fn first_cells_of(
     alloc: Global,
     mems: &[Memory],
     processes: &[usize],
-) -> Result<Vec<(Memory, Queue)>, OutOfMemory>
+) -> Result<Cells, OutOfMemory>
     requires { All (λ p. p < length mems.now) processes.now }
-    ensures { IfOk result (λ cells. cells.items ≡ map (first_cell mems.now) processes.now) }
+    ensures { IfOk result (λ cells. cells ≡ map (first_cell mems.now) processes.now) }
 {
-    let mut cells = Vec::with_capacity(alloc, processes.len())?;
+    let mut cells = Cells::with_capacity(alloc, processes.len())?;
     for process in processes {
         let memory = &mems[*process];
-        cells.push((memory.copy()?, Queue::new()))?;
+        cells.push_copy(&memory.as_ref(), Queue::new())?;
     }
     Ok(cells)
 }

@@ -13,40 +13,13 @@ ghost use Rattle.bsp_run.specs.RunErrors.{input_fault_of};
 use crate::ending::end_of;
 use crate::supersteps::run_by;
 use crate::unrecorded::{ended, ended_at_limit, go_on, open_unrecorded};
+use crate::wide::turns_by_one;
 use crate::{History, RunError, RunResult, Views};
-use bsp_deliver::deliver_some;
-use bsp_model::{Input, Memory, OutOfMemory, Shared};
-use bsp_step::{Outcome, Program, Queue, View, turn};
+use bsp_deliver::{Cells, deliver_some};
+use bsp_model::{Input, OutOfMemory};
+use bsp_pool::Open;
+use bsp_step::{Outcome, Outcomes, Program, turn_reusing};
 use std::alloc::Global;
-
-/// The turn at a view.
-fn shared_turn<P: Program>(
-    alloc: Global,
-    program: &P,
-    view: &View<'_>,
-) -> Result<Shared<Outcome>, OutOfMemory>
-    ensures { IfOk result (λ o. o ≡ turn_of (P.acts program.now) (P.ending program.now) view.now) }
-{
-    Shared::new(alloc, turn(alloc, program, view)?)
-}
-
-/// The turns of these processes, in the order of the list.
-fn turns<P: Program>(
-    alloc: Global,
-    program: &P,
-    views: &Views,
-    processes: &[usize],
-) -> Result<Vec<Shared<Outcome>>, OutOfMemory>
-    requires { All (λ p. p < length views.now) processes.now }
-    ensures { IfOk result (λ all. all.items ≡ turns_of (turn_of (P.acts program.now) (P.ending program.now)) views.now processes.now) }
-{
-    let mut outcomes = Vec::with_capacity(alloc, processes.len())?;
-    for process in processes {
-        let outcome = shared_turn(alloc, program, &views.get(*process))?;
-        outcomes.push(outcome)?;
-    }
-    Ok(outcomes)
-}
 
 /// The run of a program on an input, on one thread: every process from its first superstep, up to the superstep limit. `law` says what it is in
 /// the words of BSP. `Input(f)` comes exactly where the input's check answers f; or `OutOfMemory`.
@@ -60,39 +33,48 @@ pub fn run_plain<P: Program>(alloc: Global, program: &P, input: &Input) -> Resul
         alloc,
         program,
         input,
-        &|program: &P, views: &Views, processes: &[usize]| -> Result<
-            Vec<Shared<Outcome>>,
+        &|program: &P, views: &Views, processes: &[usize], like: &Outcomes| -> Result<
+            Outcomes,
             OutOfMemory,
         >
             requires { All (λ p. p < length views.now) processes.now }
-            ensures { IfOk result (λ all. all.items ≡ turns_of (turn_of (P.acts program.now) (P.ending program.now)) views.now processes.now) }
-        { turns(alloc, program, views, processes) },
-        &|outcomes: &[Shared<Outcome>], processes: &[usize]| -> Result<
-            Vec<(Memory, Queue)>,
-            OutOfMemory,
-        >
+            ensures { IfOk result (λ all. all ≡ turns_of (turn_of (P.acts program.now) (P.ending program.now)) views.now processes.now) }
+        {
+            turns_by_one(
+                alloc,
+                like.room_for(alloc, processes.len())?,
+                program,
+                views,
+                processes,
+                &Open,
+            )?
+            .share()
+        },
+        &|outcomes: &Outcomes, processes: &[usize]| -> Result<Cells, OutOfMemory>
             requires deliverable { AreDeliverable outcomes.now }
             requires processes { All (λ d. d < length outcomes.now) processes.now }
             requires ascending { IsAscending processes.now }
-            ensures { IfOk result (λ all. all.items ≡ deliveries_to outcomes.now processes.now) }
+            ensures { IfOk result (λ all. all ≡ deliveries_to outcomes.now processes.now) }
         { deliver_some(alloc, outcomes, processes) },
     )
 }
 
-/// The turns of all processes.
+/// The turns of all processes, for whose outcomes as much room is taken as those of the superstep before have.
 fn all_turns<P: Program>(
     alloc: Global,
     program: &P,
     views: &Views,
-) -> Result<Vec<Shared<Outcome>>, OutOfMemory>
-    ensures { IfOk result (λ all. all.items ≡ map (turn_of (P.acts program.now) (P.ending program.now)) views.now) }
+    before: &Outcomes,
+) -> Result<Outcomes, OutOfMemory>
+    ensures { IfOk result (λ all. all ≡ map (turn_of (P.acts program.now) (P.ending program.now)) views.now) }
 {
-    let mut outcomes = Vec::with_capacity(alloc, views.len())?;
+    let mut rows = before.room_for(alloc, views.len())?;
+    let mut spare = Outcome::new(alloc);
     for pid in 0..views.len() {
-        let outcome = shared_turn(alloc, program, &views.get(pid))?;
-        outcomes.push(outcome)?;
+        let outcome = turn_reusing(alloc, program, &views.get(pid), spare)?;
+        spare = rows.push(outcome)?;
     }
-    Ok(outcomes)
+    rows.share()
 }
 
 /// What the run of a program on an input gives, superstep by superstep.
@@ -106,13 +88,14 @@ fn unrecorded_result<P: Program>(
     ensures input { IfErr result (λ e. input_fault input.now ≡ input_fault_of e) }
 {
     let mut kept = open_unrecorded(alloc, input)?;
+    let mut before = Outcomes::new();
     for step in 0..input.limit {
-        let outcomes = all_turns(alloc, program, &kept.views)?;
-        let outcomes = outcomes.as_slice();
-        if let Some(status) = end_of(alloc, step, &kept.table, outcomes)? {
-            return Ok(ended(alloc, kept, status, outcomes)?);
+        let outcomes = all_turns(alloc, program, &kept.views, &before)?;
+        if let Some(status) = end_of(alloc, step, &kept.table, &outcomes)? {
+            return Ok(ended(alloc, kept, status, &outcomes)?);
         }
-        go_on(alloc, input, step + 1, &mut kept, outcomes)?;
+        go_on(alloc, input, step + 1, &mut kept, &outcomes)?;
+        before = outcomes;
     }
     Ok(ended_at_limit(alloc, kept)?)
 }

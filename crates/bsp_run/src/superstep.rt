@@ -2,10 +2,7 @@
 
 use crate::Views;
 use bsp_model::{Shared, SharedSeq};
-use bsp_step::Outcome;
-
-/// What the turns of the processes leave, by process.
-pub type Outcomes = SharedSeq<Shared<Outcome>>;
+use bsp_step::Outcomes;
 
 /// The arguments of each process, by process.
 pub type Arguments = SharedSeq<SharedSeq<u64>>;

@@ -12,8 +12,9 @@ ghost use Rattle.bsp_run.specs.Law.{IsBspRun};
 ghost use Rattle.bsp_run.specs.RunErrors.{input_fault_of};
 
 use crate::{History, RunError, Tape, Views};
-use bsp_model::{Input, Memory, OutOfMemory, Shared};
-use bsp_step::{Outcome, Program, Queue};
+use bsp_deliver::Cells;
+use bsp_model::{Input, OutOfMemory};
+use bsp_step::{Outcomes, Program};
 use std::alloc::Global;
 
 /// The numbers of so many processes.
@@ -31,21 +32,21 @@ pub fn numbers(alloc: Global, count: usize) -> Result<Vec<usize>, OutOfMemory>
 /// One superstep more of a run that has not ended: its turns and, where it ends by delivery, its deliveries.
 fn advance<
     P: Program,
-    T: Fn(&P, &Views, &[usize]) -> Result<Vec<Shared<Outcome>>, OutOfMemory>,
-    D: Fn(&[Shared<Outcome>], &[usize]) -> Result<Vec<(Memory, Queue)>, OutOfMemory>,
+    T: Fn(&P, &Views, &[usize], &Outcomes) -> Result<Outcomes, OutOfMemory>,
+    D: Fn(&Outcomes, &[usize]) -> Result<Cells, OutOfMemory>,
 >(alloc: Global, program: &P, turns: &T, deliveries: &D, tape: &mut Tape) -> Result<(), OutOfMemory>
     requires open { is_open tape.old.phase ≡ true }
-    requires turn { (p : _) (views : _) (ps : _) → All (λ k. k < length views.now) ps.now → T.pre turns.now p views ps }
-    requires turns { (p : _) (views : _) (ps : _) (r : _) → T.post turns.now p views ps r
-        → IfOk r (λ all. all.items ≡ turns_of (turn_of (P.acts p.now) (P.ending p.now)) views.now ps.now) }
+    requires turn { (p : _) (views : _) (ps : _) (like : _) → All (λ k. k < length views.now) ps.now → T.pre turns.now p views ps like }
+    requires turns { (p : _) (views : _) (ps : _) (like : _) (r : _) → T.post turns.now p views ps like r
+        → IfOk r (λ all. all ≡ turns_of (turn_of (P.acts p.now) (P.ending p.now)) views.now ps.now) }
     requires deliver { (os : _) (ds : _) → AreDeliverable os.now → All (λ d. d < length os.now) ds.now → IsAscending ds.now → D.pre deliveries.now os ds }
     requires deliveries { (os : _) (ds : _) (r : _) → D.post deliveries.now os ds r
-        → IfOk r (λ all. all.items ≡ deliveries_to os.now ds.now) }
+        → IfOk r (λ all. all ≡ deliveries_to os.now ds.now) }
     ensures { OnOk result (tape.new ≡ advance (turn_of (P.acts program.now) (P.ending program.now)) tape.old) }
 {
     let views = tape.open_views();
     let processes = numbers(alloc, views.len())?;
-    let outcomes = turns(program, views, processes.as_slice())?;
+    let outcomes = turns(program, views, processes.as_slice(), tape.outcomes_before())?;
     let delivers = tape.turned(outcomes)?;
     if delivers {
         let cells = deliveries(tape.outcomes(), processes.as_slice())?;
@@ -55,18 +56,18 @@ fn advance<
 }
 
 /// The run of a program on an input: every process from its first superstep, up to the superstep limit. `turns` takes the turns of the
-/// processes that it is given, and `deliveries` makes the deliveries to those that it is given, in ascending order.
+/// processes that it is given, for whose outcomes it may take as much room as those have that it is given too, and `deliveries` makes the deliveries to those that it is given, in ascending order.
 pub(crate) fn run_by<
     P: Program,
-    T: Fn(&P, &Views, &[usize]) -> Result<Vec<Shared<Outcome>>, OutOfMemory>,
-    D: Fn(&[Shared<Outcome>], &[usize]) -> Result<Vec<(Memory, Queue)>, OutOfMemory>,
+    T: Fn(&P, &Views, &[usize], &Outcomes) -> Result<Outcomes, OutOfMemory>,
+    D: Fn(&Outcomes, &[usize]) -> Result<Cells, OutOfMemory>,
 >(alloc: Global, program: &P, input: &Input, turns: &T, deliveries: &D) -> Result<History, RunError>
-    requires turn { (p : _) (views : _) (ps : _) → All (λ k. k < length views.now) ps.now → T.pre turns.now p views ps }
-    requires turns { (p : _) (views : _) (ps : _) (r : _) → T.post turns.now p views ps r
-        → IfOk r (λ all. all.items ≡ turns_of (turn_of (P.acts p.now) (P.ending p.now)) views.now ps.now) }
+    requires turn { (p : _) (views : _) (ps : _) (like : _) → All (λ k. k < length views.now) ps.now → T.pre turns.now p views ps like }
+    requires turns { (p : _) (views : _) (ps : _) (like : _) (r : _) → T.post turns.now p views ps like r
+        → IfOk r (λ all. all ≡ turns_of (turn_of (P.acts p.now) (P.ending p.now)) views.now ps.now) }
     requires deliver { (os : _) (ds : _) → AreDeliverable os.now → All (λ d. d < length os.now) ds.now → IsAscending ds.now → D.pre deliveries.now os ds }
     requires deliveries { (os : _) (ds : _) (r : _) → D.post deliveries.now os ds r
-        → IfOk r (λ all. all.items ≡ deliveries_to os.now ds.now) }
+        → IfOk r (λ all. all ≡ deliveries_to os.now ds.now) }
     ensures lawful { OnOk result (input_fault input.now ≡ None) }
     ensures run { IfOk result (λ history. history ≡ run (turn_of (P.acts program.now) (P.ending program.now)) input.now) }
     ensures law { IfOk result (λ history. IsBspRun (turn_of (P.acts program.now) (P.ending program.now)) input.now history) }

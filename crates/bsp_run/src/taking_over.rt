@@ -13,8 +13,8 @@ use crate::costs::cost_at;
 use crate::keeping::{keep_superstep, phase_at};
 use crate::next::table_seen;
 use crate::{History, Phase, Tape, Views};
-use bsp_model::{CostRow, OutOfMemory, Shared, SharedSeq, TryCopy};
-use bsp_step::Outcome;
+use bsp_model::{CostRow, OutOfMemory, Shared, TryCopy};
+use bsp_step::Outcomes;
 
 /// The list of what the processes see in a superstep.
 fn views_in(history: &History, step: usize) -> Result<Shared<Views>, OutOfMemory>
@@ -57,14 +57,13 @@ impl Tape {
 
     /// Takes the outcomes of the open superstep, one for each view, which are known to end it by delivery: how it ends is not asked again. After
     /// `OutOfMemory` nothing has changed.
-    pub fn turned_to_deliver(&mut self, outcomes: Vec<Shared<Outcome>>) -> Result<(), OutOfMemory>
+    pub fn turned_to_deliver(&mut self, outcomes: Outcomes) -> Result<(), OutOfMemory>
         requires open { self.old.phase ≡ Phase.Open }
-        requires turns { AreOutcomesOf (open_views self.old) outcomes.items }
-        requires delivers { end_of (length self.old.past) self.old.state.table outcomes.items ≡ None }
-        ensures ok { OnOk result (self.new ≡ after_turns self.old outcomes.items) }
+        requires turns { AreOutcomesOf (open_views self.old) outcomes }
+        requires delivers { end_of (length self.old.past) self.old.state.table outcomes ≡ None }
+        ensures ok { OnOk result (self.new ≡ after_turns self.old outcomes) }
         ensures err { OnErr result (self.new ≡ self.old) }
     {
-        let outcomes = SharedSeq::from_vec(outcomes)?;
         self.outcomes = outcomes;
         self.phase = Phase::Turned;
         Ok(())

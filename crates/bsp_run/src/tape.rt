@@ -1,11 +1,11 @@
 //! A run while it is recorded.
 
-ghost use Rattle.std.specs.Prelude.{◌≡◌, ◌<◌, ◌+◌, ◌++◌, ◌∷◌, [], IfOk, IfErr, OnOk, OnErr, None, Some, length, map, slice_index_or, true, All};
+ghost use Rattle.std.specs.Prelude.{◌≡◌, ◌<◌, ◌+◌, ◌-◌, ◌++◌, ◌∷◌, [], IfOk, IfErr, OnOk, OnErr, None, Some, length, map, slice_index_or, true, All};
 ghost use Rattle.bsp_model.specs.Input.{input_fault};
 ghost use Rattle.bsp_step.specs.ViewParts.{IsView};
 ghost use Rattle.bsp_deliver.specs.Condition.{AreDeliverable};
 ghost use Rattle.bsp_run.specs.Run.{start, after_turns, after_delivery, open_views};
-ghost use Rattle.bsp_run.specs.Supersteps.{superstep_shown};
+ghost use Rattle.bsp_run.specs.Supersteps.{superstep_at, superstep_shown};
 ghost use Rattle.bsp_model.specs.Replaced.{replaced, IsAscending};
 ghost use Rattle.bsp_run.specs.State.{next_state, cell_of, first_cell, no_messages};
 ghost use Rattle.bsp_run.specs.Setting.{next_setting, next_views};
@@ -18,9 +18,10 @@ use crate::ending::end_of;
 use crate::keeping::{keep_superstep, phase_after, phase_at};
 use crate::next::table_seen;
 use crate::opening::{first_cells, first_cells_of, shared_args};
-use crate::{Arguments, Outcomes, Phase, RunError, Setting, Status, Superstep, Views, ViewsRef};
-use bsp_model::{CostRow, Input, Memory, OutOfMemory, Shared, SharedSeq, TryCopy};
-use bsp_step::{Outcome, Queue, View};
+use crate::{Arguments, Phase, RunError, Setting, Status, Superstep, Views, ViewsRef};
+use bsp_deliver::Cells;
+use bsp_model::{CostRow, Input, OutOfMemory, Shared, SharedSeq, TryCopy};
+use bsp_step::{Outcomes, View};
 use bsp_table::Table;
 use std::alloc::Global;
 use std::marker::Model;
@@ -81,7 +82,7 @@ impl Tape {
         let args = shared_args(&input.args)?;
         let cells = first_cells(alloc, input.mems.as_slice())?;
         let setting = Setting::first(alloc, &args, cells.len())?;
-        let views = Views::open(alloc, setting, cells)?;
+        let views = Views::open(setting, cells);
         Tape::open_with(alloc, input, args, views)
     }
 
@@ -130,7 +131,7 @@ impl Tape {
             past: Vec::new(alloc),
             costs: Vec::new(alloc),
             views,
-            outcomes: SharedSeq::new(),
+            outcomes: Outcomes::new(),
             table,
             tag_size: 0,
             phase: Phase::Open,
@@ -161,37 +162,41 @@ impl Tape {
 
     /// The outcomes of the open superstep, by process, once they are there; once the run has ended, those of its last superstep.
     /// It takes no memory.
-    pub fn outcomes(&self) -> &[Shared<Outcome>]
+    pub fn outcomes(&self) -> &Outcomes
         ensures outcomes { result.now ≡ (superstep_shown self.now).outcomes }
         ensures deliverable { self.now.phase ≡ Phase.Turned → AreDeliverable result.now }
     {
         match &self.phase {
             Phase::Ended(Status::Limit) => match self.past.last() {
-                Some(superstep) => superstep.outcomes.as_slice(),
-                None => &[],
+                Some(superstep) => &superstep.outcomes,
+                None => &self.outcomes,
             },
-            _ => self.outcomes.as_slice(),
+            _ => &self.outcomes,
+        }
+    }
+
+    /// The outcomes of the superstep before, by process, where a superstep is open that is not the first. It takes no memory.
+    pub fn outcomes_before(&self) -> &Outcomes
+        ensures { 0 < length self.now.past → result.now ≡ (superstep_at self.now.past (length self.now.past - 1)).outcomes }
+    {
+        match self.past.last() {
+            Some(superstep) => &superstep.outcomes,
+            None => &self.outcomes,
         }
     }
 
     /// Takes the outcomes of the open superstep, one for each view. True where the superstep ends by delivery; else the run has ended.
     /// After `OutOfMemory` nothing has changed.
-    pub fn turned(&mut self, outcomes: Vec<Shared<Outcome>>) -> Result<bool, OutOfMemory>
+    pub fn turned(&mut self, outcomes: Outcomes) -> Result<bool, OutOfMemory>
         requires open { self.old.phase ≡ Phase.Open }
-        requires turns { AreOutcomesOf (open_views self.old) outcomes.items }
-        ensures ok { OnOk result (self.new ≡ after_turns self.old outcomes.items) }
+        requires turns { AreOutcomesOf (open_views self.old) outcomes }
+        ensures ok { OnOk result (self.new ≡ after_turns self.old outcomes) }
         ensures answer { IfOk result (λ goes_on. goes_on ≡ is_turned self.new.phase) }
         ensures err { OnErr result (self.new ≡ self.old) }
     {
         let alloc = *self.past.allocator();
-        let end = end_of(
-            alloc,
-            self.past.len() as u64,
-            &self.table,
-            outcomes.as_slice(),
-        )?;
+        let end = end_of(alloc, self.past.len() as u64, &self.table, &outcomes)?;
         let goes_on = end.is_none();
-        let outcomes = SharedSeq::from_vec(outcomes)?;
         self.outcomes = outcomes;
         self.phase = phase_after(end);
         Ok(goes_on)
@@ -199,16 +204,16 @@ impl Tape {
 
     /// Takes the next memory and queue of each process. True where the next superstep opens; else the limit has ended the run.
     /// After `OutOfMemory` nothing has changed.
-    pub fn delivered(&mut self, cells: Vec<(Memory, Queue)>) -> Result<bool, OutOfMemory>
+    pub fn delivered(&mut self, cells: Cells) -> Result<bool, OutOfMemory>
         requires turned { self.old.phase ≡ Phase.Turned }
-        requires cells { cells.items ≡ deliveries_of self.old.outcomes }
+        requires cells { cells ≡ deliveries_of self.old.outcomes }
         ensures ok { OnOk result (self.new ≡ after_delivery self.old) }
         ensures answer { IfOk result (λ goes_on. goes_on ≡ is_open self.new.phase) }
         ensures err { OnErr result (self.new ≡ self.old) }
     {
         let alloc = *self.past.allocator();
         let setting = self.next_setting()?;
-        let views = Views::open(alloc, setting, cells)?;
+        let views = Views::open(setting, cells);
         let row = self.cost();
         Ok(self.delivered_as(views, row)?)
     }
@@ -219,7 +224,7 @@ impl Tape {
         ensures value { result ≡ cost_of_delivery self.now.g self.now.l self.now.outcomes }
         ensures small { IsSmall result }
     {
-        cost_of_delivery(self.g, self.l, self.outcomes.as_slice())
+        cost_of_delivery(self.g, self.l, &self.outcomes)
     }
 
     /// Takes the views of the next superstep, and the cost of this one. True where the next one opens; else the limit has ended the run. After

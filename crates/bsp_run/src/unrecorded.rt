@@ -21,10 +21,10 @@ use crate::opening::{first_cells, shared_args};
 use crate::supersteps::numbers;
 use crate::tape::checked;
 use crate::{Arguments, Lines, RunError, RunResult, Setting, Status, Views};
-use bsp_deliver::{deliver_some, next_tag_size};
+use bsp_deliver::{Cells, deliver_some, next_tag_size};
 use bsp_model::limits::{HIGHEST_PRICE, MOST_SUPERSTEPS};
-use bsp_model::{CostRow, Input, Memory, OutOfMemory, Seq, Shared, TryCopy};
-use bsp_step::{Outcome, Queue};
+use bsp_model::{CostRow, Input, OutOfMemory, Seq, Shared, TryCopy};
+use bsp_step::Outcomes;
 use bsp_table::Table;
 use std::alloc::Global;
 
@@ -51,7 +51,7 @@ pub(crate) fn open_unrecorded(alloc: Global, input: &Input) -> Result<Unrecorded
     let lines = no_lines(alloc, cells.len())?;
     let table = Table::new(alloc, cells.len())?;
     let setting = Setting::first(alloc, &args, cells.len())?;
-    let views = Views::open(alloc, setting, cells)?;
+    let views = Views::open(setting, cells);
     Ok(Unrecorded {
         args,
         views,
@@ -64,12 +64,9 @@ pub(crate) fn open_unrecorded(alloc: Global, input: &Input) -> Result<Unrecorded
 
 /// The next memory and queue of each process.
 #[tactic(auto, unfolding(crate::specs::Condition::deliveries_of))]
-fn all_deliveries(
-    alloc: Global,
-    outcomes: &[Shared<Outcome>],
-) -> Result<Vec<(Memory, Queue)>, OutOfMemory>
+fn all_deliveries(alloc: Global, outcomes: &Outcomes) -> Result<Cells, OutOfMemory>
     requires { AreDeliverable outcomes.now }
-    ensures { IfOk result (λ cells. cells.items ≡ deliveries_of outcomes.now) }
+    ensures { IfOk result (λ cells. cells ≡ deliveries_of outcomes.now) }
 {
     let processes = numbers(alloc, outcomes.len())?;
     deliver_some(alloc, outcomes, processes.as_slice())
@@ -81,7 +78,7 @@ pub(crate) fn go_on(
     input: &Input,
     step: u64,
     kept: &mut Unrecorded,
-    outcomes: &[Shared<Outcome>],
+    outcomes: &Outcomes,
 ) -> Result<(), OutOfMemory>
     requires small_g { input.now.g ≤ HIGHEST_PRICE }
     requires small_l { input.now.l ≤ HIGHEST_PRICE }
@@ -106,7 +103,7 @@ pub(crate) fn go_on(
         table: table.copy()?,
         tag_size,
     };
-    let views = Views::open(alloc, setting, cells)?;
+    let views = Views::open(setting, cells);
     let row = cost_of_delivery(input.g, input.l, outcomes);
     add_all_lines(&mut kept.lines, outcomes)?;
     kept.costs.push(row)?;
@@ -121,7 +118,7 @@ pub(crate) fn ended(
     alloc: Global,
     kept: Unrecorded,
     status: Status,
-    outcomes: &[Shared<Outcome>],
+    outcomes: &Outcomes,
 ) -> Result<RunResult, OutOfMemory>
     requires few { length kept.costs + 1 ≤ MOST_SUPERSTEPS }
     requires small { All IsSmall kept.costs }

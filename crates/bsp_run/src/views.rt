@@ -8,7 +8,8 @@ ghost use Rattle.bsp_run.specs.Inside.Opening.{CanOpen, state_of};
 
 use crate::replacing::{copied, put_at};
 use crate::{Arguments, Setting};
-use bsp_model::{Memories, Memory, OutOfMemory};
+use bsp_deliver::Cells;
+use bsp_model::{Memories, OutOfMemory};
 use bsp_step::{Queue, View};
 use std::alloc::Global;
 use std::marker::Model;
@@ -34,52 +35,18 @@ impl Model for Views {
     ghost invariant = { IsLawful };
 }
 
-/// The memories and the queues of processes, apart.
-fn apart(
-    alloc: Global,
-    cells: Vec<(Memory, Queue)>,
-) -> Result<(Vec<Memory>, Vec<Queue>), OutOfMemory>
-    ensures memories { IfOk result (λ r. r.0.items ≡ map (λ c. c.0) cells.items) }
-    ensures queues { IfOk result (λ r. r.1.items ≡ map (λ c. c.1) cells.items) }
-{
-    let mut memories = Vec::with_capacity(alloc, cells.len())?;
-    let mut queues = Vec::with_capacity(alloc, cells.len())?;
-    for cell in cells {
-        let (memory, queue) = cell;
-        memories.push(memory)?;
-        queues.push(queue)?;
-    }
-    Ok((memories, queues))
-}
-
-/// These memories, in flat lists.
-fn flat(alloc: Global, memories: Vec<Memory>) -> Result<Memories, OutOfMemory>
-    ensures { IfOk result (λ m. m ≡ memories.items) }
-{
-    let mut all = Memories::with_capacity(alloc, memories.len())?;
-    for memory in memories {
-        all.push(memory)?;
-    }
-    Ok(all)
-}
-
 impl Views {
     /// What the processes see with these memories and queues.
-    pub(crate) fn open(
-        alloc: Global,
-        setting: Setting,
-        cells: Vec<(Memory, Queue)>,
-    ) -> Result<Views, OutOfMemory>
-        requires { CanOpen setting.args (state_of cells.items setting.table setting.tag_size) }
-        ensures { IfOk result
-            (λ v. v ≡ views_of setting.args setting.step (state_of cells.items setting.table setting.tag_size)) }
+    pub(crate) fn open(setting: Setting, cells: Cells) -> Views
+        requires { CanOpen setting.args (state_of cells setting.table setting.tag_size) }
+        ensures { result ≡ views_of setting.args setting.step (state_of cells setting.table setting.tag_size) }
     {
-        let (memories, queues) = apart(alloc, cells)?;
-        Ok(Views {
+        let (memories, queues) = cells.into_parts();
+        Views {
             setting,
-            memories: flat(alloc, memories)?,
+            memories,
             queues,
-        })
+        }
     }
 
     /// What the processes see in another setting with the same memories and queues, but for new ones of some processes, which are in ascending order.
@@ -88,22 +55,22 @@ impl Views {
         alloc: Global,
         setting: Setting,
         processes: &[usize],
-        cells: Vec<(Memory, Queue)>,
+        cells: Cells,
     ) -> Result<Views, OutOfMemory>
         requires known { All (λ p. p < length self.now) processes.now }
         requires ascending { IsAscending processes.now }
-        requires count { length cells.items ≡ length processes.now }
+        requires count { length cells ≡ length processes.now }
         requires opens { CanOpen setting.args
-            (state_of (replaced (map cell_of self.now) processes.now cells.items) setting.table setting.tag_size) }
+            (state_of (replaced (map cell_of self.now) processes.now cells) setting.table setting.tag_size) }
         ensures { IfOk result (λ v. v ≡ views_of setting.args setting.step
-            (state_of (replaced (map cell_of self.now) processes.now cells.items) setting.table setting.tag_size)) }
+            (state_of (replaced (map cell_of self.now) processes.now cells) setting.table setting.tag_size)) }
     {
-        let (memories, new) = apart(alloc, cells)?;
+        let (memories, new) = cells.into_parts();
         let mut queues = copied(alloc, self.queues.as_slice())?;
         put_at(&mut queues, processes, new);
         Ok(Views {
             setting,
-            memories: self.memories.replaced(processes, memories)?,
+            memories: self.memories.replaced(processes, &memories)?,
             queues,
         })
     }
@@ -123,6 +90,7 @@ impl Views {
     }
 
     /// What a process sees.
+    #[inline(always)]
     pub fn get(&self, pid: usize) -> View<'_>
         requires { pid < length self.now }
         ensures { result ≡ slice_index_or self.now pid no_view }
@@ -199,6 +167,7 @@ impl<'a> ViewsRef<'a> {
     }
 
     /// What a process sees.
+    #[inline(always)]
     pub fn get(&self, pid: usize) -> View<'a>
         requires { pid < length self.now }
         ensures { result ≡ slice_index_or self.now pid no_view }

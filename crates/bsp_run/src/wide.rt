@@ -1,6 +1,6 @@
 //! A run by a pool of workers, and its parts.
 
-ghost use Rattle.std.specs.Prelude.{◌≡◌, ◌<◌, ◌≤◌, All, None, IfOk, IfErr, OnOk, length};
+ghost use Rattle.std.specs.Prelude.{◌≡◌, ◌<◌, ◌≤◌, [], All, None, IfOk, IfErr, OnOk, length};
 ghost use Rattle.bsp_model.specs.Input.{input_fault};
 ghost use Rattle.bsp_step.specs.Turn.{turn_of};
 ghost use Rattle.bsp_deliver.specs.Condition.{AreDeliverable, IsAscending};
@@ -12,15 +12,51 @@ ghost use Rattle.bsp_run.specs.RunErrors.{input_fault_of};
 use crate::supersteps::run_by;
 use crate::works::{Deliveries, Turns};
 use crate::{History, RunError, Views};
-use bsp_deliver::{deliver_some, sort_requests};
-use bsp_model::{Input, Memory, OutOfMemory, Shared};
+use bsp_deliver::{Cells, deliver_some, sort_requests};
+use bsp_model::{Input, Memory, OutOfMemory};
 use bsp_pool::{Gate, phase};
-use bsp_step::{Outcome, Program, Queue};
+use bsp_step::{Outcome, OutcomeRef, OutcomeRows, Outcomes, Program, Queue, turn_reusing};
 use std::alloc::Global;
 use std::thread::Threads;
 
+/// The turns of some processes, in the order of the list, by the calling thread, which passes the gate before each. They are gathered in `rows`.
+pub(crate) fn turns_by_one<P: Program, G: Gate>(
+    alloc: Global,
+    rows: OutcomeRows,
+    program: &P,
+    views: &Views,
+    processes: &[usize],
+    gate: &G,
+) -> Result<OutcomeRows, OutOfMemory>
+    requires processes { All (λ p. p < length views.now) processes.now }
+    requires empty { rows ≡ [] }
+    ensures { IfOk result (λ all. all ≡ turns_of (turn_of (P.acts program.now) (P.ending program.now)) views.now processes.now) }
+{
+    let mut rows = rows;
+    let mut spare = Outcome::new(alloc);
+    for (place, process) in processes.iter().enumerate() {
+        gate.pass(place);
+        let outcome = turn_reusing(alloc, program, &views.get(*process), spare)?;
+        spare = rows.push(outcome)?;
+    }
+    Ok(rows)
+}
+
+/// These outcomes, gathered.
+fn gathered(alloc: Global, outcomes: Vec<Outcome>) -> Result<OutcomeRows, OutOfMemory>
+    ensures { IfOk result (λ rows. rows ≡ outcomes.items) }
+{
+    let mut rows = OutcomeRows::with_capacity(alloc, outcomes.len())?;
+    for outcome in outcomes {
+        let _spare = rows.push(outcome)?;
+    }
+    Ok(rows)
+}
+
 /// The turns of some processes, in the order of the list, shared by 1 to 16 workers. `processes` are places in `views`. Whoever drew
 /// the place k of the list, counted from 0, passes the gate with k before that turn.
+///
+/// One worker gathers each outcome as the turn leaves it; what several hand in is gathered once all have left.
 ///
 /// # Errors
 /// `OutOfMemory` where the calling thread is refused memory for the list, or for a turn that no worker handed in.
@@ -32,13 +68,18 @@ pub fn wide_turns<P: Program, G: Gate, R: Threads + Sync>(
     processes: &[usize],
     workers: usize,
     gate: &G,
-) -> Result<Vec<Shared<Outcome>>, OutOfMemory>
+) -> Result<OutcomeRows, OutOfMemory>
     requires processes { All (λ p. p < length views.now) processes.now }
     requires workers { (0 < workers) × (workers ≤ 16) }
-    ensures { IfOk result (λ all. all.items ≡ turns_of (turn_of (P.acts program.now) (P.ending program.now)) views.now processes.now) }
+    ensures { IfOk result (λ all. all ≡ turns_of (turn_of (P.acts program.now) (P.ending program.now)) views.now processes.now) }
 {
+    if workers.min(processes.len()) < 2 {
+        let rows = OutcomeRows::with_capacity(alloc, processes.len())?;
+        return turns_by_one(alloc, rows, program, views, processes, gate);
+    }
     let turns = Turns { program, views };
-    phase(rt, alloc, &turns, processes, workers, gate)
+    let outcomes = phase(rt, alloc, &turns, processes, workers, gate)?;
+    gathered(alloc, outcomes)
 }
 
 /// Passes the gate with each of so many places, in order.
@@ -64,13 +105,13 @@ fn nanos_of(words: usize) -> usize {
 }
 
 /// What the requests of a process take.
-fn nanos_of_requests(outcome: &Outcome) -> usize {
+fn nanos_of_requests(outcome: &OutcomeRef<'_>) -> usize {
     let mut nanos: usize = 0;
     for place in 0..outcome.puts.len() {
         let put = outcome.puts.at(place);
         nanos = nanos.saturating_add(nanos_of(put.words.len()));
     }
-    for get in outcome.gets.as_slice() {
+    for get in outcome.gets {
         nanos = nanos.saturating_add(nanos_of(get.len as usize));
     }
     for place in 0..outcome.sends.len() {
@@ -81,12 +122,24 @@ fn nanos_of_requests(outcome: &Outcome) -> usize {
 }
 
 /// Whether the calling thread makes the deliveries sooner than threads are started for them.
-fn is_light(outcomes: &[Shared<Outcome>]) -> bool {
+fn is_light(outcomes: &Outcomes) -> bool {
     let mut nanos: usize = 0;
-    for outcome in outcomes {
-        nanos = nanos.saturating_add(nanos_of_requests(outcome));
+    for pid in 0..outcomes.len() {
+        nanos = nanos.saturating_add(nanos_of_requests(&outcomes.get(pid)));
     }
     nanos < NANOS_WORTH_SHARING
+}
+
+/// These memories and queues, gathered.
+fn cells_of(alloc: Global, made: Vec<(Memory, Queue)>) -> Result<Cells, OutOfMemory>
+    ensures { IfOk result (λ cells. cells ≡ made.items) }
+{
+    let mut cells = Cells::with_capacity(alloc, made.len())?;
+    for cell in made {
+        let (memory, queue) = cell;
+        cells.push(memory, queue)?;
+    }
+    Ok(cells)
 }
 
 /// The next memory and queue of some processes, in the order of the list, shared by 1 to 16 workers. `processes` are places in
@@ -102,16 +155,16 @@ fn is_light(outcomes: &[Shared<Outcome>]) -> bool {
 pub fn wide_deliveries<G: Gate, R: Threads + Sync>(
     rt: &R,
     alloc: Global,
-    outcomes: &[Shared<Outcome>],
+    outcomes: &Outcomes,
     processes: &[usize],
     workers: usize,
     gate: &G,
-) -> Result<Vec<(Memory, Queue)>, OutOfMemory>
+) -> Result<Cells, OutOfMemory>
     requires deliverable { AreDeliverable outcomes.now }
     requires processes { All (λ d. d < length outcomes.now) processes.now }
     requires ascending { IsAscending processes.now }
     requires workers { (0 < workers) × (workers ≤ 16) }
-    ensures { IfOk result (λ all. all.items ≡ deliveries_to outcomes.now processes.now) }
+    ensures { IfOk result (λ all. all ≡ deliveries_to outcomes.now processes.now) }
 {
     if workers.min(processes.len()) < 2 || gate.now().is_some() && is_light(outcomes) {
         pass_all(gate, processes.len());
@@ -122,7 +175,8 @@ pub fn wide_deliveries<G: Gate, R: Threads + Sync>(
         outcomes,
         sorted: &sorted,
     };
-    phase(rt, alloc, &deliveries, processes, workers, gate)
+    let made = phase(rt, alloc, &deliveries, processes, workers, gate)?;
+    cells_of(alloc, made)
 }
 
 /// What `run_plain` answers, by 1 to 16 workers. They share the turns of each superstep, and then its deliveries: whoever drew a process
@@ -145,23 +199,20 @@ pub fn run_wide<P: Program, G: Gate, R: Threads + Sync>(
         alloc,
         program,
         input,
-        &|program: &P, views: &Views, processes: &[usize]| -> Result<
-            Vec<Shared<Outcome>>,
+        &|program: &P, views: &Views, processes: &[usize], _like: &Outcomes| -> Result<
+            Outcomes,
             OutOfMemory,
         >
             requires processes { All (λ p. p < length views.now) processes.now }
             requires workers { (0 < workers) × (workers ≤ 16) }
-            ensures { IfOk result (λ all. all.items ≡ turns_of (turn_of (P.acts program.now) (P.ending program.now)) views.now processes.now) }
-        { wide_turns(rt, alloc, program, views, processes, workers, gate) },
-        &|outcomes: &[Shared<Outcome>], processes: &[usize]| -> Result<
-            Vec<(Memory, Queue)>,
-            OutOfMemory,
-        >
+            ensures { IfOk result (λ all. all ≡ turns_of (turn_of (P.acts program.now) (P.ending program.now)) views.now processes.now) }
+        { wide_turns(rt, alloc, program, views, processes, workers, gate)?.share() },
+        &|outcomes: &Outcomes, processes: &[usize]| -> Result<Cells, OutOfMemory>
             requires deliverable { AreDeliverable outcomes.now }
             requires processes { All (λ d. d < length outcomes.now) processes.now }
             requires ascending { IsAscending processes.now }
             requires workers { (0 < workers) × (workers ≤ 16) }
-            ensures { IfOk result (λ all. all.items ≡ deliveries_to outcomes.now processes.now) }
+            ensures { IfOk result (λ all. all ≡ deliveries_to outcomes.now processes.now) }
         { wide_deliveries(rt, alloc, outcomes, processes, workers, gate) },
     )
 }

@@ -9,9 +9,9 @@ ghost use Rattle.bsp_run.specs.Condition.{no_view};
 
 use crate::Views;
 use bsp_deliver::{SortedRequests, deliver_sorted};
-use bsp_model::{Memory, OutOfMemory, Shared};
+use bsp_model::{Memory, OutOfMemory};
 use bsp_pool::Work;
-use bsp_step::{Ctx, Outcome, Program, Queue};
+use bsp_step::{Ctx, Outcome, Outcomes, Program, Queue};
 use std::alloc::Global;
 
 /// The turns of a program. A job is the number of a process.
@@ -24,7 +24,7 @@ pub struct Turns<'a, P: Program> {
 impl<'a, P: Program> Work for Turns<'a, P> {
     type In = usize;
 
-    type Out = Shared<Outcome>;
+    type Out = Outcome;
 
     ghost accepts = { λ turns p. p < length turns.views.now };
 
@@ -32,19 +32,19 @@ impl<'a, P: Program> Work for Turns<'a, P> {
         turn_of (P.acts turns.program.now) (P.ending turns.program.now) (slice_index_or turns.views.now p no_view) };
 
     // The calls of `bsp_step::turn`, to which no method of a trait may pass a program.
-    fn work(&self, alloc: Global, process: &usize) -> Result<Shared<Outcome>, OutOfMemory> {
+    fn work(&self, alloc: Global, process: &usize) -> Result<Outcome, OutOfMemory> {
         let views = self.views;
         let view = views.get(*process);
         let mut ctx = Ctx::open(alloc, &view)?;
         let how = self.program.step(alloc, &mut ctx)?;
-        Shared::new(alloc, ctx.close(how))
+        Ok(ctx.close(how))
     }
 }
 
 /// The deliveries at the end of a superstep, whose requests are sorted. A job is the number of a process.
 #[derive(Drop)]
 pub struct Deliveries<'a> {
-    pub outcomes: &'a [Shared<Outcome>],
+    pub outcomes: &'a Outcomes,
     pub sorted: &'a SortedRequests,
     ghost deliverable: { AreDeliverable outcomes.now },
     ghost sorted_from: { IsSortedFrom outcomes.now sorted.now },

@@ -6,4 +6,5 @@ pub mod Finding
 pub mod Limits
 pub mod Storing
 pub mod Laws
+pub mod OutcomeColumns
 pub mod Sorting

@@ -7,6 +7,7 @@ pub mod Perform
 pub mod Requests
 pub mod OutcomeParts
 pub mod OutcomeInside
+pub mod OutcomeRefInside
 pub mod Turn
 pub mod Blocks
 pub mod Calls

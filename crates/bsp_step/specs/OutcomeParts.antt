@@ -1,5 +1,5 @@
 -- What a turn leaves.
-use Rattle.std.specs.Prelude.{ℕ, List, Option, None, Some, ◌≤◌, ◌+◌, ◌≡◌, length, All}
+use Rattle.std.specs.Prelude.{ℕ, List, [], slice_index_or, Option, None, Some, ◌≤◌, ◌+◌, ◌≡◌, length, All}
 use Rattle.bsp_model.specs.Limits.{most_lines, most_line_words, most_memory_words, most_payload_words, most_requests, most_tag_words, most_work}
 use Rattle.bsp_model.specs.declared.request.Put.{Put}
 use Rattle.bsp_model.specs.declared.request.Get.{Get}
@@ -26,6 +26,28 @@ pub record OutcomeParts : Type 0 where
   pub tag : Option ℕ
   pub lines : List (List ℕ)
   pub work : ℕ
+
+-- the outcome of a process that there is not
+abbrev pub no_outcome : OutcomeParts
+no_outcome =
+    record {
+      fault = None;
+      ended = Halt;
+      memory = [];
+      stores = [];
+      puts = [];
+      gets = [];
+      sends = [];
+      pops = [];
+      pushes = [];
+      tag = None;
+      lines = [];
+      work = 0;
+    }
+
+-- the outcome of a process
+abbrev pub outcome_of : List OutcomeParts → ℕ → OutcomeParts
+outcome_of os p = slice_index_or os p no_outcome
 
 -- a turn with a fault ends by halt
 abbrev pub IsHaltOnFault : Option Fault → Ended → Type 0

@@ -57,20 +57,50 @@ impl<'v> Ctx<'v> {
     pub fn open(alloc: Global, view: &'v View<'v>) -> Result<Ctx<'v>, OutOfMemory>
         ensures { IfOk result (λ c. c ≡ fresh view.now) }
     {
-        let memory = view.memory.to_memory()?;
+        Ctx::open_reusing(alloc, view, Outcome::new(alloc))
+    }
+
+    /// The context in which the turn of a view begins, in the lists of an outcome that is no longer needed, or `OutOfMemory`. Nothing of what stood
+    /// in them is left.
+    #[inline(always)]
+    pub fn open_reusing(
+        alloc: Global,
+        view: &'v View<'v>,
+        spare: Outcome,
+    ) -> Result<Ctx<'v>, OutOfMemory>
+        ensures { IfOk result (λ c. c ≡ fresh view.now) }
+    {
+        let Outcome {
+            memory,
+            mut stores,
+            mut puts,
+            mut gets,
+            mut sends,
+            mut pops,
+            mut pushes,
+            mut lines,
+            ..
+        } = spare;
+        stores.clear();
+        puts.clear();
+        gets.clear();
+        sends.clear();
+        pops.clear();
+        pushes.clear();
+        lines.clear();
         Ok(Ctx {
             view,
             alloc,
-            memory,
+            memory: memory.loaded_from(&view.memory)?,
             left: view.queue,
-            stores: Stores::new(alloc),
-            puts: Puts::new(alloc),
-            gets: Seq::new(alloc),
-            sends: Sends::new(alloc),
-            pops: Seq::new(alloc),
-            pushes: Seq::new(alloc),
+            stores,
+            puts,
+            gets,
+            sends,
+            pops,
+            pushes,
             tag: None,
-            lines: Rows::new(alloc),
+            lines,
             work: 0,
             fault: None,
         })
@@ -106,6 +136,7 @@ impl<'v> Ctx<'v> {
     }
 
     /// What the turn leaves, where its step answered `how`. It takes no memory.
+    #[inline(always)]
     pub fn close(self, how: End) -> Outcome
         ensures closed { result ≡ closed self.entry how }
         ensures limits { IsOutcome result }

@@ -3,7 +3,11 @@
 
 mod answer;
 mod ctx;
+mod lists;
 mod outcome;
+mod outcome_ref;
+mod outcome_rows;
+mod outcomes;
 mod program;
 mod stop;
 mod view;
@@ -11,6 +15,9 @@ mod view;
 pub use answer::settle;
 pub use ctx::Ctx;
 pub use outcome::{Ended, Outcome};
-pub use program::{Program, turn};
+pub use outcome_ref::OutcomeRef;
+pub use outcome_rows::OutcomeRows;
+pub use outcomes::Outcomes;
+pub use program::{Program, turn, turn_reusing};
 pub use stop::Stop;
 pub use view::{Queue, View};

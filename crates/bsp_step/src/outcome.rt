@@ -1,9 +1,12 @@
 //! What a turn leaves.
 
-ghost use Rattle.std.specs.Prelude.{◌≡◌, IsTrue, ◌↔◌};
+ghost use Rattle.std.specs.Prelude.{◌≡◌};
+ghost use Rattle.bsp_step.specs.OutcomeParts.{no_outcome};
 
+use crate::OutcomeRef;
 use bsp_model::{Fault, Get, Memory, OutOfMemory, Puts, Rows, Same, Sends, Seq, Stores, TryCopy};
-use bsp_table::{Area, Registers};
+use bsp_table::Area;
+use std::alloc::Global;
 use std::marker::Model;
 
 /// How a turn ended.
@@ -57,67 +60,57 @@ impl Model for Outcome {
 }
 
 impl Outcome {
-    ghost use Rattle.bsp_step.specs.Inside.SameOutcome.{HasSameRequests, HasSameEnd};
-
-    fn has_same_requests(&self, other: &Outcome) -> bool
-        ensures { IsTrue result ↔ HasSameRequests self.now other.now }
+    /// What a process has left that has done nothing: no words, no requests, no lines. It takes no memory.
+    #[inline(always)]
+    pub fn new(alloc: Global) -> Outcome
+        ensures { result ≡ no_outcome }
     {
-        self.puts.same(&other.puts)
-            && self.gets.same(&other.gets)
-            && self.sends.same(&other.sends)
-            && self.pops.same(&other.pops)
-            && self.pushes.same(&other.pushes)
+        Outcome {
+            fault: None,
+            ended: Ended::Halt,
+            memory: Memory::new(alloc),
+            stores: Stores::new(alloc),
+            puts: Puts::new(alloc),
+            gets: Seq::new(alloc),
+            sends: Sends::new(alloc),
+            pops: Seq::new(alloc),
+            pushes: Seq::new(alloc),
+            tag: None,
+            lines: Rows::new(alloc),
+            work: 0,
+        }
     }
 
-    fn has_same_end(&self, other: &Outcome) -> bool
-        ensures { IsTrue result ↔ HasSameEnd self.now other.now }
+    /// This outcome, to be read where it lies.
+    #[inline(always)]
+    pub fn as_ref(&self) -> OutcomeRef<'_>
+        ensures { result ≡ self.now }
     {
-        self.fault == other.fault
-            && self.ended == other.ended
-            && self.tag == other.tag
-            && self.work == other.work
-    }
-}
-
-impl Same for Outcome {
-    fn same(&self, other: &Outcome) -> bool {
-        self.has_same_requests(other)
-            && self.has_same_end(other)
-            && self.memory.same(&other.memory)
-            && self.stores.same(&other.stores)
-            && self.lines.same(&other.lines)
+        OutcomeRef {
+            fault: self.fault,
+            ended: self.ended,
+            memory: self.memory.as_ref(),
+            stores: self.stores.as_ref(),
+            puts: self.puts.as_ref(),
+            gets: self.gets.as_slice(),
+            sends: self.sends.as_ref(),
+            pops: self.pops.as_slice(),
+            pushes: self.pushes.as_slice(),
+            tag: self.tag,
+            lines: self.lines.as_ref(),
+            work: self.work,
+        }
     }
 }
 
 impl TryCopy for Outcome {
     fn copy(&self) -> Result<Outcome, OutOfMemory> {
-        Ok(Outcome {
-            fault: self.fault,
-            ended: self.ended,
-            memory: self.memory.copy()?,
-            stores: self.stores.copy()?,
-            puts: self.puts.copy()?,
-            gets: self.gets.copy()?,
-            sends: self.sends.copy()?,
-            pops: self.pops.copy()?,
-            pushes: self.pushes.copy()?,
-            tag: self.tag,
-            lines: self.lines.copy()?,
-            work: self.work,
-        })
+        self.as_ref().to_outcome(self.gets.allocator())
     }
 }
 
-impl Registers for Outcome {
-    ghost pops = { λ o. o.pops };
-
-    ghost pushes = { λ o. o.pushes };
-
-    fn pops(&self) -> &[usize] {
-        self.pops.as_slice()
-    }
-
-    fn pushes(&self) -> &[Area] {
-        self.pushes.as_slice()
+impl Same for Outcome {
+    fn same(&self, other: &Outcome) -> bool {
+        self.as_ref().same(&other.as_ref())
     }
 }

@@ -49,7 +49,23 @@ pub fn turn<P: Program>(alloc: Global, program: &P, view: &View<'_>) -> Result<O
     ensures limits { IfOk result (λ o. IsOutcome o) }
     ensures issued { IfOk result (λ o. IsOutcomeOf view.now o) }
 {
-    let mut ctx = Ctx::open(alloc, view)?;
+    turn_reusing(alloc, program, view, Outcome::new(alloc))
+}
+
+/// The turn of a program at a view, in lists of an outcome that is no longer needed, or `OutOfMemory`. Whatever outcome is handed in, the turn is
+/// the same.
+#[inline(always)]
+pub fn turn_reusing<P: Program>(
+    alloc: Global,
+    program: &P,
+    view: &View<'_>,
+    spare: Outcome,
+) -> Result<Outcome, OutOfMemory>
+    ensures turn { IfOk result (λ o. o ≡ turn_of (P.acts program.now) (P.ending program.now) view.now) }
+    ensures limits { IfOk result (λ o. IsOutcome o) }
+    ensures issued { IfOk result (λ o. IsOutcomeOf view.now o) }
+{
+    let mut ctx = Ctx::open_reusing(alloc, view, spare)?;
     let how = program.step(alloc, &mut ctx)?;
     Ok(ctx.close(how))
 }

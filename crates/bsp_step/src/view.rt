@@ -1,6 +1,6 @@
 //! What a process sees in a superstep.
 
-use bsp_model::{MemoryRef, Message, SharedSeq};
+use bsp_model::{MemoryRef, Message, Same, SharedSeq, are_same, are_same_words};
 use bsp_table::Table;
 use std::marker::Model;
 
@@ -38,4 +38,17 @@ impl<'a> Model for View<'a> {
     ghost view = { view_parts };
 
     ghost invariant = { IsLawful };
+}
+
+impl<'a> Same for View<'a> {
+    fn same(&self, other: &View<'a>) -> bool {
+        self.nprocs == other.nprocs
+            && self.pid == other.pid
+            && self.step == other.step
+            && are_same_words(self.args, other.args)
+            && self.memory.same(&other.memory)
+            && self.table.same(other.table)
+            && self.tag_size == other.tag_size
+            && are_same(self.queue, other.queue)
+    }
 }

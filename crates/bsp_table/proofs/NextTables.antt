@@ -6,9 +6,10 @@ use Rattle.std.specs.Cmp.Lexicographic.{pointwise}
 use Rattle.std.proofs.lemmas.Bool.{and_parts, eq-eqb, ne_eqb, eqb-true, cases_eq, ltb-false, true_from_ne_false, false≢true}
 use Rattle.std.proofs.lemmas.Bool.Decides.{Decides-eqb}
 use Rattle.std.proofs.lemmas.Slice.Eq.{slice_eq-Decides}
-use Rattle.std.proofs.lemmas.List.{length-map, length-append, map-id, map-append, append-nil, get_or-map}
+use Rattle.std.proofs.lemmas.List.{length-map, length-append, map-id, map-append, append-nil, get_or-map, get_or_default}
 use Rattle.std.proofs.lemmas.List.Filters.{length-filter_both}
 use Rattle.std.proofs.lemmas.List.Folds.{list_any_none, list_all-map, list_all_at}
+use Rattle.std.proofs.lemmas.List.Sums.{list_all-from_AllPass}
 use Rattle.std.proofs.lemmas.List.Elements.{filter_agree, filter-append, All-nil, All-cons, All-tail, All-map, All-filter, All-append}
 use Rattle.std.proofs.lemmas.List.FromFn.{length-range_with_len, get_or-range_with_len, length-map-range_with_len, map-range_with_len_more}
 use Rattle.bsp_model.specs.Limits.{most_slots}
@@ -17,7 +18,7 @@ use Rattle.bsp_model.specs.declared.fault.SyncFault.TheVariants.{PopMismatch, Pu
 use Rattle.bsp_table.specs.declared.area.Area.{Area}
 use Rattle.bsp_table.specs.NextTable.{is_popped, kept_slots, are_alike, count_of_pushes, pushed_slot, pushed_slots, next_table, table_fault, no_area, AreSlots, AreFull, IsSlotInside, AreSlotsInside, ArePushesInside, AreWithin, AreSlotsWithin}
 
-pub same_numbers : (xs ys : List ℕ) → pointwise nat_eq xs ys ≡ true → xs ≡ ys
+same_numbers : (xs ys : List ℕ) → pointwise nat_eq xs ys ≡ true → xs ≡ ys
 same_numbers xs ys h = (slice_eq-Decides Decides-eqb xs ys _ refl).0 h
 
 pub same_itself : (xs : List ℕ) → pointwise nat_eq xs xs ≡ true
@@ -31,9 +32,14 @@ are_alike-map same f (y ∷ ys) x l e h =
     ∙ ap (λ b. b && list_all (λ r. same (f x) (f r)) ys) (sym h)
     ∙ ap (λ z. same (f x) (f z) && list_all (λ r. same (f x) (f r)) ys) e
 
-pub count_of_pushes-map : {X : Type 0} (f : X → List Area) (all : List X) (x : X) → 1 ≤ length all → x ≡ get_or all 0 x → count_of_pushes (map f all) ≡ length (f x)
-count_of_pushes-map f [] x l e = absurd (omega arith)
-count_of_pushes-map f (y ∷ ys) x l e = ap (λ z. length (f z)) (sym e)
+-- where none differs from the first
+pub are_alike_all : {X : Type 0} (same : X → X → Bool) (xs : List X) (d : X) → ((k : ℕ) → k < length xs → 1 ≤ k → same (get_or xs 0 d) (get_or xs k d) ≡ true) → are_alike same xs ≡ true
+are_alike_all same [] d h = refl
+are_alike_all same (x ∷ xs) d h = list_all-from_AllPass (same x) xs (λ k e l. ap (same x) (get_or_default xs k e d l) ∙ h (suc k) (omega arith) (omega arith))
+
+pub count_of_pushes-first : (pushes : List (List Area)) → count_of_pushes pushes ≡ length (get_or pushes 0 [])
+count_of_pushes-first [] = refl
+count_of_pushes-first (pushed ∷ others) = refl
 
 abbrev same_length : List Area → List Area → Bool
 same_length p q = length p == length q
@@ -48,24 +54,19 @@ pop_mismatch slots pops pushes h = ap (λ b. first_fault b (are_alike same_lengt
 pub push_mismatch : (slots : List (List Area)) (pops : List (List ℕ)) (pushes : List (List Area)) → are_alike (pointwise nat_eq) pops ≡ true → are_alike same_length pushes ≡ false → Some PushMismatch ≡ table_fault slots pops pushes
 push_mismatch slots pops pushes h k = λ i. first_fault (sym h i) (sym k i) (nat_lt most_slots (length (kept_slots slots pops) + count_of_pushes pushes))
 
-pub by_size : (slots : List (List Area)) (pops : List (List ℕ)) (pushes : List (List Area)) (over : Bool) → are_alike (pointwise nat_eq) pops ≡ true → are_alike same_length pushes ≡ true → nat_lt most_slots (length (kept_slots slots pops) + count_of_pushes pushes) ≡ over → first_fault true true over ≡ table_fault slots pops pushes
-by_size slots pops pushes over h k e = λ i. first_fault (sym h i) (sym k i) (sym e i)
-
 -- where all popped the same, a slot is popped where the first popped it
-pub is_popped-same : (popped : List ℕ) (pops : List (List ℕ)) (slot : ℕ) → 1 ≤ length pops → list_all (pointwise nat_eq popped) pops ≡ true → is_popped pops slot ≡ is_popped (popped ∷ []) slot
-is_popped-same popped [] slot l h = absurd (omega arith)
-is_popped-same popped (p ∷ []) slot l h =
-    ap (λ q. list_any (λ k. k == slot) q || false) (sym (same_numbers popped p (and_parts _ _ h).0))
-is_popped-same popped (p ∷ q ∷ pops) slot l h =
-    let same = sym (same_numbers popped p (and_parts _ _ h).0) in
-    ap (λ ks. list_any (λ k. k == slot) ks || is_popped (q ∷ pops) slot) same
-    ∙ ap (λ b. list_any (λ k. k == slot) popped || b) (is_popped-same popped (q ∷ pops) slot (omega arith) (and_parts _ _ h).1)
-    ∙ elim (list_any (λ k. k == slot) popped) as (λ b. (b || (b || false)) ≡ (b || false)) [ true ↦ refl | false ↦ refl ]
+is_popped-alike : (popped : List ℕ) (others : List (List ℕ)) (slot : ℕ) → list_all (pointwise nat_eq popped) others ≡ true → is_popped (popped ∷ others) slot ≡ is_popped (popped ∷ []) slot
+is_popped-alike popped [] slot h = refl
+is_popped-alike popped (p ∷ ps) slot h =
+    ap (λ ks. is_popped (popped ∷ ks ∷ ps) slot) (sym (same_numbers popped p (and_parts _ _ h).0))
+    ∙ elim (list_any (λ k. k == slot) popped) as (λ b. (b || (b || is_popped ps slot)) ≡ (b || is_popped ps slot)) [ true ↦ refl | false ↦ refl ]
+    ∙ is_popped-alike popped ps slot (and_parts _ _ h).1
 
-pub kept_slots-same : (slots : List (List Area)) (popped : List ℕ) (pops : List (List ℕ)) → 1 ≤ length pops → list_all (pointwise nat_eq popped) pops ≡ true → kept_slots slots pops ≡ kept_slots slots (popped ∷ [])
-kept_slots-same slots popped pops l h =
+kept_slots-alike : (slots : List (List Area)) (pops : List (List ℕ)) → 1 ≤ length pops → are_alike (pointwise nat_eq) pops ≡ true → kept_slots slots pops ≡ kept_slots slots (get_or pops 0 [] ∷ [])
+kept_slots-alike slots [] l h = absurd (omega arith)
+kept_slots-alike slots (p ∷ ps) l h =
     ap (map (λ slot. get_or slots slot []))
-    (filter_agree (λ slot. not (is_popped pops slot)) (λ slot. not (is_popped (popped ∷ []) slot)) (λ slot. ap not (is_popped-same popped pops slot l h)) (range_with_len 0 (length slots)))
+    (filter_agree (λ slot. not (is_popped (p ∷ ps) slot)) (λ slot. not (is_popped (p ∷ []) slot)) (λ slot. ap not (is_popped-alike p ps slot h)) (range_with_len 0 (length slots)))
 
 abbrev count : (ℕ → Bool) → List ℕ → ℕ
 count p xs = length (filter p xs)
@@ -125,29 +126,14 @@ length-kept_slots slots popped h =
     ap length (filter_agree p (λ s. list_any (λ k. k == s) popped) once (range_with_len 0 n)) ∙ count_popped popped n h.each h.distinct in
     omega (arith, kept, gone, length-filter_both p (λ s. not (p s)) (λ s. refl) (range_with_len 0 n), length-range_with_len 0 n)
 
--- the three tests as they are made, by the first process
-pub pops_differ : {X : Type 0} (slots : List (List Area)) (pops : X → List ℕ) (pushes : X → List Area) (all : List X) (x : X) → 1 ≤ length all → x ≡ get_or all 0 x
-    → false ≡ list_all (λ r. pointwise nat_eq (pops x) (pops r)) all → Some PopMismatch ≡ table_fault slots (map pops all) (map pushes all)
-pops_differ slots pops pushes all x l e h =
-    pop_mismatch slots (map pops all) (map pushes all) (are_alike-map (pointwise nat_eq) pops all x l e (same_itself (pops x)) ∙ sym h)
-
-pub counts_differ : {X : Type 0} (slots : List (List Area)) (pops : X → List ℕ) (pushes : X → List Area) (all : List X) (x : X) → 1 ≤ length all → x ≡ get_or all 0 x
-    → true ≡ list_all (λ r. pointwise nat_eq (pops x) (pops r)) all → false ≡ list_all (λ r. length (pushes x) == length (pushes r)) all → Some PushMismatch ≡ table_fault slots (map pops all) (map pushes all)
-counts_differ slots pops pushes all x l e h k =
-    push_mismatch slots (map pops all) (map pushes all) (are_alike-map (pointwise nat_eq) pops all x l e (same_itself (pops x)) ∙ sym h)
-    (are_alike-map same_length pushes all x l e (eq-eqb (length (pushes x)) (length (pushes x)) refl) ∙ sym k)
-
-pub counts_agree : {X : Type 0} (slots : List (List Area)) (pops : X → List ℕ) (pushes : X → List Area) (all : List X) (x : X) (over : Bool) → 1 ≤ length all → x ≡ get_or all 0 x → AreSlots slots (pops x)
-    → true ≡ list_all (λ r. pointwise nat_eq (pops x) (pops r)) all → true ≡ list_all (λ r. length (pushes x) == length (pushes r)) all → nat_lt most_slots (length slots - length (pops x) + length (pushes x)) ≡ over
-    → first_fault true true over ≡ table_fault slots (map pops all) (map pushes all)
-counts_agree slots pops pushes all x over l e here h k t =
-    let some : 1 ≤ length (map pops all) = omega (arith, length-map all pops) in
-    let same : list_all (pointwise nat_eq (pops x)) (map pops all) ≡ true = list_all-map (pointwise nat_eq (pops x)) pops all ∙ sym h in
-    let kept : length (kept_slots slots (map pops all)) ≡ length slots - length (pops x) = ap length (kept_slots-same slots (pops x) (map pops all) some same) ∙ omega (arith, length-kept_slots slots (pops x) here) in
-    by_size slots (map pops all) (map pushes all) over
-    (are_alike-map (pointwise nat_eq) pops all x l e (same_itself (pops x)) ∙ sym h)
-    (are_alike-map same_length pushes all x l e (eq-eqb (length (pushes x)) (length (pushes x)) refl) ∙ sym k)
-    ((λ i. nat_lt most_slots (kept i + count_of_pushes-map pushes all x l e i)) ∙ t)
+-- the third test as it is made, by the first process
+pub by_size : (slots : List (List Area)) (pops : List (List ℕ)) (pushes : List (List Area)) (over : Bool) → 1 ≤ length pops → AreSlots slots (get_or pops 0 [])
+    → are_alike (pointwise nat_eq) pops ≡ true → are_alike same_length pushes ≡ true → nat_lt most_slots (length slots - length (get_or pops 0 []) + length (get_or pushes 0 [])) ≡ over
+    → first_fault true true over ≡ table_fault slots pops pushes
+by_size slots pops pushes over l here h k t =
+    let size : length (kept_slots slots pops) + count_of_pushes pushes ≡ length slots - length (get_or pops 0 []) + length (get_or pushes 0 []) =
+    omega (arith, ap length (kept_slots-alike slots pops l h), length-kept_slots slots (get_or pops 0 []) here, count_of_pushes-first pushes) in
+    λ i. first_fault (sym h i) (sym k i) (sym (ap (nat_lt most_slots) size ∙ t) i)
 
 range_more : (n : ℕ) → range_with_len 0 (n + 1) ≡ range_with_len 0 n ++ n ∷ []
 range_more n = sym (map-id (range_with_len 0 (n + 1))) ∙ map-range_with_len_more (λ (x : ℕ). x) 0 n n (omega arith) ∙ ap (λ xs. xs ++ n ∷ []) (map-id (range_with_len 0 n))
@@ -190,18 +176,8 @@ same_counts (p ∷ ps) h =
 pub count_of_each : (slots : List (List Area)) (pops : List (List ℕ)) (pushes : List (List Area)) → table_fault slots pops pushes ≡ None → All (λ pushed. length pushed ≡ count_of_pushes pushes) pushes
 count_of_each slots pops pushes h = same_counts pushes (tests_of slots pops pushes h).1
 
-pub count_of_all : {X : Type 0} (slots : List (List Area)) (pops : X → List ℕ) (pushes : X → List Area) (all : List X) (x : X) → 1 ≤ length all → x ≡ get_or all 0 x → table_fault slots (map pops all) (map pushes all) ≡ None
-    → All (λ r. length (pushes r) ≡ length (pushes x)) all
-count_of_all slots pops pushes all x l e h =
-    λ k d within.
-    let here : length (get_or (map pushes all) k []) ≡ count_of_pushes (map pushes all) = count_of_each slots (map pops all) (map pushes all) h k [] (omega (arith, length-map all pushes)) in
-    ap length (sym (get_or-map pushes all k d [] within)) ∙ here ∙ count_of_pushes-map pushes all x l e
-
-pub kept_of_all : {X : Type 0} (slots : List (List Area)) (pops : X → List ℕ) (pushes : X → List Area) (all : List X) (x : X) → 1 ≤ length all → x ≡ get_or all 0 x → table_fault slots (map pops all) (map pushes all) ≡ None
-    → kept_slots slots (map pops all) ≡ kept_slots slots (pops x ∷ [])
-kept_of_all slots pops pushes all x l e h =
-    kept_slots-same slots (pops x) (map pops all) (omega (arith, length-map all pops))
-    (list_all-map (pointwise nat_eq (pops x)) pops all ∙ sym (are_alike-map (pointwise nat_eq) pops all x l e (same_itself (pops x))) ∙ (tests_of slots (map pops all) (map pushes all) h).0)
+pub kept_of_first : (slots : List (List Area)) (pops : List (List ℕ)) (pushes : List (List Area)) → 1 ≤ length pops → table_fault slots pops pushes ≡ None → kept_slots slots pops ≡ kept_slots slots (get_or pops 0 [] ∷ [])
+kept_of_first slots pops pushes l h = kept_slots-alike slots pops l (tests_of slots pops pushes h).0
 
 -- what holds of each slot that stood and of each slot that comes
 All-kept_slots : (P : List Area → Type 0) (slots : List (List Area)) (pops : List (List ℕ)) → All P slots → All P (kept_slots slots pops)

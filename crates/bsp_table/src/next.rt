@@ -1,7 +1,7 @@
 //! The table after the end of a superstep.
 
-ghost use Rattle.std.specs.Prelude.{◌≡◌, ◌≤◌, ◌<◌, ◌==◌, ◌++◌, ◌∷◌, [], List, ℕ, length, map, None, IfOk, IfErr, OnOk, All, nat_eq};
-ghost use Rattle.std.specs.List.{list_all, range_with_len};
+ghost use Rattle.std.specs.Prelude.{◌≡◌, ◌≤◌, ◌<◌, ◌==◌, ◌++◌, ◌∷◌, [], List, ℕ, length, None, IfOk, IfErr, OnOk, All, nat_eq};
+ghost use Rattle.std.specs.List.{range_with_len};
 ghost use lib.Pointwise.{pointwise};
 ghost use Rattle.bsp_table.specs.declared.next.TableFault.TheVariants.{OutOfMemory};
 ghost use Rattle.bsp_table.specs.NextTable.{next_table, table_fault, kept_slots, pushed_slot, is_popped, are_alike, no_area, AreSlots, AreFull, AreSlotsInside, ArePushesInside, AreSlotsWithin, AreWithin};
@@ -10,41 +10,32 @@ ghost use Rattle.bsp_table.specs.TableFault.{sync_fault_of};
 use crate::table::Slot;
 use crate::{Area, Table};
 use bsp_model::limits::{MOST_PROCESSES, MOST_SLOTS};
-use bsp_model::{OutOfMemory, Seq, Shared, SyncFault, TryCopy};
+use bsp_model::{OutOfMemory, Seq, SyncFault, TryCopy};
 use std::alloc::{AllocError, Global};
 
-/// What a process asks of the registration table in a superstep.
+/// What the processes ask of the registration table in a superstep, by process.
 pub trait Registers {
-    ghost use Rattle.std.specs.Prelude.{◌≡◌, List, ℕ};
+    ghost use Rattle.std.specs.Prelude.{◌≡◌, ◌<◌, List, [], ℕ, length, slice_index_or};
     ghost use Rattle.bsp_table.specs.declared.area.Area.{Area};
 
-    ghost pops: { Self → List ℕ };
+    ghost pops: { Self → List (List ℕ) };
 
-    ghost pushes: { Self → List Area };
+    ghost pushes: { Self → List (List Area) };
 
-    /// The popped slots of the table that stood during the superstep, in issue order.
-    fn pops(&self) -> &[usize]
-        ensures { result.now ≡ pops self.now };
+    /// The number of processes.
+    fn count(&self) -> usize
+        ensures pops { result ≡ length (pops self.now) }
+        ensures pushes { result ≡ length (pushes self.now) };
 
-    /// The pushed areas, in issue order.
-    fn pushes(&self) -> &[Area]
-        ensures { result.now ≡ pushes self.now };
-}
+    /// The slots of the table that stood during the superstep which a process popped, in issue order.
+    fn pops(&self, pid: usize) -> &[usize]
+        requires { pid < length (pops self.now) }
+        ensures { result.now ≡ slice_index_or (pops self.now) pid [] };
 
-impl<T: Registers> Registers for Shared<T> {
-    ghost pops = { λ s. T.pops s };
-
-    ghost pushes = { λ s. T.pushes s };
-
-    fn pops(&self) -> &[usize] {
-        let registers: &T = self;
-        registers.pops()
-    }
-
-    fn pushes(&self) -> &[Area] {
-        let registers: &T = self;
-        registers.pushes()
-    }
+    /// The areas that a process pushed, in issue order.
+    fn pushes(&self, pid: usize) -> &[Area]
+        requires { pid < length (pushes self.now) }
+        ensures { result.now ≡ slice_index_or (pushes self.now) pid [] };
 }
 
 /// Why there is no next table.
@@ -64,49 +55,70 @@ impl From<AllocError> for TableFault {
     }
 }
 
-/// Whether all processes popped the same slots in the same order.
-fn is_same_pops<R: Registers>(first: &R, all: &[R]) -> bool
-    ensures { result ≡ list_all (λ r. pointwise nat_eq (R.pops first.now) (R.pops r)) all.now }
+/// Whether all `nprocs` processes popped the same slots in the same order.
+fn is_same_pops<R: Registers>(all: &R, nprocs: usize) -> bool
+    requires some { 1 ≤ nprocs }
+    requires count { nprocs ≡ length (R.pops all.now) }
+    ensures { result ≡ are_alike (pointwise nat_eq) (R.pops all.now) }
 {
-    all.iter().all(|member| first.pops() == member.pops())
+    let first = all.pops(0);
+    for pid in 1..nprocs {
+        if first != all.pops(pid) {
+            return false;
+        }
+    }
+    true
 }
 
-/// Whether all processes pushed as many areas.
-fn is_same_count<R: Registers>(first: &R, all: &[R]) -> bool
-    ensures { result ≡ list_all (λ r. length (R.pushes first.now) == length (R.pushes r)) all.now }
+/// Whether all `nprocs` processes pushed as many areas.
+fn is_same_count<R: Registers>(all: &R, nprocs: usize) -> bool
+    requires some { 1 ≤ nprocs }
+    requires count { nprocs ≡ length (R.pushes all.now) }
+    ensures { result ≡ are_alike (λ p q. length p == length q) (R.pushes all.now) }
 {
-    all.iter()
-        .all(|member| first.pushes().len() == member.pushes().len())
+    let first = all.pushes(0).len();
+    for pid in 1..nprocs {
+        if first != all.pushes(pid).len() {
+            return false;
+        }
+    }
+    true
 }
 
-/// The area that each process pushed as its `k`-th.
-fn pushed<R: Registers>(alloc: Global, all: &[R], k: usize) -> Result<Slot, OutOfMemory>
-    requires { All (λ r. k < length (R.pushes r)) all.now }
-    ensures { IfOk result (λ areas. areas ≡ pushed_slot (map R.pushes all.now) k) }
+/// The area that each of the `nprocs` processes pushed as its `k`-th.
+fn pushed<R: Registers>(
+    alloc: Global,
+    all: &R,
+    nprocs: usize,
+    k: usize,
+) -> Result<Slot, OutOfMemory>
+    requires count { nprocs ≡ length (R.pushes all.now) }
+    requires each { All (λ pushed. k < length pushed) (R.pushes all.now) }
+    ensures { IfOk result (λ areas. areas ≡ pushed_slot (R.pushes all.now) k) }
 {
     let mut areas = Seq::new(alloc);
-    for member in all {
-        areas.push(member.pushes()[k])?;
+    for pid in 0..nprocs {
+        areas.push(all.pushes(pid)[k])?;
     }
     areas.share()
 }
 
 impl Table {
     /// The first of S3 `PopMismatch`, S4 `PushMismatch` and S5 `TooManySlots` that holds. It takes no memory.
-    pub fn fault<R: Registers>(&self, all: &[R]) -> Option<SyncFault>
-        requires some { 1 ≤ length all.now }
-        requires slots { All (λ r. AreSlots self.now (R.pops r)) all.now }
-        ensures { result ≡ table_fault self.now (map R.pops all.now) (map R.pushes all.now) }
+    pub fn fault<R: Registers>(&self, all: &R) -> Option<SyncFault>
+        requires some { 1 ≤ length (R.pops all.now) }
+        requires slots { All (AreSlots self.now) (R.pops all.now) }
+        ensures { result ≡ table_fault self.now (R.pops all.now) (R.pushes all.now) }
     {
-        let first = &all[0];
-        if !is_same_pops(first, all) {
+        let nprocs = all.count();
+        if !is_same_pops(all, nprocs) {
             return Some(SyncFault::PopMismatch);
         }
-        if !is_same_count(first, all) {
+        if !is_same_count(all, nprocs) {
             return Some(SyncFault::PushMismatch);
         }
-        let kept = self.len() - first.pops().len();
-        if kept.saturating_add(first.pushes().len()) > MOST_SLOTS {
+        let kept = self.len() - all.pops(0).len();
+        if kept.saturating_add(all.pushes(0).len()) > MOST_SLOTS {
             return Some(SyncFault::TooManySlots);
         }
         None
@@ -131,28 +143,28 @@ impl Table {
     ///
     /// # Errors
     /// The first of S3 `PopMismatch`, S4 `PushMismatch` and S5 `TooManySlots` that holds, before any memory is taken; then `OutOfMemory`.
-    pub fn synced<R: Registers>(&self, all: &[R]) -> Result<Table, TableFault>
-        requires some { 1 ≤ length all.now }
-        requires few { length all.now ≤ MOST_PROCESSES }
-        requires full { AreFull (length all.now) self.now }
-        requires slots { All (λ r. AreSlots self.now (R.pops r)) all.now }
-        ensures next { IfOk result (λ t. t ≡ next_table self.now (map R.pops all.now) (map R.pushes all.now)) }
-        ensures ok { OnOk result (table_fault self.now (map R.pops all.now) (map R.pushes all.now) ≡ None) }
-        ensures fault { IfErr result (λ e. table_fault self.now (map R.pops all.now) (map R.pushes all.now) ≡ sync_fault_of e) }
+    pub fn synced<R: Registers>(&self, all: &R) -> Result<Table, TableFault>
+        requires some { 1 ≤ length (R.pops all.now) }
+        requires few { length (R.pops all.now) ≤ MOST_PROCESSES }
+        requires full { AreFull (length (R.pops all.now)) self.now }
+        requires slots { All (AreSlots self.now) (R.pops all.now) }
+        ensures next { IfOk result (λ t. t ≡ next_table self.now (R.pops all.now) (R.pushes all.now)) }
+        ensures ok { OnOk result (table_fault self.now (R.pops all.now) (R.pushes all.now) ≡ None) }
+        ensures fault { IfErr result (λ e. table_fault self.now (R.pops all.now) (R.pushes all.now) ≡ sync_fault_of e) }
 
         // What callers keep of their tables.
-        ensures full_after { IfOk result (AreFull (length all.now)) }
+        ensures full_after { IfOk result (AreFull (length (R.pops all.now))) }
         ensures few_after { IfOk result (λ t. length t ≤ MOST_SLOTS) }
-        ensures inside { (sizes : List ℕ) → AreSlotsInside sizes self.now → ArePushesInside sizes (map R.pushes all.now) → IfOk result (AreSlotsInside sizes) }
-        ensures within { (bound : ℕ) → AreSlotsWithin bound self.now → All (λ r. AreWithin bound (R.pushes r)) all.now → IfOk result (AreSlotsWithin bound) }
+        ensures inside { (sizes : List ℕ) → AreSlotsInside sizes self.now → ArePushesInside sizes (R.pushes all.now) → IfOk result (AreSlotsInside sizes) }
+        ensures within { (bound : ℕ) → AreSlotsWithin bound self.now → All (AreWithin bound) (R.pushes all.now) → IfOk result (AreSlotsWithin bound) }
     {
         if let Some(fault) = self.fault(all) {
             return Err(TableFault::Sync(fault));
         }
-        let first = &all[0];
-        let mut slots = self.kept(first.pops())?;
-        for k in 0..first.pushes().len() {
-            slots.push(pushed(self.alloc, all, k)?)?;
+        let nprocs = all.count();
+        let mut slots = self.kept(all.pops(0))?;
+        for k in 0..all.pushes(0).len() {
+            slots.push(pushed(self.alloc, all, nprocs, k)?)?;
         }
         Ok(Table {
             alloc: self.alloc,

@@ -1,8 +1,8 @@
 -- The run of heat in a rod.
 use Rattle.std.proofs.Common.{◌≡◌, ◌<◌, ◌-◌, ◌%◌, ◌^◌, ◌∙◌, ℕ, zero, suc, List, [], ◌∷◌, length, sum, arith, ap, refl, sym}
 use Rattle.bsp_model.specs.declared.input.Input.{Input}
-use Rattle.bsp_step.specs.OutcomeParts.{OutcomeParts}
-use Rattle.bsp_deliver.specs.Requests.{each_below, outcome_of}
+use Rattle.bsp_step.specs.OutcomeParts.{OutcomeParts, outcome_of}
+use Rattle.bsp_deliver.specs.Requests.{each_below}
 use Rattle.bsp_run.specs.declared.result.Status.TheVariants.{Halted}
 use Rattle.bsp_run.specs.Law.{outcomes_in}
 use Rattle.bsp_run.specs.Result.{costs_of, lines_of, memories_of, status_of, total_of}

@@ -5,3 +5,5 @@ mod HeatTurns
 mod HeatSupersteps
 mod HeatCosts
 mod HeatRun
+mod CellBlocks
+mod Continuing

@@ -1,13 +1,18 @@
 //! Heat in a rod.
 #![tactic(auto, using(bsp_step::proofs::Laws::running))]
 
-ghost use Rattle.std.specs.Prelude.{◌≡◌, ◌≤◌, ◌-◌, ◌%◌, ◌^◌, length, sum, IfOk};
+ghost use Rattle.std.specs.Prelude.{◌≡◌, ◌≤◌, ◌<◌, ◌+◌, ◌-◌, ◌%◌, ◌^◌, ◌∷◌, length, sum, take, drop, slice_index, OnOk};
+ghost use Rattle.bsp_step.specs.Blocks.{stores, stored};
 ghost use Rattle.bsp_step.specs.Calls.{Runs};
-ghost use Rattle.heat.specs.Heat.{heat_plan, heat_advancing, heat_storing, heat_telling, next_cell, next_cells};
+ghost use Rattle.heat.specs.Heat.{heat_plan, heat_advancing, heat_charging, heat_telling, next_cell, next_cells, own_cells, put_above, puts_to_neighbours};
 
 use bsp_model::{End, OutOfMemory};
 use bsp_step::{Ctx, Program, Stop, View, settle};
 use std::alloc::Global;
+
+/// Cells are taken in blocks of at most so many words. A block ends where an address is a multiple of that, as a page of a memory does: it is
+/// stored in place, where no other memory shares the page.
+const BLOCK: u64 = 64;
 
 /// Heat in a rod of cells, which are dealt to the processes in a row. In each time step every cell takes a quarter of the sum of the word
 /// before it, twice its own and the word after it, modulo 2^64 and rounded down. After the last one each process prints the sum of its cells.
@@ -49,13 +54,13 @@ impl Program for Heat {
         }
     }
 
-    fn step(&self, alloc: Global, ctx: &mut Ctx<'_>) -> Result<End, OutOfMemory> {
-        settle(run(alloc, ctx))
+    fn step(&self, _alloc: Global, ctx: &mut Ctx<'_>) -> Result<End, OutOfMemory> {
+        settle(run(ctx))
     }
 }
 
-/// The turn of a process.
-fn run(alloc: Global, ctx: &mut Ctx<'_>) -> Result<End, Stop>
+/// The turn of a process. It takes no memory but what the acts take.
+fn run(ctx: &mut Ctx<'_>) -> Result<End, Stop>
     ensures { let plan = heat_plan ctx.old.view ctx.old.memory in Runs ctx.old plan.acts plan.ending ctx.new result }
 {
     let Some(time_steps) = ctx.arg(0) else {
@@ -71,47 +76,86 @@ fn run(alloc: Global, ctx: &mut Ctx<'_>) -> Result<End, Stop>
             ctx.push_reg(len - 1, 1)?;
             Ok(End::Sync)
         }
-        1 => {
-            let cells = ctx.words_at(1, len - 2)?.unwrap();
-            tell(ctx, time_steps, cells.as_slice())
-        }
-        _ => advance(alloc, ctx, time_steps),
+        1 => tell(ctx, time_steps),
+        _ => advance(ctx, time_steps),
     }
 }
 
 /// Makes a time step, and goes on.
-#[tactic(auto, using(crate::specs::Cells::length_of_next_cells))]
-fn advance(alloc: Global, ctx: &mut Ctx<'_>, time_steps: u64) -> Result<End, Stop>
+fn advance(ctx: &mut Ctx<'_>, time_steps: u64) -> Result<End, Stop>
     requires { 3 ≤ length ctx.old.memory }
     ensures { let plan = heat_advancing ctx.old.view time_steps ctx.old.memory in Runs ctx.old plan.acts plan.ending ctx.new result }
 {
-    let words = ctx.words_at(0, ctx.memory_len())?.unwrap();
-    let cells = next_cells(alloc, words.as_slice())?;
-    store(ctx, time_steps, cells.as_slice())
+    store_next_cells(ctx)?;
+    charge_cells(ctx, time_steps)
 }
 
-/// Makes these the own cells, charges for each, and goes on.
-fn store(ctx: &mut Ctx<'_>, time_steps: u64, cells: &[u64]) -> Result<End, Stop>
-    requires { 1 ≤ length cells.now }
-    ensures { let plan = heat_storing ctx.old.view time_steps cells.now in Runs ctx.old plan.acts plan.ending ctx.new result }
+/// Charges for each own cell, and goes on.
+#[tactic(auto, using(crate::specs::Cells::length_of_own_cells))]
+fn charge_cells(ctx: &mut Ctx<'_>, time_steps: u64) -> Result<End, Stop>
+    requires { 3 ≤ length ctx.old.memory }
+    ensures { let plan = heat_charging ctx.old.view time_steps (own_cells ctx.old.memory) in Runs ctx.old plan.acts plan.ending ctx.new result }
 {
-    ctx.store_words(1, cells)?;
-    ctx.charge(cells.len() as u64)?;
-    tell(ctx, time_steps, cells)
+    ctx.charge(ctx.memory_len() - 2)?;
+    tell(ctx, time_steps)
 }
 
-/// What the own cells of a memory become in a time step.
-#[tactic(auto, using(crate::specs::Cells::one_more_cell))]
-fn next_cells(alloc: Global, memory: &[u64]) -> Result<Vec<u64>, OutOfMemory>
-    requires { 3 ≤ length memory.now }
-    ensures { IfOk result (λ cells. cells.items ≡ next_cells memory.now) }
+/// Stores what each own cell becomes, all from the words as they are before.
+fn store_next_cells(ctx: &mut Ctx<'_>) -> Result<(), Stop>
+    requires { 3 ≤ length ctx.old.memory }
+    ensures acted { Runs ctx.old (stores 1 (next_cells ctx.old.memory)) tt ctx.new result }
+    ensures cells { OnOk result (own_cells ctx.new.memory ≡ next_cells ctx.old.memory) }
+    ensures len { OnOk result (length ctx.new.memory ≡ length ctx.old.memory) }
+    ensures view { OnOk result (ctx.new.view ≡ ctx.old.view) }
 {
-    let count = memory.len() - 2;
-    let mut cells = Vec::with_capacity(alloc, count)?;
-    for i in 0..count {
-        cells.push(next_cell(memory[i], memory[i + 1], memory[i + 2]))?;
+    let end = ctx.memory_len() - 1;
+    let mut before = ctx.load(0).unwrap();
+    let mut start = 1;
+    while start < end {
+        let count = count_in_block(start, end);
+        before = store_block(ctx, start, count, before)?;
+        start += count;
     }
-    Ok(cells)
+    Ok(())
+}
+
+/// How many of the words from `start` up to `end` are in the block of the first of them.
+fn count_in_block(start: u64, end: u64) -> u64
+    requires { start < end }
+    ensures some { 1 ≤ result }
+    ensures few { result ≤ BLOCK }
+    ensures within { start + result ≤ end }
+{
+    (BLOCK - start % BLOCK).min(end - start)
+}
+
+/// Stores what `count` cells from `start` on become, where `before` is what the word before them was. Answers what the last of them was.
+fn store_block(ctx: &mut Ctx<'_>, start: u64, count: u64, before: u64) -> Result<u64, Stop>
+    requires some { 1 ≤ count }
+    requires few { count ≤ BLOCK }
+    requires within { start + count < length ctx.old.memory }
+    ensures acted { Runs ctx.old (stores start (next_cells (before ∷ take (count + 1) (drop start ctx.old.memory)))) (slice_index ctx.old.memory (start + count - 1)) ctx.new result }
+    ensures memory { OnOk result (ctx.new.memory ≡ stored ctx.old.memory start (next_cells (before ∷ take (count + 1) (drop start ctx.old.memory)))) }
+    ensures view { OnOk result (ctx.new.view ≡ ctx.old.view) }
+{
+    let count = count as usize;
+    let mut words = [0; 66];
+    words[0] = before;
+    ctx.load_words(start, &mut words[1..count + 2]).unwrap();
+    let last = words[count];
+    make_next_cells(&mut words[..count + 2]);
+    ctx.store_words(start, &words[..count])?;
+    Ok(last)
+}
+
+/// Makes the first of these words what the cells between the first and the last of them become.
+fn make_next_cells(words: &mut [u64])
+    requires { 2 ≤ length words.old }
+    ensures { take (length words.old - 2) words.new ≡ next_cells words.old }
+{
+    for i in 0..words.len() - 2 {
+        words[i] = next_cell(words[i], words[i + 1], words[i + 2]);
+    }
 }
 
 /// What a cell becomes in a time step.
@@ -122,22 +166,72 @@ fn next_cell(before: u64, own: u64, after: u64) -> u64
 }
 
 /// Puts the outer ones of the own cells to the neighbours where time steps are left; else prints the sum of all.
-fn tell(ctx: &mut Ctx<'_>, time_steps: u64, cells: &[u64]) -> Result<End, Stop>
-    requires { 1 ≤ length cells.now }
-    ensures { let plan = heat_telling ctx.old.view time_steps cells.now in Runs ctx.old plan.acts plan.ending ctx.new result }
+fn tell(ctx: &mut Ctx<'_>, time_steps: u64) -> Result<End, Stop>
+    requires { 3 ≤ length ctx.old.memory }
+    ensures { let plan = heat_telling ctx.old.view time_steps (own_cells ctx.old.memory) in Runs ctx.old plan.acts plan.ending ctx.new result }
 {
     if ctx.step() > time_steps {
-        ctx.print(&[sum_of(cells)])?;
+        let sum = sum_of_cells(ctx);
+        ctx.print(&[sum])?;
         return Ok(End::Halt);
     }
+    put_to_neighbours(ctx)
+}
+
+/// Puts the first own cell to the process below and the last to the process above, if there are such.
+fn put_to_neighbours(ctx: &mut Ctx<'_>) -> Result<End, Stop>
+    requires { 3 ≤ length ctx.old.memory }
+    ensures { Runs ctx.old (puts_to_neighbours ctx.old.view (own_cells ctx.old.memory)) End.Sync ctx.new result }
+{
     let pid = ctx.pid();
-    if pid > 0 {
-        ctx.put(pid - 1, &[cells[0]], cells.len() as u64 + 1, 0)?;
+    if pid == 0 {
+        return put_above(ctx);
     }
+    let first = ctx.load(1).unwrap();
+    ctx.put(pid - 1, &[first], ctx.memory_len() - 1, 0)?;
+    put_above(ctx)
+}
+
+/// Puts the last own cell to the process above, if there is one.
+#[tactic(auto, using(crate::specs::Cells::length_of_own_cells, crate::specs::Cells::own_cell))]
+fn put_above(ctx: &mut Ctx<'_>) -> Result<End, Stop>
+    requires { 3 ≤ length ctx.old.memory }
+    ensures { Runs ctx.old (put_above ctx.old.view (own_cells ctx.old.memory)) End.Sync ctx.new result }
+{
+    let pid = ctx.pid();
     if pid + 1 < ctx.nprocs() {
-        ctx.put(pid + 1, &[cells[cells.len() - 1]], 0, 0)?;
+        let last = ctx.load(ctx.memory_len() - 2).unwrap();
+        ctx.put(pid + 1, &[last], 0, 0)?;
     }
     Ok(End::Sync)
+}
+
+/// The sum of the own cells, modulo 2^64.
+fn sum_of_cells(ctx: &Ctx<'_>) -> u64
+    requires { 3 ≤ length ctx.now.memory }
+    ensures { result ≡ sum (own_cells ctx.now.memory) % 2 ^ 64 }
+{
+    let end = ctx.memory_len() - 1;
+    let mut sum: u64 = 0;
+    let mut start = 1;
+    while start < end {
+        let count = count_in_block(start, end);
+        sum = sum.wrapping_add(sum_of_block(ctx, start, count));
+        start += count;
+    }
+    sum
+}
+
+/// The sum of `count` words from `start` on, modulo 2^64.
+fn sum_of_block(ctx: &Ctx<'_>, start: u64, count: u64) -> u64
+    requires few { count ≤ BLOCK }
+    requires within { start + count ≤ length ctx.now.memory }
+    ensures { result ≡ sum (take count (drop start ctx.now.memory)) % 2 ^ 64 }
+{
+    let mut words = [0; 64];
+    let words = &mut words[..count as usize];
+    ctx.load_words(start, words).unwrap();
+    sum_of(words)
 }
 
 /// The sum of words, modulo 2^64.

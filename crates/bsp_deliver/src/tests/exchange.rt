@@ -3,8 +3,8 @@ ghost use Rattle.bsp_deliver.specs.Condition.{AreDeliverable};
 
 use crate::tests::outcomes::{Process, outcomes_of};
 use crate::{answers_same, parcel_same};
-use bsp_model::{OutOfMemory, Shared};
-use bsp_step::Outcome;
+use bsp_model::OutOfMemory;
+use bsp_step::Outcomes;
 use std::alloc::Global;
 use std::process::Abort;
 use std::test::Fail;
@@ -15,8 +15,8 @@ pub(crate) fn exchange(
     alloc: Global,
     words_of_1: &[u64],
     put_by_1: &[u64],
-) -> Result<Vec<Shared<Outcome>>, OutOfMemory>
-    ensures { IfOk result (λ outcomes. AreDeliverable outcomes.items) }
+) -> Result<Outcomes, OutOfMemory>
+    ensures { IfOk result AreDeliverable }
 {
     let issued = [
         Process(0).get(1, 0, 2, 0),
@@ -27,7 +27,7 @@ pub(crate) fn exchange(
 }
 
 /// Whether the delivery of process 0 alone depends on what is other.
-fn are_compared(old: &[Shared<Outcome>], new: &[Shared<Outcome>]) -> bool
+fn are_compared(old: &Outcomes, new: &Outcomes) -> bool
     requires old { AreDeliverable old.now }
     requires new { AreDeliverable new.now }
 {
@@ -43,7 +43,7 @@ fn are_compared(old: &[Shared<Outcome>], new: &[Shared<Outcome>]) -> bool
 fn what_a_delivery_depends_on_is_compared(rt: HostRuntime) -> Result<(), Fail> {
     let old = exchange(&rt, rt.alloc(), &[20, 21], &[77])?;
     let new = exchange(&rt, rt.alloc(), &[20, 22], &[78])?;
-    let are_compared = are_compared(old.as_slice(), new.as_slice());
+    let are_compared = are_compared(&old, &new);
     drop(old);
     drop(new);
     assert!(rt; are_compared);

@@ -5,27 +5,29 @@ ghost use Rattle.bsp_deliver.specs.Sorting.{IsSortedFrom};
 use crate::tests::exchange::exchange;
 use crate::tests::memories::leaves;
 use crate::{SortedRequests, deliver_some, deliver_sorted, sort_requests};
-use bsp_model::{Memory, OutOfMemory, Shared};
-use bsp_step::{Outcome, Queue};
+use bsp_model::{Memories, OutOfMemory};
+use bsp_step::{Outcomes, Queue};
 use std::alloc::Global;
 use std::test::Fail;
 
 /// Whether a delivery to two processes left these memories and no message.
-fn leave(cells: &[(Memory, Queue)], first: &[u64], second: &[u64]) -> bool {
-    match cells {
-        [(one, its), (other, others)] => leaves(one, its, first) && leaves(other, others, second),
-        _ => false,
-    }
+fn leave(memories: &Memories, queues: &[Queue], first: &[u64], second: &[u64]) -> bool {
+    memories.len() == 2
+        && queues.len() == 2
+        && leaves(&memories.get(0), &queues[0], first)
+        && leaves(&memories.get(1), &queues[1], second)
 }
 
 /// Whether one pass brings each of two processes the other's put, which wins over a get.
-fn are_gathered(alloc: Global, outcomes: &[Shared<Outcome>]) -> Result<bool, OutOfMemory>
+fn are_gathered(alloc: Global, outcomes: &Outcomes) -> Result<bool, OutOfMemory>
     requires deliverable { AreDeliverable outcomes.now }
     requires two { length outcomes.now ≡ 2 }
 {
     let cells = deliver_some(alloc, outcomes, &[0, 1])?;
-    let are_left = leave(cells.as_slice(), &[77, 21], &[88, 89]);
-    drop(cells);
+    let (memories, queues) = cells.into_parts();
+    let are_left = leave(&memories, queues.as_slice(), &[77, 21], &[88, 89]);
+    drop(memories);
+    drop(queues);
     Ok(are_left)
 }
 
@@ -34,7 +36,7 @@ fn is_brought(
     alloc: Global,
     d: usize,
     sorted: &SortedRequests,
-    outcomes: &[Shared<Outcome>],
+    outcomes: &Outcomes,
     words: &[u64],
 ) -> Result<bool, OutOfMemory>
     requires known { d < length outcomes.now }
@@ -42,14 +44,14 @@ fn is_brought(
     requires sorted { IsSortedFrom outcomes.now sorted.now }
 {
     let (memory, queue) = deliver_sorted(alloc, d, sorted, outcomes)?;
-    let is_left = leaves(&memory, &queue, words);
+    let is_left = leaves(&memory.as_ref(), &queue, words);
     drop(memory);
     drop(queue);
     Ok(is_left)
 }
 
 /// The same, where the requests are sorted first.
-fn are_sorted(alloc: Global, outcomes: &[Shared<Outcome>]) -> Result<bool, OutOfMemory>
+fn are_sorted(alloc: Global, outcomes: &Outcomes) -> Result<bool, OutOfMemory>
     requires deliverable { AreDeliverable outcomes.now }
     requires two { length outcomes.now ≡ 2 }
 {
@@ -64,8 +66,8 @@ fn are_sorted(alloc: Global, outcomes: &[Shared<Outcome>]) -> Result<bool, OutOf
 fn each_has_its_own(rt: HostRuntime) -> Result<(), Fail> {
     let outcomes = exchange(&rt, rt.alloc(), &[20, 21], &[77])?;
     assert_eq!(rt; outcomes.len(), 2);
-    let are_gathered = are_gathered(rt.alloc(), outcomes.as_slice());
-    let are_sorted = are_sorted(rt.alloc(), outcomes.as_slice());
+    let are_gathered = are_gathered(rt.alloc(), &outcomes);
+    let are_sorted = are_sorted(rt.alloc(), &outcomes);
     drop(outcomes);
     assert!(rt; are_gathered?);
     assert!(rt; are_sorted?);

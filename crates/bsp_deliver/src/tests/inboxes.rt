@@ -4,8 +4,8 @@ ghost use Rattle.bsp_deliver.specs.Condition.{AreDeliverable};
 use crate::tests::exchange::exchange;
 use crate::tests::memories::leaves;
 use crate::{Inbox, deliver_inbox, inbox};
-use bsp_model::{OutOfMemory, Shared};
-use bsp_step::Outcome;
+use bsp_model::OutOfMemory;
+use bsp_step::Outcomes;
 use std::alloc::Global;
 use std::test::Fail;
 
@@ -24,7 +24,7 @@ fn is_one_put(inbox: &Inbox, d: usize, sender: u64, words: &[u64]) -> bool {
 /// Whether the inbox of `d` is one put from its word 0 on, and `deliver_inbox` leaves this memory and no message.
 fn is_inbox(
     alloc: Global,
-    outcomes: &[Shared<Outcome>],
+    outcomes: &Outcomes,
     d: usize,
     sender: u64,
     words: &[u64],
@@ -38,14 +38,14 @@ fn is_inbox(
     let delivered = deliver_inbox(alloc, d, &mine, outcomes);
     drop(mine);
     let (memory, queue) = delivered?;
-    let is_left = leaves(&memory, &queue, after);
+    let is_left = leaves(&memory.as_ref(), &queue, after);
     drop(memory);
     drop(queue);
     Ok(is_put && is_left)
 }
 
 /// Whether each of two processes has the other's put, which wins over a get.
-fn are_inboxes(alloc: Global, outcomes: &[Shared<Outcome>]) -> Result<bool, OutOfMemory>
+fn are_inboxes(alloc: Global, outcomes: &Outcomes) -> Result<bool, OutOfMemory>
     requires { AreDeliverable outcomes.now }
 {
     if outcomes.len() != 2 {
@@ -59,7 +59,7 @@ fn are_inboxes(alloc: Global, outcomes: &[Shared<Outcome>]) -> Result<bool, OutO
 #[test]
 fn what_others_put_is_in_the_inbox(rt: HostRuntime) -> Result<(), Fail> {
     let outcomes = exchange(&rt, rt.alloc(), &[20, 21], &[77])?;
-    let found = are_inboxes(rt.alloc(), outcomes.as_slice());
+    let found = are_inboxes(rt.alloc(), &outcomes);
     drop(outcomes);
     assert!(rt; found?);
     Ok(())

@@ -1,10 +1,10 @@
 //! What deliveries have to leave.
 
-use bsp_model::Memory;
+use bsp_model::MemoryRef;
 use bsp_step::Queue;
 
 /// Whether these are the words of the memory.
-fn is_memory(memory: &Memory, words: &[u64]) -> bool {
+fn is_memory(memory: &MemoryRef<'_>, words: &[u64]) -> bool {
     for address in 0..words.len() {
         if memory.load(address as u64) != Some(words[address]) {
             return false;
@@ -14,6 +14,6 @@ fn is_memory(memory: &Memory, words: &[u64]) -> bool {
 }
 
 /// Whether a delivery left this memory and no message.
-pub(crate) fn leaves(memory: &Memory, queue: &Queue, words: &[u64]) -> bool {
+pub(crate) fn leaves(memory: &MemoryRef<'_>, queue: &Queue, words: &[u64]) -> bool {
     queue.is_empty() && is_memory(memory, words)
 }

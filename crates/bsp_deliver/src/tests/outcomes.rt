@@ -3,8 +3,8 @@
 ghost use Rattle.std.specs.Prelude.{IsTrue, IfOk, All, ◌<◌, ◌≤◌, ◌+◌, length, slice_index};
 ghost use Rattle.bsp_deliver.specs.Condition.{AreDeliverable, AreRequestsInside, IsGetInside, IsPutInside, sizes_of};
 
-use bsp_model::{Get, Memory, OutOfMemory, Puts, Rows, Sends, Seq, Shared, Stores};
-use bsp_step::{Ended, Outcome};
+use bsp_model::{Get, Memory, MemoryRef, OutOfMemory, Puts, PutsRef, Rows, Sends, Seq, Stores};
+use bsp_step::{Ended, Outcome, OutcomeRef, OutcomeRows, Outcomes};
 use std::alloc::Global;
 use std::process::Abort;
 
@@ -107,17 +107,17 @@ fn outcome_of(
 }
 
 /// Whether words from an address on lie in the memory of a process.
-fn are_words_of(outcomes: &[Shared<Outcome>], process: u64, start: u64, len: u64) -> bool
+fn are_words_of(outcomes: &Outcomes, process: u64, start: u64, len: u64) -> bool
     ensures { IsTrue result → process < length outcomes.now × start + len ≤ slice_index (sizes_of outcomes.now) process }
 {
-    match outcomes.get(process as usize) {
-        Some(outcome) => is_room(&outcome.memory, start, len),
-        None => false,
+    if process >= outcomes.len() as u64 {
+        return false;
     }
+    is_room(&outcomes.get(process as usize).memory, start, len)
 }
 
 /// Whether words from an address on lie in a memory.
-fn is_room(memory: &Memory, start: u64, len: u64) -> bool
+fn is_room(memory: &MemoryRef<'_>, start: u64, len: u64) -> bool
     ensures { IsTrue result → start + len ≤ length memory.now }
 {
     let size = memory.len() as u64;
@@ -125,15 +125,15 @@ fn is_room(memory: &Memory, start: u64, len: u64) -> bool
 }
 
 /// Whether all requests of an outcome name processes of the list, and words inside the memories concerned, and none is a message.
-fn are_requests_inside(outcome: &Outcome, outcomes: &[Shared<Outcome>]) -> bool
+fn are_requests_inside(outcome: &OutcomeRef<'_>, outcomes: &Outcomes) -> bool
     ensures { IsTrue result → AreRequestsInside (sizes_of outcomes.now) outcome.now }
 {
     are_puts_inside(&outcome.puts, outcomes)
-        && are_gets_inside(outcome.gets.as_slice(), &outcome.memory, outcomes)
+        && are_gets_inside(outcome.gets, &outcome.memory, outcomes)
         && outcome.sends.is_empty()
 }
 
-fn are_puts_inside(puts: &Puts, outcomes: &[Shared<Outcome>]) -> bool
+fn are_puts_inside(puts: &PutsRef<'_>, outcomes: &Outcomes) -> bool
     ensures { IsTrue result → All (IsPutInside (sizes_of outcomes.now)) puts.now }
 {
     for place in 0..puts.len() {
@@ -145,7 +145,7 @@ fn are_puts_inside(puts: &Puts, outcomes: &[Shared<Outcome>]) -> bool
     true
 }
 
-fn are_gets_inside(gets: &[Get], own: &Memory, outcomes: &[Shared<Outcome>]) -> bool
+fn are_gets_inside(gets: &[Get], own: &MemoryRef<'_>, outcomes: &Outcomes) -> bool
     ensures { IsTrue result → All (IsGetInside (sizes_of outcomes.now) (length own.now)) gets.now }
 {
     gets.iter().all(|get| {
@@ -153,22 +153,30 @@ fn are_gets_inside(gets: &[Get], own: &Memory, outcomes: &[Shared<Outcome>]) -> 
     })
 }
 
-fn are_all_inside(outcomes: &[Shared<Outcome>]) -> bool
+fn are_all_inside(outcomes: &Outcomes) -> bool
     ensures { IsTrue result → All (AreRequestsInside (sizes_of outcomes.now)) outcomes.now }
 {
-    outcomes
-        .iter()
-        .all(|outcome| are_requests_inside(outcome, outcomes))
+    for process in 0..outcomes.len() {
+        if !are_requests_inside(&outcomes.get(process), outcomes) {
+            return false;
+        }
+    }
+    true
 }
 
-fn are_memories_short(outcomes: &[Shared<Outcome>]) -> bool
+fn are_memories_short(outcomes: &Outcomes) -> bool
     ensures { IsTrue result → All (λ o. length o.memory ≤ 4096) outcomes.now }
 {
-    outcomes.iter().all(|outcome| outcome.memory.len() <= 4096)
+    for process in 0..outcomes.len() {
+        if outcomes.get(process).memory.len() > 4096 {
+            return false;
+        }
+    }
+    true
 }
 
 /// Whether the outcomes meet the condition of delivery.
-fn are_deliverable(outcomes: &[Shared<Outcome>]) -> bool
+fn are_deliverable(outcomes: &Outcomes) -> bool
     ensures { IsTrue result → AreDeliverable outcomes.now }
 {
     if outcomes.is_empty() {
@@ -189,15 +197,16 @@ pub(crate) fn outcomes_of(
     alloc: Global,
     memories: &[&[u64]],
     issued: &[Issued<'_>],
-) -> Result<Vec<Shared<Outcome>>, OutOfMemory>
-    ensures { IfOk result (λ outcomes. AreDeliverable outcomes.items) }
+) -> Result<Outcomes, OutOfMemory>
+    ensures { IfOk result AreDeliverable }
 {
-    let mut outcomes = Vec::new(alloc);
+    let mut rows = OutcomeRows::with_capacity(alloc, memories.len())?;
     for process in 0..memories.len() {
         let requests = requests_of(alloc, process, issued)?;
         let outcome = outcome_of(rt, alloc, memories[process], requests)?;
-        outcomes.push(Shared::new(alloc, outcome)?)?;
+        let _spare = rows.push(outcome)?;
     }
-    assert!(rt; are_deliverable(outcomes.as_slice()));
+    let outcomes = rows.share()?;
+    assert!(rt; are_deliverable(&outcomes));
     Ok(outcomes)
 }

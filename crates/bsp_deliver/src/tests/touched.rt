@@ -1,54 +1,50 @@
 ghost use Rattle.std.specs.Prelude.{◌≡◌, IfOk, length};
 ghost use Rattle.bsp_deliver.specs.Condition.{AreDeliverable};
-ghost use Rattle.bsp_deliver.specs.Touched.{outcomes_before};
+ghost use Rattle.bsp_deliver.specs.Touched.{AreSameUnlessMarked};
 
 use crate::tests::outcomes::{Process, outcomes_of};
 use crate::touched_by_changes;
-use bsp_model::{OutOfMemory, Shared};
-use bsp_step::Outcome;
+use bsp_model::{OutOfMemory, Same};
+use bsp_step::Outcomes;
 use std::alloc::Global;
 use std::test::Fail;
 
-/// Each of these outcomes as a former one.
-fn formers<'a>(
+/// Which outcomes are others than before.
+fn changes<'a>(
     alloc: Global,
-    old: &'a [Shared<Outcome>],
-    new: &[Shared<Outcome>],
-) -> Result<Vec<Option<&'a Shared<Outcome>>>, OutOfMemory>
+    old: &'a Outcomes,
+    new: &'a Outcomes,
+) -> Result<Vec<bool>, OutOfMemory>
     requires { length old.now ≡ length new.now }
-    ensures count { IfOk result (λ formers. length formers.items ≡ length new.now) }
-    ensures before { IfOk result (λ formers. outcomes_before formers.items new.now ≡ old.now) }
+    ensures count { IfOk result (λ changed. length changed.items ≡ length new.now) }
+    ensures unchanged { IfOk result (λ changed. AreSameUnlessMarked old.now new.now changed.items) }
 {
-    let mut formers = Vec::new(alloc);
+    let mut changed = Vec::new(alloc);
     for p in 0..new.len() {
-        let outcome = &old[p];
-        formers.push(Some(outcome))?;
+        let is_same = old.get(p).same(&new.get(p));
+        changed.push(!is_same)?;
     }
-    Ok(formers)
+    Ok(changed)
 }
 
 /// Which deliveries depend on what is other.
-fn touched(
+fn touched<'a>(
     alloc: Global,
-    old: &[Shared<Outcome>],
-    new: &[Shared<Outcome>],
+    old: &'a Outcomes,
+    new: &'a Outcomes,
 ) -> Result<Vec<bool>, OutOfMemory>
     requires old { AreDeliverable old.now }
     requires new { AreDeliverable new.now }
     requires count { length old.now ≡ length new.now }
 {
-    let formers = formers(alloc, old, new)?;
-    let touched = touched_by_changes(alloc, formers.as_slice(), new);
-    drop(formers);
+    let changed = changes(alloc, old, new)?;
+    let touched = touched_by_changes(alloc, old, new, changed.as_slice());
+    drop(changed);
     touched
 }
 
 /// Whether the deliveries of five processes but process 1's depend on what is other.
-fn are_touched(
-    alloc: Global,
-    old: &[Shared<Outcome>],
-    new: &[Shared<Outcome>],
-) -> Result<bool, OutOfMemory>
+fn are_touched<'a>(alloc: Global, old: &'a Outcomes, new: &'a Outcomes) -> Result<bool, OutOfMemory>
     requires old { AreDeliverable old.now }
     requires new { AreDeliverable new.now }
 {
@@ -74,7 +70,7 @@ fn what_has_changed_touches(rt: HostRuntime) -> Result<(), Fail> {
     let after = [kept, Process(0).put(4, 0, &[7]), read];
     let old = outcomes_of(&rt, rt.alloc(), &MEMORIES, &before)?;
     let new = outcomes_of(&rt, rt.alloc(), &OTHER_MEMORIES, &after)?;
-    let found = are_touched(rt.alloc(), old.as_slice(), new.as_slice());
+    let found = are_touched(rt.alloc(), &old, &new);
     drop(old);
     drop(new);
     assert!(rt; found?);

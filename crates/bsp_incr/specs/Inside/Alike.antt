@@ -1,7 +1,6 @@
 -- What outcomes have in common where parts of a superstep are taken over from the run before.
 use Rattle.std.specs.Prelude.{◌≡◌, ◌<◌, ℕ, List, length, map}
-use Rattle.bsp_step.specs.OutcomeParts.{OutcomeParts}
-use Rattle.bsp_deliver.specs.Requests.{outcome_of}
+use Rattle.bsp_step.specs.OutcomeParts.{OutcomeParts, outcome_of}
 use Rattle.bsp_deliver.specs.Cost.{put_transfer, get_transfer, send_transfer}
 
 -- the parts on which the end of a superstep, the next table and the next tag size depend

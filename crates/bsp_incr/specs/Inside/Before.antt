@@ -27,6 +27,11 @@ outcomes_before old s = (superstep_at (supersteps_before old) s).outcomes
 abbrev pub delivered_outcomes : Option Run → ℕ → List OutcomeParts
 delivered_outcomes old s = (superstep_at (delivered_before old) s).outcomes
 
+-- these outcomes; none where there is no such list
+abbrev pub outcomes_if_any : Option (List OutcomeParts) → List OutcomeParts
+outcomes_if_any None = []
+outcomes_if_any (Some os) = os
+
 -- the views after the delivery of superstep s; none where there was no such delivery
 abbrev pub views_after : Option Run → ℕ → List ViewParts
 views_after None s = []

@@ -1,8 +1,7 @@
 -- Which views of an open superstep may differ from those of the old run: what the private functions of this crate ask and promise.
 use Rattle.std.specs.Prelude.{◌≡◌, ◌<◌, ℕ, Bool, true, false, List, length, slice_index_or}
 use Rattle.bsp_step.specs.ViewParts.{ViewParts}
-use Rattle.bsp_step.specs.OutcomeParts.{OutcomeParts}
-use Rattle.bsp_deliver.specs.Requests.{outcome_of}
+use Rattle.bsp_step.specs.OutcomeParts.{OutcomeParts, outcome_of}
 use Rattle.bsp_deliver.specs.Delivery.{delivery_parts, next_memory, next_queue}
 use Rattle.bsp_deliver.specs.Condition.{AreDeliverable}
 use Rattle.bsp_run.specs.Condition.{no_view}

@@ -26,10 +26,10 @@ fn first_memories(alloc: Global) -> Result<Memories, OutOfMemory> {
 }
 
 /// New memories, the first of no word and the second of two pages and two words.
-fn new_memories(alloc: Global) -> Result<Vec<Memory>, OutOfMemory> {
-    let mut memories = Vec::new(alloc);
+fn new_memories(alloc: Global) -> Result<Memories, OutOfMemory> {
+    let mut memories = Memories::with_capacity(alloc, 2)?;
     memories.push(memory_of(alloc, 7, 0)?)?;
-    memories.push(memory_of(alloc, 8, 130)?)?;
+    memories.push_copy(&memory_of(alloc, 8, 130)?.as_ref())?;
     Ok(memories)
 }
 
@@ -59,7 +59,8 @@ fn find_between(rt: &impl Abort, memories: &Memories) {
 fn find_replaced(rt: &impl Abort, alloc: Global, memories: &Memories) -> Result<(), OutOfMemory> {
     let new = new_memories(alloc)?;
     assert!(rt; memories.len() == 4 && new.len() == 2);
-    let replaced = memories.replaced(&[0, 3], new)?;
+    let replaced = memories.replaced(&[0, 3], &new)?;
+    drop(new);
     find_memory(rt, &replaced, 0, 7, 0);
     find_between(rt, &replaced);
     find_memory(rt, &replaced, 3, 8, 130);
@@ -73,6 +74,40 @@ fn the_first_and_the_last_are_replaced(rt: HostRuntime) -> Result<(), Fail> {
     let found = find_replaced(&rt, rt.alloc(), &memories);
     find_memory(&rt, &memories, 0, 1, COUNTS[0]);
     find_between(&rt, &memories);
+    find_memory(&rt, &memories, 3, 4, COUNTS[3]);
+    drop(memories);
+    Ok(found?)
+}
+
+/// Writes over the end of a page that another copy shares, over one that none shares, and past the end.
+fn find_written(rt: &impl Abort, memories: &mut Memories) -> Result<(), OutOfMemory> {
+    assert!(rt; memories.write(0, 63, &[5, 6])?);
+    assert!(rt; memories.write(0, 0, &[5])?);
+    assert!(rt; !memories.write(0, 64, &[7, 7])?);
+    assert!(rt; memories.write(3, 1, &[9])?);
+    let first = memories.get(0);
+    assert_eq!(rt; first.load(0), Some(5));
+    assert_eq!(rt; first.load(1), Some(1));
+    assert_eq!(rt; first.load(63), Some(5));
+    assert_eq!(rt; first.load(64), Some(6));
+    assert_eq!(rt; memories.get(3).load(1), Some(9));
+    Ok(())
+}
+
+/// Memories that share the pages of others are written to; the others stay as they are.
+fn find_shared(rt: &impl Abort, alloc: Global, memories: &Memories) -> Result<(), OutOfMemory> {
+    let mut others = memories.replaced(&[], &Memories::with_capacity(alloc, 0)?)?;
+    assert!(rt; others.len() == COUNTS.len());
+    find_written(rt, &mut others)?;
+    find_between(rt, &others);
+    Ok(())
+}
+
+#[test]
+fn a_write_changes_no_other_copy(rt: HostRuntime) -> Result<(), Fail> {
+    let memories = first_memories(rt.alloc())?;
+    let found = find_shared(&rt, rt.alloc(), &memories);
+    find_memory(&rt, &memories, 0, 1, COUNTS[0]);
     find_memory(&rt, &memories, 3, 4, COUNTS[3]);
     drop(memories);
     Ok(found?)

@@ -72,7 +72,7 @@ fn find_again(
     other: &mut Memory,
 ) -> Result<(), OutOfMemory> {
     make_some(rt, stores, memory)?;
-    stores.make_again(other)?;
+    stores.as_ref().make_again(other)?;
     assert!(rt; other.same(memory));
     Ok(())
 }

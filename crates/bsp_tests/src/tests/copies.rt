@@ -4,18 +4,18 @@ use super::known::{Known, row};
 use super::running::{find_plain, history_of, is_input};
 use crate::Ask::{PopReg, PushReg, Send, SetTagsize, Store};
 use crate::{Asks, Clash};
-use bsp_model::{OutOfMemory, Same, Shared, TryCopy};
+use bsp_model::{OutOfMemory, Same, TryCopy};
 use bsp_programs::Rank;
 use bsp_run::{History, RunError};
-use bsp_step::Program;
+use bsp_step::{Outcomes, Program};
 use std::alloc::Global;
 use std::test::Fail;
 
-/// Whether each item is the same as its copy.
-fn have_equal_copies<T: TryCopy + Same + Drop>(items: &[Shared<T>]) -> Result<bool, OutOfMemory> {
-    for item in items {
-        let item: &T = item;
-        if !item.same(&item.copy()?) {
+/// Whether each outcome is the same as its copy.
+fn have_equal_copies(alloc: Global, outcomes: &Outcomes) -> Result<bool, OutOfMemory> {
+    for pid in 0..outcomes.len() {
+        let outcome = outcomes.get(pid).to_outcome(alloc)?;
+        if !outcome.same(&outcome.copy()?) {
             return Ok(false);
         }
     }
@@ -23,18 +23,18 @@ fn have_equal_copies<T: TryCopy + Same + Drop>(items: &[Shared<T>]) -> Result<bo
 }
 
 /// Whether there are outcomes of a superstep, all the same as their copies.
-fn has_equal_copies(history: &History, step: u64) -> Result<bool, OutOfMemory> {
+fn has_equal_copies(alloc: Global, history: &History, step: u64) -> Result<bool, OutOfMemory> {
     match history.outcomes(step) {
-        Some(outcomes) => have_equal_copies(outcomes),
+        Some(outcomes) => have_equal_copies(alloc, outcomes),
         None => Ok(false),
     }
 }
 
 /// How many supersteps a run has before the first with an outcome that is not the same as its copy, or before its end.
-fn count_of_equal(history: &History) -> Result<u64, OutOfMemory> {
+fn count_of_equal(alloc: Global, history: &History) -> Result<u64, OutOfMemory> {
     let steps = history.steps() as u64;
     for step in 0..steps {
-        if !has_equal_copies(history, step)? {
+        if !has_equal_copies(alloc, history, step)? {
             return Ok(step);
         }
     }
@@ -44,7 +44,7 @@ fn count_of_equal(history: &History) -> Result<u64, OutOfMemory> {
 /// How many supersteps of a known run have outcomes that are all the same as their copies.
 fn count_in<P: Program>(alloc: Global, program: &P, known: Known) -> Result<u64, RunError> {
     let history = history_of(alloc, program, row(known))?;
-    let found = count_of_equal(&history);
+    let found = count_of_equal(alloc, &history);
     drop(history);
     Ok(found?)
 }

@@ -1,11 +1,11 @@
-use Rattle.std.proofs.Common.{◌≡◌, ℕ, Bool, ◌+◌, ◌==◌, ◌++◌, ◌∙◌, ap, sym, arith, map, filter, List, subst}
+use Rattle.std.proofs.Common.{◌≡◌, ℕ, ◌<◌, length, Bool, ◌+◌, ◌==◌, ◌++◌, ◌∙◌, ap, sym, arith, map, filter, List, subst}
 use Rattle.std.proofs.lemmas.List.{map-append}
 use Rattle.bsp_model.specs.declared.request.Send.{Send}
 use Rattle.bsp_model.specs.declared.request.Message.{Message}
-use Rattle.bsp_step.specs.OutcomeParts.{OutcomeParts, IsOutcome}
+use Rattle.bsp_step.specs.OutcomeParts.{OutcomeParts, outcome_of, IsOutcome}
 use Rattle.bsp_deliver.specs.Requests.{all_sends}
 use Rattle.bsp_deliver.specs.Delivery.{message_of}
-use Rattle.bsp_deliver.proofs.Senders.{addressed_more, map_twice}
+use Rattle.bsp_deliver.proofs.Senders.{addressed_more, outcome_at, map_twice}
 use Rattle.bsp_deliver.proofs.Queues.{IsQueueOf, no_senders, sender_more, queue_of_few}
 use Rattle.bsp_deliver.proofs.addressed.sends_to.Goals as goal
 
@@ -19,12 +19,14 @@ loop-sender-init c = record { sends = c.new-sends.ensures; limits = subst (λ (m
 pub loop-sender-preserved : goal.loop-sender-preserved
 unfolding all_sends
 loop-sender-preserved c =
+    let os = c.args.outcomes.now in
     let i = c.loop-sender.sender in
-    let o = c.index-outcomes-sender.result in
+    let here : i < length os = omega (arith, c.loop-sender-test.true, c.len-sender-end.ensures) in
+    let o = outcome_of os i in
     let to : Send → Bool = λ m. m.target == c.args.d in
     let sent = λ (ms : List Send). map {B = ℕ × Send} (λ (m : Send). (i, m)) (filter to ms) in
     let grown : c.add_sends.new.list ≡ c.loop-sender.sends ++ sent o.sends =
-    c.in_ok-add_sends.ensures ∙ ap (λ ms. c.loop-sender.sends ++ sent ms) (ap (λ (x : OutcomeParts). x.sends) (c.behind-outcome.view_is ∙ c.deref.ensures)) in
+    c.in_ok-add_sends.ensures ∙ ap (λ ms. c.loop-sender.sends ++ sent ms) (ap (λ (x : OutcomeParts). x.sends) (c.outcome.view_is ∙ c.get-outcome.ensures)) in
     let queue : messages_of c.add_sends.new.list ≡ messages_of c.loop-sender.sends ++ map message_of (filter to o.sends) =
     ap messages_of grown
     ∙ map-append (λ (m : ℕ × Send). message_of m.1) c.loop-sender.sends (sent o.sends)
@@ -33,10 +35,10 @@ loop-sender-preserved c =
       sends =
           grown
           ∙ ap (λ (ms : List (ℕ × Send)). ms ++ sent o.sends) c.loop-sender.invariant.sends
-          ∙ sym (addressed_more (λ (x : OutcomeParts). x.sends) to c.args.outcomes.now i o c.loop-sender-test.true c.index-outcomes-sender.is);
+          ∙ sym (addressed_more (λ (x : OutcomeParts). x.sends) to os i o here (outcome_at os i here));
       limits =
           subst (IsQueueOf (i + 1)) (sym queue)
-          (sender_more c.args.d i (messages_of c.loop-sender.sends) o c.loop-sender.invariant.limits (subst IsOutcome (c.behind-outcome.view_is ∙ c.deref.ensures) c.behind-outcome.invariant));
+          (sender_more c.args.d i (messages_of c.loop-sender.sends) o c.loop-sender.invariant.limits (subst IsOutcome (c.outcome.view_is ∙ c.get-outcome.ensures) c.outcome.invariant));
     }
 
 pub returns-clause-limits : goal.returns-clause-limits

@@ -19,9 +19,9 @@ front_below n ns h =
 
 pub returns-clause-small : goal.returns-clause-small
 returns-clause-small c =
-    let os = c.args.outcomes.now in
-    let sent = front_below (length os) c.of-sums.result.sent c.of-sums.ensures.room.sent in
-    let received = front_below (length os) c.of-sums.result.received c.of-sums.ensures.room.received in
+    let n = c.len-nprocs.result in
+    let sent = front_below n c.of-sums.result.sent c.of-sums.ensures.room.sent in
+    let received = front_below n c.of-sums.result.received c.of-sums.ensures.room.received in
     omega (arith, c.max.ensures, c.largest-sent.ensures, c.largest-received.ensures)
 
 pub returns-clause-value : goal.returns-clause-value
@@ -32,6 +32,7 @@ returns-clause-value c =
     let few = c.requires.few in
     c.max.ensures
     ∙ (λ i. max (c.largest-sent.ensures i) (c.largest-received.ensures i))
+    ∙ ap (λ n. max (largest (take n c.of-sums.result.sent)) (largest (take n c.of-sums.result.received))) c.len-nprocs.ensures
     ∙ ap (λ (s : Sums). max (largest (take (length os) s.sent)) (largest (take (length os) s.received))) c.of-sums.ensures.sums
     ∙ (λ i. max (largest (sent_below ts (length os) few i)) (largest (received_below ts (length os) few i)))
     ∙ (λ i. max (largest (sent_over_all os (length os) i)) (largest (received_over_all os (length os) i)))

@@ -1,9 +1,8 @@
-use Rattle.std.proofs.Common.{◌≡◌, ◌≤◌, ◌+◌, ◌-◌, ◌%◌, ◌++◌, ℕ, List, length, take, drop, get_or, ap, sym, ◌∙◌, arith, length-take, length-append}
+use Rattle.std.proofs.Common.{◌≡◌, ◌≤◌, ◌+◌, ◌-◌, ◌%◌, ◌++◌, ℕ, List, length, take, drop, ap, sym, ◌∙◌, arith, length-take, length-append}
 use Rattle.std.proofs.Math.Seq.{take-add}
-use Rattle.std.proofs.lemmas.List.{drop-drop, take-take, get_or-take, get_or-drop, length-take-le}
-use Rattle.std.proofs.lemmas.List.FromFn.{fill_by_all}
+use Rattle.std.proofs.lemmas.List.{drop-drop, take-take, length-take-le}
 use Rattle.bsp_model.specs.Memory.{rest_of_page}
-use Rattle.bsp_deliver.specs.Requests.{each_below}
+use Rattle.bsp_deliver.proofs.ReadWords.{all_taken}
 use Rattle.bsp_deliver.proofs.delivery.words_at.Goals as goal
 
 length_more : (words rest words' : List ℕ) (here : ℕ) → here ≤ length rest → words' ≡ words ++ take here rest → length words' ≡ length words + here
@@ -21,11 +20,6 @@ more_taken memory start words rest words' here so_far rest_is few now =
     ∙ ap (λ (ws : List ℕ). take k (drop start memory) ++ ws) part
     ∙ sym (take-add k here (drop start memory))
     ∙ ap (λ n. take n (drop start memory)) (sym (length_more words rest words' here few now))
-
-all_taken : (memory : List ℕ) (start len : ℕ) (words : List ℕ) → words ≡ take (length words) (drop start memory) → length words ≡ len → words ≡ each_below len (λ i. get_or memory (start + i) 0)
-all_taken memory start len words is long =
-    fill_by_all (λ i. get_or memory (start + i) 0) words len 0 long
-    (λ i h. ap (λ (ws : List ℕ). get_or ws i 0) is ∙ get_or-take (length words) (drop start memory) i 0 (omega arith) ∙ get_or-drop start memory i 0)
 
 pub loop-words-preserved : goal.loop-words-preserved
 loop-words-preserved c =

@@ -5,5 +5,5 @@ use Rattle.bsp_deliver.specs.Inside.Gathering.{overlay}
 use Rattle.bsp_deliver.proofs.delivery.write_all_puts.Given as goal
 
 -- the puts to d of the senders so far stand over the memory
-abbrev pub invariant-loop-outcome : goal.invariant-loop-outcome
-invariant-loop-outcome l = l.memory ≡ overlay l.initial.memory (map put_write (filter (λ p. p.1.target == l.d) (all_puts (take l.outcome-index l.outcomes))))
+abbrev pub invariant-loop-sender : goal.invariant-loop-sender
+invariant-loop-sender l = l.memory ≡ overlay l.initial.memory (map put_write (filter (λ p. p.1.target == l.d) (all_puts (take l.sender l.outcomes))))

@@ -4,4 +4,4 @@ use Rattle.bsp_deliver.proofs.gathering.deliver_some.Given as goal
 
 abbrev pub invariant-loop-process : goal.invariant-loop-process
 invariant-loop-process l =
-    l.cells.items ≡ map (λ d. (next_memory (delivery_parts l.outcomes d), next_queue (delivery_parts l.outcomes d))) (take l.process-index l.processes)
+    l.cells ≡ map (λ d. (next_memory (delivery_parts l.outcomes d), next_queue (delivery_parts l.outcomes d))) (take l.process-index l.processes)

@@ -1,4 +1,4 @@
-use Rattle.std.proofs.Common.{◌==◌, ◌≤◌, ◌<◌, ℕ, nat_eq, length, filter, drop, arith}
+use Rattle.std.proofs.Common.{◌==◌, ◌≤◌, ◌<◌, length, arith}
 use Rattle.bsp_deliver.proofs.Comparing.{ended_first, ended_second}
 use Rattle.bsp_deliver.proofs.same.are_same_to.Goals as goal
 use Rattle.bsp_deliver.proofs.same.are_same_to.Goals.{then-loop-i-test+else-j-new_count, else-loop-i-test}

@@ -1,5 +1,5 @@
 use Rattle.std.proofs.Common.{ℕ, ◌<◌}
-use Rattle.bsp_deliver.specs.Requests.{outcome_of}
+use Rattle.bsp_step.specs.OutcomeParts.{outcome_of}
 use Rattle.bsp_deliver.specs.Inside.Comparison.{HasSameParcel}
 use Rattle.bsp_deliver.proofs.same.parcel_same.Given as goal
 

@@ -1,14 +1,10 @@
 use Rattle.std.proofs.Common.{◌≡◌, ℕ, ◌<◌, Bool, true, false, List, get_or, length, sym, ◌∙◌, arith, subst}
 use Rattle.std.proofs.lemmas.Bool.{false≢true}
 use Rattle.std.proofs.lemmas.List.{get_or_default}
-use Rattle.bsp_step.specs.OutcomeParts.{OutcomeParts}
-use Rattle.bsp_deliver.specs.Requests.{outcome_of}
+use Rattle.bsp_step.specs.OutcomeParts.{outcome_of}
 use Rattle.bsp_deliver.specs.Delivery.{delivery_parts}
 use Rattle.bsp_deliver.specs.Inside.Comparison.{HasSameParcel, HasSameOwn}
-use Rattle.bsp_deliver.specs.Inside.Marks.{AreMarkedUnless, AreToKnown}
-use Rattle.bsp_deliver.specs.Touched.{outcomes_before}
-use Rattle.bsp_deliver.proofs.Senders.{outcome_of-item}
-use Rattle.bsp_deliver.proofs.Formers.{outcome_before-item, length-outcomes_before}
+use Rattle.bsp_deliver.specs.Inside.Marks.{AreMarkedUnless}
 use Rattle.bsp_deliver.proofs.Unmarked.{none_marked, marked_as, one_marked, mark_stays, unmarked_within}
 use Rattle.bsp_deliver.proofs.SameParts.{IsSameBelow, same_below-none, same_below-more, same_parts, to_known}
 use Rattle.bsp_deliver.proofs.touched.mark_touched.Goals as goal
@@ -16,36 +12,28 @@ use Rattle.bsp_deliver.proofs.touched.mark_touched.Goals.{then-not-marks-p+then-
 
 pub loop-p-init : goal.loop-p-init
 loop-p-init c =
-    let us = c.args.outcomes.now in
-    let os = outcomes_before c.args.formers.now us in
+    let os = c.args.old.now in
+    let us = c.args.new.now in
     none_marked (IsSameBelow os us 0) c.args.marks.now (λ d f. same_below-none os us d)
 
-pub mark_parcels_since-requires : goal.mark_parcels_since-requires
-mark_parcels_since-requires c =
-    let us = c.args.outcomes.now in
-    let os = outcomes_before c.args.formers.now us in
+pub mark_parcels_of-requires-clause-before : goal.mark_parcels_of-requires-clause-before
+mark_parcels_of-requires-clause-before c =
+    let os = c.args.old.now in
     let p : ℕ = c.loop-p.p in
-    let here : p < length us = c.loop-p-test.true in
-    let item = outcome_before-item c.args.formers.now us p c.index-outcomes-p.result c.index-formers-p.result here (omega (arith, here, c.requires.count)) c.index-outcomes-p.is c.index-formers-p.is in
-    let many = length-outcomes_before c.args.formers.now us in
-    subst (λ (o : OutcomeParts). AreToKnown (length c.loop-p.marks) o) item
-    (to_known os p (length c.loop-p.marks) c.requires.before (omega (arith, here, many)) (omega (arith, c.loop-p.auto.marks, c.requires.marks, many)))
+    let here : p < length os = omega (arith, c.loop-p-test.true, c.len-p-end.ensures, c.requires.count) in
+    to_known os p (length c.loop-p.marks) c.requires.before here (omega (arith, c.loop-p.auto.marks, c.requires.as_many, c.requires.count))
 
 pub loop-p-preserved : goal.loop-p-preserved
 loop-p-preserved c =
-    let us = c.args.outcomes.now in
-    let os = outcomes_before c.args.formers.now us in
+    let os = c.args.old.now in
+    let us = c.args.new.now in
     let p : ℕ = c.loop-p.p in
-    let here : p < length us = c.loop-p-test.true in
-    let item = outcome_before-item c.args.formers.now us p c.index-outcomes-p.result c.index-formers-p.result here (omega (arith, here, c.requires.count)) c.index-outcomes-p.is c.index-formers-p.is in
-    let new_item = outcome_of-item us p c.index-outcomes-p.result here c.index-outcomes-p.is in
+    let here : p < length us = omega (arith, c.loop-p-test.true, c.len-p-end.ensures) in
     let before = c.loop-p.marks in
-    let marks : List Bool = c.mark_parcels_since.new.marks in
-    let parcels : AreMarkedUnless (λ d. HasSameParcel d (outcome_of os p) (outcome_of us p)) before marks =
-    subst (λ (u : OutcomeParts). AreMarkedUnless (λ d. HasSameParcel d (outcome_of os p) u) before marks) (sym new_item)
-    (subst (λ (o : OutcomeParts). AreMarkedUnless (λ d. HasSameParcel d o c.index-outcomes-p.result) before marks) (sym item) c.mark_parcels_since.ensures) in
+    let marks : List Bool = c.mark_parcels_of.new.marks in
+    let parcels : AreMarkedUnless (λ d. HasSameParcel d (outcome_of os p) (outcome_of us p)) before marks = c.mark_parcels_of.ensures in
     let S : ℕ → Type 0 = HasSameOwn os us in
-    let within : p < length marks = omega (arith, here, c.requires.marks, c.loop-p.auto.marks, parcels.count) in
+    let within : p < length marks = omega (arith, here, c.requires.as_many, c.loop-p.auto.marks, parcels.count) in
     let unread : get_or marks p true ≡ get_or marks p false = get_or_default marks p true false within in
     let own : AreMarkedUnless (λ d. d ≡ p → S d) marks c.if-not-marks-p.marks =
     elim c.if-not-marks-p.branch [
@@ -64,9 +52,9 @@ loop-p-preserved c =
 
 pub returns : goal.returns
 returns c =
-    let us = c.args.outcomes.now in
-    let os = outcomes_before c.args.formers.now us in
-    let end : c.loop-p.p ≡ length us = omega (arith, c.loop-p-test.false, c.loop-p.auto.p-end) in
+    let os = c.args.old.now in
+    let us = c.args.new.now in
+    let end : c.loop-p.p ≡ length us = omega (arith, c.loop-p-test.false, c.loop-p.auto.p-end, c.len-p-end.ensures) in
     marked_as (IsSameBelow os us (length us)) (λ d. delivery_parts os d ≡ delivery_parts us d) c.args.marks.now c.loop-p.marks
     (subst (λ n. AreMarkedUnless (IsSameBelow os us n) c.args.marks.now c.loop-p.marks) end c.loop-p.invariant)
-    (λ d f. same_parts os us d (length-outcomes_before c.args.formers.now us) (let w = unmarked_within c.args.marks.now d f in omega (arith, w, c.requires.marks)))
+    (λ d f. same_parts os us d c.requires.count (let w = unmarked_within c.args.marks.now d f in omega (arith, w, c.requires.as_many)))

@@ -1,6 +1,6 @@
 use Rattle.std.proofs.Common.{ℕ, length, get_or, sym, subst, arith, inl, inr}
 use Rattle.std.proofs.lemmas.Bool.Decides.{eqb_tells}
-use Rattle.bsp_deliver.specs.Requests.{outcome_of}
+use Rattle.bsp_step.specs.OutcomeParts.{outcome_of}
 use Rattle.bsp_incr.specs.Inside.Alike.{EndsAlike}
 use Rattle.bsp_incr.proofs.Gathering.{listed_below}
 use Rattle.bsp_incr.proofs.Carrying.{not_listed, later_or_here}

@@ -1,5 +1,5 @@
 use Rattle.std.proofs.Common.{◌≡◌, ◌<◌, ◌≤◌, ℕ, length, get_or}
-use Rattle.bsp_deliver.specs.Requests.{outcome_of}
+use Rattle.bsp_step.specs.OutcomeParts.{outcome_of}
 use Rattle.bsp_incr.specs.Inside.Alike.{EndsAlike}
 use Rattle.bsp_incr.proofs.alike.all_end_alike.Given as goal
 

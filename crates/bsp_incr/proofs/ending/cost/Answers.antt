@@ -1,12 +1,12 @@
-use Rattle.std.proofs.Common.{◌≡◌, ◌<◌, ◌∙◌, List, Option, ap, sym, subst, length, arith}
-use Rattle.std.specs.Prelude.{option_map}
-use Rattle.std.proofs.lemmas.Bool.Decides.{nat_tests}
+use Rattle.std.proofs.Common.{◌≡◌, ◌<◌, ◌∙◌, List, Option, Bor, ap, sym, subst, length}
+use Rattle.std.specs.Prelude.{option_map, IfSome}
 use Rattle.bsp_step.specs.OutcomeParts.{OutcomeParts}
+use Rattle.bsp_deliver.specs.Condition.{AreDeliverable}
 use Rattle.bsp_deliver.specs.Cost.{h_relation}
 use Rattle.bsp_run.specs.Run.{Run}
 use Rattle.bsp_run.specs.Result.{largest_work}
 use Rattle.bsp_run.proofs.Runs.{outcomes_shown-turned}
-use Rattle.bsp_incr.specs.Inside.Before.{delivered_outcomes}
+use Rattle.bsp_incr.specs.Inside.Before.{outcomes_if_any, delivered_outcomes}
 use Rattle.bsp_incr.proofs.Likeness.{same_work, same_h}
 use Rattle.bsp_incr.proofs.ending.cost.Goals as goal
 
@@ -19,13 +19,15 @@ pub cost_like-requires-clause-work : goal.cost_like-requires-clause-work
 cost_like-requires-clause-work g c =
     let old : Option Run = option_map (λ k. k.now) c.args.given.now.old in
     let r : Run = c.args.tape.now in
-    let os : List OutcomeParts = c.delivered_outcomes-old_outcomes.result.now in
+    let found = c.in-Some-delivered_outcomes.is in
+    let os : List OutcomeParts = c.in-Some-delivered_outcomes.old.now in
     let us : List OutcomeParts = c.outcomes.result.now in
-    let before = c.delivered_outcomes-old_outcomes.ensures.outcomes ∙ ap (delivered_outcomes old) c.step.ensures in
+    let before =
+    ap (λ (o : Option (Bor (List OutcomeParts))). outcomes_if_any (option_map (λ x. x.now) o)) (sym found)
+    ∙ c.delivered_outcomes.ensures.outcomes ∙ ap (delivered_outcomes old) c.step.ensures in
     let there = before ∙ ap (λ o. delivered_outcomes (option_map (λ k. k.now) o) (length r.past)) c.in-Some.is in
     let now = c.outcomes.ensures.outcomes ∙ outcomes_shown-turned r c.requires.turned in
-    let tells = c.if-is_empty.ensures in
-    let some : 0 < length os = grind (arith, nat_tests) in
+    let some : 0 < length os = (subst (λ (o : Option (Bor (List OutcomeParts))). IfSome o (λ x. AreDeliverable x.now)) found c.delivered_outcomes.ensures.deliverable).some in
     let count = as_many (delivered_outcomes old (length r.past)) r.outcomes os us before now c.requires.comparable.count some in
     ap largest_work (sym there) ∙ same_work os us count (c.all_cost_alike.ensures c.if-not-all_cost_alike.false) ∙ ap largest_work now
 
@@ -33,12 +35,14 @@ pub cost_like-requires-clause-moved : goal.cost_like-requires-clause-moved
 cost_like-requires-clause-moved g c =
     let old : Option Run = option_map (λ k. k.now) c.args.given.now.old in
     let r : Run = c.args.tape.now in
-    let os : List OutcomeParts = c.delivered_outcomes-old_outcomes.result.now in
+    let found = c.in-Some-delivered_outcomes.is in
+    let os : List OutcomeParts = c.in-Some-delivered_outcomes.old.now in
     let us : List OutcomeParts = c.outcomes.result.now in
-    let before = c.delivered_outcomes-old_outcomes.ensures.outcomes ∙ ap (delivered_outcomes old) c.step.ensures in
+    let before =
+    ap (λ (o : Option (Bor (List OutcomeParts))). outcomes_if_any (option_map (λ x. x.now) o)) (sym found)
+    ∙ c.delivered_outcomes.ensures.outcomes ∙ ap (delivered_outcomes old) c.step.ensures in
     let there = before ∙ ap (λ o. delivered_outcomes (option_map (λ k. k.now) o) (length r.past)) c.in-Some.is in
     let now = c.outcomes.ensures.outcomes ∙ outcomes_shown-turned r c.requires.turned in
-    let tells = c.if-is_empty.ensures in
-    let some : 0 < length os = grind (arith, nat_tests) in
+    let some : 0 < length os = (subst (λ (o : Option (Bor (List OutcomeParts))). IfSome o (λ x. AreDeliverable x.now)) found c.delivered_outcomes.ensures.deliverable).some in
     let count = as_many (delivered_outcomes old (length r.past)) r.outcomes os us before now c.requires.comparable.count some in
     ap h_relation (sym there) ∙ same_h os us count (c.all_cost_alike.ensures c.if-not-all_cost_alike.false) ∙ ap h_relation now

@@ -15,7 +15,7 @@ delivered-requires-clause-cells g c =
     let old : Option Run = option_map (λ k. k.now) c.args.given.now.old in
     let r : Run = c.args.tape.now in
     let seen : length (views_after old (length r.past)) ≡ 0 = ap (λ n. length (views_after old n)) (sym c.step.ensures) ∙ ap (λ (vs : List ViewParts). length vs) c.in_default.ensures.none in
-    cells_of_none (delivered_outcomes old (length r.past)) r.outcomes c.args.touched.now c.args.made.items (sym c.requires.next.count ∙ seen) c.requires.touched c.requires.made
+    cells_of_none (delivered_outcomes old (length r.past)) r.outcomes c.args.touched.now c.args.made (sym c.requires.next.count ∙ seen) c.requires.touched c.requires.made
 
 -- the views after the delivery, by another name
 next_are : (old : Option Run) (s n : ℕ) (views : List ViewParts) → n ≡ s → views ≡ views_after old n → AreDelivered (delivered_outcomes old s) (views_after old s) → AreDelivered (delivered_outcomes old s) views
@@ -46,4 +46,4 @@ next_views_like-requires-clause-cells g c =
     let next = next_are old (length r.past) c.step.result views c.step.ensures c.in-Some.ensures.views c.requires.next in
     let some : 0 < length views = c.in-Some.ensures.some in
     let long = c.requires.comparable.count (omega (arith, some, next.count)) in
-    cells_in_place (delivered_outcomes old (length r.past)) r.outcomes views c.args.touched.now c.args.made.items next long c.requires.touched c.requires.made
+    cells_in_place (delivered_outcomes old (length r.past)) r.outcomes views c.args.touched.now c.args.made next long c.requires.touched c.requires.made

@@ -58,5 +58,5 @@ end_turns-requires-clause-within g c κs within =
     let acts = g.P.Program.acts c.args.given.now.program.now in
     let ending = g.P.Program.ending c.args.given.now.program.now in
     let r : Run = c.args.tape.now in
-    subst (λ (vs : List ViewParts). AreOutcomesOf vs c.in_ok-outcomes.outcomes.items) c.open_views.ensures.views
+    subst (λ (vs : List ViewParts). AreOutcomesOf vs c.in_ok-outcomes.outcomes) c.open_views.ensures.views
     (subst (AreOutcomesOf c.open_views.result.now) (sym c.in_ok-outcomes.ensures.turns) (AreOutcomesOf-turns acts ending c.open_views.result.now (c.open_views.ensures.limits (open_phase r.phase c.requires.open))))

@@ -1,17 +1,22 @@
-use Rattle.std.proofs.Common.{◌≡◌, ◌<◌, ◌∙◌, ◌++◌, ℕ, Bool, false, get_or, List, All, not, ap, sym, subst, length}
-use Rattle.std.specs.Prelude.{filter}
+use Rattle.std.proofs.Common.{◌≡◌, ◌<◌, ◌∙◌, ◌++◌, ◌&&◌, ℕ, Bool, false, get_or, List, All, not, ap, sym, subst, length, map, Option, Some, Bor}
+use Rattle.std.specs.Prelude.{filter, option_map}
 use Rattle.std.proofs.lemmas.Bool.{eqb-true}
 use Rattle.std.proofs.lemmas.List.{length-map}
 use Rattle.std.proofs.lemmas.List.Elements.{All-filter, filter_passes}
 use Rattle.bsp_step.specs.OutcomeParts.{OutcomeParts}
 use Rattle.bsp_step.specs.Turn.{turn_of}
 use Rattle.bsp_run.specs.Shares.{turns_of}
+use Rattle.bsp_incr.specs.Inside.Before.{outcomes_if_any}
 use Rattle.bsp_incr.specs.Inside.Changes.{differs, places_of}
-use Rattle.bsp_model.specs.Replaced.{replaced}
-use Rattle.bsp_incr.proofs.Gathering.{not_empty}
+use Rattle.bsp_model.specs.Replaced.{replaced, IsAscending}
+use Rattle.bsp_incr.proofs.Gathering.{not_empty, processes_where-ascending}
 use Rattle.bsp_model.proofs.Replaced.{length-replaced}
-use Rattle.bsp_incr.proofs.Retaking.{needed_among, turns_in_place, turns_of_none, differ_below, not_true}
+use Rattle.bsp_incr.proofs.Retaking.{needed_among, served_among, turns_in_place, turns_of_none, differ_below, not_true}
 use Rattle.bsp_incr.proofs.turns.turns_again.Goals as goal
+
+-- the outcomes of before, where there are some
+recorded_in : (old : Option (Bor (List OutcomeParts))) (os : Bor (List OutcomeParts)) (turns : (List OutcomeParts)) → old ≡ Some os → outcomes_if_any (option_map (λ o. o.now) old) ≡ turns → os.now ≡ turns
+recorded_in old os turns is recorded = ap (λ (o : Option (Bor (List OutcomeParts))). outcomes_if_any (option_map (λ x. x.now) o)) (sym is) ∙ recorded
 
 pub wide_turns-requires-clause-processes : goal.wide_turns-requires-clause-processes
 wide_turns-requires-clause-processes g c κs within =
@@ -25,7 +30,7 @@ returns-then-is_empty-clause-turns g c =
     let looks = g.P.Program.looks c.args.program.now in
     let old = c.args.old_views.now in let new = c.args.views.now in
     let none : length old ≡ 0 = eqb-true (length old) 0 (sym c.is_empty.ensures ∙ c.if-is_empty.true) in
-    turns_of_none turn looks old new c.as_slice-2.result.now c.in_ok-taken.taken.items none
+    c.in_ok-share.ensures ∙ turns_of_none turn looks old new c.as_slice-2.result.now c.in_ok-taken.taken none
     (c.as_slice-2.ensures.value ∙ c.in_ok-needed.ensures.needed ∙ needed_among looks old new c.args.doubtful.now.processes.items c.requires.doubtful.processes) c.in_ok-taken.ensures
 
 pub returns-then-is_empty-clause-executed : goal.returns-then-is_empty-clause-executed
@@ -46,26 +51,42 @@ served_turns-requires-clause-serve g c κs within =
     subst (All (λ p. test p ≡ false)) (sym (c.as_slice-3.ensures.value ∙ c.in_ok-needed.ensures.served))
     (λ k d l. not_true (test (get_or (filter (λ p. not (test p)) c.args.doubtful.now.processes.items) k d)) (filter_passes (λ p. not (test p)) c.args.doubtful.now.processes.items k d l))
 
-pub put_at-requires-clause-known : goal.put_at-requires-clause-known
-put_at-requires-clause-known g c =
+pub replaced-requires-clause-known : goal.replaced-requires-clause-known
+replaced-requires-clause-known g c =
     let n = length c.args.views.now in
     let turn = turn_of (g.P.Program.acts c.args.program.now) (g.P.Program.ending c.args.program.now) in
     let some : 0 < length c.args.old_views.now = not_empty c.args.old_views.now (sym c.is_empty.ensures ∙ c.if-is_empty.false) in
-    let long : length c.in_ok-outcomes.outcomes.items ≡ n = ap (λ (os : List OutcomeParts). length os) (c.in_ok-outcomes.ensures ∙ c.requires.recorded) ∙ length-map c.args.old_views.now turn ∙ c.requires.count some in
+    let recorded = recorded_in c.args.old_outcomes c.in-Some.old_outcomes (map turn c.args.old_views.now) c.in-Some.is c.requires.recorded in
+    let long : length c.in-Some.old_outcomes.now ≡ n = ap (λ (os : List OutcomeParts). length os) recorded ∙ length-map c.args.old_views.now turn ∙ c.requires.count some in
     subst (λ m. All (λ p. p < m) c.as_slice-4.result.now) (sym long)
     (subst (All (λ p. p < n)) (sym (c.as_slice-4.ensures.value ∙ c.in_ok-needed.ensures.served))
     (All-filter (λ p. not (differs (g.P.Program.looks c.args.program.now) c.args.old_views.now c.args.views.now p)) (λ p. p < n) c.args.doubtful.now.processes.items (differ_below c.args.old_views.now c.args.views.now c.args.doubtful.now.processes.items c.requires.doubtful.processes)))
 
-pub put_at-requires-2-clause-known : goal.put_at-requires-2-clause-known
-put_at-requires-2-clause-known g c =
+pub replaced-requires-clause-ascending : goal.replaced-requires-clause-ascending
+replaced-requires-clause-ascending g c =
+    let looks = g.P.Program.looks c.args.program.now in
+    subst IsAscending
+    (sym (c.as_slice-4.ensures.value ∙ c.in_ok-needed.ensures.served ∙ served_among looks c.args.old_views.now c.args.views.now c.args.doubtful.now.processes.items c.requires.doubtful.processes))
+    (processes_where-ascending (length c.args.views.now) (λ p. c.requires.doubtful.processes.test p && not (differs looks c.args.old_views.now c.args.views.now p)))
+
+pub replaced-requires-2-clause-known : goal.replaced-requires-2-clause-known
+replaced-requires-2-clause-known g c =
     let n = length c.args.views.now in
     let turn = turn_of (g.P.Program.acts c.args.program.now) (g.P.Program.ending c.args.program.now) in
     let some : 0 < length c.args.old_views.now = not_empty c.args.old_views.now (sym c.is_empty.ensures ∙ c.if-is_empty.false) in
-    let long : length c.in_ok-outcomes.outcomes.items ≡ n = ap (λ (os : List OutcomeParts). length os) (c.in_ok-outcomes.ensures ∙ c.requires.recorded) ∙ length-map c.args.old_views.now turn ∙ c.requires.count some in
-    let after : length c.put_at.new.items.items ≡ n = ap (λ (os : List OutcomeParts). length os) c.put_at.ensures ∙ length-replaced c.in_ok-outcomes.outcomes.items c.as_slice-4.result.now c.in_ok-reused.reused.items ∙ long in
+    let recorded = recorded_in c.args.old_outcomes c.in-Some.old_outcomes (map turn c.args.old_views.now) c.in-Some.is c.requires.recorded in
+    let long : length c.in-Some.old_outcomes.now ≡ n = ap (λ (os : List OutcomeParts). length os) recorded ∙ length-map c.args.old_views.now turn ∙ c.requires.count some in
+    let after : length c.in_ok-renewed.renewed ≡ n = ap (λ (os : List OutcomeParts). length os) c.in_ok-renewed.ensures ∙ length-replaced c.in-Some.old_outcomes.now c.as_slice-4.result.now c.in_ok-reused.reused ∙ long in
     subst (λ m. All (λ p. p < m) c.as_slice-5.result.now) (sym after)
     (subst (All (λ p. p < n)) (sym (c.as_slice-5.ensures.value ∙ c.in_ok-needed.ensures.needed))
     (All-filter (differs (g.P.Program.looks c.args.program.now) c.args.old_views.now c.args.views.now) (λ p. p < n) c.args.doubtful.now.processes.items (differ_below c.args.old_views.now c.args.views.now c.args.doubtful.now.processes.items c.requires.doubtful.processes)))
+
+pub replaced-requires-2-clause-ascending : goal.replaced-requires-2-clause-ascending
+replaced-requires-2-clause-ascending g c =
+    let looks = g.P.Program.looks c.args.program.now in
+    subst IsAscending
+    (sym (c.as_slice-5.ensures.value ∙ c.in_ok-needed.ensures.needed ∙ needed_among looks c.args.old_views.now c.args.views.now c.args.doubtful.now.processes.items c.requires.doubtful.processes))
+    (processes_where-ascending (length c.args.views.now) (differs looks c.args.old_views.now c.args.views.now))
 
 pub returns-clause-turns : goal.returns-clause-turns
 returns-clause-turns g c =
@@ -74,12 +95,12 @@ returns-clause-turns g c =
     let some : 0 < length c.args.old_views.now = not_empty c.args.old_views.now (sym c.is_empty.ensures ∙ c.if-is_empty.false) in
     let served = c.as_slice-4.result.now in
     let needed = c.as_slice-5.result.now in
-    let reused : c.in_ok-reused.reused.items ≡ turns_of turn c.args.views.now served = c.in_ok-reused.ensures ∙ ap (turns_of turn c.args.views.now) (c.as_slice-3.ensures.value ∙ sym c.as_slice-4.ensures.value) in
-    let taken : c.in_ok-taken.taken.items ≡ turns_of turn c.args.views.now needed = c.in_ok-taken.ensures ∙ ap (turns_of turn c.args.views.now) (c.as_slice-2.ensures.value ∙ sym c.as_slice-5.ensures.value) in
-    c.put_at-2.ensures
-    ∙ ap (λ (os : List OutcomeParts). replaced os needed c.in_ok-taken.taken.items) c.put_at.ensures
-    ∙ turns_in_place turn looks c.args.old_views.now c.args.views.now c.args.doubtful.now.processes.items c.in_ok-outcomes.outcomes.items c.in_ok-reused.reused.items c.in_ok-taken.taken.items served needed c.requires.doubtful.processes (c.requires.count some)
-    (c.in_ok-outcomes.ensures ∙ c.requires.recorded) (c.as_slice-4.ensures.value ∙ c.in_ok-needed.ensures.served) (c.as_slice-5.ensures.value ∙ c.in_ok-needed.ensures.needed) reused taken
+    let reused : c.in_ok-reused.reused ≡ turns_of turn c.args.views.now served = c.in_ok-reused.ensures ∙ ap (turns_of turn c.args.views.now) (c.as_slice-3.ensures.value ∙ sym c.as_slice-4.ensures.value) in
+    let taken : c.in_ok-taken.taken ≡ turns_of turn c.args.views.now needed = c.in_ok-taken.ensures ∙ ap (turns_of turn c.args.views.now) (c.as_slice-2.ensures.value ∙ sym c.as_slice-5.ensures.value) in
+    c.in_ok-all.ensures
+    ∙ ap (λ (os : List OutcomeParts). replaced os needed c.in_ok-taken.taken) c.in_ok-renewed.ensures
+    ∙ turns_in_place turn looks c.args.old_views.now c.args.views.now c.args.doubtful.now.processes.items c.in-Some.old_outcomes.now c.in_ok-reused.reused c.in_ok-taken.taken served needed c.requires.doubtful.processes (c.requires.count some)
+    (recorded_in c.args.old_outcomes c.in-Some.old_outcomes (map turn c.args.old_views.now) c.in-Some.is c.requires.recorded) (c.as_slice-4.ensures.value ∙ c.in_ok-needed.ensures.served) (c.as_slice-5.ensures.value ∙ c.in_ok-needed.ensures.needed) reused taken
 
 pub returns-clause-executed : goal.returns-clause-executed
 returns-clause-executed g c =

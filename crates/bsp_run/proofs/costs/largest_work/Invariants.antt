@@ -3,8 +3,8 @@ use Rattle.bsp_deliver.specs.Cost.{largest}
 use Rattle.bsp_run.proofs.costs.largest_work.Given as goal
 
 -- the largest so far, and the largest of what is left
-abbrev pub invariant-loop-outcome : goal.invariant-loop-outcome
-invariant-loop-outcome l = record {
-  value : max l.most (largest (map (λ o. o.work) (drop l.outcome-index l.outcomes))) ≡ largest (map (λ o. o.work) l.outcomes);
+abbrev pub invariant-loop-pid : goal.invariant-loop-pid
+invariant-loop-pid l = record {
+  value : max l.most (largest (map (λ o. o.work) (drop l.pid l.outcomes))) ≡ largest (map (λ o. o.work) l.outcomes);
   small : l.most < 2 ^ 32;
 }

@@ -1,8 +1,8 @@
 use Rattle.std.proofs.Common.{◌≡◌, ◌<◌, ◌+◌, ◌++◌, ◌∷◌, [], ℕ, List, length, take, get_or, ap, sym, ◌∙◌, arith, append-nil, append_assoc, Option}
-use Rattle.std.proofs.lemmas.List.{take_more}
+use Rattle.std.proofs.lemmas.List.{take_more, get_or_default}
 use Rattle.std.proofs.lemmas.Grind.{common_steps}
 use Rattle.bsp_model.specs.declared.fault.Fault.{Fault}
-use Rattle.bsp_step.specs.OutcomeParts.{OutcomeParts}
+use Rattle.bsp_step.specs.OutcomeParts.{OutcomeParts, outcome_of, no_outcome}
 use Rattle.bsp_run.specs.declared.result.ProcessFault.{ProcessFault}
 use Rattle.bsp_run.specs.Ending.{faults_from, fault_at}
 use Rattle.bsp_run.proofs.ending.faults.Goals as goal
@@ -21,10 +21,11 @@ pub loop-pid-preserved : goal.loop-pid-preserved
 loop-pid-preserved c =
     let os = c.args.outcomes.now in
     let i = c.loop-pid.pid in
-    let o = c.index-outcomes-pid.result in
-    let more = one_more os i o c.loop-pid-test.true c.index-outcomes-pid.is in
-    let fault = ap (λ (x : OutcomeParts). x.fault) (c.behind-outcome.view_is ∙ c.deref.ensures) in
-    elim c.match-deref.branch [
+    let o = outcome_of os i in
+    let here : i < length os = omega (arith, c.loop-pid-test.true, c.len-pid-end.ensures) in
+    let more = one_more os i o here (get_or_default os i no_outcome o here) in
+    let fault = ap (λ (x : OutcomeParts). x.fault) (c.outcome.view_is ∙ c.get-outcome.ensures) in
+    elim c.match-outcome.branch [
       | in-Some+in_ok-push w ↦
           w.faults-is ∙ w.in_ok-push.ensures.ok ∙ ap (λ (fs : List ProcessFault). fs ++ record { pid = i; fault = w.in-Some.fault } ∷ []) c.loop-pid.invariant
           ∙ ap (λ (f : Option Fault). faults_from 0 (take i os) ++ fault_at i f) (sym w.in-Some.is ∙ fault) ∙ sym more

@@ -3,4 +3,4 @@ use Rattle.bsp_run.specs.State.{first_cell}
 use Rattle.bsp_run.proofs.opening.first_cells_of.Given as goal
 
 abbrev pub invariant-loop-process : goal.invariant-loop-process
-invariant-loop-process l = l.cells.items ≡ map (first_cell l.mems) (take l.process-index l.processes)
+invariant-loop-process l = l.cells ≡ map (first_cell l.mems) (take l.process-index l.processes)

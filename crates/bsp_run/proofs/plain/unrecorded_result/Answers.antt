@@ -1,4 +1,4 @@
-use Rattle.std.proofs.Common.{◌≡◌, ◌∙◌, ◌+◌, ◌-◌, suc, List, None, Some, ap, sym, refl, arith}
+use Rattle.std.proofs.Common.{◌≡◌, ◌∙◌, ◌+◌, ◌-◌, suc, List, None, Some, ap, sym, refl, arith, rules}
 use Rattle.bsp_model.specs.declared.input.Input.{Input}
 use Rattle.bsp_model.proofs.Inputs.{lawful_input}
 use Rattle.bsp_step.specs.OutcomeParts.{OutcomeParts}
@@ -15,16 +15,16 @@ pub end_of-requires-clause-some : goal.end_of-requires-clause-some
 end_of-requires-clause-some g c =
     let input : Input = c.args.input.now in
     let u : IsUnderway (turn_of (g.P.Program.acts c.args.program.now) (g.P.Program.ending c.args.program.now)) c.args.input.now (c.args.input.now.limit - c.loop-step.step) c.loop-step.kept = c.loop-step.invariant in
-    let os : List OutcomeParts = c.as_slice-outcomes.result.now in
-    let made = turns_are (g.P.Program.acts c.args.program.now) (g.P.Program.ending c.args.program.now) input c.loop-step.kept u.so_far c.loop-step.kept.views os u.same refl (c.as_slice-outcomes.ensures.value ∙ c.in_ok-outcomes.ensures) in
+    let os : List OutcomeParts = c.in_ok-outcomes.outcomes in
+    let made = turns_are (g.P.Program.acts c.args.program.now) (g.P.Program.ending c.args.program.now) input c.loop-step.kept u.so_far c.loop-step.kept.views os u.same refl c.in_ok-outcomes.ensures in
     some_turns input c.loop-step.kept u.so_far os u.same made.1
 
 pub end_of-requires-clause-slots : goal.end_of-requires-clause-slots
 end_of-requires-clause-slots g c =
     let input : Input = c.args.input.now in
     let u : IsUnderway (turn_of (g.P.Program.acts c.args.program.now) (g.P.Program.ending c.args.program.now)) c.args.input.now (c.args.input.now.limit - c.loop-step.step) c.loop-step.kept = c.loop-step.invariant in
-    let os : List OutcomeParts = c.as_slice-outcomes.result.now in
-    let made = turns_are (g.P.Program.acts c.args.program.now) (g.P.Program.ending c.args.program.now) input c.loop-step.kept u.so_far c.loop-step.kept.views os u.same refl (c.as_slice-outcomes.ensures.value ∙ c.in_ok-outcomes.ensures) in
+    let os : List OutcomeParts = c.in_ok-outcomes.outcomes in
+    let made = turns_are (g.P.Program.acts c.args.program.now) (g.P.Program.ending c.args.program.now) input c.loop-step.kept u.so_far c.loop-step.kept.views os u.same refl c.in_ok-outcomes.ensures in
     slots_are input c.loop-step.kept u.so_far os u.same made.1
 
 pub ended-requires-clause-few : goal.ended-requires-clause-few
@@ -44,8 +44,8 @@ pub returns-in-Some-clause-result : goal.returns-in-Some-clause-result
 returns-in-Some-clause-result g c =
     let input : Input = c.args.input.now in
     let u : IsUnderway (turn_of (g.P.Program.acts c.args.program.now) (g.P.Program.ending c.args.program.now)) c.args.input.now (c.args.input.now.limit - c.loop-step.step) c.loop-step.kept = c.loop-step.invariant in
-    let os : List OutcomeParts = c.as_slice-outcomes.result.now in
-    let made = turns_are (g.P.Program.acts c.args.program.now) (g.P.Program.ending c.args.program.now) input c.loop-step.kept u.so_far c.loop-step.kept.views os u.same refl (c.as_slice-outcomes.ensures.value ∙ c.in_ok-outcomes.ensures) in
+    let os : List OutcomeParts = c.in_ok-outcomes.outcomes in
+    let made = turns_are (g.P.Program.acts c.args.program.now) (g.P.Program.ending c.args.program.now) input c.loop-step.kept u.so_far c.loop-step.kept.views os u.same refl c.in_ok-outcomes.ensures in
     let at = step_is (turn_of (g.P.Program.acts c.args.program.now) (g.P.Program.ending c.args.program.now)) input (input.limit - c.loop-step.step) c.loop-step.kept u c.loop-step.step c.loop-step-test.true refl in
     let ends = end_is input c.loop-step.kept u.so_far os c.loop-step.step (Some c.in-Some.status) u.same at (sym c.in-Some.is ∙ c.in_ok-status.ensures) in
     let left : input.limit - c.loop-step.step ≡ suc (input.limit - (c.loop-step.step + 1)) = omega (arith, c.loop-step-test.true) in
@@ -55,8 +55,8 @@ pub go_on-requires-clause-sync : goal.go_on-requires-clause-sync
 go_on-requires-clause-sync g c =
     let input : Input = c.args.input.now in
     let u : IsUnderway (turn_of (g.P.Program.acts c.args.program.now) (g.P.Program.ending c.args.program.now)) c.args.input.now (c.args.input.now.limit - c.loop-step.step) c.loop-step.kept = c.loop-step.invariant in
-    let os : List OutcomeParts = c.as_slice-outcomes.result.now in
-    let made = turns_are (g.P.Program.acts c.args.program.now) (g.P.Program.ending c.args.program.now) input c.loop-step.kept u.so_far c.loop-step.kept.views os u.same refl (c.as_slice-outcomes.ensures.value ∙ c.in_ok-outcomes.ensures) in
+    let os : List OutcomeParts = c.in_ok-outcomes.outcomes in
+    let made = turns_are (g.P.Program.acts c.args.program.now) (g.P.Program.ending c.args.program.now) input c.loop-step.kept u.so_far c.loop-step.kept.views os u.same refl c.in_ok-outcomes.ensures in
     let at = step_is (turn_of (g.P.Program.acts c.args.program.now) (g.P.Program.ending c.args.program.now)) input (input.limit - c.loop-step.step) c.loop-step.kept u c.loop-step.step c.loop-step-test.true refl in
     let none = end_is input c.loop-step.kept u.so_far os c.loop-step.step None u.same at (sym c.in_default.is ∙ c.in_ok-status.ensures) in
     let left : input.limit - c.loop-step.step ≡ suc (input.limit - (c.loop-step.step + 1)) = omega (arith, c.loop-step-test.true) in
@@ -67,8 +67,8 @@ pub go_on-requires-clause-deliverable : goal.go_on-requires-clause-deliverable
 go_on-requires-clause-deliverable g c =
     let input : Input = c.args.input.now in
     let u : IsUnderway (turn_of (g.P.Program.acts c.args.program.now) (g.P.Program.ending c.args.program.now)) c.args.input.now (c.args.input.now.limit - c.loop-step.step) c.loop-step.kept = c.loop-step.invariant in
-    let os : List OutcomeParts = c.as_slice-outcomes.result.now in
-    let made = turns_are (g.P.Program.acts c.args.program.now) (g.P.Program.ending c.args.program.now) input c.loop-step.kept u.so_far c.loop-step.kept.views os u.same refl (c.as_slice-outcomes.ensures.value ∙ c.in_ok-outcomes.ensures) in
+    let os : List OutcomeParts = c.in_ok-outcomes.outcomes in
+    let made = turns_are (g.P.Program.acts c.args.program.now) (g.P.Program.ending c.args.program.now) input c.loop-step.kept u.so_far c.loop-step.kept.views os u.same refl c.in_ok-outcomes.ensures in
     let at = step_is (turn_of (g.P.Program.acts c.args.program.now) (g.P.Program.ending c.args.program.now)) input (input.limit - c.loop-step.step) c.loop-step.kept u c.loop-step.step c.loop-step-test.true refl in
     let none = end_is input c.loop-step.kept u.so_far os c.loop-step.step None u.same at (sym c.in_default.is ∙ c.in_ok-status.ensures) in
     let left : input.limit - c.loop-step.step ≡ suc (input.limit - (c.loop-step.step + 1)) = omega (arith, c.loop-step-test.true) in
@@ -79,8 +79,8 @@ pub go_on-requires-clause-opens : goal.go_on-requires-clause-opens
 go_on-requires-clause-opens g c =
     let input : Input = c.args.input.now in
     let u : IsUnderway (turn_of (g.P.Program.acts c.args.program.now) (g.P.Program.ending c.args.program.now)) c.args.input.now (c.args.input.now.limit - c.loop-step.step) c.loop-step.kept = c.loop-step.invariant in
-    let os : List OutcomeParts = c.as_slice-outcomes.result.now in
-    let made = turns_are (g.P.Program.acts c.args.program.now) (g.P.Program.ending c.args.program.now) input c.loop-step.kept u.so_far c.loop-step.kept.views os u.same refl (c.as_slice-outcomes.ensures.value ∙ c.in_ok-outcomes.ensures) in
+    let os : List OutcomeParts = c.in_ok-outcomes.outcomes in
+    let made = turns_are (g.P.Program.acts c.args.program.now) (g.P.Program.ending c.args.program.now) input c.loop-step.kept u.so_far c.loop-step.kept.views os u.same refl c.in_ok-outcomes.ensures in
     let at = step_is (turn_of (g.P.Program.acts c.args.program.now) (g.P.Program.ending c.args.program.now)) input (input.limit - c.loop-step.step) c.loop-step.kept u c.loop-step.step c.loop-step-test.true refl in
     let none = end_is input c.loop-step.kept u.so_far os c.loop-step.step None u.same at (sym c.in_default.is ∙ c.in_ok-status.ensures) in
     let left : input.limit - c.loop-step.step ≡ suc (input.limit - (c.loop-step.step + 1)) = omega (arith, c.loop-step-test.true) in
@@ -97,8 +97,8 @@ pub loop-step-preserved : goal.loop-step-preserved
 loop-step-preserved g c =
     let input : Input = c.args.input.now in
     let u : IsUnderway (turn_of (g.P.Program.acts c.args.program.now) (g.P.Program.ending c.args.program.now)) c.args.input.now (c.args.input.now.limit - c.loop-step.step) c.loop-step.kept = c.loop-step.invariant in
-    let os : List OutcomeParts = c.as_slice-outcomes.result.now in
-    let made = turns_are (g.P.Program.acts c.args.program.now) (g.P.Program.ending c.args.program.now) input c.loop-step.kept u.so_far c.loop-step.kept.views os u.same refl (c.as_slice-outcomes.ensures.value ∙ c.in_ok-outcomes.ensures) in
+    let os : List OutcomeParts = c.in_ok-outcomes.outcomes in
+    let made = turns_are (g.P.Program.acts c.args.program.now) (g.P.Program.ending c.args.program.now) input c.loop-step.kept u.so_far c.loop-step.kept.views os u.same refl c.in_ok-outcomes.ensures in
     let at = step_is (turn_of (g.P.Program.acts c.args.program.now) (g.P.Program.ending c.args.program.now)) input (input.limit - c.loop-step.step) c.loop-step.kept u c.loop-step.step c.loop-step-test.true refl in
     let none = end_is input c.loop-step.kept u.so_far os c.loop-step.step None u.same at (sym c.in_default.is ∙ c.in_ok-status.ensures) in
     let left : input.limit - c.loop-step.step ≡ suc (input.limit - (c.loop-step.step + 1)) = omega (arith, c.loop-step-test.true) in
@@ -125,3 +125,6 @@ returns-clause-result g c =
     let u : IsUnderway (turn_of (g.P.Program.acts c.args.program.now) (g.P.Program.ending c.args.program.now)) c.args.input.now (c.args.input.now.limit - c.loop-step.step) c.loop-step.kept = c.loop-step.invariant in
     let full : input.limit - c.loop-step.step ≡ 0 = omega (arith, c.loop-step-test.false) in
     c.in_ok-ended_at_limit.ensures ∙ result_at_limit (turn_of (g.P.Program.acts c.args.program.now) (g.P.Program.ending c.args.program.now)) input (input.limit - c.loop-step.step) c.loop-step.kept u full
+
+pub returns-in_err-go_on-clause-input : goal.returns-in_err-go_on-clause-input
+returns-in_err-go_on-clause-input g c = search (rules, c.in_ok-kept.ensures.lawful, c.from_residual-in_err-go_on.ensures)

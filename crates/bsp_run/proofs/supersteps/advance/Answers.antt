@@ -14,21 +14,21 @@ use Rattle.bsp_run.proofs.supersteps.advance.Goals.{then-delivers+in_ok-cells+in
 pub turns-requires : goal.turns-requires
 turns-requires g c =
     let count : ℕ = length c.open_views-views.result.now in
-    c.requires.turn c.args.program c.open_views-views.result c.as_slice.result (subst (All (λ p. p < count)) (sym (c.as_slice.ensures.value ∙ (c.in_ok-processes.ensures ∙ ap (range_with_len 0) c.len.ensures))) (range_below count))
+    c.requires.turn c.args.program c.open_views-views.result c.as_slice.result c.outcomes_before.result (subst (All (λ p. p < count)) (sym (c.as_slice.ensures.value ∙ (c.in_ok-processes.ensures ∙ ap (range_with_len 0) c.len.ensures))) (range_below count))
 
 pub turned-requires-clause-turns : goal.turned-requires-clause-turns
 turned-requires-clause-turns g c =
     let h = c.requires.open in
-    (turns_made (g.P.Program.acts c.args.program.now) (g.P.Program.ending c.args.program.now) c.args.tape.now c.open_views-views.result.now c.as_slice.result.now c.in_ok-outcomes.outcomes.items c.open_views-views.ensures.views
-    (c.open_views-views.ensures.limits (open_phase c.args.tape.now.phase h)) (c.as_slice.ensures.value ∙ (c.in_ok-processes.ensures ∙ ap (range_with_len 0) c.len.ensures)) (c.requires.turns c.args.program c.open_views-views.result c.as_slice.result _ c.in_ok-outcomes.ensures)).outcomes
+    (turns_made (g.P.Program.acts c.args.program.now) (g.P.Program.ending c.args.program.now) c.args.tape.now c.open_views-views.result.now c.as_slice.result.now c.in_ok-outcomes.outcomes c.open_views-views.ensures.views
+    (c.open_views-views.ensures.limits (open_phase c.args.tape.now.phase h)) (c.as_slice.ensures.value ∙ (c.in_ok-processes.ensures ∙ ap (range_with_len 0) c.len.ensures)) (c.requires.turns c.args.program c.open_views-views.result c.as_slice.result c.outcomes_before.result _ c.in_ok-outcomes.ensures)).outcomes
 
 pub deliveries-requires : goal.deliveries-requires
 deliveries-requires g c =
     let delivers : is_turned c.turned.new.self.phase ≡ true = sym c.in_ok-delivers.ensures.answer ∙ c.if-delivers.true in
     let h = c.requires.open in
-    let made = turns_made (g.P.Program.acts c.args.program.now) (g.P.Program.ending c.args.program.now) c.args.tape.now c.open_views-views.result.now c.as_slice.result.now c.in_ok-outcomes.outcomes.items c.open_views-views.ensures.views
-    (c.open_views-views.ensures.limits (open_phase c.args.tape.now.phase h)) (c.as_slice.ensures.value ∙ (c.in_ok-processes.ensures ∙ ap (range_with_len 0) c.len.ensures)) (c.requires.turns c.args.program c.open_views-views.result c.as_slice.result _ c.in_ok-outcomes.ensures) in
-    let shown = outcomes_made c.args.tape.now c.turned.new.self c.in_ok-outcomes.outcomes.items c.outcomes.result.now c.in_ok-delivers.ensures.ok delivers c.outcomes.ensures.outcomes in
+    let made = turns_made (g.P.Program.acts c.args.program.now) (g.P.Program.ending c.args.program.now) c.args.tape.now c.open_views-views.result.now c.as_slice.result.now c.in_ok-outcomes.outcomes c.open_views-views.ensures.views
+    (c.open_views-views.ensures.limits (open_phase c.args.tape.now.phase h)) (c.as_slice.ensures.value ∙ (c.in_ok-processes.ensures ∙ ap (range_with_len 0) c.len.ensures)) (c.requires.turns c.args.program c.open_views-views.result c.as_slice.result c.outcomes_before.result _ c.in_ok-outcomes.ensures) in
+    let shown = outcomes_made c.args.tape.now c.turned.new.self c.in_ok-outcomes.outcomes c.outcomes.result.now c.in_ok-delivers.ensures.ok delivers c.outcomes.ensures.outcomes in
     let count : length c.outcomes.result.now ≡ length c.open_views-views.result.now = ap (λ (os : List OutcomeParts). length os) shown.1 ∙ made.count in
     c.requires.deliver c.outcomes.result c.as_slice-then-delivers.result (c.outcomes.ensures.deliverable (turned_phase_is c.turned.new.self.phase delivers))
     (subst (All (λ d. d < length c.outcomes.result.now)) (sym (c.as_slice-then-delivers.ensures.value ∙ (c.in_ok-processes.ensures ∙ ap (range_with_len 0) c.len.ensures) ∙ ap (range_with_len 0) (sym count))) (range_below (length c.outcomes.result.now)))
@@ -38,11 +38,11 @@ pub delivered-requires-clause-cells : goal.delivered-requires-clause-cells
 delivered-requires-clause-cells g c =
     let delivers : is_turned c.turned.new.self.phase ≡ true = sym c.in_ok-delivers.ensures.answer ∙ c.if-delivers.true in
     let h = c.requires.open in
-    let made = turns_made (g.P.Program.acts c.args.program.now) (g.P.Program.ending c.args.program.now) c.args.tape.now c.open_views-views.result.now c.as_slice.result.now c.in_ok-outcomes.outcomes.items c.open_views-views.ensures.views
-    (c.open_views-views.ensures.limits (open_phase c.args.tape.now.phase h)) (c.as_slice.ensures.value ∙ (c.in_ok-processes.ensures ∙ ap (range_with_len 0) c.len.ensures)) (c.requires.turns c.args.program c.open_views-views.result c.as_slice.result _ c.in_ok-outcomes.ensures) in
-    let shown = outcomes_made c.args.tape.now c.turned.new.self c.in_ok-outcomes.outcomes.items c.outcomes.result.now c.in_ok-delivers.ensures.ok delivers c.outcomes.ensures.outcomes in
+    let made = turns_made (g.P.Program.acts c.args.program.now) (g.P.Program.ending c.args.program.now) c.args.tape.now c.open_views-views.result.now c.as_slice.result.now c.in_ok-outcomes.outcomes c.open_views-views.ensures.views
+    (c.open_views-views.ensures.limits (open_phase c.args.tape.now.phase h)) (c.as_slice.ensures.value ∙ (c.in_ok-processes.ensures ∙ ap (range_with_len 0) c.len.ensures)) (c.requires.turns c.args.program c.open_views-views.result c.as_slice.result c.outcomes_before.result _ c.in_ok-outcomes.ensures) in
+    let shown = outcomes_made c.args.tape.now c.turned.new.self c.in_ok-outcomes.outcomes c.outcomes.result.now c.in_ok-delivers.ensures.ok delivers c.outcomes.ensures.outcomes in
     let count : length c.outcomes.result.now ≡ length c.open_views-views.result.now = ap (λ (os : List OutcomeParts). length os) shown.1 ∙ made.count in
-    deliveries_made c.outcomes.result.now (length c.open_views-views.result.now) c.as_slice-then-delivers.result.now c.in_ok-cells.cells.items count (c.as_slice-then-delivers.ensures.value ∙ (c.in_ok-processes.ensures ∙ ap (range_with_len 0) c.len.ensures))
+    deliveries_made c.outcomes.result.now (length c.open_views-views.result.now) c.as_slice-then-delivers.result.now c.in_ok-cells.cells count (c.as_slice-then-delivers.ensures.value ∙ (c.in_ok-processes.ensures ∙ ap (range_with_len 0) c.len.ensures))
     (c.requires.deliveries c.outcomes.result c.as_slice-then-delivers.result _ c.in_ok-cells.ensures) ∙ ap deliveries_of shown.0
 
 pub returns : goal.returns
@@ -50,8 +50,8 @@ returns g c =
     let turn = turn_of (g.P.Program.acts c.args.program.now) (g.P.Program.ending c.args.program.now) in
     let r : Run = c.args.tape.now in
     let h = c.requires.open in
-    let made = turns_made (g.P.Program.acts c.args.program.now) (g.P.Program.ending c.args.program.now) r c.open_views-views.result.now c.as_slice.result.now c.in_ok-outcomes.outcomes.items c.open_views-views.ensures.views
-    (c.open_views-views.ensures.limits (open_phase r.phase h)) (c.as_slice.ensures.value ∙ (c.in_ok-processes.ensures ∙ ap (range_with_len 0) c.len.ensures)) (c.requires.turns c.args.program c.open_views-views.result c.as_slice.result _ c.in_ok-outcomes.ensures) in
+    let made = turns_made (g.P.Program.acts c.args.program.now) (g.P.Program.ending c.args.program.now) r c.open_views-views.result.now c.as_slice.result.now c.in_ok-outcomes.outcomes c.open_views-views.ensures.views
+    (c.open_views-views.ensures.limits (open_phase r.phase h)) (c.as_slice.ensures.value ∙ (c.in_ok-processes.ensures ∙ ap (range_with_len 0) c.len.ensures)) (c.requires.turns c.args.program c.open_views-views.result c.as_slice.result c.outcomes_before.result _ c.in_ok-outcomes.ensures) in
     let turned = c.in_ok-delivers.ensures.ok ∙ ap (after_turns r) made.turns in
     let answer = ap (λ (x : Run). is_turned x.phase) (sym turned) ∙ sym c.in_ok-delivers.ensures.answer in
     elim c.if-delivers.branch [

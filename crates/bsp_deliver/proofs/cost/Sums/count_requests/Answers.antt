@@ -1,73 +1,74 @@
 use Rattle.std.proofs.Common.{◌+◌, length, ap, ◌∙◌, arith, subst, All, fold, map}
-use Rattle.bsp_step.specs.OutcomeParts.{OutcomeParts, IsShortSend}
+use Rattle.bsp_step.specs.OutcomeParts.{OutcomeParts, IsShortSend, outcome_of}
 use Rattle.bsp_deliver.specs.Cost.{put_transfer, get_transfer, send_transfer}
 use Rattle.bsp_deliver.specs.Inside.Sums.{counted}
+use Rattle.bsp_deliver.proofs.Senders.{outcome_at}
 use Rattle.bsp_deliver.proofs.Counts.{room_at, small_puts, small_gets, small_sends}
 use Rattle.bsp_deliver.proofs.cost.Sums.count_requests.Goals as goal
 
 pub count_puts-requires-clause-small : goal.count_puts-requires-clause-small
 count_puts-requires-clause-small c =
-    rw (ap (λ (x : OutcomeParts). x.puts) (c.own.view_is ∙ c.deref-own.ensures))
-    (small_puts c.args.outcomes.now c.args.p c.index-outcomes-p.result c.requires.deliverable c.requires.known c.index-outcomes-p.is)
+    rw (ap (λ (x : OutcomeParts). x.puts) (c.own.view_is ∙ c.get-own.ensures))
+    (small_puts c.args.outcomes.now c.args.p (outcome_of c.args.outcomes.now c.args.p) c.requires.deliverable c.requires.known (outcome_at c.args.outcomes.now c.args.p c.requires.known))
 
 pub count_gets-requires-clause-small : goal.count_gets-requires-clause-small
 count_gets-requires-clause-small c =
-    rw (c.as_slice.ensures ∙ ap (λ (x : OutcomeParts). x.gets) (c.own.view_is ∙ c.deref-own.ensures))
-    (small_gets c.args.outcomes.now c.args.p c.index-outcomes-p.result c.requires.deliverable c.requires.known c.index-outcomes-p.is)
+    rw (ap (λ (x : OutcomeParts). x.gets) (c.own.view_is ∙ c.get-own.ensures))
+    (small_gets c.args.outcomes.now c.args.p (outcome_of c.args.outcomes.now c.args.p) c.requires.deliverable c.requires.known (outcome_at c.args.outcomes.now c.args.p c.requires.known))
 
 pub count_gets-requires-clause-room : goal.count_gets-requires-clause-room
 count_gets-requires-clause-room c =
     let os = c.args.outcomes.now in
     let p = c.args.p in
-    let o = c.index-outcomes-p.result in
-    let puts = ap (λ (x : OutcomeParts). x.puts) (c.own.view_is ∙ c.deref-own.ensures) in
-    room_at (put_transfer p) o.puts c.args.self.now c.count_puts.new.self 1024 (length c.as_slice.result.now)
+    let o = outcome_of os p in
+    let puts = ap (λ (x : OutcomeParts). x.puts) (c.own.view_is ∙ c.get-own.ensures) in
+    room_at (put_transfer p) o.puts c.args.self.now c.count_puts.new.self 1024 (length c.own.inside.gets.now)
     (c.count_puts.ensures ∙ ap (λ xs. fold counted c.args.self.now (map (put_transfer p) xs)) puts)
-    (small_puts os p o c.requires.deliverable c.requires.known c.index-outcomes-p.is)
-    (omega (arith, ap length puts, ap length c.as_slice.ensures, c.own.invariant.few_requests)) c.requires.room
+    (small_puts os p o c.requires.deliverable c.requires.known (outcome_at c.args.outcomes.now c.args.p c.requires.known))
+    (omega (arith, ap length puts, c.own.invariant.few_requests)) c.requires.room
 
 pub count_sends-requires-clause-small : goal.count_sends-requires-clause-small
 count_sends-requires-clause-small c =
-    let o = c.index-outcomes-p.result in
-    let short : All IsShortSend o.sends = subst (λ (x : OutcomeParts). All IsShortSend x.sends) (c.own.view_is ∙ c.deref-own.ensures) c.own.invariant.sends.each in
-    rw (ap (λ (x : OutcomeParts). x.sends) (c.own.view_is ∙ c.deref-own.ensures))
-    (small_sends c.args.outcomes.now c.args.p o c.requires.deliverable c.requires.known c.index-outcomes-p.is short)
+    let o = outcome_of c.args.outcomes.now c.args.p in
+    let short : All IsShortSend o.sends = subst (λ (x : OutcomeParts). All IsShortSend x.sends) (c.own.view_is ∙ c.get-own.ensures) c.own.invariant.sends.each in
+    rw (ap (λ (x : OutcomeParts). x.sends) (c.own.view_is ∙ c.get-own.ensures))
+    (small_sends c.args.outcomes.now c.args.p o c.requires.deliverable c.requires.known (outcome_at c.args.outcomes.now c.args.p c.requires.known) short)
 
 pub count_sends-requires-clause-room : goal.count_sends-requires-clause-room
 count_sends-requires-clause-room c =
     let os = c.args.outcomes.now in
     let p = c.args.p in
-    let o = c.index-outcomes-p.result in
+    let o = outcome_of os p in
     let few = c.own.invariant.few_requests in
-    let puts = ap (λ (x : OutcomeParts). x.puts) (c.own.view_is ∙ c.deref-own.ensures) in
-    let gets = c.as_slice.ensures ∙ ap (λ (x : OutcomeParts). x.gets) (c.own.view_is ∙ c.deref-own.ensures) in
+    let puts = ap (λ (x : OutcomeParts). x.puts) (c.own.view_is ∙ c.get-own.ensures) in
+    let gets = ap (λ (x : OutcomeParts). x.gets) (c.own.view_is ∙ c.get-own.ensures) in
     let n = length c.own.inside.sends in
     room_at (get_transfer p) o.gets c.count_puts.new.self c.count_gets.new.self (length o.gets + n) n
     (c.count_gets.ensures ∙ ap (λ xs. fold counted c.count_puts.new.self (map (get_transfer p) xs)) gets)
-    (small_gets os p o c.requires.deliverable c.requires.known c.index-outcomes-p.is) (omega arith)
+    (small_gets os p o c.requires.deliverable c.requires.known (outcome_at c.args.outcomes.now c.args.p c.requires.known)) (omega arith)
     (room_at (put_transfer p) o.puts c.args.self.now c.count_puts.new.self 1024 (length o.gets + n)
     (c.count_puts.ensures ∙ ap (λ xs. fold counted c.args.self.now (map (put_transfer p) xs)) puts)
-    (small_puts os p o c.requires.deliverable c.requires.known c.index-outcomes-p.is)
-    (omega (arith, ap length puts, ap length c.as_slice.ensures, ap length gets, few)) c.requires.room)
+    (small_puts os p o c.requires.deliverable c.requires.known (outcome_at c.args.outcomes.now c.args.p c.requires.known))
+    (omega (arith, ap length puts, ap length gets, few)) c.requires.room)
 
 pub returns-clause-room : goal.returns-clause-room
 returns-clause-room c =
     let os = c.args.outcomes.now in
     let p = c.args.p in
-    let o = c.index-outcomes-p.result in
+    let o = outcome_of os p in
     let few = c.own.invariant.few_requests in
-    let short : All IsShortSend o.sends = subst (λ (x : OutcomeParts). All IsShortSend x.sends) (c.own.view_is ∙ c.deref-own.ensures) c.own.invariant.sends.each in
-    let puts = ap (λ (x : OutcomeParts). x.puts) (c.own.view_is ∙ c.deref-own.ensures) in
-    let gets = c.as_slice.ensures ∙ ap (λ (x : OutcomeParts). x.gets) (c.own.view_is ∙ c.deref-own.ensures) in
-    let sends = ap (λ (x : OutcomeParts). x.sends) (c.own.view_is ∙ c.deref-own.ensures) in
+    let short : All IsShortSend o.sends = subst (λ (x : OutcomeParts). All IsShortSend x.sends) (c.own.view_is ∙ c.get-own.ensures) c.own.invariant.sends.each in
+    let puts = ap (λ (x : OutcomeParts). x.puts) (c.own.view_is ∙ c.get-own.ensures) in
+    let gets = ap (λ (x : OutcomeParts). x.gets) (c.own.view_is ∙ c.get-own.ensures) in
+    let sends = ap (λ (x : OutcomeParts). x.sends) (c.own.view_is ∙ c.get-own.ensures) in
     λ n room.
     room_at (send_transfer p) o.sends c.count_gets.new.self c.count_sends.new.self (length o.sends + n) n
     (c.count_sends.ensures ∙ ap (λ xs. fold counted c.count_gets.new.self (map (send_transfer p) xs)) sends)
-    (small_sends os p o c.requires.deliverable c.requires.known c.index-outcomes-p.is short) (omega arith)
+    (small_sends os p o c.requires.deliverable c.requires.known (outcome_at c.args.outcomes.now c.args.p c.requires.known) short) (omega arith)
     (room_at (get_transfer p) o.gets c.count_puts.new.self c.count_gets.new.self (length o.gets + (length o.sends + n)) (length o.sends + n)
     (c.count_gets.ensures ∙ ap (λ xs. fold counted c.count_puts.new.self (map (get_transfer p) xs)) gets)
-    (small_gets os p o c.requires.deliverable c.requires.known c.index-outcomes-p.is) (omega arith)
+    (small_gets os p o c.requires.deliverable c.requires.known (outcome_at c.args.outcomes.now c.args.p c.requires.known)) (omega arith)
     (room_at (put_transfer p) o.puts c.args.self.now c.count_puts.new.self (1024 + n) (length o.gets + (length o.sends + n))
     (c.count_puts.ensures ∙ ap (λ xs. fold counted c.args.self.now (map (put_transfer p) xs)) puts)
-    (small_puts os p o c.requires.deliverable c.requires.known c.index-outcomes-p.is)
-    (omega (arith, ap length puts, ap length c.as_slice.ensures, ap length gets, ap length sends, few)) room))
+    (small_puts os p o c.requires.deliverable c.requires.known (outcome_at c.args.outcomes.now c.args.p c.requires.known))
+    (omega (arith, ap length puts, ap length gets, ap length sends, few)) room))

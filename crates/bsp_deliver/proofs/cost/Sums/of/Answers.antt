@@ -1,17 +1,21 @@
-use Rattle.std.proofs.Common.{◌+◌, ◌*◌, ◌-◌, ap, ◌∙◌, arith, fold}
+use Rattle.std.proofs.Common.{◌<◌, length, ◌+◌, ◌*◌, ◌-◌, ap, ◌∙◌, arith, fold, refl}
 use Rattle.bsp_deliver.specs.declared.cost.Sums.{Sums}
-use Rattle.bsp_deliver.specs.Requests.{outcome_of}
+use Rattle.bsp_step.specs.OutcomeParts.{outcome_of}
 use Rattle.bsp_deliver.specs.Inside.Sums.{counted, no_words, transfers_of}
-use Rattle.bsp_deliver.proofs.Counts.{transfers_more, less_room}
+use Rattle.bsp_deliver.proofs.Counts.{transfers_more, less_room, no_words_room}
 use Rattle.bsp_deliver.proofs.cost.Sums.of.Goals as goal
+
+pub loop-p-init : goal.loop-p-init
+loop-p-init c = record { sums = refl; room = no_words_room 65536 (omega arith) }
 
 pub loop-p-preserved : goal.loop-p-preserved
 loop-p-preserved c =
     let p = c.loop-p.p in
+    let here : p < length c.args.outcomes.now = omega (arith, c.loop-p-test.true, c.len-p-end.ensures) in
     record {
       sums =
           c.count_requests.ensures.sums
           ∙ ap (λ (s : Sums). fold counted s (transfers_of p (outcome_of c.args.outcomes.now p))) c.loop-p.invariant.sums
-          ∙ transfers_more no_words c.args.outcomes.now p c.loop-p-test.true;
-      room = c.count_requests.ensures.room (1024 * (64 - (p + 1))) (less_room c.loop-p.sums (1024 + 1024 * (64 - (p + 1))) (1024 * (64 - p)) (omega (arith, c.requires.few, c.loop-p-test.true)) c.loop-p.invariant.room);
+          ∙ transfers_more no_words c.args.outcomes.now p here;
+      room = c.count_requests.ensures.room (1024 * (64 - (p + 1))) (less_room c.loop-p.sums (1024 + 1024 * (64 - (p + 1))) (1024 * (64 - p)) (omega (arith, c.requires.few, here)) c.loop-p.invariant.room);
     }

@@ -5,7 +5,7 @@ use Rattle.bsp_deliver.proofs.tests.outcomes.are_deliverable.Goals as goal
 pub returns : goal.returns
 returns c = λ t. record {
   some = grind (arith, nat_tests);
-  few = c.if-outcomes-gt64.false;
+  few = omega (arith, c.if-len-gt64.false, c.len.ensures);
   short = c.are_memories_short.ensures c.if-not-are_memories_short.false;
   inside = c.are_all_inside.ensures t;
 }

@@ -15,5 +15,5 @@ pub loop-copied-preserved : goal.loop-copied-preserved
 loop-copied-preserved c =
     record {
       within = grind (arith, common_steps);
-      same = read_more c.args.self.now c.loop-copied.words c.words_from-page.result.now _ c.args.start c.loop-copied.copied c.min-count.result _ c.loop-copied.invariant.within c.loop-copied.invariant.same c.words_from-page.ensures (omega arith) c.replace_words.ensures;
+      same = read_more c.args.self.now c.loop-copied.words c.words_from-page.result.now _ c.args.start c.loop-copied.copied c.min-count.result _ c.loop-copied.invariant.within c.loop-copied.invariant.same c.words_from-page.ensures (omega arith) c.replace_items.ensures;
     }

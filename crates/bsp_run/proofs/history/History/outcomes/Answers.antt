@@ -1,7 +1,6 @@
-use Rattle.std.proofs.Common.{◌≡◌, ◌<◌, ◌∙◌, List, None, Some, true, ap, cond, length, arith}
-use Rattle.bsp_step.specs.OutcomeParts.{OutcomeParts}
+use Rattle.std.proofs.Common.{◌≡◌, ◌<◌, ◌∙◌, List, true, ap, length, arith}
 use Rattle.bsp_deliver.specs.Condition.{AreDeliverable}
-use Rattle.bsp_run.specs.Run.{Run, is_limit}
+use Rattle.bsp_run.specs.Run.{Run}
 use Rattle.bsp_run.specs.Condition.{is_ended}
 use Rattle.bsp_run.specs.Inside.Tape.{run_of}
 use Rattle.bsp_run.proofs.Laws.{last_deliverable, IfSome-map, no_turns}
@@ -11,7 +10,7 @@ pub returns-in-None-clause-deliverable : goal.returns-in-None-clause-deliverable
 returns-in-None-clause-deliverable c =
     let r : Run = run_of c.run.inside in
     let ended : is_ended r.phase ≡ true = ap (λ (x : Run). is_ended x.phase) c.run.view_is ∙ c.self.invariant.ended in
-    let last = c.last_turn.ensures ∙ ap (λ (os : List OutcomeParts). cond (is_limit r.phase) None (Some os)) c.as_slice-in-None.ensures in
+    let last = c.last_turn.ensures in
     IfSome-map (λ o. o.now) AreDeliverable c.last_turn.result (last_deliverable r c.run.invariant.run ended _ last)
 
 pub returns-in-None-2-clause-outcomes : goal.returns-in-None-2-clause-outcomes

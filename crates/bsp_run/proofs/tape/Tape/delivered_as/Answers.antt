@@ -1,4 +1,4 @@
-use Rattle.std.proofs.Common.{◌≡◌, ◌+◌, ◌<◌, ◌∙◌, All, List, refl, ap, sym, subst, length, arith, get_or}
+use Rattle.std.proofs.Common.{◌≡◌, ◌+◌, ◌<◌, ◌∙◌, All, List, refl, ap, sym, subst, length, arith}
 use Rattle.std.proofs.lemmas.List.Elements.{All-push}
 use Rattle.bsp_step.specs.ViewParts.{ViewParts}
 use Rattle.bsp_run.specs.State.{State, views_of, next_state}

@@ -16,7 +16,7 @@ use Rattle.bsp_run.proofs.Laws.{outcomes-last, outcomes-ended}
 use Rattle.bsp_run.proofs.tape.Tape.finish_sharing.Goals as goal
 
 last_is : (c : goal.After-total_of-total) → option_map (λ o. o.now) c.last_turn-last.result ≡ cond (is_limit c.self.inside.phase) None (Some (run_of c.self.inside).outcomes)
-last_is c = c.last_turn-last.ensures ∙ ap (λ (os : List OutcomeParts). cond (is_limit c.self.inside.phase) None (Some os)) c.as_slice.ensures
+last_is c = c.last_turn-last.ensures
 
 has_ended : (c : goal.After-total_of-total) → is_ended c.self.inside.phase ≡ true
 has_ended c = ap (λ (x : Run). is_ended x.phase) c.self.view_is ∙ c.requires.ended
@@ -38,7 +38,7 @@ costs_are c =
     let r : Run = run_of c.self.inside in
     let ends : List (List OutcomeParts) → List CostRow = λ last. map cost_of_end last in
     c.in_ok-costs.ensures.rows
-    ∙ ap (λ (rows : List CostRow). rows ++ ends (option_to_list (option_map (λ o. o.now) c.last_turn-last.result))) (c.as_slice-2.ensures.value ∙ c.self.invariant.costs)
+    ∙ ap (λ (rows : List CostRow). rows ++ ends (option_to_list (option_map (λ o. o.now) c.last_turn-last.result))) (c.as_slice.ensures.value ∙ c.self.invariant.costs)
     ∙ ap (λ (last : List (List OutcomeParts)). map (cost_of_delivery r.g r.l) (outcomes_of r.past) ++ ends last) (ap option_to_list (last_is c) ∙ sym (outcomes-last r (has_ended c)))
 
 pub invariant_of-result : goal.invariant_of-result
@@ -46,7 +46,7 @@ invariant_of-result c = record {
   ended = c.requires.ended;
   lines = lines_are c ∙ ap lines_of c.self.view_is;
   costs = costs_are c ∙ ap costs_of c.self.view_is;
-  total = c.total_of-total.ensures ∙ ap total_of c.as_slice-3.ensures ∙ ap total_of (costs_are c ∙ ap costs_of c.self.view_is);
+  total = c.total_of-total.ensures ∙ ap total_of c.as_slice-2.ensures ∙ ap total_of (costs_are c ∙ ap costs_of c.self.view_is);
 }
 
 pub all_lines-requires : goal.all_lines-requires
@@ -54,7 +54,7 @@ all_lines-requires c =
     let r : Run = run_of c.self.inside in
     let turns : List Superstep → Option (List OutcomeParts) → List (List OutcomeParts) = λ past last. outcomes_of past ++ option_to_list last in
     let last : option_map (λ o. o.now) c.last_turn-last.result ≡ cond (is_limit c.self.inside.phase) None (Some r.outcomes) =
-    c.last_turn-last.ensures ∙ ap (λ (os : List OutcomeParts). cond (is_limit c.self.inside.phase) None (Some os)) c.as_slice.ensures in
+    c.last_turn-last.ensures in
     let ended : is_ended r.phase ≡ true = ap (λ (x : Run). is_ended x.phase) c.self.view_is ∙ c.requires.ended in
     subst (AreLinesUnlessMarked c.args.lines.now c.args.marks.now)
     (sym

@@ -1,20 +1,19 @@
 use Rattle.std.proofs.Common.{◌∙◌, [], ap, map}
 use Rattle.bsp_model.proofs.Inputs.{lawful_input}
-use Rattle.bsp_run.specs.declared.setting.Setting.{Setting}
 use Rattle.bsp_run.specs.State.{no_messages}
 use Rattle.bsp_run.proofs.Opens.{opens_first, views_first}
 use Rattle.bsp_run.proofs.tape.Tape.open_lawful.Goals as goal
 
-pub open-requires : goal.open-requires
-open-requires c =
+pub open-views-requires : goal.open-views-requires
+open-views-requires c =
     let input = c.args.input.now in
     let cells = c.in_ok-cells.ensures ∙ ap (map (λ m. (m, no_messages m))) c.as_slice.ensures in
     let setting = c.in_ok-setting.ensures ∙ (λ i. record { step = 0; args = c.in_ok-args.ensures i; table = []; tag_size = 0 }) in
-    opens_first input c.in_ok-setting.setting c.in_ok-cells.cells.items (lawful_input input c.requires.lawful) setting cells
+    opens_first input c.in_ok-setting.setting c.in_ok-cells.cells (lawful_input input c.requires.lawful) setting cells
 
 pub open_with-requires-clause-views : goal.open_with-requires-clause-views
 open_with-requires-clause-views c =
     let input = c.args.input.now in
     let cells = c.in_ok-cells.ensures ∙ ap (map (λ m. (m, no_messages m))) c.as_slice.ensures in
     let setting = c.in_ok-setting.ensures ∙ (λ i. record { step = 0; args = c.in_ok-args.ensures i; table = []; tag_size = 0 }) in
-    c.in_ok-views.ensures ∙ views_first input c.in_ok-setting.setting c.in_ok-cells.cells.items setting cells
+    c.open-views.ensures ∙ views_first input c.in_ok-setting.setting c.in_ok-cells.cells setting cells

@@ -26,7 +26,7 @@ replaced-requires-clause-opens c =
     let ps = c.args.processes.now in
     let cells = c.in_ok-cells.ensures ∙ ap (λ (ms : List (List ℕ)). map (first_cell ms) ps) c.as_slice-mems.ensures in
     let setting = c.in_ok-setting.ensures ∙ (λ i. record { step = 0; args = c.requires.args i; table = []; tag_size = 0 }) in
-    opens_first input c.in_ok-setting.setting (replaced (map cell_of c.args.like.now) ps c.in_ok-cells.cells.items) (lawful_input input c.requires.lawful) setting
+    opens_first input c.in_ok-setting.setting (replaced (map cell_of c.args.like.now) ps c.in_ok-cells.cells) (lawful_input input c.requires.lawful) setting
     (ap (replaced (map cell_of c.args.like.now) ps) cells ∙ c.requires.like)
 
 pub open_with-requires-clause-views : goal.open_with-requires-clause-views
@@ -35,5 +35,5 @@ open_with-requires-clause-views c =
     let ps = c.args.processes.now in
     let cells = c.in_ok-cells.ensures ∙ ap (λ (ms : List (List ℕ)). map (first_cell ms) ps) c.as_slice-mems.ensures in
     let setting = c.in_ok-setting.ensures ∙ (λ i. record { step = 0; args = c.requires.args i; table = []; tag_size = 0 }) in
-    c.in_ok-views.ensures ∙ views_first input c.in_ok-setting.setting (replaced (map cell_of c.args.like.now) ps c.in_ok-cells.cells.items) setting
+    c.in_ok-views.ensures ∙ views_first input c.in_ok-setting.setting (replaced (map cell_of c.args.like.now) ps c.in_ok-cells.cells) setting
     (ap (replaced (map cell_of c.args.like.now) ps) cells ∙ c.requires.like)

@@ -1,5 +1,4 @@
-use Rattle.std.proofs.Common.{◌∙◌, ap, sym, subst, length}
-use Rattle.bsp_deliver.specs.Condition.{AreDeliverable}
+use Rattle.std.proofs.Common.{◌∙◌, ap, subst, length}
 use Rattle.bsp_run.specs.Run.{Run}
 use Rattle.bsp_run.specs.Inside.Tape.{run_of}
 use Rattle.bsp_run.specs.Condition.{IsInPhase, IsTurned}
@@ -11,4 +10,4 @@ returns-in_default-clause-deliverable c e =
     let r : Run = run_of c.self.inside in
     let h = c.self.invariant.run in
     let turned : IsTurned r = subst (λ p. IsInPhase p r) (ap (λ (x : Run). x.phase) c.self.view_is ∙ e) h.phase in
-    subst AreDeliverable (sym c.as_slice-in_default.ensures) (AreDeliverable-from_turns r.args (length r.past) r.state r.outcomes h.state turned.turns)
+    AreDeliverable-from_turns r.args (length r.past) r.state r.outcomes h.state turned.turns

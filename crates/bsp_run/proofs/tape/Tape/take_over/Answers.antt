@@ -1,4 +1,4 @@
-use Rattle.std.proofs.Common.{◌≡◌, ◌<◌, ◌+◌, ◌∙◌, ℕ, List, [], ◌∷◌, ◌++◌, All, None, ap, sym, subst, length, arith, get_or}
+use Rattle.std.proofs.Common.{◌≡◌, ◌<◌, ◌+◌, ◌∙◌, ℕ, List, [], ◌∷◌, ◌++◌, All, None, ap, sym, subst, length, arith}
 use Rattle.std.proofs.lemmas.List.Elements.{All-push}
 use Rattle.bsp_step.specs.ViewParts.{ViewParts}
 use Rattle.bsp_run.specs.declared.superstep.Superstep.{Superstep}

@@ -1,12 +1,10 @@
 use Rattle.std.proofs.Common.{◌≡◌, ◌<◌, ◌∙◌, ℕ, List, [], ap, sym, subst, get_or, length, arith}
 use Rattle.std.proofs.lemmas.List.{get_or_default}
-use Rattle.bsp_model.specs.declared.request.Message.{Message}
-use Rattle.bsp_table.specs.declared.area.Area.{Area}
 use Rattle.bsp_step.specs.ViewParts.{ViewParts, IsView}
 use Rattle.bsp_run.specs.declared.views.Views.TheInside.{Inside}
 use Rattle.bsp_run.specs.State.{view_of}
 use Rattle.bsp_run.specs.Condition.{no_view}
-use Rattle.bsp_run.specs.Inside.Views.{seen_in, state_in, IsLawful}
+use Rattle.bsp_run.specs.Inside.Views.{seen_in, state_in}
 use Rattle.bsp_run.proofs.Conditions.{length-views_of, view-views_of}
 use Rattle.bsp_run.proofs.ViewsOfStates.{view_within}
 use Rattle.bsp_run.proofs.views.Views.get.Goals as goal

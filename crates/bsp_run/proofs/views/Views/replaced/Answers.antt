@@ -1,4 +1,4 @@
-use Rattle.std.proofs.Common.{◌≡◌, ◌<◌, ◌∙◌, ℕ, List, All, map, ap, sym, subst, length, arith}
+use Rattle.std.proofs.Common.{◌≡◌, ◌<◌, ◌∙◌, ℕ, List, All, map, ap, sym, subst, length}
 use Rattle.bsp_model.specs.declared.request.Message.{Message}
 use Rattle.bsp_table.specs.declared.area.Area.{Area}
 use Rattle.bsp_model.specs.Replaced.{replaced}
@@ -12,7 +12,6 @@ use Rattle.bsp_run.proofs.Conditions.{length-views_of}
 use Rattle.bsp_run.proofs.Lists.{map_twice}
 use Rattle.bsp_run.proofs.Opens.{state_seen-views_of}
 use Rattle.bsp_run.proofs.views.Views.replaced.Goals as goal
-use Rattle.bsp_run.proofs.views.Views.replaced.Goals.{In_ok-replaced}
 
 -- a process of the views is one of the memories
 long : (v : Inside) (now : List ViewParts) → seen_in v ≡ now → length now ≡ length v.memories
@@ -29,44 +28,41 @@ pub replaced-requires-clause-known : goal.replaced-requires-clause-known
 replaced-requires-clause-known c = subst (λ n. All (λ p. p < n) c.args.processes.now) (long c.self.inside c.args.self.now c.self.view_is) c.requires.known
 
 -- what is kept makes the state
-state_is : (v : Inside) (now : List ViewParts) (ps : List ℕ) (cells : List (List ℕ × List Message)) (memories : List (List ℕ)) (queues : List (List Message)) (table : List (List Area)) (tag : ℕ) → IsLawful v → seen_in v ≡ now
-    → memories ≡ replaced v.memories ps (map (λ c. c.0) cells) → queues ≡ replaced v.queues.items ps (map (λ c. c.1) cells)
+kept : (v : Inside) (now : List ViewParts) (ps : List ℕ) (cells : List (List ℕ × List Message)) (table : List (List Area)) (tag : ℕ) (new_memories memories : List (List ℕ)) (new_queues old queues : List (List Message)) → IsLawful v → seen_in v ≡ now
+    → new_memories ≡ map (λ c. c.0) cells → new_queues ≡ map (λ c. c.1) cells → memories ≡ replaced v.memories ps new_memories → old ≡ v.queues.items → queues ≡ replaced old ps new_queues
     → record { memories = memories; queues = queues; table = table; tag_size = tag } ≡ state_of (replaced (map cell_of now) ps cells) table tag
-state_is v now ps cells memories queues table tag h seen ms qs =
+kept v now ps cells table tag new_memories memories new_queues old queues h seen new_ms new_qs ms old_is qs =
     let same = state_seen-views_of v.setting.args v.setting.step (state_in v) h.queues in
     let words : v.memories ≡ map (λ (c : List ℕ × List Message). c.0) (map cell_of now) =
     sym (ap (λ (s : State). s.memories) same) ∙ ap (λ (vs : List ViewParts). map (λ (w : ViewParts). w.memory) vs) seen ∙ map_twice (λ (c : List ℕ × List Message). c.0) cell_of now in
     let messages : v.queues.items ≡ map (λ (c : List ℕ × List Message). c.1) (map cell_of now) =
     sym (ap (λ (s : State). s.queues) same) ∙ ap (λ (vs : List ViewParts). map (λ (w : ViewParts). w.queue) vs) seen ∙ map_twice (λ (c : List ℕ × List Message). c.1) cell_of now in
     let memories_are : memories ≡ map (λ (c : List ℕ × List Message). c.0) (replaced (map cell_of now) ps cells) =
-    ms ∙ ap (λ (xs : List (List ℕ)). replaced xs ps (map (λ (c : List ℕ × List Message). c.0) cells)) words ∙ sym (map-replaced (λ (c : List ℕ × List Message). c.0) (map cell_of now) ps cells) in
+    ms ∙ ap (replaced v.memories ps) new_ms ∙ ap (λ (xs : List (List ℕ)). replaced xs ps (map (λ (c : List ℕ × List Message). c.0) cells)) words ∙ sym (map-replaced (λ (c : List ℕ × List Message). c.0) (map cell_of now) ps cells) in
     let queues_are : queues ≡ map (λ (c : List ℕ × List Message). c.1) (replaced (map cell_of now) ps cells) =
-    qs ∙ ap (λ (xs : List (List Message)). replaced xs ps (map (λ (c : List ℕ × List Message). c.1) cells)) messages ∙ sym (map-replaced (λ (c : List ℕ × List Message). c.1) (map cell_of now) ps cells) in
+    qs ∙ ap (replaced old ps) new_qs ∙ ap (λ (xs : List (List Message)). replaced xs ps (map (λ (c : List ℕ × List Message). c.1) cells)) (old_is ∙ messages) ∙ sym (map-replaced (λ (c : List ℕ × List Message). c.1) (map cell_of now) ps cells) in
     λ i. record { memories = memories_are i; queues = queues_are i; table = table; tag_size = tag }
-
-kept : (c : In_ok-replaced) → record { memories = c.in_ok-replaced.field-0; queues = c.put_at.new.items.items; table = c.args.setting.table; tag_size = c.args.setting.tag_size } ≡ state_of (replaced (map cell_of c.args.self.now) c.args.processes.now c.args.cells.items) c.args.setting.table c.args.setting.tag_size
-kept c =
-    let v = c.self.inside in
-    let ps = c.args.processes.now in
-    let memories = c.in_ok-replaced.ensures ∙ ap (replaced v.memories ps) c.in_ok-memories.ensures.memories in
-    let queues =
-    c.put_at.ensures ∙ ap (λ (qs : List (List Message)). replaced qs ps c.in_ok-memories.new.items) (c.in_ok-queues.ensures ∙ c.as_slice.ensures.value)
-    ∙ ap (replaced v.queues.items ps) c.in_ok-memories.ensures.queues in
-    state_is v c.args.self.now ps c.args.cells.items c.in_ok-replaced.field-0 c.put_at.new.items.items c.args.setting.table c.args.setting.tag_size c.self.invariant c.self.view_is memories queues
 
 pub invariant_of-result : goal.invariant_of-result
 invariant_of-result c =
     let v = c.self.inside in
     let ps = c.args.processes.now in
     let queues : length c.put_at.new.items.items ≡ length v.queues.items =
-    ap (λ (qs : List (List Message)). length qs) c.put_at.ensures ∙ length-replaced c.in_ok-queues.queues.items ps c.in_ok-memories.new.items
+    ap (λ (qs : List (List Message)). length qs) c.put_at.ensures ∙ length-replaced c.in_ok-queues.queues.items ps c.into_parts-memories.result.1.items
     ∙ ap (λ (qs : List (List Message)). length qs) (c.in_ok-queues.ensures ∙ c.as_slice.ensures.value) in
     let memories : length c.in_ok-replaced.field-0 ≡ length v.memories =
-    ap (λ (ms : List (List ℕ)). length ms) c.in_ok-replaced.ensures ∙ length-replaced v.memories ps c.in_ok-memories.memories.items in
+    ap (λ (ms : List (List ℕ)). length ms) c.in_ok-replaced.ensures ∙ length-replaced v.memories ps c.into_parts-memories.result.0 in
+    let state =
+    kept c.self.inside c.args.self.now c.args.processes.now c.args.cells c.args.setting.table c.args.setting.tag_size _ c.in_ok-replaced.field-0 _ _ c.put_at.new.items.items c.self.invariant c.self.view_is
+    c.into_parts-memories.ensures.memories c.into_parts-memories.ensures.queues c.in_ok-replaced.ensures (c.in_ok-queues.ensures ∙ c.as_slice.ensures.value) c.put_at.ensures in
     record {
-      opens = subst (CanOpen c.args.setting.args) (sym (kept c)) c.requires.opens;
+      opens = subst (CanOpen c.args.setting.args) (sym state) c.requires.opens;
       queues = queues ∙ c.self.invariant.queues ∙ sym memories;
     }
 
 pub returns : goal.returns
-returns c = ap (views_of c.args.setting.args c.args.setting.step) (kept c)
+returns c =
+    let state =
+    kept c.self.inside c.args.self.now c.args.processes.now c.args.cells c.args.setting.table c.args.setting.tag_size _ c.in_ok-replaced.field-0 _ _ c.put_at.new.items.items c.self.invariant c.self.view_is
+    c.into_parts-memories.ensures.memories c.into_parts-memories.ensures.queues c.in_ok-replaced.ensures (c.in_ok-queues.ensures ∙ c.as_slice.ensures.value) c.put_at.ensures in
+    ap (views_of c.args.setting.args c.args.setting.step) state

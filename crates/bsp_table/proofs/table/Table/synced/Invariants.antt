@@ -5,4 +5,4 @@ use Rattle.bsp_table.proofs.table.Table.synced.Given as goal
 
 -- after the slots that are kept, one for each k so far
 abbrev pub invariant-loop-k : goal.invariant-loop-k
-invariant-loop-k g l = l.slots ≡ l.initial.slots ++ map (pushed_slot (map g.R.Registers.pushes l.all)) (range_with_len 0 l.k)
+invariant-loop-k g l = l.slots ≡ l.initial.slots ++ map (pushed_slot (g.R.Registers.pushes l.all)) (range_with_len 0 l.k)

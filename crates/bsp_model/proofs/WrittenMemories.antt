@@ -1,0 +1,45 @@
+-- What a write leaves of the memories of several processes.
+use Rattle.std.proofs.Common.{◌≡◌, ◌≤◌, ◌<◌, ℕ, ◌+◌, ◌*◌, ◌-◌, List, [], ◌∷◌, ◌++◌, length, get_or, set, min, refl, ap, subst, ◌∙◌, arith}
+use Rattle.std.proofs.lemmas.List.{length-take, length-drop}
+use Rattle.bsp_model.specs.Memory.{memory_written}
+use Rattle.bsp_model.specs.Inside.Cut.{IsCut}
+use Rattle.bsp_model.specs.Inside.Pages.{paged_word, words_of, word_after}
+use Rattle.bsp_model.specs.Inside.Memories.{count_of, memory_of, memories_of, ArePaged}
+use Rattle.bsp_model.specs.declared.paging.Cut.{Cut}
+use Rattle.bsp_model.proofs.RowReplaced.{with_part, length-with_part}
+use Rattle.bsp_model.proofs.Writes.{cut_written}
+use Rattle.bsp_model.proofs.PagedMemories.{memories_of-set, ArePaged-set, memory_of_process}
+
+-- the parts lie in the full pages and behind them
+pub cut_fits : (full behind len start : ℕ) (words : List ℕ) (cut : Cut) → IsCut full len start words cut → len ≡ full + behind → (cut.start + length cut.front.now ≤ full) × (cut.place + length cut.behind.now ≤ behind)
+cut_fits full behind len start words cut is all =
+    let n = min (length words) (full - start) in
+    let inside = is.inside in
+    let first = is.start in
+    let place = is.place in
+    let front : length cut.front.now ≡ min n (length words) = ap length is.front ∙ length-take n words in
+    let rest : length cut.behind.now ≡ length words - n = ap length is.behind ∙ length-drop n words in
+    (omega arith, omega arith)
+
+-- a process's new full pages and last words
+pub memory_replaced : (pages : List (List (List ℕ))) (lasts memories : List (List ℕ)) (pid : ℕ) (full' : List (List ℕ)) (words : List ℕ) (count len start : ℕ) (cut : Cut) → ArePaged pages lasts → memories_of pages lasts ≡ memories → pid < length memories
+    → count ≡ 64 * length (get_or pages pid []) → len ≡ count_of (get_or pages pid []) (get_or lasts pid []) → IsCut count len start words cut → length full' ≡ length (get_or pages pid [])
+    → ((i : ℕ) → paged_word full' i ≡ word_after (paged_word (get_or pages pid [])) cut.start cut.front.now i)
+    → ArePaged (set pages pid full') (set lasts pid (with_part (get_or lasts pid []) cut.place cut.behind.now))
+    × (memories_of (set pages pid full') (set lasts pid (with_part (get_or lasts pid []) cut.place cut.behind.now)) ≡ set memories pid (memory_written (get_or memories pid []) start words))
+memory_replaced pages lasts memories pid full' words count len start cut are is within count_is len_is cut_is same changed =
+    let m = memory_of_process pages lasts memories pid are is within in
+    let full = get_or pages pid [] in
+    let last = get_or lasts pid [] in
+    let last' = with_part last cut.place cut.behind.now in
+    let fits = cut_fits count (length last) len start words cut cut_is (omega (arith, len_is, count_is)) in
+    let long : length last' ≡ length last = length-with_part last cut.behind.now cut.place fits.1 in
+    let short = m.has.short in
+    let small = m.has.fits in
+    let all : count_of full' last' ≡ count_of full last = omega (arith, same, long) in
+    let now : memory_of full' last' ≡ memory_written (get_or memories pid []) start words =
+    ap (words_of (full' ++ last' ∷ [])) all
+    ∙ cut_written full full' last last' words (get_or memories pid []) (count_of full last) count start cut m.is m.has count_is (subst (λ n. IsCut count n start words cut) len_is cut_is) same changed refl in (
+      ArePaged-set pages lasts pid full' last' are m.within (omega (arith, long, short)) (omega (arith, all, small)),
+      memories_of-set pages lasts pid full' last' are m.within ∙ ap (λ (ms : List (List ℕ)). set ms pid (memory_of full' last')) is ∙ ap (set memories pid) now,
+    )

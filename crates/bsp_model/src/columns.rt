@@ -1,0 +1,14 @@
+//! For each process a row, in few lists. The rows behind the last that is not empty need not stand.
+
+mod column;
+mod lines;
+mod pairs;
+mod puts;
+mod sends;
+mod stores;
+
+pub use column::Column;
+pub use lines::LineColumn;
+pub use puts::PutColumn;
+pub use sends::SendColumn;
+pub use stores::StoreColumn;

@@ -1,0 +1,95 @@
+//! For each process a row of items.
+
+ghost use Rattle.std.specs.Prelude.{◌≡◌, [], IfOk, OnErr, OnOk};
+ghost use Rattle.bsp_model.specs.Columns.{row_at, AreCut, AreTaken, IsPut};
+
+use crate::{OutOfMemory, Rows};
+use std::alloc::Global;
+use std::marker::Model;
+
+/// For each process, by its number, a row of items, all in one list. A process that nothing was put at has the empty row.
+#[derive(Debug, Drop)]
+pub struct Column<T> {
+    /// The rows of the first processes. Those of the others are empty.
+    rows: Rows<T>,
+}
+
+impl<T> Model for Column<T> {
+    ghost use Rattle.std.specs.Prelude.{List};
+
+    ghost Value = { List (List T) };
+
+    ghost view = { λ c. c.rows };
+}
+
+impl<T> Column<T> {
+    /// Empty rows alone, which take no memory.
+    pub fn new(alloc: Global) -> Column<T>
+        ensures { result ≡ [] }
+    {
+        Column {
+            rows: Rows::new(alloc),
+        }
+    }
+
+    /// The row of a process.
+    #[inline(always)]
+    pub fn row(&self, place: usize) -> &[T]
+        ensures { result.now ≡ row_at self.now place }
+    {
+        self.rows.as_ref().row_or_empty(place)
+    }
+}
+
+impl<T: Copy> Column<T> {
+    /// Empty rows alone, with the room that these take, or `OutOfMemory`.
+    pub fn with_room_of(alloc: Global, like: &Column<T>) -> Result<Column<T>, OutOfMemory>
+        ensures { IfOk result (λ c. c ≡ []) }
+    {
+        Ok(Column {
+            rows: Rows::with_room_of(alloc, &like.rows)?,
+        })
+    }
+
+    /// Leaves the rows from a process on out.
+    pub(crate) fn cut(&mut self, place: usize)
+        ensures { AreCut [] (row_at self.old) place (row_at self.new) }
+    {
+        self.rows.truncate(place);
+    }
+
+    /// Makes `row` the row of a process, and leaves those behind it out. After `OutOfMemory` its own is left out too.
+    pub fn put(&mut self, place: usize, row: &[T]) -> Result<(), OutOfMemory>
+        ensures ok { OnOk result (IsPut [] (row_at self.old) place row.now (row_at self.new)) }
+        ensures err { OnErr result (AreCut [] (row_at self.old) place (row_at self.new)) }
+    {
+        self.rows.truncate(place);
+        if row.is_empty() {
+            return Ok(());
+        }
+        self.rows.fill(place)?;
+        self.rows.push(row)?;
+        Ok(())
+    }
+
+    /// Makes the rows of another column, from `from` on and before `to`, those of the same processes, and leaves those behind them out.
+    /// After `OutOfMemory` the rows from `from` on are left out.
+    pub fn take_range(
+        &mut self,
+        more: &Column<T>,
+        from: usize,
+        to: usize,
+    ) -> Result<(), OutOfMemory>
+        ensures ok { OnOk result (AreTaken [] (row_at self.old) (row_at more.now) from to (row_at self.new)) }
+        ensures err { OnErr result (AreCut [] (row_at self.old) from (row_at self.new)) }
+    {
+        self.rows.truncate(from);
+        let to = to.min(more.rows.len());
+        if to <= from {
+            return Ok(());
+        }
+        self.rows.fill(from)?;
+        self.rows.append_range(&more.rows.as_ref(), from, to)?;
+        Ok(())
+    }
+}

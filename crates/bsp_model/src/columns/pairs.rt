@@ -1,0 +1,91 @@
+//! For each process two rows.
+
+ghost use Rattle.std.specs.Prelude.{◌≡◌, [], IfOk, OnErr, OnOk};
+ghost use Rattle.bsp_model.specs.Columns.{AreCut, AreTaken, IsPut};
+ghost use Rattle.bsp_model.specs.Inside.Columns.{pair_at};
+
+use super::Column;
+use crate::OutOfMemory;
+use std::alloc::Global;
+use std::marker::Model;
+
+/// For each process, by its number, two rows, whose items lie in two lists.
+#[derive(Debug, Drop)]
+pub(crate) struct Pairs<A, B> {
+    firsts: Column<A>,
+    seconds: Column<B>,
+}
+
+impl<A, B> Model for Pairs<A, B> {
+    ghost use Rattle.std.specs.Prelude.{List};
+
+    ghost Value = { (List (List A)) × (List (List B)) };
+
+    ghost view = { λ p. (p.firsts, p.seconds) };
+}
+
+impl<A, B> Pairs<A, B> {
+    /// Empty rows alone, which take no memory.
+    pub fn new(alloc: Global) -> Pairs<A, B>
+        ensures { result ≡ ([], []) }
+    {
+        Pairs {
+            firsts: Column::new(alloc),
+            seconds: Column::new(alloc),
+        }
+    }
+
+    /// The rows of a process.
+    #[inline(always)]
+    pub fn get(&self, place: usize) -> (&[A], &[B])
+        ensures { (result.0.now, result.1.now) ≡ pair_at self.now place }
+    {
+        (self.firsts.row(place), self.seconds.row(place))
+    }
+}
+
+impl<A: Copy, B: Copy> Pairs<A, B> {
+    /// Empty rows alone, with the room that these take, or `OutOfMemory`.
+    pub fn with_room_of(alloc: Global, like: &Pairs<A, B>) -> Result<Pairs<A, B>, OutOfMemory>
+        ensures { IfOk result (λ c. c ≡ ([], [])) }
+    {
+        Ok(Pairs {
+            firsts: Column::with_room_of(alloc, &like.firsts)?,
+            seconds: Column::with_room_of(alloc, &like.seconds)?,
+        })
+    }
+
+    /// Makes these the rows of a process, and leaves those behind it out. After `OutOfMemory` its own are left out too.
+    pub fn put(&mut self, place: usize, first: &[A], second: &[B]) -> Result<(), OutOfMemory>
+        ensures ok { OnOk result (IsPut ([], []) (pair_at self.old) place (first.now, second.now) (pair_at self.new)) }
+        ensures err { OnErr result (AreCut ([], []) (pair_at self.old) place (pair_at self.new)) }
+    {
+        self.seconds.cut(place);
+        self.firsts.put(place, first)?;
+        if let Err(error) = self.seconds.put(place, second) {
+            self.firsts.cut(place);
+            return Err(error);
+        }
+        Ok(())
+    }
+
+    /// Makes the rows of others, from `from` on and before `to`, those of the same processes, and leaves those behind them out. After
+    /// `OutOfMemory` the rows from `from` on are left out.
+    pub fn take_range(
+        &mut self,
+        more: &Pairs<A, B>,
+        from: usize,
+        to: usize,
+    ) -> Result<(), OutOfMemory>
+        ensures ok { OnOk result (AreTaken ([], []) (pair_at self.old) (pair_at more.now) from to (pair_at self.new)) }
+        ensures err { OnErr result (AreCut ([], []) (pair_at self.old) from (pair_at self.new)) }
+    {
+        self.seconds.cut(from);
+        self.firsts.take_range(&more.firsts, from, to)?;
+        if let Err(error) = self.seconds.take_range(&more.seconds, from, to) {
+            self.firsts.cut(from);
+            return Err(error);
+        }
+        Ok(())
+    }
+}

@@ -1,0 +1,84 @@
+//! For each process puts.
+
+ghost use Rattle.std.specs.Prelude.{◌≡◌, [], IfOk, OnErr, OnOk};
+ghost use Rattle.bsp_model.specs.Columns.{row_at, AreCut, AreTaken, IsPut};
+
+use super::pairs::Pairs;
+use crate::headed_rows::HeadedRowsRef;
+use crate::puts::PutHead;
+use crate::{OutOfMemory, PutsRef};
+use std::alloc::Global;
+use std::marker::Model;
+
+/// For each process, by its number, puts in the order in which they were issued, in few lists.
+#[derive(Debug, Drop)]
+pub struct PutColumn {
+    pairs: Pairs<(PutHead, usize), u64>,
+}
+
+impl Model for PutColumn {
+    ghost use Rattle.std.specs.Prelude.{List, ℕ};
+    ghost use Rattle.bsp_model.specs.declared.request.Put.{Put};
+    ghost use Rattle.bsp_model.specs.Inside.Columns.{paired, pair_at, puts_of, AreHeaded};
+
+    ghost Value = { List (List Put) };
+
+    ghost view = { λ c. paired puts_of c.pairs.0 c.pairs.1 };
+
+    ghost invariant = { λ c. (k : ℕ) → AreHeaded (pair_at c.pairs k).0 (pair_at c.pairs k).1 };
+}
+
+impl PutColumn {
+    /// None for any process, which takes no memory.
+    pub fn new(alloc: Global) -> PutColumn
+        ensures { result ≡ [] }
+    {
+        PutColumn {
+            pairs: Pairs::new(alloc),
+        }
+    }
+
+    /// None for any process, with the room that these take, or `OutOfMemory`.
+    pub fn with_room_of(alloc: Global, like: &PutColumn) -> Result<PutColumn, OutOfMemory>
+        ensures { IfOk result (λ c. c ≡ []) }
+    {
+        Ok(PutColumn {
+            pairs: Pairs::with_room_of(alloc, &like.pairs)?,
+        })
+    }
+
+    /// Those of a process, to be read where they lie.
+    #[inline(always)]
+    pub fn get(&self, place: usize) -> PutsRef<'_>
+        ensures { result ≡ row_at self.now place }
+    {
+        let (heads, words) = self.pairs.get(place);
+        PutsRef {
+            rows: HeadedRowsRef { heads, words },
+        }
+    }
+
+    /// Makes these those of a process, and leaves those of the processes behind it out. After `OutOfMemory` its own are left out too.
+    pub fn put(&mut self, place: usize, puts: &PutsRef<'_>) -> Result<(), OutOfMemory>
+        ensures ok { OnOk result (IsPut [] (row_at self.old) place puts.now (row_at self.new)) }
+        ensures err { OnErr result (AreCut [] (row_at self.old) place (row_at self.new)) }
+    {
+        self.pairs.put(place, puts.rows.heads, puts.rows.words)?;
+        Ok(())
+    }
+
+    /// Makes those of another column, from the process `from` on and before `to`, those of the same processes, and leaves those behind them
+    /// out. After `OutOfMemory` those from `from` on are left out.
+    pub fn take_range(
+        &mut self,
+        more: &PutColumn,
+        from: usize,
+        to: usize,
+    ) -> Result<(), OutOfMemory>
+        ensures ok { OnOk result (AreTaken [] (row_at self.old) (row_at more.now) from to (row_at self.new)) }
+        ensures err { OnErr result (AreCut [] (row_at self.old) from (row_at self.new)) }
+    {
+        self.pairs.take_range(&more.pairs, from, to)?;
+        Ok(())
+    }
+}

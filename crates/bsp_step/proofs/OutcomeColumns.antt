@@ -1,0 +1,212 @@
+-- Outcomes in columns: one more, and a range of others.
+use Rattle.std.proofs.Common.{◌≡◌, ◌≤◌, ◌<◌, ℕ, ◌+◌, ◌-◌, List, [], ◌∷◌, ◌++◌, length, get_or, take, map, refl, sym, ap, ◌∙◌, subst, arith, inl, inr, Result, Ok, Err, OnErr}
+use Rattle.std.specs.Prelude.{slice_range}
+use Rattle.std.specs.List.{range_with_len}
+use Rattle.std.proofs.Math.Nat.{eq-or-lt_of_le}
+use Rattle.std.proofs.Math.Seq.{get_or-append_right}
+use Rattle.std.proofs.lemmas.Bool.{cases_lt}
+use Rattle.std.proofs.lemmas.List.{same_lists, get_or_append_left, get_or_push, length_push, length-append, get_or_default}
+use Rattle.std.proofs.lemmas.List.FromFn.{length-map-range_with_len, get_or-map-range_with_len}
+use Rattle.std.proofs.lemmas.List.Edits.{length-between, get_or-between}
+use Rattle.bsp_model.specs.Limits.{most_memory_words}
+use Rattle.bsp_step.specs.declared.lists.Lists.{Lists}
+use Rattle.bsp_step.specs.declared.lists.TurnEnd.{TurnEnd}
+use Rattle.bsp_step.specs.OutcomeParts.{OutcomeParts, IsOutcome, no_outcome}
+use Rattle.bsp_step.specs.Inside.Outcomes.{no_end, outcome_in, outcome_at, outcomes_of, AreOutcomes, HasLists, AreSameLists}
+
+-- the outcomes of a list, one by one
+
+pub length-outcomes_of : (ends : List TurnEnd) (memories : List (List ℕ)) (lists : Lists) → length (outcomes_of ends memories lists) ≡ length ends
+length-outcomes_of ends memories lists = length-map-range_with_len (outcome_at ends memories lists) 0 (length ends)
+
+pub outcome-outcomes_of : (ends : List TurnEnd) (memories : List (List ℕ)) (lists : Lists) (k : ℕ) (d : OutcomeParts) → k < length ends → get_or (outcomes_of ends memories lists) k d ≡ outcome_at ends memories lists k
+outcome-outcomes_of ends memories lists k d within = get_or-map-range_with_len (outcome_at ends memories lists) 0 (length ends) k k d within (omega arith)
+
+-- what an outcome is made of is the same
+same_outcome : (end end' : TurnEnd) (memory memory' : List ℕ) (lists lists' : Lists) (k : ℕ) → end' ≡ end → memory' ≡ memory → AreSameLists lists lists' k → outcome_in end' memory' lists' k ≡ outcome_in end memory lists k
+same_outcome end end' memory memory' lists lists' k es ms ls =
+    λ i. record {
+      fault = (es i).fault;
+      ended = (es i).ended;
+      memory = ms i;
+      stores = ls.stores i;
+      puts = ls.puts i;
+      gets = ls.gets i;
+      sends = ls.sends i;
+      pops = ls.pops i;
+      pushes = ls.pushes i;
+      tag = (es i).tag;
+      lines = ls.lines i;
+      work = (es i).work;
+    }
+
+-- one more
+
+before_push : (ends : List TurnEnd) (memories : List (List ℕ)) (lists lists' : Lists) (end : TurnEnd) (memory : List ℕ) → length memories ≡ length ends → ((k : ℕ) → k < length ends → AreSameLists lists lists' k)
+    → (k : ℕ) → k < length ends → outcome_at (ends ++ end ∷ []) (memories ++ memory ∷ []) lists' k ≡ outcome_at ends memories lists k
+before_push ends memories lists lists' end memory count same k below =
+    same_outcome (get_or ends k no_end) (get_or (ends ++ end ∷ []) k no_end) (get_or memories k []) (get_or (memories ++ memory ∷ []) k []) lists lists' k
+    (get_or_append_left ends (end ∷ []) no_end k below) (get_or_append_left memories (memory ∷ []) [] k (omega (arith, below, count))) (same k below)
+
+at_push : (ends : List TurnEnd) (memories : List (List ℕ)) (lists : Lists) (end : TurnEnd) (memory : List ℕ) (o : OutcomeParts) → length memories ≡ length ends → HasLists lists (length ends) o
+    → end ≡ record { fault = o.fault; ended = o.ended; tag = o.tag; work = o.work } → outcome_at (ends ++ end ∷ []) (memories ++ memory ∷ []) lists (length ends) ≡ record o { memory = memory }
+at_push ends memories lists end memory o count has is =
+    let es : get_or (ends ++ end ∷ []) (length ends) no_end ≡ record { fault = o.fault; ended = o.ended; tag = o.tag; work = o.work } = get_or_push ends end no_end (length ends) refl ∙ is in
+    let ms : get_or (memories ++ memory ∷ []) (length ends) [] ≡ memory = get_or_push memories memory [] (length ends) count in
+    λ i. record {
+      fault = (es i).fault;
+      ended = (es i).ended;
+      memory = ms i;
+      stores = has.stores i;
+      puts = has.puts i;
+      gets = has.gets i;
+      sends = has.sends i;
+      pops = has.pops i;
+      pushes = has.pushes i;
+      tag = (es i).tag;
+      lines = has.lines i;
+      work = (es i).work;
+    }
+
+-- an outcome keeps the limits with another memory that does
+pub with_memory : (o : OutcomeParts) (memory : List ℕ) → IsOutcome o → length memory ≤ most_memory_words → IsOutcome (record o { memory = memory })
+with_memory o memory is short =
+    record {
+      halts = is.halts;
+      short_memory = short;
+      few_requests = is.few_requests;
+      sends = is.sends;
+      tag = is.tag;
+      lines = is.lines;
+      little_work = is.little_work;
+    }
+
+-- each process of one more
+pub each_push : (P : ℕ → Type 0) (n k : ℕ) → k < n + 1 → ((j : ℕ) → j < n → P j) → P n → P k
+each_push P n k within before last =
+    elim (eq-or-lt_of_le {n = k} {m = n} (omega (arith, within))) [
+      | inl same ↦ subst P (sym same) last
+      | inr below ↦ before k below
+    ]
+
+pub outcomes-push : (ends : List TurnEnd) (memories : List (List ℕ)) (lists lists' : Lists) (end : TurnEnd) (memory : List ℕ) (o : OutcomeParts) → length memories ≡ length ends
+    → ((k : ℕ) → k < length ends → AreSameLists lists lists' k) → HasLists lists' (length ends) o → end ≡ record { fault = o.fault; ended = o.ended; tag = o.tag; work = o.work }
+    → outcomes_of (ends ++ end ∷ []) (memories ++ memory ∷ []) lists' ≡ outcomes_of ends memories lists ++ record o { memory = memory } ∷ []
+outcomes-push ends memories lists lists' end memory o count same has is =
+    let n = length ends in
+    let all = outcomes_of (ends ++ end ∷ []) (memories ++ memory ∷ []) lists' in
+    let front = outcomes_of ends memories lists in
+    let long : length front ≡ n = length-outcomes_of ends memories lists in
+    let more : length (ends ++ end ∷ []) ≡ n + 1 = length_push ends end in
+    let alike : (k : ℕ) (d : OutcomeParts) → k < n + 1 → get_or all k d ≡ get_or (front ++ record o { memory = memory } ∷ []) k d =
+    λ k d within. each_push (λ j. get_or all j d ≡ get_or (front ++ record o { memory = memory } ∷ []) j d) n k within
+    (λ j below. outcome-outcomes_of (ends ++ end ∷ []) (memories ++ memory ∷ []) lists' j d (omega (arith, below, more))
+    ∙ before_push ends memories lists lists' end memory count same j below
+    ∙ sym (outcome-outcomes_of ends memories lists j d below)
+    ∙ sym (get_or_append_left front (record o { memory = memory } ∷ []) d j (omega (arith, below, long))))
+    (outcome-outcomes_of (ends ++ end ∷ []) (memories ++ memory ∷ []) lists' n d (omega (arith, more))
+    ∙ at_push ends memories lists' end memory o count has is
+    ∙ sym (get_or_push front (record o { memory = memory }) d n long)) in
+    same_lists _ _ (length-outcomes_of _ _ lists' ∙ more ∙ sym (length_push front (record o { memory = memory }) ∙ ap (λ (m : ℕ). m + 1) long))
+    (λ k d within. alike k d (omega (arith, within, length-outcomes_of (ends ++ end ∷ []) (memories ++ memory ∷ []) lists', more)))
+
+pub lawful-push : (ends : List TurnEnd) (memories : List (List ℕ)) (lists lists' : Lists) (end : TurnEnd) (memory : List ℕ) (o : OutcomeParts) → AreOutcomes ends memories lists
+    → ((k : ℕ) → k < length ends → AreSameLists lists lists' k) → HasLists lists' (length ends) o → end ≡ record { fault = o.fault; ended = o.ended; tag = o.tag; work = o.work } → IsOutcome o → length memory ≤ most_memory_words
+    → AreOutcomes (ends ++ end ∷ []) (memories ++ memory ∷ []) lists'
+lawful-push ends memories lists lists' end memory o are same has is lawful short =
+    record {
+      count = length_push memories memory ∙ ap (λ (m : ℕ). m + 1) are.count ∙ sym (length_push ends end);
+      lawful = λ k within. each_push (λ j. IsOutcome (outcome_at (ends ++ end ∷ []) (memories ++ memory ∷ []) lists' j)) (length ends) k (omega (arith, within, length_push ends end))
+          (λ j below. subst IsOutcome (sym (before_push ends memories lists lists' end memory are.count same j below)) (are.lawful j below))
+          (subst IsOutcome (sym (at_push ends memories lists' end memory o are.count has is)) (with_memory o memory lawful short));
+    }
+
+-- other lists that the processes have alike
+
+pub same-outcomes : (ends : List TurnEnd) (memories : List (List ℕ)) (lists lists' : Lists) → ((k : ℕ) → k < length ends → AreSameLists lists lists' k) → outcomes_of ends memories lists' ≡ outcomes_of ends memories lists
+same-outcomes ends memories lists lists' same =
+    same_lists _ _ (length-outcomes_of ends memories lists' ∙ sym (length-outcomes_of ends memories lists))
+    (λ k d within.
+    let below : k < length ends = omega (arith, within, length-outcomes_of ends memories lists') in
+    outcome-outcomes_of ends memories lists' k d below ∙ same_outcome (get_or ends k no_end) (get_or ends k no_end) (get_or memories k []) (get_or memories k []) lists lists' k refl refl (same k below)
+    ∙ sym (outcome-outcomes_of ends memories lists k d below))
+
+pub lawful-same : (ends : List TurnEnd) (memories : List (List ℕ)) (lists lists' : Lists) → AreOutcomes ends memories lists → ((k : ℕ) → k < length ends → AreSameLists lists lists' k) → AreOutcomes ends memories lists'
+lawful-same ends memories lists lists' are same =
+    record {
+      count = are.count;
+      lawful = λ k below. subst IsOutcome (sym (same_outcome (get_or ends k no_end) (get_or ends k no_end) (get_or memories k []) (get_or memories k []) lists lists' k refl refl (same k below))) (are.lawful k below);
+    }
+
+-- a range of others
+
+-- an item behind those in front
+behind : {X : Type 0} (front more : List X) (d : X) (k to : ℕ) {n : ℕ} → length front ≡ n → n ≤ k → k < to → get_or (front ++ slice_range more n to) k d ≡ get_or more k d
+behind front more d k to {n = n} long above below =
+    get_or-append_right front (slice_range more n to) k d (omega (arith, above, long)) ∙ get_or-between more n to (k - length front) d (omega (arith, above, below, long))
+    ∙ ap (λ (i : ℕ). get_or more i d) (let there : n + (k - length front) ≡ k = omega (arith, above, long) in there)
+
+-- the outcome of each process, in front and behind
+at_range : (ends more_ends : List TurnEnd) (memories more_memories : List (List ℕ)) (lists more lists' : Lists) (to : ℕ) → length memories ≡ length ends → length more_memories ≡ length more_ends → length ends ≤ to → to ≤ length more_ends
+    → ((k : ℕ) → k < length ends → AreSameLists lists lists' k) → ((k : ℕ) → length ends ≤ k → k < to → AreSameLists more lists' k)
+    → ((k : ℕ) → k < length ends → outcome_at (ends ++ slice_range more_ends (length ends) to) (memories ++ slice_range more_memories (length ends) to) lists' k ≡ outcome_at ends memories lists k)
+    × ((k : ℕ) → length ends ≤ k → k < to → outcome_at (ends ++ slice_range more_ends (length ends) to) (memories ++ slice_range more_memories (length ends) to) lists' k ≡ outcome_at more_ends more_memories more k)
+at_range ends more_ends memories more_memories lists more lists' to count more_count order within before taken =
+    let n = length ends in (
+      λ k below.
+          same_outcome (get_or ends k no_end) _ (get_or memories k []) _ lists lists' k
+          (get_or_append_left ends (slice_range more_ends n to) no_end k below) (get_or_append_left memories (slice_range more_memories n to) [] k (omega (arith, below, count))) (before k below),
+      λ k above below.
+          same_outcome (get_or more_ends k no_end) _ (get_or more_memories k []) _ more lists' k
+          (behind ends more_ends no_end k to refl above below) (behind memories more_memories [] k to count above below) (taken k above below),
+    )
+
+-- a place in front of another or from it on
+pub each_range : (P : ℕ → Type 0) (n to k : ℕ) → k < to → ((j : ℕ) → j < n → P j) → ((j : ℕ) → n ≤ j → j < to → P j) → P k
+each_range P n to k within before after =
+    elim (cases_lt k n) [
+      | inl below ↦ before k below
+      | inr above ↦ after k above within
+    ]
+
+pub outcomes-range : (ends more_ends : List TurnEnd) (memories more_memories : List (List ℕ)) (lists more lists' : Lists) (to : ℕ) → length memories ≡ length ends → length more_memories ≡ length more_ends → length ends ≤ to → to ≤ length more_ends
+    → ((k : ℕ) → k < length ends → AreSameLists lists lists' k) → ((k : ℕ) → length ends ≤ k → k < to → AreSameLists more lists' k)
+    → outcomes_of (ends ++ slice_range more_ends (length ends) to) (memories ++ slice_range more_memories (length ends) to) lists'
+    ≡ outcomes_of ends memories lists ++ slice_range (outcomes_of more_ends more_memories more) (length (outcomes_of ends memories lists)) to
+outcomes-range ends more_ends memories more_memories lists more lists' to count more_count order within before taken =
+    let n = length ends in
+    let all_ends = ends ++ slice_range more_ends n to in
+    let all_memories = memories ++ slice_range more_memories n to in
+    let all = outcomes_of all_ends all_memories lists' in
+    let front = outcomes_of ends memories lists in
+    let others = outcomes_of more_ends more_memories more in
+    let long : length front ≡ n = length-outcomes_of ends memories lists in
+    let many : length all_ends ≡ to = omega (arith, order, length-append ends (slice_range more_ends n to), length-between more_ends n to within) in
+    let other : length others ≡ length more_ends = length-outcomes_of more_ends more_memories more in
+    let at = at_range ends more_ends memories more_memories lists more lists' to count more_count order within before taken in
+    same_lists _ _ (omega (arith, order, many, long, other, length-outcomes_of all_ends all_memories lists', length-append front (slice_range others (length front) to), length-between others (length front) to (omega (arith, within, other))))
+    (λ k d l. each_range (λ j. get_or all j d ≡ get_or (front ++ slice_range others (length front) to) j d) n to k (omega (arith, l, many, length-outcomes_of all_ends all_memories lists'))
+    (λ j below. outcome-outcomes_of all_ends all_memories lists' j d (omega (arith, below, order, many)) ∙ at.0 j below ∙ sym (outcome-outcomes_of ends memories lists j d below)
+    ∙ sym (get_or_append_left front (slice_range others (length front) to) d j (omega (arith, below, long))))
+    (λ j above below. outcome-outcomes_of all_ends all_memories lists' j d (omega (arith, below, many)) ∙ at.1 j above below
+    ∙ sym (outcome-outcomes_of more_ends more_memories more j d (omega (arith, below, within)))
+    ∙ sym (behind front others d j to refl (omega (arith, above, long)) below)))
+
+pub lawful-range : (ends more_ends : List TurnEnd) (memories more_memories : List (List ℕ)) (lists more lists' : Lists) (to : ℕ) → AreOutcomes ends memories lists → AreOutcomes more_ends more_memories more → length ends ≤ to → to ≤ length more_ends
+    → ((k : ℕ) → k < length ends → AreSameLists lists lists' k) → ((k : ℕ) → length ends ≤ k → k < to → AreSameLists more lists' k)
+    → AreOutcomes (ends ++ slice_range more_ends (length ends) to) (memories ++ slice_range more_memories (length ends) to) lists'
+lawful-range ends more_ends memories more_memories lists more lists' to are others order within before taken =
+    let n = length ends in
+    let many : length (ends ++ slice_range more_ends n to) ≡ to = omega (arith, order, length-append ends (slice_range more_ends n to), length-between more_ends n to within) in
+    let at = at_range ends more_ends memories more_memories lists more lists' to are.count others.count order within before taken in
+    record {
+      count = omega (arith, many, order, are.count, others.count, length-append memories (slice_range more_memories n to), length-between more_memories n to (omega (arith, within, others.count)));
+      lawful = λ k l. each_range (λ j. IsOutcome (outcome_at (ends ++ slice_range more_ends n to) (memories ++ slice_range more_memories n to) lists' j)) n to k (omega (arith, l, many))
+          (λ j below. subst IsOutcome (sym (at.0 j below)) (are.lawful j below))
+          (λ j above below. subst IsOutcome (sym (at.1 j above below)) (others.lawful j (omega (arith, below, within))));
+    }
+
+-- what holds anyhow holds after an error
+pub on_err : {T E : Type 0} (P : Type 0) (answer : Result T E) → P → OnErr answer P
+on_err P (Ok x) is = tt
+on_err P (Err e) is = is

@@ -1,0 +1,68 @@
+-- What several outcomes leave, in columns.
+use Rattle.std.specs.Prelude.{ℕ, List, [], Option, None, Some, ◌≡◌, ◌<◌, length, map, slice_index_or}
+use Rattle.std.specs.List.{range_with_len}
+use Rattle.bsp_model.specs.Columns.{row_at}
+use Rattle.bsp_step.specs.declared.outcome.Ended.TheVariants.{Halt}
+use Rattle.bsp_step.specs.declared.lists.Lists.{Lists}
+use Rattle.bsp_step.specs.declared.lists.TurnEnd.{TurnEnd}
+use Rattle.bsp_step.specs.OutcomeParts.{OutcomeParts, IsOutcome}
+
+-- how the turn of a process that there is not ended
+abbrev pub no_end : TurnEnd
+no_end = record { fault = None; ended = Halt; tag = None; work = 0 }
+
+-- an outcome, from how its turn ended, its memory, and a row of each list
+abbrev pub outcome_in : TurnEnd → List ℕ → Lists → ℕ → OutcomeParts
+outcome_in end memory lists k =
+    record {
+      fault = end.fault;
+      ended = end.ended;
+      memory = memory;
+      stores = row_at lists.stores k;
+      puts = row_at lists.puts k;
+      gets = row_at lists.gets k;
+      sends = row_at lists.sends k;
+      pops = row_at lists.pops k;
+      pushes = row_at lists.pushes k;
+      tag = end.tag;
+      lines = row_at lists.lines k;
+      work = end.work;
+    }
+
+-- the outcome of a process
+abbrev pub outcome_at : List TurnEnd → List (List ℕ) → Lists → ℕ → OutcomeParts
+outcome_at ends memories lists k = outcome_in (slice_index_or ends k no_end) (slice_index_or memories k []) lists k
+
+-- the outcomes of all processes
+abbrev pub outcomes_of : List TurnEnd → List (List ℕ) → Lists → List OutcomeParts
+outcomes_of ends memories lists = map (outcome_at ends memories lists) (range_with_len 0 (length ends))
+
+-- the outcomes that are shared; none where there is no process
+abbrev pub shared_outcomes : Option (List OutcomeParts) → List OutcomeParts
+shared_outcomes None = []
+shared_outcomes (Some outcomes) = outcomes
+
+-- Each process has a memory, and its outcome keeps the limits.
+pub record AreOutcomes (ends : List TurnEnd) (memories : List (List ℕ)) (lists : Lists) : Type 0 where
+  pub count : length memories ≡ length ends
+  pub lawful : (k : ℕ) → k < length ends → IsOutcome (outcome_at ends memories lists k)
+
+-- The lists have those of this outcome as the rows of a process.
+pub record HasLists (lists : Lists) (k : ℕ) (o : OutcomeParts) : Type 0 where
+  pub stores : row_at lists.stores k ≡ o.stores
+  pub puts : row_at lists.puts k ≡ o.puts
+  pub gets : row_at lists.gets k ≡ o.gets
+  pub sends : row_at lists.sends k ≡ o.sends
+  pub pops : row_at lists.pops k ≡ o.pops
+  pub pushes : row_at lists.pushes k ≡ o.pushes
+  pub lines : row_at lists.lines k ≡ o.lines
+
+-- A process has the same rows in two of them.
+pub record AreSameLists (old new : Lists) (k : ℕ) : Type 0 where
+  pub stores : row_at new.stores k ≡ row_at old.stores k
+  pub puts : row_at new.puts k ≡ row_at old.puts k
+  pub gets : row_at new.gets k ≡ row_at old.gets k
+  pub sends : row_at new.sends k ≡ row_at old.sends k
+  pub pops : row_at new.pops k ≡ row_at old.pops k
+  pub pushes : row_at new.pushes k ≡ row_at old.pushes k
+  pub lines : row_at new.lines k ≡ row_at old.lines k

@@ -1,0 +1,183 @@
+//! What the turns of several processes leave, as it is gathered.
+
+ghost use Rattle.std.specs.Prelude.{◌≡◌, ◌≤◌, ◌<◌, ◌++◌, ◌∷◌, [], length, IfOk, OnErr, OnOk, slice_range};
+ghost use Rattle.bsp_model.specs.Limits.{most_memory_words};
+ghost use Rattle.bsp_step.specs.OutcomeParts.{outcome_of};
+
+use crate::lists::{Lists, TurnEnd};
+use crate::{Outcome, OutcomeRef, Outcomes};
+use bsp_model::{Memories, Memory, OutOfMemory, Shared};
+use std::alloc::Global;
+use std::marker::Model;
+use std::mem;
+
+/// What the turns of several processes leave, by process, as it is gathered. All lists of a kind lie in one list, and so do all memories.
+#[derive(Drop)]
+pub struct OutcomeRows {
+    /// What each outcome has beside its memory and its lists.
+    ends: Vec<TurnEnd>,
+    memories: Memories,
+    lists: Box<Lists>,
+}
+
+impl Model for OutcomeRows {
+    ghost use Rattle.std.specs.Prelude.{List};
+    ghost use Rattle.bsp_step.specs.OutcomeParts.{OutcomeParts};
+    ghost use Rattle.bsp_step.specs.Inside.Outcomes.{outcomes_of, AreOutcomes};
+
+    ghost Value = { List OutcomeParts };
+
+    ghost view = { λ r. outcomes_of r.ends.items r.memories r.lists.value };
+
+    ghost invariant = { λ r. AreOutcomes r.ends.items r.memories r.lists.value };
+}
+
+impl OutcomeRows {
+    /// No outcomes, with room for so many, or `OutOfMemory`.
+    pub fn with_capacity(alloc: Global, count: usize) -> Result<OutcomeRows, OutOfMemory>
+        ensures { IfOk result (λ o. o ≡ []) }
+    {
+        Ok(OutcomeRows {
+            ends: Vec::with_capacity(alloc, count)?,
+            memories: Memories::with_capacity(alloc, count)?,
+            lists: Box::new(alloc, Lists::new(alloc))?,
+        })
+    }
+
+    /// No outcomes, with the room that these take, or `OutOfMemory`.
+    pub(crate) fn with_room_of(
+        alloc: Global,
+        like: &OutcomeRows,
+    ) -> Result<OutcomeRows, OutOfMemory>
+        ensures { IfOk result (λ o. o ≡ []) }
+    {
+        Ok(OutcomeRows {
+            ends: Vec::with_capacity(alloc, like.ends.len())?,
+            memories: Memories::with_room_of(alloc, &like.memories)?,
+            lists: Box::new(alloc, Lists::with_room_of(alloc, &like.lists)?)?,
+        })
+    }
+
+    /// No memories, with the room that those of these outcomes take, or `OutOfMemory`.
+    pub(crate) fn room_for_memories(&self, alloc: Global) -> Result<Memories, OutOfMemory>
+        ensures { IfOk result (λ m. m ≡ []) }
+    {
+        Memories::with_room_of(alloc, &self.memories)
+    }
+
+    /// The allocator that the lists keep.
+    pub(crate) fn allocator(&self) -> Global {
+        *self.ends.allocator()
+    }
+
+    /// The number of processes.
+    #[inline(always)]
+    pub(crate) fn len(&self) -> usize
+        ensures { result ≡ length self.now }
+    {
+        self.ends.len()
+    }
+
+    /// What the turn of a process left.
+    #[inline(always)]
+    pub(crate) fn get(&self, pid: usize) -> OutcomeRef<'_>
+        requires { pid < length self.now }
+        ensures { result ≡ outcome_of self.now pid }
+    {
+        let end = self.ends[pid];
+        let lists: &Lists = &self.lists;
+        OutcomeRef {
+            fault: end.fault,
+            ended: end.ended,
+            memory: self.memories.get(pid),
+            stores: lists.stores.get(pid),
+            puts: lists.puts.get(pid),
+            gets: lists.gets.row(pid),
+            sends: lists.sends.get(pid),
+            pops: lists.pops.row(pid),
+            pushes: lists.pushes.row(pid),
+            tag: end.tag,
+            lines: lists.lines.get(pid),
+            work: end.work,
+        }
+    }
+
+    /// Adds an outcome with another memory, and answers a memory whose room serves again. After `OutOfMemory` nothing has changed.
+    #[inline(always)]
+    fn add(&mut self, outcome: &OutcomeRef<'_>, memory: Memory) -> Result<Memory, OutOfMemory>
+        requires { length memory ≤ most_memory_words }
+        ensures ok { OnOk result (self.new ≡ self.old ++ record outcome.now { memory = memory } ∷ []) }
+        ensures err { OnErr result (self.new ≡ self.old) }
+        ensures empty { IfOk result (λ m. m ≡ []) }
+    {
+        self.lists.put(self.ends.len(), outcome)?;
+        self.ends.reserve(1)?;
+        let spare = self.memories.push(memory)?;
+        self.ends.push_reserved(TurnEnd {
+            fault: outcome.fault,
+            ended: outcome.ended,
+            tag: outcome.tag,
+            work: outcome.work,
+        });
+        Ok(spare)
+    }
+
+    /// Adds what the turn of one process more left, and answers an outcome whose lists may serve again. After `OutOfMemory` nothing has changed.
+    #[inline(always)]
+    pub fn push(&mut self, outcome: Outcome) -> Result<Outcome, OutOfMemory>
+        ensures ok { OnOk result (self.new ≡ self.old ++ outcome ∷ []) }
+        ensures err { OnErr result (self.new ≡ self.old) }
+    {
+        let mut outcome = outcome;
+        let none = Memory::new(outcome.gets.allocator());
+        let memory = mem::replace(&mut outcome.memory, none);
+        outcome.memory = self.add(&outcome.as_ref(), memory)?;
+        Ok(outcome)
+    }
+
+    /// Adds an outcome with another memory of as many words. After `OutOfMemory` nothing has changed.
+    pub fn push_over(&mut self, outcome: &OutcomeRef<'_>, memory: Memory) -> Result<(), OutOfMemory>
+        requires { length memory ≡ length outcome.now.memory }
+        ensures ok { OnOk result (self.new ≡ self.old ++ record outcome.now { memory = memory } ∷ []) }
+        ensures err { OnErr result (self.new ≡ self.old) }
+    {
+        // That an outcome keeps its limits is known where a field of it is read.
+        let _work = outcome.work;
+        let _spare = self.add(outcome, memory)?;
+        Ok(())
+    }
+
+    /// These outcomes, and behind them those that others have from `from` on, the next process, and before `to`.
+    pub(crate) fn with_range(
+        self,
+        more: &OutcomeRows,
+        from: usize,
+        to: usize,
+    ) -> Result<OutcomeRows, OutOfMemory>
+        requires next { from ≡ length self }
+        requires order { from ≤ to }
+        requires inside { to ≤ length more.now }
+        ensures { IfOk result (λ o. o ≡ self ++ slice_range more.now from to) }
+    {
+        let OutcomeRows {
+            mut ends,
+            memories,
+            mut lists,
+        } = self;
+        lists.take_range(&more.lists, from, to)?;
+        ends.extend_from_slice(&more.ends[from..to])?;
+        let memories = memories.with_range(&more.memories, from, to)?;
+        Ok(OutcomeRows {
+            ends,
+            memories,
+            lists,
+        })
+    }
+
+    /// These outcomes, which stay as they are, or `OutOfMemory`.
+    pub fn share(self) -> Result<Outcomes, OutOfMemory>
+        ensures { IfOk result (λ o. o ≡ self) }
+    {
+        Outcomes::of(self)
+    }
+}
