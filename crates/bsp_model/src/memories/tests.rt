@@ -81,9 +81,11 @@ fn the_first_and_the_last_are_replaced(rt: HostRuntime) -> Result<(), Fail> {
 
 /// Writes over the end of a page that another copy shares, over one that none shares, and past the end.
 fn find_written(rt: &impl Abort, memories: &mut Memories) -> Result<(), OutOfMemory> {
+    assert!(rt; memories.len() == COUNTS.len());
     assert!(rt; memories.write(0, 63, &[5, 6])?);
     assert!(rt; memories.write(0, 0, &[5])?);
     assert!(rt; !memories.write(0, 64, &[7, 7])?);
+    assert!(rt; memories.len() == COUNTS.len());
     assert!(rt; memories.write(3, 1, &[9])?);
     let first = memories.get(0);
     assert_eq!(rt; first.load(0), Some(5));
@@ -97,7 +99,6 @@ fn find_written(rt: &impl Abort, memories: &mut Memories) -> Result<(), OutOfMem
 /// Memories that share the pages of others are written to; the others stay as they are.
 fn find_shared(rt: &impl Abort, alloc: Global, memories: &Memories) -> Result<(), OutOfMemory> {
     let mut others = memories.replaced(&[], &Memories::with_capacity(alloc, 0)?)?;
-    assert!(rt; others.len() == COUNTS.len());
     find_written(rt, &mut others)?;
     find_between(rt, &others);
     Ok(())
