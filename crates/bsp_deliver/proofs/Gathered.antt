@@ -1,5 +1,5 @@
 -- One pass over all requests leaves at each place what the requests to it alone would.
-use Rattle.std.proofs.Common.{◌≡◌, ℕ, ◌+◌, ◌<◌, ◌≤◌, ◌==◌, Bool, cond, List, [], ◌∷◌, ◌++◌, map, filter, fold, take, length, set, zip, replicate, All, refl, sym, ◌∙◌, ap, arith, get_or, subst, inl, inr, ◌⊎◌, append_assoc, append-nil}
+use Rattle.std.proofs.Common.{◌≡◌, ℕ, ◌+◌, ◌<◌, ◌≤◌, ◌==◌, Bool, cond, List, [], ◌∷◌, ◌++◌, map, filter, fold, take, length, set, replicate, All, refl, sym, ◌∙◌, ap, arith, get_or, subst, inl, inr, ◌⊎◌, append_assoc, append-nil}
 use Rattle.std.proofs.lemmas.Bool.{eq-eqb, ne_eqb, cases_eq}
 use Rattle.std.proofs.lemmas.List.{length-set, length-map, length-replicate, get_or-map, get_or-replicate, get_or-set_same, get_or-set_other, ext_get_or}
 use Rattle.std.proofs.lemmas.List.Elements.{All-head, All-tail}
@@ -132,10 +132,6 @@ queues_gathered os ps places qs h at e =
     ∙ ap (λ q. fold step q (delivery_parts os d).sends) (ap (λ (xs : List (List Message)). get_or xs k []) e ∙ get_or-replicate (length ps) k [] [] lk)
     ∙ sends_folded [] (delivery_parts os d).sends
     ∙ sym (get_or-map N ps k 0 [] lk))
-
-pub zip_maps : {X Y Z : Type 0} (f : X → Y) (g : X → Z) (xs : List X) → zip (map f xs) (map g xs) ≡ map (λ x. (f x, g x)) xs
-zip_maps f g [] = refl
-zip_maps f g (x ∷ xs) = ap (λ ys. (f x, g x) ∷ ys) (zip_maps f g xs)
 
 -- The first i processes have their places, and the others one past the end.
 pub record ArePlacedTo (n i : ℕ) (ps places : List ℕ) : Type 0 where

@@ -12,4 +12,4 @@ pub mod Gathered
 mod Origins
 pub mod ReadWords
 pub mod WrittenAt
-pub mod Zipped
+pub mod CellsOf

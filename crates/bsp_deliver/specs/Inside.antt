@@ -4,3 +4,4 @@ pub mod Comparison
 pub mod SameDelivery
 pub mod Marks
 pub mod Gathering
+pub mod Cells

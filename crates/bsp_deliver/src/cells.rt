@@ -1,8 +1,10 @@
 //! The next memories and queues of several processes.
 
-ghost use Rattle.std.specs.Prelude.{◌≡◌, ◌++◌, ◌∷◌, [], length, map, nat_eq, zip, IfOk, OnErr, OnOk};
+ghost use Rattle.std.specs.Prelude.{◌≡◌, ◌<◌, ◌≤◌, ◌++◌, ◌∷◌, [], All, length, nat_eq, slice_index_or, slice_range, IfOk, OnErr, OnOk};
+ghost use Rattle.bsp_model.specs.Replaced.{replaced, IsAscending};
+ghost use Rattle.bsp_deliver.specs.Inside.Cells.{cells_of};
 
-use bsp_model::{Memories, Memory, MemoryRef, OutOfMemory};
+use bsp_model::{Memories, Memory, MemoryRef, Message, OutOfMemory, SharedColumn};
 use bsp_step::Queue;
 use std::alloc::Global;
 use std::marker::Model;
@@ -11,18 +13,18 @@ use std::marker::Model;
 #[derive(Drop)]
 pub struct Cells {
     memories: Memories,
-    queues: Vec<Queue>,
+    /// The queue of each memory. Those past the last memory belong to no process.
+    queues: SharedColumn<Message>,
 }
 
 impl Model for Cells {
-    ghost use Rattle.std.specs.Prelude.{◌≡◌, List, ℕ, length, zip};
+    ghost use Rattle.std.specs.Prelude.{List, ℕ};
     ghost use Rattle.bsp_model.specs.declared.request.Message.{Message};
+    ghost use Rattle.bsp_deliver.specs.Inside.Cells.{cells_of};
 
     ghost Value = { List ((List ℕ) × (List Message)) };
 
-    ghost view = { λ c. zip c.memories c.queues.items };
-
-    ghost invariant = { λ c. length c.queues.items ≡ length c.memories };
+    ghost view = { λ c. cells_of c.memories c.queues };
 }
 
 impl Cells {
@@ -32,31 +34,33 @@ impl Cells {
     {
         Ok(Cells {
             memories: Memories::with_capacity(alloc, count)?,
-            queues: Vec::with_capacity(alloc, count)?,
+            queues: SharedColumn::new(alloc),
+        })
+    }
+
+    /// Of no process, with the room that these take beside their full pages, or `OutOfMemory`.
+    fn with_room_of(alloc: Global, like: &Cells) -> Result<Cells, OutOfMemory>
+        ensures { IfOk result (λ cells. cells ≡ []) }
+    {
+        Ok(Cells {
+            memories: Memories::with_room_of(alloc, &like.memories)?,
+            queues: SharedColumn::with_room_of(alloc, &like.queues)?,
         })
     }
 
     /// These memories, and the queue of each.
-    pub fn from_parts(memories: Memories, queues: Vec<Queue>) -> Cells
-        requires { length queues.items ≡ length memories }
-        ensures { result ≡ zip memories queues.items }
+    pub(crate) fn from_parts(memories: Memories, queues: SharedColumn<Message>) -> Cells
+        ensures { result ≡ cells_of memories queues }
     {
         Cells { memories, queues }
     }
 
-    /// The memories, and the queues.
-    pub fn into_parts(self) -> (Memories, Vec<Queue>)
-        ensures memories { result.0 ≡ map (λ c. c.0) self }
-        ensures queues { result.1.items ≡ map (λ c. c.1) self }
-    {
-        (self.memories, self.queues)
-    }
-
     /// The number of processes.
+    #[inline(always)]
     pub fn len(&self) -> usize
         ensures { result ≡ length self.now }
     {
-        self.queues.len()
+        self.memories.len()
     }
 
     /// Whether there is no process.
@@ -66,14 +70,31 @@ impl Cells {
         self.len() == 0
     }
 
+    /// The memory of a process.
+    #[inline(always)]
+    pub fn memory(&self, place: usize) -> MemoryRef<'_>
+        requires { place < length self.now }
+        ensures { result ≡ (slice_index_or self.now place ([], [])).0 }
+    {
+        self.memories.get(place)
+    }
+
+    /// The queue of a process.
+    #[inline(always)]
+    pub fn queue(&self, place: usize) -> &[Message]
+        requires { place < length self.now }
+        ensures { result.now ≡ (slice_index_or self.now place ([], [])).1 }
+    {
+        self.queues.row(place)
+    }
+
     /// Adds one process more. After `OutOfMemory` nothing has changed.
     pub fn push(&mut self, memory: Memory, queue: Queue) -> Result<(), OutOfMemory>
         ensures ok { OnOk result (self.new ≡ self.old ++ (memory, queue) ∷ []) }
         ensures err { OnErr result (self.new ≡ self.old) }
     {
-        self.queues.reserve(1)?;
+        self.queues.put(self.memories.len(), queue)?;
         self.memories.push(memory)?;
-        self.queues.push_reserved(queue);
         Ok(())
     }
 
@@ -82,9 +103,43 @@ impl Cells {
         ensures ok { OnOk result (self.new ≡ self.old ++ (memory.now, queue) ∷ []) }
         ensures err { OnErr result (self.new ≡ self.old) }
     {
-        self.queues.reserve(1)?;
+        self.queues.put(self.memories.len(), queue)?;
         self.memories.push_copy(memory)?;
-        self.queues.push_reserved(queue);
         Ok(())
+    }
+
+    /// These processes, and behind them those of another list from `from` on, and before `to`, or `OutOfMemory`. Full pages and messages are
+    /// shared.
+    pub fn with_range(self, more: &Cells, from: usize, to: usize) -> Result<Cells, OutOfMemory>
+        requires order { from ≤ to }
+        requires inside { to ≤ length more.now }
+        ensures { IfOk result (λ cells. cells ≡ self ++ slice_range more.now from to) }
+    {
+        let Cells { memories, queues } = self;
+        let queues = queues.with_range(memories.len(), &more.queues, from, to)?;
+        let memories = memories.with_range(&more.memories, from, to)?;
+        Ok(Cells { memories, queues })
+    }
+
+    /// These memories and queues, but for new ones of some processes, which are in ascending order.
+    pub fn replaced(
+        &self,
+        alloc: Global,
+        processes: &[usize],
+        cells: &Cells,
+    ) -> Result<Cells, OutOfMemory>
+        requires known { All (λ p. p < length self.now) processes.now }
+        requires ascending { IsAscending processes.now }
+        requires count { length cells.now ≡ length processes.now }
+        ensures { IfOk result (λ c. c ≡ replaced self.now processes.now cells.now) }
+    {
+        let mut new = Cells::with_room_of(alloc, self)?;
+        for place in 0..processes.len() {
+            let done = new.len();
+            new = new.with_range(self, done, processes[place])?;
+            new = new.with_range(cells, place, place + 1)?;
+        }
+        let done = new.len();
+        new.with_range(self, done, self.len())
     }
 }

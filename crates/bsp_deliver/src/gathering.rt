@@ -1,6 +1,8 @@
 //! What a superstep's end brings to several processes, in one pass over all requests.
 
-ghost use Rattle.std.specs.Prelude.{◌≡◌, ◌<◌, ◌+◌, ◌∷◌, All, IfOk, OnOk, length, map, fold, zip, replicate, []};
+ghost use Rattle.std.specs.Prelude.{◌≡◌, ◌<◌, ℕ, All, IfOk, OnOk, length, map, fold, replicate, []};
+ghost use Rattle.std.specs.Bool.{OnFalse};
+ghost use Rattle.bsp_model.specs.Columns.{row_at};
 ghost use Rattle.bsp_deliver.specs.Requests.{all_puts, all_sends};
 ghost use Rattle.bsp_deliver.specs.Delivery.{get_write, delivery_parts, next_memory, next_queue};
 ghost use Rattle.bsp_deliver.specs.Inside.Gathering.{overlay, put_at, sent_at, ArePlaces};
@@ -10,8 +12,8 @@ use crate::Cells;
 use crate::delivery::{deliver, message};
 use crate::lists::empty_lists;
 use crate::writing::memories_after;
-use bsp_model::{Message, OutOfMemory, SendsRef, Seq};
-use bsp_step::{Outcomes, Queue};
+use bsp_model::{Message, OutOfMemory, SendsRef, Seq, SharedColumn};
+use bsp_step::Outcomes;
 use std::alloc::Global;
 
 /// Where each of so many processes stands in the list. Those that aren't in it stand past its end.
@@ -59,37 +61,59 @@ fn add_all_messages(
     ensures { OnOk result (queues.new ≡ fold (λ qs s. sent_at places.now qs s.1) queues.old (all_sends outcomes.now)) }
 {
     for sender in 0..outcomes.len() {
-        let outcome = outcomes.get(sender);
-        add_messages(queues, places, &outcome.sends)?;
+        let own = outcomes.sends(sender);
+        add_messages(queues, places, &own)?;
     }
     Ok(())
 }
 
-/// The queues of so many processes after delivery.
+/// Whether any process sends a message.
+fn is_any_sent(outcomes: &Outcomes) -> bool
+    ensures { OnFalse result (all_sends outcomes.now ≡ []) }
+{
+    for sender in 0..outcomes.len() {
+        let own = outcomes.sends(sender);
+        if !own.is_empty() {
+            return true;
+        }
+    }
+    false
+}
+
+/// These queues, which their copies share from now on.
+fn shared_queues(
+    alloc: Global,
+    queues: Vec<Seq<Message>>,
+) -> Result<SharedColumn<Message>, OutOfMemory>
+    ensures { IfOk result (λ all. (k : ℕ) → row_at all k ≡ row_at queues.items k) }
+{
+    let mut all = SharedColumn::new(alloc);
+    let mut place = 0;
+    for queue in queues {
+        all.put(place, queue.share()?)?;
+        place += 1;
+    }
+    Ok(all)
+}
+
+/// The queues of so many processes after delivery. Where nobody sends a message no list is made.
 fn queues_after(
     alloc: Global,
     outcomes: &Outcomes,
     count: usize,
     places: &[usize],
-) -> Result<Vec<Seq<Message>>, OutOfMemory>
+) -> Result<SharedColumn<Message>, OutOfMemory>
     requires deliverable { AreDeliverable outcomes.now }
     requires places { length places.now ≡ length outcomes.now }
-    ensures { IfOk result (λ queues. queues.items ≡ fold (λ qs s. sent_at places.now qs s.1) (replicate count []) (all_sends outcomes.now)) }
+    ensures { IfOk result (λ queues. (k : ℕ) → row_at queues k
+        ≡ row_at (fold (λ qs s. sent_at places.now qs s.1) (replicate count []) (all_sends outcomes.now)) k) }
 {
+    if !is_any_sent(outcomes) {
+        return Ok(SharedColumn::new(alloc));
+    }
     let mut queues = empty_lists(alloc, count)?;
     add_all_messages(queues.as_mut_slice(), places, outcomes)?;
-    Ok(queues)
-}
-
-/// These queues, which their copies share from now on.
-fn shared_queues(alloc: Global, queues: Vec<Seq<Message>>) -> Result<Vec<Queue>, OutOfMemory>
-    ensures { IfOk result (λ all. all.items ≡ queues.items) }
-{
-    let mut all = Vec::with_capacity(alloc, queues.len())?;
-    for queue in queues {
-        all.push(queue.share()?)?;
-    }
-    Ok(all)
+    shared_queues(alloc, queues)
 }
 
 /// What `deliver` answers for each of these processes, in the order of the list, in one pass over all requests. The list is ascending.
@@ -107,7 +131,7 @@ fn deliver_together(
     let places = places_of(alloc, outcomes.len(), processes)?;
     let memories = memories_after(alloc, outcomes, processes, places.as_slice())?;
     let queues = queues_after(alloc, outcomes, processes.len(), places.as_slice())?;
-    Ok(Cells::from_parts(memories, shared_queues(alloc, queues)?))
+    Ok(Cells::from_parts(memories, queues))
 }
 
 /// What `deliver` answers for each of these processes, in the order of the list. The list is ascending. For no process it takes no memory, one is

@@ -45,6 +45,18 @@ fn read_same_words(old: &Outcomes, new: &Outcomes, changed: &[bool], gets: &[Get
     true
 }
 
+/// Whether the outcomes of a process have the same memory and the same gets.
+#[inline(never)]
+fn have_same_own<'a>(old: &'a Outcomes, new: &'a Outcomes, p: usize) -> bool
+    requires known { p < length new.now }
+    requires count { length old.now ≡ length new.now }
+    ensures { IsTrue result ↔ ((outcome_of old.now p).memory ≡ (outcome_of new.now p).memory) × ((outcome_of old.now p).gets ≡ (outcome_of new.now p).gets) }
+{
+    let earlier = old.get(p);
+    let later = new.get(p);
+    earlier.memory.same(&later.memory) && are_same(earlier.gets, later.gets)
+}
+
 /// Whether a process has the memory and the gets that it had before.
 fn has_same_own<'a>(old: &'a Outcomes, new: &'a Outcomes, changed: &[bool], p: usize) -> bool
     requires known { p < length new.now }
@@ -56,9 +68,7 @@ fn has_same_own<'a>(old: &'a Outcomes, new: &'a Outcomes, changed: &[bool], p: u
     if !changed[p] {
         return true;
     }
-    let earlier = old.get(p);
-    let later = new.get(p);
-    earlier.memory.same(&later.memory) && are_same(earlier.gets, later.gets)
+    have_same_own(old, new, p)
 }
 
 /// Whether the memory of `p` after computing is the same as before, and so are its gets with the words that they read.
@@ -74,8 +84,19 @@ fn is_same_own<'a>(old: &'a Outcomes, new: &'a Outcomes, changed: &[bool], p: us
     if !has_same_own(old, new, changed, p) {
         return false;
     }
-    let outcome = new.get(p);
-    read_same_words(old, new, changed, outcome.gets)
+    let gets = new.gets(p);
+    read_same_words(old, new, changed, gets)
+}
+
+/// Marks the processes to which a process brings other puts or messages in these outcomes than in those.
+#[inline(never)]
+fn mark_parcels_at(marks: &mut [bool], old: &Outcomes, new: &Outcomes, p: usize)
+    requires known { p < length new.now }
+    requires count { length old.now ≡ length new.now }
+    requires before { AreToKnown (length marks.old) (outcome_of old.now p) }
+    ensures { AreMarkedUnless (λ d. HasSameParcel d (outcome_of old.now p) (outcome_of new.now p)) marks.old marks.new }
+{
+    mark_parcels(marks, &old.get(p), &new.get(p));
 }
 
 /// Marks the processes to which a process brings other puts or messages than before.
@@ -88,7 +109,7 @@ fn mark_parcels_of(marks: &mut [bool], old: &Outcomes, new: &Outcomes, changed: 
     ensures { AreMarkedUnless (λ d. HasSameParcel d (outcome_of old.now p) (outcome_of new.now p)) marks.old marks.new }
 {
     if changed[p] {
-        mark_parcels(marks, &old.get(p), &new.get(p));
+        mark_parcels_at(marks, old, new, p);
     }
 }
 

@@ -121,8 +121,8 @@ fn write_all_puts(
     ensures { OnOk result (memories.new ≡ fold (λ ms s. put_at places.now ms s.1) memories.old (all_puts outcomes.now)) }
 {
     for sender in 0..outcomes.len() {
-        let outcome = outcomes.get(sender);
-        write_puts(memories, places, &outcome.puts)?;
+        let own = outcomes.puts(sender);
+        write_puts(memories, places, &own)?;
     }
     Ok(())
 }

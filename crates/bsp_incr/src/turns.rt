@@ -2,6 +2,7 @@
 //! no such superstep are empty.
 
 ghost use Rattle.std.specs.Prelude.{◌≡◌, ◌<◌, ◌++◌, ◌∷◌, [], All, IfOk, OnOk, filter, map, length, not, option_map, slice_index_or, true, false};
+ghost use Rattle.bsp_model.specs.Replaced.{replaced, IsAscending};
 ghost use Rattle.bsp_step.specs.Turn.{turn_of};
 ghost use Rattle.bsp_run.specs.Condition.{no_view};
 ghost use Rattle.bsp_run.specs.Shares.{turns_of};
@@ -17,7 +18,7 @@ use crate::looking::serves;
 use crate::places::add_places;
 use crate::reuse::reuse;
 use crate::workers::Workers;
-use bsp_model::{OutOfMemory, Seq};
+use bsp_model::{OutOfMemory, Seq, TryCopy};
 use bsp_pool::Gate;
 use bsp_run::{Views, ViewsRef, wide_turns};
 use bsp_step::{OutcomeRows, Outcomes, Program};
@@ -116,6 +117,30 @@ fn served_turns<P: Program>(
     Ok(served)
 }
 
+/// The recorded outcomes, with new ones for processes for which the recorded turns serve.
+fn with_served_turns<P: Program>(
+    alloc: Global,
+    program: &P,
+    old_views: &ViewsRef<'_>,
+    old_outcomes: &Outcomes,
+    views: &Views,
+    processes: &[usize],
+) -> Result<Outcomes, OutOfMemory>
+    requires known { All (λ p. p < length views.now) processes.now }
+    requires within { All (λ p. p < length old_outcomes.now) processes.now }
+    requires ascending { IsAscending processes.now }
+    requires recorded { old_outcomes.now ≡ map (turn_of (P.acts program.now) (P.ending program.now)) old_views.now }
+    requires serve { All (λ p. differs (P.looks program.now) old_views.now views.now p ≡ false) processes.now }
+    ensures { IfOk result (λ all. all ≡ replaced old_outcomes.now processes.now
+        (turns_of (turn_of (P.acts program.now) (P.ending program.now)) views.now processes.now)) }
+{
+    if processes.is_empty() {
+        return Ok(old_outcomes.copy()?);
+    }
+    let served = served_turns(alloc, program, old_views, old_outcomes, views, processes)?;
+    Ok(old_outcomes.replaced(alloc, processes, served)?)
+}
+
 /// The turns of a superstep: the workers take those that have to be taken, and their places are added.
 pub fn turns_again<P: Program, G: Gate, R: Threads + Sync>(
     workers: &Workers<'_, R, G>,
@@ -154,7 +179,7 @@ pub fn turns_again<P: Program, G: Gate, R: Threads + Sync>(
     let Some(old_outcomes) = old_outcomes else {
         return Ok(taken.share()?);
     };
-    let reused = served_turns(
+    let renewed = with_served_turns(
         alloc,
         program,
         old_views,
@@ -162,7 +187,6 @@ pub fn turns_again<P: Program, G: Gate, R: Threads + Sync>(
         views,
         served.as_slice(),
     )?;
-    let renewed = old_outcomes.replaced(alloc, served.as_slice(), &reused)?;
-    let all = renewed.replaced(alloc, needed.as_slice(), &taken)?;
+    let all = renewed.replaced(alloc, needed.as_slice(), taken)?;
     Ok(all)
 }

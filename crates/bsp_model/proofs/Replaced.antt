@@ -1,6 +1,8 @@
 -- What a list is in which items are replaced.
-use Rattle.std.proofs.Common.{◌≡◌, ◌≢◌, ◌<◌, ◌≤◌, ◌+◌, ◌-◌, ℕ, zero, suc, List, [], ◌∷◌, ◌++◌, length, get_or, take, drop, map, refl, sym, ap, ◌∙◌, arith, append_assoc, add-one}
+use Rattle.std.proofs.Common.{All, inl, inr, ◌≡◌, ◌≢◌, ◌<◌, ◌≤◌, ◌+◌, ◌-◌, ℕ, zero, suc, List, [], ◌∷◌, ◌++◌, length, get_or, take, drop, map, refl, sym, ap, ◌∙◌, arith, append_assoc, add-one}
 use Rattle.std.specs.Prelude.{slice_range, slice_set}
+use Rattle.std.specs.List.{Contains}
+use Rattle.std.proofs.lemmas.Bool.{cases_eq}
 use Rattle.std.proofs.Math.ListN.{length-set}
 use Rattle.std.proofs.Math.Seq.{set-append_seam, drop-cons}
 use Rattle.std.proofs.lemmas.List.{length-append, take_rest, drop_all, map-set, get_or-set_same, get_or-set_other}
@@ -95,3 +97,40 @@ replaced-there items (p ∷ ps) (x ∷ xs) zero d ascending inside new within =
     replaced-elsewhere (slice_set items p x) ps xs p d (first-below p ps ascending) ∙ get_or-set_same items p x d within
 replaced-there items (p ∷ ps) (x ∷ xs) (suc k) d ascending inside new within =
     replaced-there (slice_set items p x) ps xs k d (later-ascending p ps ascending) (omega arith) (omega arith) (omega (arith, within, length-set items p x))
+
+-- items that are replaced and then replaced again
+
+set-again : {X : Type 0} (items : List X) (p : ℕ) (x y : X) → slice_set (slice_set items p x) p y ≡ slice_set items p y
+set-again [] p x y = refl
+set-again (i ∷ items) zero x y = refl
+set-again (i ∷ items) (suc p) x y = ap (λ rest. i ∷ rest) (set-again items p x y)
+
+set-other : {X : Type 0} (items : List X) (p q : ℕ) (x y : X) → p ≢ q → slice_set (slice_set items p x) q y ≡ slice_set (slice_set items q y) p x
+set-other [] p q x y other = refl
+set-other (i ∷ items) zero zero x y other = absurd (other refl)
+set-other (i ∷ items) zero (suc q) x y other = refl
+set-other (i ∷ items) (suc p) zero x y other = refl
+set-other (i ∷ items) (suc p) (suc q) x y other = ap (λ rest. i ∷ rest) (set-other items p q x y (λ same. other (ap suc same)))
+
+later-among : (p q : ℕ) (qs : List ℕ) (k : ℕ) → k < length (q ∷ qs) → get_or (q ∷ qs) k p ≡ p → p ≢ q → Contains qs p
+later-among p q qs zero inside there other = absurd (other (sym there))
+later-among p q qs (suc k) inside there other = (k, omega arith, there)
+
+-- an item that is replaced afterwards may be any before
+replaced-over_one : {X : Type 0} (items : List X) (p : ℕ) (x : X) (qs : List ℕ) (ys : List X) → Contains qs p → length ys ≡ length qs → replaced (slice_set items p x) qs ys ≡ replaced items qs ys
+replaced-over_one items p x [] ys (k, inside, there) count = absurd (omega (arith, inside))
+replaced-over_one items p x (q ∷ qs) [] among count = absurd (omega (arith, count))
+replaced-over_one items p x (q ∷ qs) (y ∷ ys) (k, inside, there) count =
+    elim (cases_eq p q) [
+      | inl same ↦ ap (λ js. replaced js qs ys) (ap (λ n. slice_set (slice_set items n x) q y) same ∙ set-again items q x y)
+      | inr other ↦
+          ap (λ js. replaced js qs ys) (set-other items p q x y other)
+          ∙ replaced-over_one (slice_set items q y) p x qs ys (later-among p q qs k inside there other) (omega (arith, count))
+    ]
+
+pub replaced-over : {X : Type 0} (items : List X) (ps : List ℕ) (xs : List X) (qs : List ℕ) (ys : List X) → All (Contains qs) ps → length ys ≡ length qs → replaced (replaced items ps xs) qs ys ≡ replaced items qs ys
+replaced-over items [] xs qs ys among count = refl
+replaced-over items (p ∷ ps) [] qs ys among count = refl
+replaced-over items (p ∷ ps) (x ∷ xs) qs ys among count =
+    replaced-over (slice_set items p x) ps xs qs ys (λ k d inside. among (suc k) d (omega arith)) count
+    ∙ replaced-over_one items p x qs ys (among 0 p (omega arith)) count

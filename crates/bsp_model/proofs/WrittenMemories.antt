@@ -1,6 +1,7 @@
 -- What a write leaves of the memories of several processes.
-use Rattle.std.proofs.Common.{◌≡◌, ◌≤◌, ◌<◌, ℕ, ◌+◌, ◌*◌, ◌-◌, List, [], ◌∷◌, ◌++◌, length, get_or, set, min, refl, ap, subst, ◌∙◌, arith}
+use Rattle.std.proofs.Common.{◌≡◌, ◌≢◌, ◌≤◌, ◌<◌, ℕ, ◌+◌, ◌*◌, ◌-◌, List, [], ◌∷◌, ◌++◌, length, get_or, set, min, refl, ap, subst, ◌∙◌, arith}
 use Rattle.std.proofs.lemmas.List.{length-take, length-drop}
+use Rattle.bsp_model.specs.Columns.{row_at}
 use Rattle.bsp_model.specs.Memory.{memory_written}
 use Rattle.bsp_model.specs.Inside.Cut.{IsCut}
 use Rattle.bsp_model.specs.Inside.Pages.{paged_word, words_of, word_after}
@@ -22,15 +23,17 @@ cut_fits full behind len start words cut is all =
     (omega arith, omega arith)
 
 -- a process's new full pages and last words
-pub memory_replaced : (pages : List (List (List ℕ))) (lasts memories : List (List ℕ)) (pid : ℕ) (full' : List (List ℕ)) (words : List ℕ) (count len start : ℕ) (cut : Cut) → ArePaged pages lasts → memories_of pages lasts ≡ memories → pid < length memories
-    → count ≡ 64 * length (get_or pages pid []) → len ≡ count_of (get_or pages pid []) (get_or lasts pid []) → IsCut count len start words cut → length full' ≡ length (get_or pages pid [])
-    → ((i : ℕ) → paged_word full' i ≡ word_after (paged_word (get_or pages pid [])) cut.start cut.front.now i)
-    → ArePaged (set pages pid full') (set lasts pid (with_part (get_or lasts pid []) cut.place cut.behind.now))
-    × (memories_of (set pages pid full') (set lasts pid (with_part (get_or lasts pid []) cut.place cut.behind.now)) ≡ set memories pid (memory_written (get_or memories pid []) start words))
-memory_replaced pages lasts memories pid full' words count len start cut are is within count_is len_is cut_is same changed =
+pub memory_replaced : (pages pages' : List (List (List ℕ))) (lasts memories : List (List ℕ)) (pid : ℕ) (words : List ℕ) (count len start : ℕ) (cut : Cut) → ArePaged pages lasts → memories_of pages lasts ≡ memories → pid < length memories
+    → count ≡ 64 * length (row_at pages pid) → len ≡ count_of (row_at pages pid) (row_at lasts pid) → IsCut count len start words cut
+    → ((k : ℕ) → k ≢ pid → row_at pages' k ≡ row_at pages k) → length (row_at pages' pid) ≡ length (row_at pages pid)
+    → ((i : ℕ) → paged_word (row_at pages' pid) i ≡ word_after (paged_word (row_at pages pid)) cut.start cut.front.now i)
+    → ArePaged pages' (set lasts pid (with_part (row_at lasts pid) cut.place cut.behind.now))
+    × (memories_of pages' (set lasts pid (with_part (row_at lasts pid) cut.place cut.behind.now)) ≡ set memories pid (memory_written (get_or memories pid []) start words))
+memory_replaced pages pages' lasts memories pid words count len start cut are is within count_is len_is cut_is other same changed =
     let m = memory_of_process pages lasts memories pid are is within in
-    let full = get_or pages pid [] in
-    let last = get_or lasts pid [] in
+    let full = row_at pages pid in
+    let full' = row_at pages' pid in
+    let last = row_at lasts pid in
     let last' = with_part last cut.place cut.behind.now in
     let fits = cut_fits count (length last) len start words cut cut_is (omega (arith, len_is, count_is)) in
     let long : length last' ≡ length last = length-with_part last cut.behind.now cut.place fits.1 in
@@ -40,6 +43,6 @@ memory_replaced pages lasts memories pid full' words count len start cut are is 
     let now : memory_of full' last' ≡ memory_written (get_or memories pid []) start words =
     ap (words_of (full' ++ last' ∷ [])) all
     ∙ cut_written full full' last last' words (get_or memories pid []) (count_of full last) count start cut m.is m.has count_is (subst (λ n. IsCut count n start words cut) len_is cut_is) same changed refl in (
-      ArePaged-set pages lasts pid full' last' are m.within (omega (arith, long, short)) (omega (arith, all, small)),
-      memories_of-set pages lasts pid full' last' are m.within ∙ ap (λ (ms : List (List ℕ)). set ms pid (memory_of full' last')) is ∙ ap (set memories pid) now,
+      ArePaged-set pages pages' lasts pid full' last' are m.within other refl (record { short = omega (arith, long, short); count = refl; fits = omega (arith, all, small) }),
+      memories_of-set pages pages' lasts memories pid full' last' is m.within other refl ∙ ap (set memories pid) now,
     )

@@ -5,10 +5,12 @@ mod lines;
 mod pairs;
 mod puts;
 mod sends;
+mod shared_column;
 mod stores;
 
 pub use column::Column;
 pub use lines::LineColumn;
 pub use puts::PutColumn;
 pub use sends::SendColumn;
+pub use shared_column::SharedColumn;
 pub use stores::StoreColumn;

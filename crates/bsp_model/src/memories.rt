@@ -2,22 +2,21 @@
 
 ghost use Rattle.std.specs.Prelude.{◌≡◌, ◌<◌, ◌≤◌, ◌+◌, ◌++◌, ◌∷◌, [], All, IfOk, OnErr, OnOk, length, nat_le, slice_index_or, slice_range, slice_set};
 ghost use Rattle.bsp_model.specs.Memory.{memory_written};
-ghost use Rattle.bsp_model.specs.Replaced.{replaced, IsAscending};
 
 #[cfg(test)]
 mod tests;
 
 use crate::page::{Page, WORDS_OF_A_PAGE};
-use crate::paging::{cut_write, shared_pages, write_shared_pages};
-use crate::{Memory, MemoryRef, OutOfMemory, Rows, SharedSeq, TryCopy};
+use crate::paging::{cut_write, shared_pages, write_row};
+use crate::{Memory, MemoryRef, OutOfMemory, Rows, SharedColumn, SharedSeq};
 use std::alloc::Global;
 use std::marker::Model;
 
 /// The memories of several processes, by process. Copies share the pages that are full.
 #[derive(Debug, Drop)]
 pub struct Memories {
-    /// The full pages of each memory.
-    pages: Vec<SharedSeq<Page>>,
+    /// The full pages of each memory. Where `lasts` has no row, they belong to no memory.
+    pages: SharedColumn<Page>,
     /// The words behind them, of each memory fewer than a page has.
     lasts: Rows<u64>,
 }
@@ -28,19 +27,9 @@ impl Model for Memories {
 
     ghost Value = { List (List ℕ) };
 
-    ghost view = { λ m. memories_of m.pages.items m.lasts };
+    ghost view = { λ m. memories_of m.pages m.lasts };
 
-    ghost invariant = { λ m. ArePaged m.pages.items m.lasts };
-}
-
-/// Adds copies of the full pages of several memories, which share the pages. After `OutOfMemory` some of them are added.
-fn add_copies(pages: &mut Vec<SharedSeq<Page>>, more: &[SharedSeq<Page>]) -> Result<(), OutOfMemory>
-    ensures { OnOk result (pages.new.items ≡ pages.old.items ++ more.now) }
-{
-    for full in more {
-        pages.push(full.copy()?)?;
-    }
-    Ok(())
+    ghost invariant = { λ m. ArePaged m.pages m.lasts };
 }
 
 impl Memories {
@@ -48,16 +37,9 @@ impl Memories {
     pub fn with_capacity(alloc: Global, count: usize) -> Result<Memories, OutOfMemory>
         ensures { IfOk result (λ m. m ≡ []) }
     {
-        Memories::with_room(alloc, count, 0)
-    }
-
-    /// No memories, with room for so many, and for so many words behind their full pages.
-    fn with_room(alloc: Global, count: usize, words: usize) -> Result<Memories, OutOfMemory>
-        ensures { IfOk result (λ m. m ≡ []) }
-    {
         Ok(Memories {
-            pages: Vec::with_capacity(alloc, count)?,
-            lasts: Rows::with_capacity(alloc, count, words)?,
+            pages: SharedColumn::new(alloc),
+            lasts: Rows::with_capacity(alloc, count, 0)?,
         })
     }
 
@@ -65,14 +47,18 @@ impl Memories {
     pub fn with_room_of(alloc: Global, like: &Memories) -> Result<Memories, OutOfMemory>
         ensures { IfOk result (λ m. m ≡ []) }
     {
-        Memories::with_room(alloc, like.pages.len(), like.lasts.count_of_items())
+        Ok(Memories {
+            pages: SharedColumn::with_room_of(alloc, &like.pages)?,
+            lasts: Rows::with_room_of(alloc, &like.lasts)?,
+        })
     }
 
     /// The number of memories.
+    #[inline(always)]
     pub fn len(&self) -> usize
         ensures { result ≡ length self.now }
     {
-        self.pages.len()
+        self.lasts.len()
     }
 
     /// The memory of a process.
@@ -81,10 +67,10 @@ impl Memories {
         requires { pid < length self.now }
         ensures { result ≡ slice_index_or self.now pid [] }
     {
-        let pages = self.pages[pid].as_slice();
+        let pages = self.pages.row(pid);
         let last = self.lasts.row(pid);
         MemoryRef {
-            alloc: *self.pages.allocator(),
+            alloc: self.pages.allocator(),
             pages,
             last,
             len: WORDS_OF_A_PAGE * pages.len() + last.len(),
@@ -104,11 +90,10 @@ impl Memories {
             mut last,
             ..
         } = memory;
-        let alloc = *self.pages.allocator();
+        let alloc = self.pages.allocator();
         let full = SharedSeq::from_vec(pages)?;
-        self.pages.reserve(1)?;
+        self.pages.put(self.lasts.len(), full)?;
         self.lasts.push(last.as_slice())?;
-        self.pages.push_reserved(full);
         last.clear();
         Ok(Memory {
             pages: Vec::new(alloc),
@@ -122,10 +107,9 @@ impl Memories {
         ensures ok { OnOk result (self.new ≡ self.old ++ memory.now ∷ []) }
         ensures err { OnErr result (self.new ≡ self.old) }
     {
-        let pages = shared_pages(*self.pages.allocator(), memory.pages)?;
-        self.pages.reserve(1)?;
+        let full = shared_pages(self.pages.allocator(), memory.pages)?;
+        self.pages.put(self.lasts.len(), full)?;
         self.lasts.push(memory.last)?;
-        self.pages.push_reserved(pages);
         Ok(())
     }
 
@@ -137,14 +121,12 @@ impl Memories {
         ensures written { IfOk result (λ found. self.new ≡ slice_set self.old pid (memory_written (slice_index_or self.old pid []) start words.now)) }
         ensures err { OnErr result (self.new ≡ self.old) }
     {
-        let full = WORDS_OF_A_PAGE * self.pages[pid].len();
+        let full = WORDS_OF_A_PAGE * self.pages.row(pid).len();
         let len = full + self.lasts.row(pid).len();
         let Some(cut) = cut_write(full, len, start, words) else {
             return Ok(false);
         };
-        let alloc = *self.pages.allocator();
-        let pages = &mut self.pages[pid];
-        write_shared_pages(alloc, pages, cut.start, cut.front)?;
+        write_row(&mut self.pages, pid, cut.start, cut.front)?;
         self.lasts.replace(pid, cut.place, cut.behind);
         Ok(true)
     }
@@ -160,34 +142,9 @@ impl Memories {
         requires inside { to ≤ length more.now }
         ensures { IfOk result (λ m. m ≡ self ++ slice_range more.now from to) }
     {
-        let Memories {
-            mut pages,
-            mut lasts,
-        } = self;
+        let Memories { pages, mut lasts } = self;
+        let pages = pages.with_range(lasts.len(), &more.pages, from, to)?;
         lasts.append_range(&more.lasts.as_ref(), from, to)?;
-        add_copies(&mut pages, &more.pages[from..to])?;
         Ok(Memories { pages, lasts })
-    }
-
-    /// These memories, but for new ones of some processes, which are in ascending order.
-    pub fn replaced(
-        &self,
-        processes: &[usize],
-        memories: &Memories,
-    ) -> Result<Memories, OutOfMemory>
-        requires known { All (λ p. p < length self.now) processes.now }
-        requires ascending { IsAscending processes.now }
-        requires count { length memories.now ≡ length processes.now }
-        ensures { IfOk result (λ m. m ≡ replaced self.now processes.now memories.now) }
-    {
-        let alloc = *self.pages.allocator();
-        let mut new = Memories::with_room(alloc, self.len(), self.lasts.count_of_items())?;
-        for place in 0..processes.len() {
-            let done = new.len();
-            new = new.with_range(self, done, processes[place])?;
-            new = new.with_range(memories, place, place + 1)?;
-        }
-        let done = new.len();
-        new.with_range(self, done, self.len())
     }
 }

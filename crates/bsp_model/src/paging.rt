@@ -1,11 +1,12 @@
 //! The full pages of a memory.
 
-ghost use Rattle.std.specs.Prelude.{◌≡◌, ℕ, ◌+◌, ◌*◌, ◌<◌, ◌≤◌, ◌↔◌, IsTrue, length, IfOk, MatchOption, OnOk, OnErr};
+ghost use Rattle.std.specs.Prelude.{◌≡◌, ◌≢◌, ℕ, ◌+◌, ◌*◌, ◌<◌, ◌≤◌, ◌↔◌, IsTrue, length, IfOk, MatchOption, OnOk, OnErr};
+ghost use Rattle.bsp_model.specs.Columns.{row_at};
 ghost use Rattle.bsp_model.specs.Inside.Cut.{IsCut};
 ghost use Rattle.bsp_model.specs.Inside.Pages.{paged_word, word_after};
 
 use crate::page::{Page, WORDS_OF_A_PAGE};
-use crate::{OutOfMemory, SharedSeq, TryCopy};
+use crate::{OutOfMemory, SharedColumn, SharedSeq, TryCopy};
 use std::alloc::Global;
 use std::sync::Arc;
 
@@ -119,6 +120,27 @@ pub fn write_shared_pages(
     let mut own = copied_pages(alloc, pages.as_slice())?;
     write_pages(alloc, own.as_mut_slice(), start, words)?;
     *pages = SharedSeq::from_vec(own)?;
+    Ok(())
+}
+
+/// What `write_shared_pages` does, in the full pages of one process. After `OutOfMemory` nothing has changed.
+pub fn write_row(
+    column: &mut SharedColumn<Page>,
+    place: usize,
+    start: usize,
+    words: &[u64],
+) -> Result<(), OutOfMemory>
+    requires { start + length words.now ≤ WORDS_OF_A_PAGE * length (row_at column.old place) }
+    ensures others { (k : ℕ) → k ≢ place → row_at column.new k ≡ row_at column.old k }
+    ensures count { length (row_at column.new place) ≡ length (row_at column.old place) }
+    ensures ok { OnOk result ((i : ℕ) → paged_word (row_at column.new place) i ≡ word_after (paged_word (row_at column.old place)) start words.now i) }
+    ensures err { OnErr result (column.new ≡ column.old) }
+{
+    if place < column.rows.len() {
+        let alloc = column.allocator();
+        let pages = &mut column.rows[place];
+        return write_shared_pages(alloc, pages, start, words);
+    }
     Ok(())
 }
 

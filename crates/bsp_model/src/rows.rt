@@ -77,11 +77,6 @@ impl<T> Rows<T> {
         self.as_ref().len()
     }
 
-    /// The number of items of all rows.
-    pub(crate) fn count_of_items(&self) -> usize {
-        self.items.len()
-    }
-
     /// Whether there is no row.
     #[inline(always)]
     pub fn is_empty(&self) -> bool
@@ -227,10 +222,14 @@ impl<T: Copy> Rows<T> {
     }
 
     /// Puts the rows of another list at the end. After `OutOfMemory` nothing has changed.
+    #[inline(always)]
     pub fn append(&mut self, more: &RowsRef<'_, T>) -> Result<(), OutOfMemory>
         ensures ok { OnOk result (self.new ≡ self.old ++ more.now) }
         ensures err { OnErr result (self.new ≡ self.old) }
     {
+        if more.is_empty() {
+            return Ok(());
+        }
         self.append_range(more, 0, more.len())
     }
 

@@ -16,3 +16,5 @@ pub mod TakingOver
 pub mod UnrecordedRuns
 pub mod ViewsWithin
 pub mod SameLines
+pub mod SharedCells
+pub mod RunErrors

@@ -1,6 +1,7 @@
 -- Opening a superstep keeps what a run keeps.
 use Rattle.std.proofs.Common.{◌≡◌, ◌≤◌, ◌+◌, ℕ, List, [], map, length, All, arith, get_or, refl, sym, ap, ◌∙◌, subst}
 use Rattle.std.specs.List.{range_with_len}
+use Rattle.std.proofs.Math.ListN.{get_or-map}
 use Rattle.std.proofs.lemmas.List.{length-map}
 use Rattle.std.proofs.lemmas.List.Elements.{All-map, All-nil}
 use Rattle.std.proofs.lemmas.List.FromFn.{fill_by_all}
@@ -15,7 +16,7 @@ use Rattle.bsp_step.specs.OutcomeParts.{OutcomeParts}
 use Rattle.bsp_run.specs.declared.phase.Phase.TheVariants.{Open}
 use Rattle.bsp_run.specs.declared.setting.Setting.{Setting}
 use Rattle.bsp_run.specs.declared.superstep.Superstep.{Superstep}
-use Rattle.bsp_run.specs.State.{State, first_state, no_messages, view_of, views_of}
+use Rattle.bsp_run.specs.State.{State, cell_of, first_state, no_messages, view_of, views_of}
 use Rattle.bsp_run.specs.Run.{start, open_views}
 use Rattle.bsp_run.specs.Inside.Opening.{CanOpen, state_of}
 use Rattle.bsp_run.specs.Condition.{IsState, IsRun}
@@ -38,6 +39,13 @@ state_seen-views_of args step s same =
     let memories = part_of_views (λ (v : ViewParts). v.memory) args step s s.memories [] refl (λ p. refl) in
     let queues = part_of_views (λ (v : ViewParts). v.queue) args step s s.queues [] same (λ p. refl) in
     λ i. record { memories = memories i; queues = queues i; table = s.table; tag_size = s.tag_size }
+
+cell_parts : (cells : List (List ℕ × List Message)) (p : ℕ) → (get_or (map (λ (c : List ℕ × List Message). c.0) cells) p [], get_or (map (λ (c : List ℕ × List Message). c.1) cells) p []) ≡ get_or cells p ([], [])
+cell_parts cells p = λ i. (get_or-map (λ (c : List ℕ × List Message). c.0) cells p ([], []) i, get_or-map (λ (c : List ℕ × List Message). c.1) cells p ([], []) i)
+
+-- the cells that views were made of
+pub cells_seen : (args : List (List ℕ)) (step : ℕ) (cells : List (List ℕ × List Message)) (table : List (List Area)) (tag : ℕ) → map cell_of (views_of args step (state_of cells table tag)) ≡ cells
+cells_seen args step cells table tag = part_of_views cell_of args step (state_of cells table tag) cells ([], []) (sym (length-map cells (λ (c : List ℕ × List Message). c.0))) (cell_parts cells)
 
 -- the first cells make the first state
 pub first_state-cells : (input : Input) → state_of (map (λ m. (m, no_messages m)) input.mems) [] 0 ≡ first_state input

@@ -6,5 +6,6 @@ pub mod Unrecorded
 pub mod IsUnrecorded
 pub mod Condition
 pub mod Lines
+pub mod SharedCells
 pub mod Views
 pub mod ViewsRef

@@ -1,6 +1,7 @@
 //! Whole runs of BSP programs.
 #![tactic(auto)]
 
+mod copying;
 mod costs;
 mod ending;
 mod history;
@@ -11,12 +12,11 @@ mod next;
 mod opening;
 mod phase;
 mod plain;
-mod replacing;
 mod result;
 mod setting;
+mod shared_cells;
 mod superstep;
 mod supersteps;
-mod taking;
 mod taking_over;
 mod tape;
 mod unrecorded;
@@ -24,11 +24,11 @@ mod views;
 mod wide;
 mod works;
 
+pub use copying::copied;
 pub use history::History;
 pub use law::one_run;
 pub use phase::Phase;
 pub use plain::{run_plain, run_result};
-pub use replacing::copied;
 pub use result::{Lines, ProcessFault, RunError, RunResult, Status};
 pub use setting::Setting;
 pub use superstep::{Arguments, Superstep};

@@ -21,7 +21,8 @@ fn add_lines(lines: &mut Lines, outcomes: &Outcomes, pid: usize) -> Result<(), O
     if pid >= outcomes.len() {
         return Ok(());
     }
-    lines.append(&outcomes.get(pid).lines)
+    let own = outcomes.lines(pid);
+    lines.append(&own)
 }
 
 /// Adds the lines of each process in one superstep to those that it printed before.
@@ -110,7 +111,8 @@ fn place_behind_printed(lines: &Lines, at: usize, outcomes: &Outcomes, pid: usiz
     if pid >= outcomes.len() {
         return Some(at);
     }
-    place_behind(lines, at, &outcomes.get(pid).lines)
+    let own = outcomes.lines(pid);
+    place_behind(lines, at, &own)
 }
 
 /// Whether these are the lines of a process. It takes no memory.

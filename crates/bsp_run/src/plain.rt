@@ -69,7 +69,7 @@ fn all_turns<P: Program>(
     ensures { IfOk result (λ all. all ≡ map (turn_of (P.acts program.now) (P.ending program.now)) views.now) }
 {
     let mut rows = before.room_for(alloc, views.len())?;
-    let mut spare = Outcome::new(alloc);
+    let mut spare = Outcome::new(alloc)?;
     for pid in 0..views.len() {
         let outcome = turn_reusing(alloc, program, &views.get(pid), spare)?;
         spare = rows.push(outcome)?;

@@ -82,7 +82,7 @@ impl Tape {
         let args = shared_args(&input.args)?;
         let cells = first_cells(alloc, input.mems.as_slice())?;
         let setting = Setting::first(alloc, &args, cells.len())?;
-        let views = Views::open(setting, cells);
+        let views = Views::open(alloc, setting, cells)?;
         Tape::open_with(alloc, input, args, views)
     }
 
@@ -213,7 +213,7 @@ impl Tape {
     {
         let alloc = *self.past.allocator();
         let setting = self.next_setting()?;
-        let views = Views::open(setting, cells);
+        let views = Views::open(alloc, setting, cells)?;
         let row = self.cost();
         Ok(self.delivered_as(views, row)?)
     }

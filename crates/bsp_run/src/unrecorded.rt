@@ -51,7 +51,7 @@ pub(crate) fn open_unrecorded(alloc: Global, input: &Input) -> Result<Unrecorded
     let lines = no_lines(alloc, cells.len())?;
     let table = Table::new(alloc, cells.len())?;
     let setting = Setting::first(alloc, &args, cells.len())?;
-    let views = Views::open(setting, cells);
+    let views = Views::open(alloc, setting, cells)?;
     Ok(Unrecorded {
         args,
         views,
@@ -103,7 +103,7 @@ pub(crate) fn go_on(
         table: table.copy()?,
         tag_size,
     };
-    let views = Views::open(setting, cells);
+    let views = Views::open(alloc, setting, cells)?;
     let row = cost_of_delivery(input.g, input.l, outcomes);
     add_all_lines(&mut kept.lines, outcomes)?;
     kept.costs.push(row)?;

@@ -6,11 +6,11 @@ ghost use Rattle.bsp_run.specs.State.{cell_of, views_of};
 ghost use Rattle.bsp_run.specs.Condition.{no_view};
 ghost use Rattle.bsp_run.specs.Inside.Opening.{CanOpen, state_of};
 
-use crate::replacing::{copied, put_at};
+use crate::shared_cells::SharedCells;
 use crate::{Arguments, Setting};
 use bsp_deliver::Cells;
-use bsp_model::{Memories, OutOfMemory};
-use bsp_step::{Queue, View};
+use bsp_model::OutOfMemory;
+use bsp_step::View;
 use std::alloc::Global;
 use std::marker::Model;
 
@@ -18,8 +18,7 @@ use std::marker::Model;
 #[derive(Drop)]
 pub struct Views {
     setting: Setting,
-    memories: Memories,
-    queues: Vec<Queue>,
+    cells: SharedCells,
 }
 
 impl Model for Views {
@@ -36,17 +35,15 @@ impl Model for Views {
 }
 
 impl Views {
-    /// What the processes see with these memories and queues.
-    pub(crate) fn open(setting: Setting, cells: Cells) -> Views
+    /// What the processes see with these memories and queues, or `OutOfMemory`.
+    pub(crate) fn open(alloc: Global, setting: Setting, cells: Cells) -> Result<Views, OutOfMemory>
         requires { CanOpen setting.args (state_of cells setting.table setting.tag_size) }
-        ensures { result ≡ views_of setting.args setting.step (state_of cells setting.table setting.tag_size) }
+        ensures { IfOk result (λ v. v ≡ views_of setting.args setting.step (state_of cells setting.table setting.tag_size)) }
     {
-        let (memories, queues) = cells.into_parts();
-        Views {
+        Ok(Views {
             setting,
-            memories,
-            queues,
-        }
+            cells: SharedCells::new(alloc, cells)?,
+        })
     }
 
     /// What the processes see in another setting with the same memories and queues, but for new ones of some processes, which are in ascending order.
@@ -65,13 +62,9 @@ impl Views {
         ensures { IfOk result (λ v. v ≡ views_of setting.args setting.step
             (state_of (replaced (map cell_of self.now) processes.now cells) setting.table setting.tag_size)) }
     {
-        let (memories, new) = cells.into_parts();
-        let mut queues = copied(alloc, self.queues.as_slice())?;
-        put_at(&mut queues, processes, new);
         Ok(Views {
             setting,
-            memories: self.memories.replaced(processes, &memories)?,
-            queues,
+            cells: self.cells.replaced(alloc, processes, cells)?,
         })
     }
 
@@ -79,7 +72,7 @@ impl Views {
     pub fn len(&self) -> usize
         ensures { result ≡ length self.now }
     {
-        self.queues.len()
+        self.cells.len()
     }
 
     /// Whether there is no process.
@@ -97,15 +90,16 @@ impl Views {
     {
         let setting = &self.setting;
         let args: &Arguments = &setting.args;
+        let (cells, place) = self.cells.cells_of(pid);
         View {
-            nprocs: self.queues.len() as u64,
+            nprocs: self.cells.len() as u64,
             pid: pid as u64,
             step: setting.step,
             args: args.as_slice()[pid].as_slice(),
-            memory: self.memories.get(pid),
+            memory: cells.memory(place),
             table: &setting.table,
             tag_size: setting.tag_size,
-            queue: self.queues[pid].as_slice(),
+            queue: cells.queue(place),
         }
     }
 

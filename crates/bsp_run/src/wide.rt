@@ -33,7 +33,7 @@ pub(crate) fn turns_by_one<P: Program, G: Gate>(
     ensures { IfOk result (λ all. all ≡ turns_of (turn_of (P.acts program.now) (P.ending program.now)) views.now processes.now) }
 {
     let mut rows = rows;
-    let mut spare = Outcome::new(alloc);
+    let mut spare = Outcome::new(alloc)?;
     for (place, process) in processes.iter().enumerate() {
         gate.pass(place);
         let outcome = turn_reusing(alloc, program, &views.get(*process), spare)?;

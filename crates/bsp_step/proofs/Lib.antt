@@ -3,8 +3,10 @@ pub mod Running
 pub mod Ranges
 pub mod Placing
 pub mod Finding
+pub mod Boxed
 pub mod Limits
 pub mod Storing
 pub mod Laws
 pub mod OutcomeColumns
 pub mod Sorting
+pub mod Others

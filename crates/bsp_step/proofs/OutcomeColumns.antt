@@ -1,17 +1,16 @@
 -- Outcomes in columns: one more, and a range of others.
-use Rattle.std.proofs.Common.{◌≡◌, ◌≤◌, ◌<◌, ℕ, ◌+◌, ◌-◌, List, [], ◌∷◌, ◌++◌, length, get_or, take, map, refl, sym, ap, ◌∙◌, subst, arith, inl, inr, Result, Ok, Err, OnErr}
-use Rattle.std.specs.Prelude.{slice_range}
-use Rattle.std.specs.List.{range_with_len}
+use Rattle.std.proofs.Common.{◌≡◌, ◌≤◌, ◌<◌, ℕ, ◌+◌, ◌-◌, List, [], ◌∷◌, ◌++◌, length, get_or, refl, sym, ap, ◌∙◌, subst, arith, inl, inr, Result, Ok, Err, OnErr}
+use Rattle.std.specs.Prelude.{slice_get, slice_range}
 use Rattle.std.proofs.Math.Nat.{eq-or-lt_of_le}
 use Rattle.std.proofs.Math.Seq.{get_or-append_right}
 use Rattle.std.proofs.lemmas.Bool.{cases_lt}
-use Rattle.std.proofs.lemmas.List.{same_lists, get_or_append_left, get_or_push, length_push, length-append, get_or_default}
+use Rattle.std.proofs.lemmas.List.{same_lists, get_or_append_left, get_or_push, length_push, length-append}
 use Rattle.std.proofs.lemmas.List.FromFn.{length-map-range_with_len, get_or-map-range_with_len}
 use Rattle.std.proofs.lemmas.List.Edits.{length-between, get_or-between}
 use Rattle.bsp_model.specs.Limits.{most_memory_words}
 use Rattle.bsp_step.specs.declared.lists.Lists.{Lists}
 use Rattle.bsp_step.specs.declared.lists.TurnEnd.{TurnEnd}
-use Rattle.bsp_step.specs.OutcomeParts.{OutcomeParts, IsOutcome, no_outcome}
+use Rattle.bsp_step.specs.OutcomeParts.{OutcomeParts, IsOutcome}
 use Rattle.bsp_step.specs.Inside.Outcomes.{no_end, outcome_in, outcome_at, outcomes_of, AreOutcomes, HasLists, AreSameLists}
 
 -- the outcomes of a list, one by one
@@ -26,7 +25,7 @@ outcome-outcomes_of ends memories lists k d within = get_or-map-range_with_len (
 same_outcome : (end end' : TurnEnd) (memory memory' : List ℕ) (lists lists' : Lists) (k : ℕ) → end' ≡ end → memory' ≡ memory → AreSameLists lists lists' k → outcome_in end' memory' lists' k ≡ outcome_in end memory lists k
 same_outcome end end' memory memory' lists lists' k es ms ls =
     λ i. record {
-      fault = (es i).fault;
+      fault = slice_get (ls.faults i) 0;
       ended = (es i).ended;
       memory = ms i;
       stores = ls.stores i;
@@ -35,7 +34,7 @@ same_outcome end end' memory memory' lists lists' k es ms ls =
       sends = ls.sends i;
       pops = ls.pops i;
       pushes = ls.pushes i;
-      tag = (es i).tag;
+      tag = slice_get (ls.tags i) 0;
       lines = ls.lines i;
       work = (es i).work;
     }
@@ -49,12 +48,12 @@ before_push ends memories lists lists' end memory count same k below =
     (get_or_append_left ends (end ∷ []) no_end k below) (get_or_append_left memories (memory ∷ []) [] k (omega (arith, below, count))) (same k below)
 
 at_push : (ends : List TurnEnd) (memories : List (List ℕ)) (lists : Lists) (end : TurnEnd) (memory : List ℕ) (o : OutcomeParts) → length memories ≡ length ends → HasLists lists (length ends) o
-    → end ≡ record { fault = o.fault; ended = o.ended; tag = o.tag; work = o.work } → outcome_at (ends ++ end ∷ []) (memories ++ memory ∷ []) lists (length ends) ≡ record o { memory = memory }
+    → end ≡ record { ended = o.ended; work = o.work } → outcome_at (ends ++ end ∷ []) (memories ++ memory ∷ []) lists (length ends) ≡ record o { memory = memory }
 at_push ends memories lists end memory o count has is =
-    let es : get_or (ends ++ end ∷ []) (length ends) no_end ≡ record { fault = o.fault; ended = o.ended; tag = o.tag; work = o.work } = get_or_push ends end no_end (length ends) refl ∙ is in
+    let es : get_or (ends ++ end ∷ []) (length ends) no_end ≡ record { ended = o.ended; work = o.work } = get_or_push ends end no_end (length ends) refl ∙ is in
     let ms : get_or (memories ++ memory ∷ []) (length ends) [] ≡ memory = get_or_push memories memory [] (length ends) count in
     λ i. record {
-      fault = (es i).fault;
+      fault = has.faults i;
       ended = (es i).ended;
       memory = ms i;
       stores = has.stores i;
@@ -63,7 +62,7 @@ at_push ends memories lists end memory o count has is =
       sends = has.sends i;
       pops = has.pops i;
       pushes = has.pushes i;
-      tag = (es i).tag;
+      tag = has.tags i;
       lines = has.lines i;
       work = (es i).work;
     }
@@ -90,7 +89,7 @@ each_push P n k within before last =
     ]
 
 pub outcomes-push : (ends : List TurnEnd) (memories : List (List ℕ)) (lists lists' : Lists) (end : TurnEnd) (memory : List ℕ) (o : OutcomeParts) → length memories ≡ length ends
-    → ((k : ℕ) → k < length ends → AreSameLists lists lists' k) → HasLists lists' (length ends) o → end ≡ record { fault = o.fault; ended = o.ended; tag = o.tag; work = o.work }
+    → ((k : ℕ) → k < length ends → AreSameLists lists lists' k) → HasLists lists' (length ends) o → end ≡ record { ended = o.ended; work = o.work }
     → outcomes_of (ends ++ end ∷ []) (memories ++ memory ∷ []) lists' ≡ outcomes_of ends memories lists ++ record o { memory = memory } ∷ []
 outcomes-push ends memories lists lists' end memory o count same has is =
     let n = length ends in
@@ -111,7 +110,7 @@ outcomes-push ends memories lists lists' end memory o count same has is =
     (λ k d within. alike k d (omega (arith, within, length-outcomes_of (ends ++ end ∷ []) (memories ++ memory ∷ []) lists', more)))
 
 pub lawful-push : (ends : List TurnEnd) (memories : List (List ℕ)) (lists lists' : Lists) (end : TurnEnd) (memory : List ℕ) (o : OutcomeParts) → AreOutcomes ends memories lists
-    → ((k : ℕ) → k < length ends → AreSameLists lists lists' k) → HasLists lists' (length ends) o → end ≡ record { fault = o.fault; ended = o.ended; tag = o.tag; work = o.work } → IsOutcome o → length memory ≤ most_memory_words
+    → ((k : ℕ) → k < length ends → AreSameLists lists lists' k) → HasLists lists' (length ends) o → end ≡ record { ended = o.ended; work = o.work } → IsOutcome o → length memory ≤ most_memory_words
     → AreOutcomes (ends ++ end ∷ []) (memories ++ memory ∷ []) lists'
 lawful-push ends memories lists lists' end memory o are same has is lawful short =
     record {

@@ -8,14 +8,14 @@ outcome_parts o =
       fault = o.fault;
       ended = o.ended;
       memory = o.memory;
-      stores = o.stores;
-      puts = o.puts;
-      gets = o.gets;
-      sends = o.sends;
-      pops = o.pops;
-      pushes = o.pushes;
+      stores = o.lists.value.stores;
+      puts = o.lists.value.puts;
+      gets = o.lists.value.gets;
+      sends = o.lists.value.sends;
+      pops = o.lists.value.pops;
+      pushes = o.lists.value.pushes;
       tag = o.tag;
-      lines = o.lines;
+      lines = o.lists.value.lines;
       work = o.work;
     }
 

@@ -14,10 +14,9 @@ mod reading;
 mod registration;
 mod remote;
 
-use crate::{Ended, Outcome, Stop, View};
+use crate::{Ended, Outcome, Stop, TurnLists, View};
 use bsp_model::limits::MOST_REQUESTS;
-use bsp_model::{End, Fault, Get, Memory, Message, OutOfMemory, Puts, Rows, Sends, Seq, Stores};
-use bsp_table::Area;
+use bsp_model::{End, Fault, Memory, Message, OutOfMemory};
 use std::alloc::Global;
 use std::marker::Model;
 
@@ -28,14 +27,8 @@ pub struct Ctx<'v> {
     alloc: Global,
     memory: Memory,
     left: &'v [Message],
-    stores: Stores,
-    puts: Puts,
-    gets: Seq<Get>,
-    sends: Sends,
-    pops: Seq<usize>,
-    pushes: Seq<Area>,
+    lists: Box<TurnLists>,
     tag: Option<u64>,
-    lines: Rows<u64>,
     work: u64,
     fault: Option<Fault>,
 }
@@ -57,7 +50,7 @@ impl<'v> Ctx<'v> {
     pub fn open(alloc: Global, view: &'v View<'v>) -> Result<Ctx<'v>, OutOfMemory>
         ensures { IfOk result (λ c. c ≡ fresh view.now) }
     {
-        Ctx::open_reusing(alloc, view, Outcome::new(alloc))
+        Ctx::open_reusing(alloc, view, Outcome::new(alloc)?)
     }
 
     /// The context in which the turn of a view begins, in the lists of an outcome that is no longer needed, or `OutOfMemory`. Nothing of what stood
@@ -72,35 +65,17 @@ impl<'v> Ctx<'v> {
     {
         let Outcome {
             memory,
-            mut stores,
-            mut puts,
-            mut gets,
-            mut sends,
-            mut pops,
-            mut pushes,
-            mut lines,
+            mut lists,
             ..
         } = spare;
-        stores.clear();
-        puts.clear();
-        gets.clear();
-        sends.clear();
-        pops.clear();
-        pushes.clear();
-        lines.clear();
+        lists.clear();
         Ok(Ctx {
             view,
             alloc,
             memory: memory.loaded_from(&view.memory)?,
             left: view.queue,
-            stores,
-            puts,
-            gets,
-            sends,
-            pops,
-            pushes,
+            lists,
             tag: None,
-            lines,
             work: 0,
             fault: None,
         })
@@ -119,7 +94,12 @@ impl<'v> Ctx<'v> {
     fn count_of_requests(&self) -> usize
         ensures { result ≡ count_of_requests self.now }
     {
-        self.puts.len() + self.gets.len() + self.sends.len() + self.pops.len() + self.pushes.len()
+        let lists: &TurnLists = &self.lists;
+        lists.puts.len()
+            + lists.gets.len()
+            + lists.sends.len()
+            + lists.pops.len()
+            + lists.pushes.len()
     }
 
     /// The checks with which each request begins: no fault is kept, and fewer than `MOST_REQUESTS` stand.
@@ -155,14 +135,8 @@ impl<'v> Ctx<'v> {
             fault,
             ended,
             memory: self.memory,
-            stores: self.stores,
-            puts: self.puts,
-            gets: self.gets,
-            sends: self.sends,
-            pops: self.pops,
-            pushes: self.pushes,
+            lists: self.lists,
             tag: self.tag,
-            lines: self.lines,
             work: self.work,
         }
     }

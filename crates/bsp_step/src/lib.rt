@@ -10,6 +10,7 @@ mod outcome_rows;
 mod outcomes;
 mod program;
 mod stop;
+mod turn_lists;
 mod view;
 
 pub use answer::settle;
@@ -20,4 +21,5 @@ pub use outcome_rows::OutcomeRows;
 pub use outcomes::Outcomes;
 pub use program::{Program, turn, turn_reusing};
 pub use stop::Stop;
+pub use turn_lists::TurnLists;
 pub use view::{Queue, View};

@@ -1,77 +1,136 @@
 //! The lists that several outcomes have, in columns.
 
-ghost use Rattle.std.specs.Prelude.{◌≡◌, ◌≤◌, ◌<◌, ℕ, [], OnOk};
+ghost use Rattle.std.specs.Prelude.{◌≡◌, ◌≤◌, ◌<◌, ℕ, [], slice_get, OnOk};
 ghost use Rattle.bsp_model.specs.Columns.{row_at};
-ghost use Rattle.bsp_step.specs.Inside.Outcomes.{AreSameLists, HasLists};
+ghost use Rattle.bsp_step.specs.Inside.Outcomes.{first_at, AreSameLists, HasLists};
 
 use crate::{Ended, OutcomeRef};
 use bsp_model::{Column, Fault, Get, LineColumn, OutOfMemory, PutColumn, SendColumn, StoreColumn};
 use bsp_table::Area;
 use std::alloc::Global;
+use std::slice;
 
-/// What an outcome has beside its memory and its lists.
+/// How a turn ended, and the work that it charged, which is at most `MOST_WORK`, of 32 bits.
 #[derive(Clone, Copy)]
 pub(crate) struct TurnEnd {
-    pub(crate) fault: Option<Fault>,
     pub(crate) ended: Ended,
-    pub(crate) tag: Option<u64>,
-    pub(crate) work: u64,
+    pub(crate) work: u32,
 }
 
-/// The lists of several outcomes, each kind of list in a column of its own.
+/// The lists of several outcomes, each kind of list in a column of its own. Faults and choices of a tag size are rare: each lies in a row of one
+/// item, and where there is none the row is empty.
 #[derive(Drop)]
 pub(crate) struct Lists {
+    pub(crate) faults: Column<Fault>,
     pub(crate) stores: StoreColumn,
     pub(crate) puts: PutColumn,
     pub(crate) gets: Column<Get>,
     pub(crate) sends: SendColumn,
     pub(crate) pops: Column<usize>,
     pub(crate) pushes: Column<Area>,
+    pub(crate) tags: Column<u64>,
     pub(crate) lines: LineColumn,
+}
+
+/// The row of the fault that there may be.
+#[inline(always)]
+fn row_of_fault(fault: &Option<Fault>) -> &[Fault]
+    ensures { slice_get result.now 0 ≡ fault.now }
+{
+    match fault {
+        Some(fault) => slice::from_ref(fault),
+        None => &[],
+    }
+}
+
+/// The row of the tag size that may have been chosen.
+#[inline(always)]
+fn row_of_tag(tag: &Option<u64>) -> &[u64]
+    ensures { slice_get result.now 0 ≡ tag.now }
+{
+    match tag {
+        Some(tag) => slice::from_ref(tag),
+        None => &[],
+    }
 }
 
 impl Lists {
     /// No lists for any process, which takes no memory.
     pub(crate) fn new(alloc: Global) -> Lists {
         Lists {
+            faults: Column::new(alloc),
             stores: StoreColumn::new(alloc),
             puts: PutColumn::new(alloc),
             gets: Column::new(alloc),
             sends: SendColumn::new(alloc),
             pops: Column::new(alloc),
             pushes: Column::new(alloc),
+            tags: Column::new(alloc),
             lines: LineColumn::new(alloc),
         }
     }
 
     /// No lists for any process, with the room that these take, or `OutOfMemory`.
     pub(crate) fn with_room_of(alloc: Global, like: &Lists) -> Result<Lists, OutOfMemory> {
-        Ok(Lists {
-            stores: StoreColumn::with_room_of(alloc, &like.stores)?,
-            puts: PutColumn::with_room_of(alloc, &like.puts)?,
-            gets: Column::with_room_of(alloc, &like.gets)?,
-            sends: SendColumn::with_room_of(alloc, &like.sends)?,
-            pops: Column::with_room_of(alloc, &like.pops)?,
-            pushes: Column::with_room_of(alloc, &like.pushes)?,
-            lines: LineColumn::with_room_of(alloc, &like.lines)?,
-        })
+        let mut lists = Lists::new(alloc);
+        lists.make_room_for_requests(alloc, like)?;
+        lists.make_room_for_others(alloc, like)?;
+        Ok(lists)
     }
 
-    /// Makes copies of an outcome's lists those of a process, behind which none stand any more. After `OutOfMemory` some of them are.
+    /// Empties the requests, and makes the room for them that others take, or `OutOfMemory`.
+    fn make_room_for_requests(&mut self, alloc: Global, like: &Lists) -> Result<(), OutOfMemory> {
+        self.puts = PutColumn::with_room_of(alloc, &like.puts)?;
+        self.gets = Column::with_room_of(alloc, &like.gets)?;
+        self.sends = SendColumn::with_room_of(alloc, &like.sends)?;
+        self.pops = Column::with_room_of(alloc, &like.pops)?;
+        self.pushes = Column::with_room_of(alloc, &like.pushes)?;
+        Ok(())
+    }
+
+    /// Empties the lists that are no requests, and makes the room for them that others take, or `OutOfMemory`.
+    fn make_room_for_others(&mut self, alloc: Global, like: &Lists) -> Result<(), OutOfMemory> {
+        self.faults = Column::with_room_of(alloc, &like.faults)?;
+        self.stores = StoreColumn::with_room_of(alloc, &like.stores)?;
+        self.tags = Column::with_room_of(alloc, &like.tags)?;
+        self.lines = LineColumn::with_room_of(alloc, &like.lines)?;
+        Ok(())
+    }
+
+    /// Makes copies of an outcome's lists, its fault and its choice of a tag size those of a process, behind which none stand any more.
+    /// After `OutOfMemory` some of them are.
     #[inline(always)]
     pub(crate) fn put(&mut self, place: usize, outcome: &OutcomeRef<'_>) -> Result<(), OutOfMemory>
         ensures before { (k : ℕ) → k < place → AreSameLists self.old self.new k }
         ensures there { OnOk result (HasLists self.new place outcome.now) }
     {
+        let faults = self.faults.put(place, row_of_fault(&outcome.fault));
         let stores = self.stores.put(place, &outcome.stores);
         let puts = self.puts.put(place, &outcome.puts);
         let gets = self.gets.put(place, outcome.gets);
         let sends = self.sends.put(place, &outcome.sends);
         let pops = self.pops.put(place, outcome.pops);
         let pushes = self.pushes.put(place, outcome.pushes);
+        let tags = self.tags.put(place, row_of_tag(&outcome.tag));
         let lines = self.lines.put(place, &outcome.lines);
         let requests = puts.and(gets).and(sends).and(pops).and(pushes);
-        stores.and(requests).and(lines)
+        faults.and(stores).and(requests).and(tags).and(lines)
+    }
+
+    /// The fault of a process, if there is one.
+    #[inline(always)]
+    pub(crate) fn fault(&self, place: usize) -> Option<Fault>
+        ensures { result ≡ first_at self.now.faults place }
+    {
+        self.faults.row(place).first().copied()
+    }
+
+    /// The choice of the next tag size that a process made, if it made one.
+    #[inline(always)]
+    pub(crate) fn tag(&self, place: usize) -> Option<u64>
+        ensures { result ≡ first_at self.now.tags place }
+    {
+        self.tags.row(place).first().copied()
     }
 
     /// Makes copies of the lists of others those of the same processes, from `from` on and before `to`, behind which none stand any more. After
@@ -85,14 +144,16 @@ impl Lists {
         ensures before { (k : ℕ) → k < from → AreSameLists self.old self.new k }
         ensures taken { OnOk result ((k : ℕ) → from ≤ k → k < to → AreSameLists more.now self.new k) }
     {
+        let faults = self.faults.take_range(&more.faults, from, to);
         let stores = self.stores.take_range(&more.stores, from, to);
         let puts = self.puts.take_range(&more.puts, from, to);
         let gets = self.gets.take_range(&more.gets, from, to);
         let sends = self.sends.take_range(&more.sends, from, to);
         let pops = self.pops.take_range(&more.pops, from, to);
         let pushes = self.pushes.take_range(&more.pushes, from, to);
+        let tags = self.tags.take_range(&more.tags, from, to);
         let lines = self.lines.take_range(&more.lines, from, to);
         let requests = puts.and(gets).and(sends).and(pops).and(pushes);
-        stores.and(requests).and(lines)
+        faults.and(stores).and(requests).and(tags).and(lines)
     }
 }

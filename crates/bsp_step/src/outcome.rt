@@ -1,11 +1,10 @@
 //! What a turn leaves.
 
-ghost use Rattle.std.specs.Prelude.{◌≡◌};
+ghost use Rattle.std.specs.Prelude.{◌≡◌, IfOk};
 ghost use Rattle.bsp_step.specs.OutcomeParts.{no_outcome};
 
-use crate::OutcomeRef;
-use bsp_model::{Fault, Get, Memory, OutOfMemory, Puts, Rows, Same, Sends, Seq, Stores, TryCopy};
-use bsp_table::Area;
+use crate::{OutcomeRef, TurnLists};
+use bsp_model::{Fault, Memory, OutOfMemory, Same, TryCopy};
 use std::alloc::Global;
 use std::marker::Model;
 
@@ -27,22 +26,10 @@ pub struct Outcome {
     pub ended: Ended,
     /// The memory after computing.
     pub memory: Memory,
-    /// The stores that were made, in order.
-    pub stores: Stores,
-    /// The puts, in issue order, resolved to process and start word.
-    pub puts: Puts,
-    /// The gets, in issue order, resolved to process and start word.
-    pub gets: Seq<Get>,
-    /// The sends, in issue order.
-    pub sends: Sends,
-    /// The popped slots, in issue order.
-    pub pops: Seq<usize>,
-    /// The pushed areas, in issue order.
-    pub pushes: Seq<Area>,
+    /// The stores that were made, the requests and the printed lines.
+    pub lists: Box<TurnLists>,
     /// The choice of the next tag size, if one was made.
     pub tag: Option<u64>,
-    /// The printed lines, in order.
-    pub lines: Rows<u64>,
     /// The work that was charged.
     pub work: u64,
 }
@@ -60,25 +47,18 @@ impl Model for Outcome {
 }
 
 impl Outcome {
-    /// What a process has left that has done nothing: no words, no requests, no lines. It takes no memory.
-    #[inline(always)]
-    pub fn new(alloc: Global) -> Outcome
-        ensures { result ≡ no_outcome }
+    /// What a process has left that has done nothing: no words, no requests, no lines. Or `OutOfMemory`.
+    pub fn new(alloc: Global) -> Result<Outcome, OutOfMemory>
+        ensures { IfOk result (λ o. o ≡ no_outcome) }
     {
-        Outcome {
+        Ok(Outcome {
             fault: None,
             ended: Ended::Halt,
             memory: Memory::new(alloc),
-            stores: Stores::new(alloc),
-            puts: Puts::new(alloc),
-            gets: Seq::new(alloc),
-            sends: Sends::new(alloc),
-            pops: Seq::new(alloc),
-            pushes: Seq::new(alloc),
+            lists: Box::new(alloc, TurnLists::new(alloc))?,
             tag: None,
-            lines: Rows::new(alloc),
             work: 0,
-        }
+        })
     }
 
     /// This outcome, to be read where it lies.
@@ -86,18 +66,19 @@ impl Outcome {
     pub fn as_ref(&self) -> OutcomeRef<'_>
         ensures { result ≡ self.now }
     {
+        let lists: &TurnLists = &self.lists;
         OutcomeRef {
             fault: self.fault,
             ended: self.ended,
             memory: self.memory.as_ref(),
-            stores: self.stores.as_ref(),
-            puts: self.puts.as_ref(),
-            gets: self.gets.as_slice(),
-            sends: self.sends.as_ref(),
-            pops: self.pops.as_slice(),
-            pushes: self.pushes.as_slice(),
+            stores: lists.stores.as_ref(),
+            puts: lists.puts.as_ref(),
+            gets: lists.gets.as_slice(),
+            sends: lists.sends.as_ref(),
+            pops: lists.pops.as_slice(),
+            pushes: lists.pushes.as_slice(),
             tag: self.tag,
-            lines: self.lines.as_ref(),
+            lines: lists.lines.as_ref(),
             work: self.work,
         }
     }
@@ -105,7 +86,7 @@ impl Outcome {
 
 impl TryCopy for Outcome {
     fn copy(&self) -> Result<Outcome, OutOfMemory> {
-        self.as_ref().to_outcome(self.gets.allocator())
+        self.as_ref().to_outcome(self.lists.gets.allocator())
     }
 }
 

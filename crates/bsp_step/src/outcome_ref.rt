@@ -2,7 +2,7 @@
 
 ghost use Rattle.std.specs.Prelude.{◌≡◌, ◌↔◌, IfOk, IsTrue, length};
 
-use crate::{Ended, Outcome};
+use crate::{Ended, Outcome, TurnLists};
 use bsp_model::{
     Fault, Get, Memory, MemoryRef, OutOfMemory, PutsRef, RowsRef, Same, SendsRef, Seq, StoresRef,
     are_same,
@@ -62,18 +62,21 @@ impl<'a> OutcomeRef<'a> {
         gets.extend_from_slice(self.gets)?;
         let mut pushes = Vec::new(alloc);
         pushes.extend_from_slice(self.pushes)?;
-        Ok(Outcome {
-            fault: self.fault,
-            ended: self.ended,
-            memory,
+        let lists = TurnLists {
             stores: self.stores.to_stores(alloc)?,
             puts: self.puts.to_puts(alloc)?,
             gets: Seq::from_vec(gets),
             sends: self.sends.to_sends(alloc)?,
             pops: Seq::from_vec(self.pops.to_vec(alloc)?),
             pushes: Seq::from_vec(pushes),
-            tag: self.tag,
             lines: self.lines.to_rows(alloc)?,
+        };
+        Ok(Outcome {
+            fault: self.fault,
+            ended: self.ended,
+            memory,
+            lists: Box::new(alloc, lists)?,
+            tag: self.tag,
             work: self.work,
         })
     }

@@ -1,7 +1,8 @@
 //! What the turns of several processes leave, as it is gathered.
 
-ghost use Rattle.std.specs.Prelude.{◌≡◌, ◌≤◌, ◌<◌, ◌++◌, ◌∷◌, [], length, IfOk, OnErr, OnOk, slice_range};
+ghost use Rattle.std.specs.Prelude.{◌≡◌, ◌≤◌, ◌<◌, ◌++◌, ◌∷◌, [], All, length, IfOk, OnErr, OnOk, slice_range};
 ghost use Rattle.bsp_model.specs.Limits.{most_memory_words};
+ghost use Rattle.bsp_model.specs.Replaced.{replaced, IsAscending};
 ghost use Rattle.bsp_step.specs.OutcomeParts.{outcome_of};
 
 use crate::lists::{Lists, TurnEnd};
@@ -14,7 +15,7 @@ use std::mem;
 /// What the turns of several processes leave, by process, as it is gathered. All lists of a kind lie in one list, and so do all memories.
 #[derive(Drop)]
 pub struct OutcomeRows {
-    /// What each outcome has beside its memory and its lists.
+    /// How each turn ended.
     ends: Vec<TurnEnd>,
     memories: Memories,
     lists: Box<Lists>,
@@ -87,7 +88,7 @@ impl OutcomeRows {
         let end = self.ends[pid];
         let lists: &Lists = &self.lists;
         OutcomeRef {
-            fault: end.fault,
+            fault: lists.fault(pid),
             ended: end.ended,
             memory: self.memories.get(pid),
             stores: lists.stores.get(pid),
@@ -96,9 +97,9 @@ impl OutcomeRows {
             sends: lists.sends.get(pid),
             pops: lists.pops.row(pid),
             pushes: lists.pushes.row(pid),
-            tag: end.tag,
+            tag: lists.tag(pid),
             lines: lists.lines.get(pid),
-            work: end.work,
+            work: u64::from(end.work),
         }
     }
 
@@ -114,10 +115,8 @@ impl OutcomeRows {
         self.ends.reserve(1)?;
         let spare = self.memories.push(memory)?;
         self.ends.push_reserved(TurnEnd {
-            fault: outcome.fault,
             ended: outcome.ended,
-            tag: outcome.tag,
-            work: outcome.work,
+            work: outcome.work as u32,
         });
         Ok(spare)
     }
@@ -129,7 +128,7 @@ impl OutcomeRows {
         ensures err { OnErr result (self.new ≡ self.old) }
     {
         let mut outcome = outcome;
-        let none = Memory::new(outcome.gets.allocator());
+        let none = Memory::new(outcome.lists.gets.allocator());
         let memory = mem::replace(&mut outcome.memory, none);
         outcome.memory = self.add(&outcome.as_ref(), memory)?;
         Ok(outcome)
@@ -172,6 +171,30 @@ impl OutcomeRows {
             memories,
             lists,
         })
+    }
+
+    /// These outcomes, but for new ones of some processes, which are in ascending order. What lies between is copied in one piece.
+    pub(crate) fn replaced(
+        &self,
+        alloc: Global,
+        processes: &[usize],
+        new: &OutcomeRows,
+    ) -> Result<OutcomeRows, OutOfMemory>
+        requires known { All (λ p. p < length self.now) processes.now }
+        requires ascending { IsAscending processes.now }
+        requires count { length new.now ≡ length processes.now }
+        ensures { IfOk result (λ o. o ≡ replaced self.now processes.now new.now) }
+    {
+        let mut all = OutcomeRows::with_room_of(alloc, self)?;
+        for i in 0..processes.len() {
+            let done = all.len();
+            all = all.with_range(self, done, processes[i])?;
+            let outcome = new.get(i);
+            let memory = outcome.memory.to_memory()?;
+            all.push_over(&outcome, memory)?;
+        }
+        let done = all.len();
+        all.with_range(self, done, self.len())
     }
 
     /// These outcomes, which stay as they are, or `OutOfMemory`.

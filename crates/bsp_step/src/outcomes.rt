@@ -2,10 +2,11 @@
 
 ghost use Rattle.std.specs.Prelude.{◌≡◌, ◌<◌, [], All, IfOk, OnOk, length, nat_eq};
 ghost use Rattle.bsp_model.specs.Replaced.{replaced, IsAscending};
-ghost use Rattle.bsp_step.specs.OutcomeParts.{outcome_of};
+ghost use Rattle.bsp_step.specs.OutcomeParts.{IsOutcome, outcome_of};
+ghost use Rattle.bsp_step.specs.Inside.Others.{rows_of, with_others, AreOthers, IsBelow};
 
 use crate::{OutcomeRef, OutcomeRows};
-use bsp_model::{Memories, OutOfMemory, Shared, TryCopy};
+use bsp_model::{Get, Memories, OutOfMemory, PutsRef, RowsRef, SendsRef, Shared, TryCopy, are_among, are_few, place_among};
 use bsp_table::{Area, Registers};
 use std::alloc::Global;
 use std::marker::Model;
@@ -15,16 +16,71 @@ use std::marker::Model;
 pub struct Outcomes {
     /// None where there is no process.
     rows: Option<Shared<OutcomeRows>>,
+    /// What few processes left in the place of that.
+    others: Option<Shared<Others>>,
+}
+
+/// The outcomes of some processes, which are in ascending order.
+#[derive(Drop)]
+pub(crate) struct Others {
+    processes: Vec<usize>,
+    rows: OutcomeRows,
+}
+
+impl Others {
+    /// The lists in which the outcome of a process lies, one of these or of all others, and at which place.
+    #[inline(always)]
+    fn lists_of<'a>(&'a self, rows: &'a OutcomeRows, pid: usize) -> (&'a OutcomeRows, usize)
+        requires others { AreOthers rows.now self.now }
+        requires known { pid < length rows.now }
+        ensures inside { result.1 < length result.0.now }
+        ensures there { outcome_of result.0.now result.1 ≡ outcome_of (with_others rows.now self.now) pid }
+    {
+        match place_among(self.processes.as_slice(), pid) {
+            Some(place) => (&self.rows, place),
+            None => (rows, pid),
+        }
+    }
+
+    /// Outcomes of which new ones for these processes make what they make of `rows` with these in it.
+    fn rows_below(
+        &self,
+        alloc: Global,
+        rows: &Shared<OutcomeRows>,
+        processes: &[usize],
+    ) -> Result<Shared<OutcomeRows>, OutOfMemory>
+        requires others { AreOthers rows.now self.now }
+        requires ascending { IsAscending processes.now }
+        ensures count { IfOk result (λ below. length below ≡ length rows.now) }
+        ensures below { IfOk result (λ below. IsBelow below (with_others rows.now self.now) processes.now) }
+    {
+        let apart = self.processes.as_slice();
+        if are_among(apart, processes) {
+            return Ok(rows.copy()?);
+        }
+        Ok(Shared::new(alloc, rows.replaced(alloc, apart, &self.rows)?)?)
+    }
 }
 
 impl Model for Outcomes {
     ghost use Rattle.std.specs.Prelude.{List};
     ghost use Rattle.bsp_step.specs.OutcomeParts.{OutcomeParts};
-    ghost use Rattle.bsp_step.specs.Inside.Outcomes.{shared_outcomes};
+    ghost use Rattle.bsp_step.specs.Inside.Others.{outcomes_with, HasOthers};
 
     ghost Value = { List OutcomeParts };
 
-    ghost view = { λ o. shared_outcomes o.rows };
+    ghost view = { λ o. outcomes_with o.rows o.others };
+
+    ghost invariant = { λ o. HasOthers o.rows o.others };
+}
+
+/// The rows of the outcomes of some process.
+#[inline(always)]
+fn rows_there(rows: &Option<Shared<OutcomeRows>>) -> &Shared<OutcomeRows>
+    requires { 0 < length (rows_of rows.now) }
+    ensures { result.now ≡ rows_of rows.now }
+{
+    rows.as_ref().unwrap()
 }
 
 impl Outcomes {
@@ -32,7 +88,10 @@ impl Outcomes {
     pub fn new() -> Outcomes
         ensures { result ≡ [] }
     {
-        Outcomes { rows: None }
+        Outcomes {
+            rows: None,
+            others: None,
+        }
     }
 
     pub(crate) fn of(rows: OutcomeRows) -> Result<Outcomes, OutOfMemory>
@@ -41,6 +100,7 @@ impl Outcomes {
         let alloc = rows.allocator();
         Ok(Outcomes {
             rows: Some(Shared::new(alloc, rows)?),
+            others: None,
         })
     }
 
@@ -84,13 +144,18 @@ impl Outcomes {
         self.len() == 0
     }
 
-    /// The outcomes of some process, in columns.
+    /// The lists in which the outcome of a process lies, and at which place.
     #[inline(always)]
-    fn rows(&self) -> &OutcomeRows
-        requires { 0 < length self.now }
-        ensures { result.now ≡ self.now }
+    fn lists_of(&self, pid: usize) -> (&OutcomeRows, usize)
+        requires { pid < length self.now }
+        ensures inside { result.1 < length result.0.now }
+        ensures there { outcome_of result.0.now result.1 ≡ outcome_of self.now pid }
     {
-        self.rows.as_ref().unwrap()
+        let rows = rows_there(&self.rows);
+        match &self.others {
+            Some(others) => others.lists_of(rows, pid),
+            None => (rows, pid),
+        }
     }
 
     /// What the turn of a process left.
@@ -99,35 +164,92 @@ impl Outcomes {
         requires { pid < length self.now }
         ensures { result ≡ outcome_of self.now pid }
     {
-        self.rows().get(pid)
+        let (rows, place) = self.lists_of(pid);
+        rows.get(place)
     }
 
-    /// These outcomes, but for new ones of some processes, which are in ascending order.
+    /// The puts that the turn of a process left. Where nothing else of an outcome is asked for, this and the like of it are cheaper than `get`.
+    #[inline(always)]
+    pub fn puts(&self, pid: usize) -> PutsRef<'_>
+        requires { pid < length self.now }
+        ensures { result ≡ (outcome_of self.now pid).puts }
+    {
+        self.get(pid).puts
+    }
+
+    /// The gets that the turn of a process left.
+    #[inline(always)]
+    pub fn gets(&self, pid: usize) -> &[Get]
+        requires { pid < length self.now }
+        ensures { result.now ≡ (outcome_of self.now pid).gets }
+    {
+        self.get(pid).gets
+    }
+
+    /// The messages that the turn of a process left.
+    #[inline(always)]
+    pub fn sends(&self, pid: usize) -> SendsRef<'_>
+        requires { pid < length self.now }
+        ensures sends { result ≡ (outcome_of self.now pid).sends }
+        ensures limits { IsOutcome (outcome_of self.now pid) }
+    {
+        self.get(pid).sends
+    }
+
+    /// The lines that the turn of a process printed.
+    #[inline(always)]
+    pub fn lines(&self, pid: usize) -> RowsRef<'_, u64>
+        requires { pid < length self.now }
+        ensures { result ≡ (outcome_of self.now pid).lines }
+    {
+        self.get(pid).lines
+    }
+
+    /// Outcomes of which new ones for these processes make what they make of these. None of them lies apart.
+    fn rows_below(
+        &self,
+        alloc: Global,
+        processes: &[usize],
+    ) -> Result<Shared<OutcomeRows>, OutOfMemory>
+        requires some { 0 < length self.now }
+        requires ascending { IsAscending processes.now }
+        ensures count { IfOk result (λ rows. length rows ≡ length self.now) }
+        ensures below { IfOk result (λ rows. IsBelow rows self.now processes.now) }
+    {
+        let rows = rows_there(&self.rows);
+        match &self.others {
+            Some(others) => Ok(others.rows_below(alloc, rows, processes)?),
+            None => Ok(rows.copy()?),
+        }
+    }
+
+    /// These outcomes, but for new ones of some processes, which are in ascending order. Where they are few they lie apart, and the rest is shared.
     pub fn replaced(
         &self,
         alloc: Global,
         processes: &[usize],
-        new: &OutcomeRows,
+        new: OutcomeRows,
     ) -> Result<Outcomes, OutOfMemory>
         requires known { All (λ p. p < length self.now) processes.now }
         requires ascending { IsAscending processes.now }
-        requires count { length new.now ≡ length processes.now }
-        ensures { IfOk result (λ o. o ≡ replaced self.now processes.now new.now) }
+        requires count { length new ≡ length processes.now }
+        ensures { IfOk result (λ o. o ≡ replaced self.now processes.now new) }
     {
         if processes.is_empty() {
             return self.copy();
         }
-        let old = self.rows();
-        let mut all = OutcomeRows::with_room_of(alloc, old)?;
-        for i in 0..processes.len() {
-            let done = all.len();
-            all = all.with_range(old, done, processes[i])?;
-            let outcome = new.get(i);
-            let memory = outcome.memory.to_memory()?;
-            all.push_over(&outcome, memory)?;
+        let rows = self.rows_below(alloc, processes)?;
+        if !are_few(processes.len(), self.len()) {
+            return rows.replaced(alloc, processes, &new)?.share();
         }
-        let done = all.len();
-        all.with_range(old, done, old.len())?.share()
+        let others = Others {
+            processes: processes.to_vec(alloc)?,
+            rows: new,
+        };
+        Ok(Outcomes {
+            rows: Some(rows),
+            others: Some(Shared::new(alloc, others)?),
+        })
     }
 }
 
@@ -153,11 +275,14 @@ impl Registers for Outcomes {
 
 impl TryCopy for Outcomes {
     fn copy(&self) -> Result<Outcomes, OutOfMemory> {
-        match &self.rows {
-            Some(rows) => Ok(Outcomes {
-                rows: Some(rows.copy()?),
-            }),
-            None => Ok(Outcomes::new()),
-        }
+        let rows = match &self.rows {
+            Some(rows) => Some(rows.copy()?),
+            None => None,
+        };
+        let others = match &self.others {
+            Some(others) => Some(others.copy()?),
+            None => None,
+        };
+        Ok(Outcomes { rows, others })
     }
 }

@@ -49,7 +49,7 @@ pub fn turn<P: Program>(alloc: Global, program: &P, view: &View<'_>) -> Result<O
     ensures limits { IfOk result (λ o. IsOutcome o) }
     ensures issued { IfOk result (λ o. IsOutcomeOf view.now o) }
 {
-    turn_reusing(alloc, program, view, Outcome::new(alloc))
+    turn_reusing(alloc, program, view, Outcome::new(alloc)?)
 }
 
 /// The turn of a program at a view, in lists of an outcome that is no longer needed, or `OutOfMemory`. Whatever outcome is handed in, the turn is

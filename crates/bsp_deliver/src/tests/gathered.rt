@@ -4,18 +4,17 @@ ghost use Rattle.bsp_deliver.specs.Sorting.{IsSortedFrom};
 
 use crate::tests::exchange::exchange;
 use crate::tests::memories::leaves;
-use crate::{SortedRequests, deliver_some, deliver_sorted, sort_requests};
-use bsp_model::{Memories, OutOfMemory};
-use bsp_step::{Outcomes, Queue};
+use crate::{Cells, SortedRequests, deliver_some, deliver_sorted, sort_requests};
+use bsp_model::OutOfMemory;
+use bsp_step::Outcomes;
 use std::alloc::Global;
 use std::test::Fail;
 
 /// Whether a delivery to two processes left these memories and no message.
-fn leave(memories: &Memories, queues: &[Queue], first: &[u64], second: &[u64]) -> bool {
-    memories.len() == 2
-        && queues.len() == 2
-        && leaves(&memories.get(0), &queues[0], first)
-        && leaves(&memories.get(1), &queues[1], second)
+fn leave(cells: &Cells, first: &[u64], second: &[u64]) -> bool {
+    cells.len() == 2
+        && leaves(&cells.memory(0), cells.queue(0), first)
+        && leaves(&cells.memory(1), cells.queue(1), second)
 }
 
 /// Whether one pass brings each of two processes the other's put, which wins over a get.
@@ -24,10 +23,8 @@ fn are_gathered(alloc: Global, outcomes: &Outcomes) -> Result<bool, OutOfMemory>
     requires two { length outcomes.now ≡ 2 }
 {
     let cells = deliver_some(alloc, outcomes, &[0, 1])?;
-    let (memories, queues) = cells.into_parts();
-    let are_left = leave(&memories, queues.as_slice(), &[77, 21], &[88, 89]);
-    drop(memories);
-    drop(queues);
+    let are_left = leave(&cells, &[77, 21], &[88, 89]);
+    drop(cells);
     Ok(are_left)
 }
 
@@ -44,7 +41,7 @@ fn is_brought(
     requires sorted { IsSortedFrom outcomes.now sorted.now }
 {
     let (memory, queue) = deliver_sorted(alloc, d, sorted, outcomes)?;
-    let is_left = leaves(&memory.as_ref(), &queue, words);
+    let is_left = leaves(&memory.as_ref(), queue.as_slice(), words);
     drop(memory);
     drop(queue);
     Ok(is_left)

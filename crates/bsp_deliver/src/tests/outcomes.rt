@@ -4,7 +4,7 @@ ghost use Rattle.std.specs.Prelude.{IsTrue, IfOk, All, ◌<◌, ◌≤◌, ◌+�
 ghost use Rattle.bsp_deliver.specs.Condition.{AreDeliverable, AreRequestsInside, IsGetInside, IsPutInside, sizes_of};
 
 use bsp_model::{Get, Memory, MemoryRef, OutOfMemory, Puts, PutsRef, Rows, Sends, Seq, Stores};
-use bsp_step::{Ended, Outcome, OutcomeRef, OutcomeRows, Outcomes};
+use bsp_step::{Ended, Outcome, OutcomeRef, OutcomeRows, Outcomes, TurnLists};
 use std::alloc::Global;
 use std::process::Abort;
 
@@ -90,18 +90,21 @@ fn outcome_of(
 ) -> Result<Outcome, OutOfMemory> {
     let Requests { puts, gets } = requests;
     assert!(rt; memory.len() <= 4096 && puts.len() <= 64 && gets.len() <= 64);
-    Ok(Outcome {
-        fault: None,
-        ended: Ended::Sync,
-        memory: Memory::from_words(alloc, memory)?,
+    let lists = TurnLists {
         stores: Stores::new(alloc),
         puts,
         gets,
         sends: Sends::new(alloc),
         pops: Seq::new(alloc),
         pushes: Seq::new(alloc),
-        tag: None,
         lines: Rows::new(alloc),
+    };
+    Ok(Outcome {
+        fault: None,
+        ended: Ended::Sync,
+        memory: Memory::from_words(alloc, memory)?,
+        lists: Box::new(alloc, lists)?,
+        tag: None,
         work: 0,
     })
 }

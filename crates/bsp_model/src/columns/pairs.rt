@@ -56,6 +56,7 @@ impl<A: Copy, B: Copy> Pairs<A, B> {
     }
 
     /// Makes these the rows of a process, and leaves those behind it out. After `OutOfMemory` its own are left out too.
+    #[inline(always)]
     pub fn put(&mut self, place: usize, first: &[A], second: &[B]) -> Result<(), OutOfMemory>
         ensures ok { OnOk result (IsPut ([], []) (pair_at self.old) place (first.now, second.now) (pair_at self.new)) }
         ensures err { OnErr result (AreCut ([], []) (pair_at self.old) place (pair_at self.new)) }

@@ -59,6 +59,7 @@ impl PutColumn {
     }
 
     /// Makes these those of a process, and leaves those of the processes behind it out. After `OutOfMemory` its own are left out too.
+    #[inline(always)]
     pub fn put(&mut self, place: usize, puts: &PutsRef<'_>) -> Result<(), OutOfMemory>
         ensures ok { OnOk result (IsPut [] (row_at self.old) place puts.now (row_at self.new)) }
         ensures err { OnErr result (AreCut [] (row_at self.old) place (row_at self.new)) }

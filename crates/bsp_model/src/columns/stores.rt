@@ -57,6 +57,7 @@ impl StoreColumn {
     }
 
     /// Makes these those of a process, and leaves those of the processes behind it out. After `OutOfMemory` its own are left out too.
+    #[inline(always)]
     pub fn put(&mut self, place: usize, stores: &StoresRef<'_>) -> Result<(), OutOfMemory>
         ensures ok { OnOk result (IsPut [] (row_at self.old) place stores.now (row_at self.new)) }
         ensures err { OnErr result (AreCut [] (row_at self.old) place (row_at self.new)) }

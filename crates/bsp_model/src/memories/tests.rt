@@ -56,22 +56,24 @@ fn find_between(rt: &impl Abort, memories: &Memories) {
     find_memory(rt, memories, 2, 3, COUNTS[2]);
 }
 
-fn find_replaced(rt: &impl Abort, alloc: Global, memories: &Memories) -> Result<(), OutOfMemory> {
+/// Sees that memories taken from two lists are those there.
+fn find_taken(rt: &impl Abort, alloc: Global, memories: &Memories) -> Result<(), OutOfMemory> {
     let new = new_memories(alloc)?;
     assert!(rt; memories.len() == 4 && new.len() == 2);
-    let replaced = memories.replaced(&[0, 3], &new)?;
+    let taken = Memories::with_room_of(alloc, memories)?.with_range(&new, 0, 1)?;
+    let taken = taken.with_range(memories, 1, 3)?.with_range(&new, 1, 2)?;
     drop(new);
-    find_memory(rt, &replaced, 0, 7, 0);
-    find_between(rt, &replaced);
-    find_memory(rt, &replaced, 3, 8, 130);
-    drop(replaced);
+    find_memory(rt, &taken, 0, 7, 0);
+    find_between(rt, &taken);
+    find_memory(rt, &taken, 3, 8, 130);
+    drop(taken);
     Ok(())
 }
 
 #[test]
-fn the_first_and_the_last_are_replaced(rt: HostRuntime) -> Result<(), Fail> {
+fn memories_are_taken_from_two_lists(rt: HostRuntime) -> Result<(), Fail> {
     let memories = first_memories(rt.alloc())?;
-    let found = find_replaced(&rt, rt.alloc(), &memories);
+    let found = find_taken(&rt, rt.alloc(), &memories);
     find_memory(&rt, &memories, 0, 1, COUNTS[0]);
     find_between(&rt, &memories);
     find_memory(&rt, &memories, 3, 4, COUNTS[3]);
@@ -98,7 +100,11 @@ fn find_written(rt: &impl Abort, memories: &mut Memories) -> Result<(), OutOfMem
 
 /// Memories that share the pages of others are written to; the others stay as they are.
 fn find_shared(rt: &impl Abort, alloc: Global, memories: &Memories) -> Result<(), OutOfMemory> {
-    let mut others = memories.replaced(&[], &Memories::with_capacity(alloc, 0)?)?;
+    let mut others = Memories::with_room_of(alloc, memories)?.with_range(
+        memories,
+        0,
+        memories.len(),
+    )?;
     find_written(rt, &mut others)?;
     find_between(rt, &others);
     Ok(())

@@ -1,5 +1,5 @@
 -- What several outcomes leave, in columns.
-use Rattle.std.specs.Prelude.{ℕ, List, [], Option, None, Some, ◌≡◌, ◌<◌, length, map, slice_index_or}
+use Rattle.std.specs.Prelude.{ℕ, List, [], Option, None, ◌≡◌, ◌<◌, length, map, slice_get, slice_index_or}
 use Rattle.std.specs.List.{range_with_len}
 use Rattle.bsp_model.specs.Columns.{row_at}
 use Rattle.bsp_step.specs.declared.outcome.Ended.TheVariants.{Halt}
@@ -9,13 +9,17 @@ use Rattle.bsp_step.specs.OutcomeParts.{OutcomeParts, IsOutcome}
 
 -- how the turn of a process that there is not ended
 abbrev pub no_end : TurnEnd
-no_end = record { fault = None; ended = Halt; tag = None; work = 0 }
+no_end = record { ended = Halt; work = 0 }
 
--- an outcome, from how its turn ended, its memory, and a row of each list
+-- the first item of a row, if there is one
+abbrev pub first_at : {X : Type 0} → List (List X) → ℕ → Option X
+first_at rows k = slice_get (row_at rows k) 0
+
+-- an outcome, from how its turn ended, its memory, and a row of each list; its fault and its choice of a tag size are rows of one item
 abbrev pub outcome_in : TurnEnd → List ℕ → Lists → ℕ → OutcomeParts
 outcome_in end memory lists k =
     record {
-      fault = end.fault;
+      fault = first_at lists.faults k;
       ended = end.ended;
       memory = memory;
       stores = row_at lists.stores k;
@@ -24,7 +28,7 @@ outcome_in end memory lists k =
       sends = row_at lists.sends k;
       pops = row_at lists.pops k;
       pushes = row_at lists.pushes k;
-      tag = end.tag;
+      tag = first_at lists.tags k;
       lines = row_at lists.lines k;
       work = end.work;
     }
@@ -37,11 +41,6 @@ outcome_at ends memories lists k = outcome_in (slice_index_or ends k no_end) (sl
 abbrev pub outcomes_of : List TurnEnd → List (List ℕ) → Lists → List OutcomeParts
 outcomes_of ends memories lists = map (outcome_at ends memories lists) (range_with_len 0 (length ends))
 
--- the outcomes that are shared; none where there is no process
-abbrev pub shared_outcomes : Option (List OutcomeParts) → List OutcomeParts
-shared_outcomes None = []
-shared_outcomes (Some outcomes) = outcomes
-
 -- Each process has a memory, and its outcome keeps the limits.
 pub record AreOutcomes (ends : List TurnEnd) (memories : List (List ℕ)) (lists : Lists) : Type 0 where
   pub count : length memories ≡ length ends
@@ -49,20 +48,24 @@ pub record AreOutcomes (ends : List TurnEnd) (memories : List (List ℕ)) (lists
 
 -- The lists have those of this outcome as the rows of a process.
 pub record HasLists (lists : Lists) (k : ℕ) (o : OutcomeParts) : Type 0 where
+  pub faults : first_at lists.faults k ≡ o.fault
   pub stores : row_at lists.stores k ≡ o.stores
   pub puts : row_at lists.puts k ≡ o.puts
   pub gets : row_at lists.gets k ≡ o.gets
   pub sends : row_at lists.sends k ≡ o.sends
   pub pops : row_at lists.pops k ≡ o.pops
   pub pushes : row_at lists.pushes k ≡ o.pushes
+  pub tags : first_at lists.tags k ≡ o.tag
   pub lines : row_at lists.lines k ≡ o.lines
 
 -- A process has the same rows in two of them.
 pub record AreSameLists (old new : Lists) (k : ℕ) : Type 0 where
+  pub faults : row_at new.faults k ≡ row_at old.faults k
   pub stores : row_at new.stores k ≡ row_at old.stores k
   pub puts : row_at new.puts k ≡ row_at old.puts k
   pub gets : row_at new.gets k ≡ row_at old.gets k
   pub sends : row_at new.sends k ≡ row_at old.sends k
   pub pops : row_at new.pops k ≡ row_at old.pops k
   pub pushes : row_at new.pushes k ≡ row_at old.pushes k
+  pub tags : row_at new.tags k ≡ row_at old.tags k
   pub lines : row_at new.lines k ≡ row_at old.lines k

@@ -47,7 +47,9 @@ impl<'v> Ctx<'v> {
         }
         let room = (self.memory.len() as u64).saturating_sub(address);
         let (inside, past) = words.split_at(words.len().min(room as usize));
-        self.stores.make_words(&mut self.memory, address, inside)?;
+        self.lists
+            .stores
+            .make_words(&mut self.memory, address, inside)?;
         if !past.is_empty() {
             return self.refuse(Fault::BadLocal);
         }
@@ -75,7 +77,7 @@ impl<'v> Ctx<'v> {
         let start = self.resolve(pid, area, offset, len)?;
         let mut words = vec![in self.alloc; 0; len as usize]?;
         self.memory.read(from, words.as_mut_slice());
-        self.puts.push(pid, start, words.as_slice())?;
+        self.lists.puts.push(pid, start, words.as_slice())?;
         Ok(Some(()))
     }
 }

@@ -25,7 +25,7 @@ impl<'v> Ctx<'v> {
             addr: address,
             value,
         };
-        self.stores.make(&mut self.memory, store)?;
+        self.lists.stores.make(&mut self.memory, store)?;
         Ok(())
     }
 
@@ -54,13 +54,13 @@ impl<'v> Ctx<'v> {
         if let Some(fault) = self.fault {
             return Err(Stop::Fault(fault));
         }
-        if self.lines.len() >= MOST_LINES {
+        if self.lists.lines.len() >= MOST_LINES {
             return self.refuse(Fault::LineLimit);
         }
         if words.len() > MOST_LINE_WORDS {
             return self.refuse(Fault::TooLong);
         }
-        self.lines.push(words)?;
+        self.lists.lines.push(words)?;
         Ok(())
     }
 }

@@ -20,7 +20,7 @@ impl<'v> Ctx<'v> {
         if start > words || len > words - start {
             return self.refuse(Fault::BadLocal);
         }
-        self.pushes.push(Area { start, len })?;
+        self.lists.pushes.push(Area { start, len })?;
         Ok(())
     }
 
@@ -33,10 +33,11 @@ impl<'v> Ctx<'v> {
     {
         self.begin_request()?;
         let view = self.view;
-        let Some(slot) = view.table.find_under(view.pid, start, self.pops.as_slice()) else {
+        let popped = self.lists.pops.as_slice();
+        let Some(slot) = view.table.find_under(view.pid, start, popped) else {
             return self.refuse(Fault::NotRegistered(start));
         };
-        self.pops.push(slot)?;
+        self.lists.pops.push(slot)?;
         Ok(())
     }
 }

@@ -56,7 +56,7 @@ impl<'v> Ctx<'v> {
         ensures { Performs self.old (act.put pid words.now area offset) self.new result }
     {
         let start = self.resolve(pid, area, offset, words.len() as u64)?;
-        self.puts.push(pid, start, words)?;
+        self.lists.puts.push(pid, start, words)?;
         Ok(())
     }
 
@@ -73,7 +73,7 @@ impl<'v> Ctx<'v> {
         if into > own || len > own - into {
             return self.refuse(Fault::BadLocal);
         }
-        self.gets.push(Get {
+        self.lists.gets.push(Get {
             owner: pid,
             start,
             len,

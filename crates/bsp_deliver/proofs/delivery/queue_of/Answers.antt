@@ -27,7 +27,7 @@ loop-sender-preserved c =
     let i = c.loop-sender.sender in
     let here : i < length os = omega (arith, c.loop-sender-test.true, c.len-sender-end.ensures) in
     let o = outcome_of os i in
-    let grown : c.add_messages.new.queue ≡ c.loop-sender.queue ++ M o.sends = c.in_ok-add_messages.ensures ∙ ap (λ ms. c.loop-sender.queue ++ M ms) (ap (λ (x : OutcomeParts). x.sends) (c.outcome.view_is ∙ c.get-outcome.ensures)) in
+    let grown : c.add_messages.new.queue ≡ c.loop-sender.queue ++ M o.sends = c.in_ok-add_messages.ensures ∙ ap (λ ms. c.loop-sender.queue ++ M ms) c.sends-own.ensures.sends in
     record {
       messages =
           grown
@@ -35,5 +35,5 @@ loop-sender-preserved c =
           ∙ sym (passing_more (λ (x : OutcomeParts). x.sends) (λ m. m.target == c.args.d) message_of os i o here (outcome_at os i here));
       limits =
           subst (IsQueueOf (c.loop-sender.sender + 1)) (sym grown)
-          (sender_more c.args.d c.loop-sender.sender c.loop-sender.queue o c.loop-sender.invariant.limits (subst IsOutcome (c.outcome.view_is ∙ c.get-outcome.ensures) c.outcome.invariant));
+          (sender_more c.args.d c.loop-sender.sender c.loop-sender.queue o c.loop-sender.invariant.limits c.sends-own.ensures.limits);
     }

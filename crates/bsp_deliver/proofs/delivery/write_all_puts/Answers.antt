@@ -21,7 +21,7 @@ write_puts-requires c =
     let o = outcome_of os i in
     let sizes = sizes_of os in
     let inside = at_item (AreRequestsInside sizes) os i o c.requires.inside here (outcome_at os i here) in
-    let puts : c.outcome.inside.puts ≡ o.puts = ap (λ (x : OutcomeParts). x.puts) (c.outcome.view_is ∙ c.get-outcome.ensures) in
+    let puts : c.puts-own.result ≡ o.puts = c.puts-own.ensures in
     let long : length c.loop-sender.memory ≡ length c.args.memory.now = ap length c.loop-sender.invariant ∙ length-overlay c.args.memory.now (map put_write (filter (λ (p : ℕ × Put). p.1.target == c.args.d) (all_puts (take c.loop-sender.sender os)))) in
     rw puts (λ k q l t.
     let p = get_or o.puts k q in
@@ -40,7 +40,7 @@ loop-sender-preserved c =
     let m = c.args.memory.now in
     let W = λ (ps : List Put). map write_of (filter (λ (p : Put). p.target == c.args.d) ps) in
     c.in_ok-write_puts.ensures
-    ∙ ap (λ ps. overlay c.loop-sender.memory (W ps)) (ap (λ (x : OutcomeParts). x.puts) (c.outcome.view_is ∙ c.get-outcome.ensures))
+    ∙ ap (λ ps. overlay c.loop-sender.memory (W ps)) c.puts-own.ensures
     ∙ ap (λ (x : List ℕ). overlay x (W o.puts)) c.loop-sender.invariant
     ∙ overlay-overlay m (map put_write (filter (λ (p : ℕ × Put). p.1.target == c.args.d) (all_puts (take c.loop-sender.sender os)))) (W o.puts)
     ∙ ap (overlay m) (sym (passing_more (λ (x : OutcomeParts). x.puts) (λ p. p.target == c.args.d) write_of os i o here (outcome_at os i here)))

@@ -19,7 +19,7 @@ add_messages-requires c =
     let here : i < length os = omega (arith, c.loop-sender-test.true, c.len-sender-end.ensures) in
     let o = outcome_of os i in
     let inside = at_item (AreRequestsInside (sizes_of os)) os i o c.requires.inside here (outcome_at os i here) in
-    let given : c.outcome.inside.sends ≡ o.sends = ap (λ (x : OutcomeParts). x.sends) (c.outcome.view_is ∙ c.get-outcome.ensures) in
+    let given : c.sends-own.result ≡ o.sends = c.sends-own.ensures.sends in
     let count : length (sizes_of os) ≡ length c.args.places.now = length-sizes_of os ∙ sym c.requires.count in
     subst (λ rs. All (λ (r : Send). r.target < length c.args.places.now) rs) (sym given) (λ k r l. omega (arith, inside.sends k r l, count))
 
@@ -31,6 +31,6 @@ loop-sender-preserved c =
     let here : i < length os = omega (arith, c.loop-sender-test.true, c.len-sender-end.ensures) in
     let o = outcome_of os i in
     c.in_ok-add_messages.ensures
-    ∙ ap (fold (sent_at c.args.places.now) c.loop-sender.queues) (ap (λ (x : OutcomeParts). x.sends) (c.outcome.view_is ∙ c.get-outcome.ensures))
+    ∙ ap (fold (sent_at c.args.places.now) c.loop-sender.queues) c.sends-own.ensures.sends
     ∙ ap (λ xs. fold (sent_at c.args.places.now) xs o.sends) c.loop-sender.invariant
     ∙ sym (folded_more (λ (o : OutcomeParts). o.sends) (sent_at c.args.places.now) c.args.queues.now os i o here (outcome_at os i here))

@@ -15,20 +15,20 @@ returns-then-not-has_same_own c = (
 
 pub read_same_words-requires-clause-before : goal.read_same_words-requires-clause-before
 read_same_words-requires-clause-before c =
-    let gets = ap (λ (o : OutcomeParts). o.gets) (c.outcome.view_is ∙ c.get-outcome.ensures) in
+    let gets = c.gets-gets.ensures in
     subst (λ (gs : List Get). All (IsReadable c.args.old.now) gs) ((c.has_same_own.ensures.0 c.if-not-has_same_own.false).1 ∙ sym gets)
     (readable_of c.args.old.now c.args.p c.requires.before (omega (arith, c.requires.known, c.requires.count)))
 
 pub read_same_words-requires-clause-after : goal.read_same_words-requires-clause-after
 read_same_words-requires-clause-after c =
-    let gets = ap (λ (o : OutcomeParts). o.gets) (c.outcome.view_is ∙ c.get-outcome.ensures) in
+    let gets = c.gets-gets.ensures in
     subst (λ (gs : List Get). All (IsReadable c.args.new.now) gs) (sym gets) (readable_of c.args.new.now c.args.p c.requires.after c.requires.known)
 
 pub returns : goal.returns
 returns c =
     let os = c.args.old.now in
     let us = c.args.new.now in
-    let gets = ap (λ (o : OutcomeParts). o.gets) (c.outcome.view_is ∙ c.get-outcome.ensures) in
+    let gets = c.gets-gets.ensures in
     let own = c.has_same_own.ensures.0 c.if-not-has_same_own.false in
     let same = same_own os us c.args.p in (
       λ t. same.1 (own, ap (map (words_read os)) (sym gets) ∙ c.read_same_words.ensures.0 t ∙ ap (map (words_read us)) gets),

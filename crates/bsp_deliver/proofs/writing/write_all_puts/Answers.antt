@@ -19,7 +19,7 @@ write_puts-requires c =
     let here : i < length os = omega (arith, c.loop-sender-test.true, c.len-sender-end.ensures) in
     let o = outcome_of os i in
     let inside = at_item (AreRequestsInside (sizes_of os)) os i o c.requires.inside here (outcome_at os i here) in
-    let given : c.outcome.inside.puts ≡ o.puts = ap (λ (x : OutcomeParts). x.puts) (c.outcome.view_is ∙ c.get-outcome.ensures) in
+    let given : c.puts-own.result ≡ o.puts = c.puts-own.ensures in
     let count : length (sizes_of os) ≡ length c.args.places.now = length-sizes_of os ∙ sym c.requires.count in
     subst (λ rs. All (λ (r : Put). r.target < length c.args.places.now) rs) (sym given) (λ k r l. omega (arith, (inside.puts k r l).known, count))
 
@@ -31,6 +31,6 @@ loop-sender-preserved c =
     let here : i < length os = omega (arith, c.loop-sender-test.true, c.len-sender-end.ensures) in
     let o = outcome_of os i in
     c.in_ok-write_puts.ensures
-    ∙ ap (fold (put_at c.args.places.now) c.loop-sender.memories) (ap (λ (x : OutcomeParts). x.puts) (c.outcome.view_is ∙ c.get-outcome.ensures))
+    ∙ ap (fold (put_at c.args.places.now) c.loop-sender.memories) c.puts-own.ensures
     ∙ ap (λ xs. fold (put_at c.args.places.now) xs o.puts) c.loop-sender.invariant
     ∙ sym (folded_more (λ (o : OutcomeParts). o.puts) (put_at c.args.places.now) c.args.memories.now os i o here (outcome_at os i here))

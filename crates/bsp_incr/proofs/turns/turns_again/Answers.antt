@@ -1,4 +1,4 @@
-use Rattle.std.proofs.Common.{◌≡◌, ◌<◌, ◌∙◌, ◌++◌, ◌&&◌, ℕ, Bool, false, get_or, List, All, not, ap, sym, subst, length, map, Option, Some, Bor}
+use Rattle.std.proofs.Common.{refl, ◌≡◌, ◌<◌, ◌∙◌, ◌++◌, ◌&&◌, ℕ, Bool, false, get_or, List, All, not, ap, sym, subst, length, map, Option, Some, Bor}
 use Rattle.std.specs.Prelude.{filter, option_map}
 use Rattle.std.proofs.lemmas.Bool.{eqb-true}
 use Rattle.std.proofs.lemmas.List.{length-map}
@@ -39,17 +39,35 @@ returns-then-is_empty-clause-executed g c =
     let needed = c.as_slice.ensures.value ∙ c.in_ok-needed.ensures.needed ∙ needed_among looks c.args.old_views.now c.args.views.now c.args.doubtful.now.processes.items c.requires.doubtful.processes in
     c.in_ok-add_places.ensures ∙ ap (λ (ks : List ℕ). c.args.executed.now ++ places_of c.args.step ks) needed
 
-pub served_turns-requires-clause-known : goal.served_turns-requires-clause-known
-served_turns-requires-clause-known g c κs within =
+pub with_served_turns-requires-clause-known : goal.with_served_turns-requires-clause-known
+with_served_turns-requires-clause-known g c κs within =
     let n = length c.args.views.now in
     subst (All (λ p. p < n)) (sym (c.as_slice-3.ensures.value ∙ c.in_ok-needed.ensures.served))
     (All-filter (λ p. not (differs (g.P.Program.looks c.args.program.now) c.args.old_views.now c.args.views.now p)) (λ p. p < n) c.args.doubtful.now.processes.items (differ_below c.args.old_views.now c.args.views.now c.args.doubtful.now.processes.items c.requires.doubtful.processes))
 
-pub served_turns-requires-clause-serve : goal.served_turns-requires-clause-serve
-served_turns-requires-clause-serve g c κs within =
+pub with_served_turns-requires-clause-serve : goal.with_served_turns-requires-clause-serve
+with_served_turns-requires-clause-serve g c κs within =
     let test : ℕ → Bool = differs (g.P.Program.looks c.args.program.now) c.args.old_views.now c.args.views.now in
     subst (All (λ p. test p ≡ false)) (sym (c.as_slice-3.ensures.value ∙ c.in_ok-needed.ensures.served))
     (λ k d l. not_true (test (get_or (filter (λ p. not (test p)) c.args.doubtful.now.processes.items) k d)) (filter_passes (λ p. not (test p)) c.args.doubtful.now.processes.items k d l))
+
+pub with_served_turns-requires-clause-within : goal.with_served_turns-requires-clause-within
+with_served_turns-requires-clause-within g c κs within =
+    let n = length c.args.views.now in
+    let turn = turn_of (g.P.Program.acts c.args.program.now) (g.P.Program.ending c.args.program.now) in
+    let some : 0 < length c.args.old_views.now = not_empty c.args.old_views.now (sym c.is_empty.ensures ∙ c.if-is_empty.false) in
+    let recorded = recorded_in c.args.old_outcomes c.in-Some.old_outcomes (map turn c.args.old_views.now) c.in-Some.is c.requires.recorded in
+    let long : length c.in-Some.old_outcomes.now ≡ n = ap (λ (os : List OutcomeParts). length os) recorded ∙ length-map c.args.old_views.now turn ∙ c.requires.count some in
+    subst (λ m. All (λ p. p < m) c.as_slice-3.result.now) (sym long)
+    (subst (All (λ p. p < n)) (sym (c.as_slice-3.ensures.value ∙ c.in_ok-needed.ensures.served))
+    (All-filter (λ p. not (differs (g.P.Program.looks c.args.program.now) c.args.old_views.now c.args.views.now p)) (λ p. p < n) c.args.doubtful.now.processes.items (differ_below c.args.old_views.now c.args.views.now c.args.doubtful.now.processes.items c.requires.doubtful.processes)))
+
+pub with_served_turns-requires-clause-ascending : goal.with_served_turns-requires-clause-ascending
+with_served_turns-requires-clause-ascending g c κs within =
+    let looks = g.P.Program.looks c.args.program.now in
+    subst IsAscending
+    (sym (c.as_slice-3.ensures.value ∙ c.in_ok-needed.ensures.served ∙ served_among looks c.args.old_views.now c.args.views.now c.args.doubtful.now.processes.items c.requires.doubtful.processes))
+    (processes_where-ascending (length c.args.views.now) (λ p. c.requires.doubtful.processes.test p && not (differs looks c.args.old_views.now c.args.views.now p)))
 
 pub replaced-requires-clause-known : goal.replaced-requires-clause-known
 replaced-requires-clause-known g c =
@@ -58,34 +76,16 @@ replaced-requires-clause-known g c =
     let some : 0 < length c.args.old_views.now = not_empty c.args.old_views.now (sym c.is_empty.ensures ∙ c.if-is_empty.false) in
     let recorded = recorded_in c.args.old_outcomes c.in-Some.old_outcomes (map turn c.args.old_views.now) c.in-Some.is c.requires.recorded in
     let long : length c.in-Some.old_outcomes.now ≡ n = ap (λ (os : List OutcomeParts). length os) recorded ∙ length-map c.args.old_views.now turn ∙ c.requires.count some in
-    subst (λ m. All (λ p. p < m) c.as_slice-4.result.now) (sym long)
-    (subst (All (λ p. p < n)) (sym (c.as_slice-4.ensures.value ∙ c.in_ok-needed.ensures.served))
-    (All-filter (λ p. not (differs (g.P.Program.looks c.args.program.now) c.args.old_views.now c.args.views.now p)) (λ p. p < n) c.args.doubtful.now.processes.items (differ_below c.args.old_views.now c.args.views.now c.args.doubtful.now.processes.items c.requires.doubtful.processes)))
+    let after : length c.in_ok-renewed.renewed ≡ n = ap (λ (os : List OutcomeParts). length os) c.in_ok-renewed.ensures ∙ length-replaced c.in-Some.old_outcomes.now c.as_slice-3.result.now (turns_of turn c.args.views.now c.as_slice-3.result.now) ∙ long in
+    subst (λ m. All (λ p. p < m) c.as_slice-4.result.now) (sym after)
+    (subst (All (λ p. p < n)) (sym (c.as_slice-4.ensures.value ∙ c.in_ok-needed.ensures.needed))
+    (All-filter (differs (g.P.Program.looks c.args.program.now) c.args.old_views.now c.args.views.now) (λ p. p < n) c.args.doubtful.now.processes.items (differ_below c.args.old_views.now c.args.views.now c.args.doubtful.now.processes.items c.requires.doubtful.processes)))
 
 pub replaced-requires-clause-ascending : goal.replaced-requires-clause-ascending
 replaced-requires-clause-ascending g c =
     let looks = g.P.Program.looks c.args.program.now in
     subst IsAscending
-    (sym (c.as_slice-4.ensures.value ∙ c.in_ok-needed.ensures.served ∙ served_among looks c.args.old_views.now c.args.views.now c.args.doubtful.now.processes.items c.requires.doubtful.processes))
-    (processes_where-ascending (length c.args.views.now) (λ p. c.requires.doubtful.processes.test p && not (differs looks c.args.old_views.now c.args.views.now p)))
-
-pub replaced-requires-2-clause-known : goal.replaced-requires-2-clause-known
-replaced-requires-2-clause-known g c =
-    let n = length c.args.views.now in
-    let turn = turn_of (g.P.Program.acts c.args.program.now) (g.P.Program.ending c.args.program.now) in
-    let some : 0 < length c.args.old_views.now = not_empty c.args.old_views.now (sym c.is_empty.ensures ∙ c.if-is_empty.false) in
-    let recorded = recorded_in c.args.old_outcomes c.in-Some.old_outcomes (map turn c.args.old_views.now) c.in-Some.is c.requires.recorded in
-    let long : length c.in-Some.old_outcomes.now ≡ n = ap (λ (os : List OutcomeParts). length os) recorded ∙ length-map c.args.old_views.now turn ∙ c.requires.count some in
-    let after : length c.in_ok-renewed.renewed ≡ n = ap (λ (os : List OutcomeParts). length os) c.in_ok-renewed.ensures ∙ length-replaced c.in-Some.old_outcomes.now c.as_slice-4.result.now c.in_ok-reused.reused ∙ long in
-    subst (λ m. All (λ p. p < m) c.as_slice-5.result.now) (sym after)
-    (subst (All (λ p. p < n)) (sym (c.as_slice-5.ensures.value ∙ c.in_ok-needed.ensures.needed))
-    (All-filter (differs (g.P.Program.looks c.args.program.now) c.args.old_views.now c.args.views.now) (λ p. p < n) c.args.doubtful.now.processes.items (differ_below c.args.old_views.now c.args.views.now c.args.doubtful.now.processes.items c.requires.doubtful.processes)))
-
-pub replaced-requires-2-clause-ascending : goal.replaced-requires-2-clause-ascending
-replaced-requires-2-clause-ascending g c =
-    let looks = g.P.Program.looks c.args.program.now in
-    subst IsAscending
-    (sym (c.as_slice-5.ensures.value ∙ c.in_ok-needed.ensures.needed ∙ needed_among looks c.args.old_views.now c.args.views.now c.args.doubtful.now.processes.items c.requires.doubtful.processes))
+    (sym (c.as_slice-4.ensures.value ∙ c.in_ok-needed.ensures.needed ∙ needed_among looks c.args.old_views.now c.args.views.now c.args.doubtful.now.processes.items c.requires.doubtful.processes))
     (processes_where-ascending (length c.args.views.now) (differs looks c.args.old_views.now c.args.views.now))
 
 pub returns-clause-turns : goal.returns-clause-turns
@@ -93,14 +93,13 @@ returns-clause-turns g c =
     let turn = turn_of (g.P.Program.acts c.args.program.now) (g.P.Program.ending c.args.program.now) in
     let looks = g.P.Program.looks c.args.program.now in
     let some : 0 < length c.args.old_views.now = not_empty c.args.old_views.now (sym c.is_empty.ensures ∙ c.if-is_empty.false) in
-    let served = c.as_slice-4.result.now in
-    let needed = c.as_slice-5.result.now in
-    let reused : c.in_ok-reused.reused ≡ turns_of turn c.args.views.now served = c.in_ok-reused.ensures ∙ ap (turns_of turn c.args.views.now) (c.as_slice-3.ensures.value ∙ sym c.as_slice-4.ensures.value) in
-    let taken : c.in_ok-taken.taken ≡ turns_of turn c.args.views.now needed = c.in_ok-taken.ensures ∙ ap (turns_of turn c.args.views.now) (c.as_slice-2.ensures.value ∙ sym c.as_slice-5.ensures.value) in
+    let served = c.as_slice-3.result.now in
+    let needed = c.as_slice-4.result.now in
+    let taken : c.in_ok-taken.taken ≡ turns_of turn c.args.views.now needed = c.in_ok-taken.ensures ∙ ap (turns_of turn c.args.views.now) (c.as_slice-2.ensures.value ∙ sym c.as_slice-4.ensures.value) in
     c.in_ok-all.ensures
     ∙ ap (λ (os : List OutcomeParts). replaced os needed c.in_ok-taken.taken) c.in_ok-renewed.ensures
-    ∙ turns_in_place turn looks c.args.old_views.now c.args.views.now c.args.doubtful.now.processes.items c.in-Some.old_outcomes.now c.in_ok-reused.reused c.in_ok-taken.taken served needed c.requires.doubtful.processes (c.requires.count some)
-    (recorded_in c.args.old_outcomes c.in-Some.old_outcomes (map turn c.args.old_views.now) c.in-Some.is c.requires.recorded) (c.as_slice-4.ensures.value ∙ c.in_ok-needed.ensures.served) (c.as_slice-5.ensures.value ∙ c.in_ok-needed.ensures.needed) reused taken
+    ∙ turns_in_place turn looks c.args.old_views.now c.args.views.now c.args.doubtful.now.processes.items c.in-Some.old_outcomes.now (turns_of turn c.args.views.now served) c.in_ok-taken.taken served needed c.requires.doubtful.processes (c.requires.count some)
+    (recorded_in c.args.old_outcomes c.in-Some.old_outcomes (map turn c.args.old_views.now) c.in-Some.is c.requires.recorded) (c.as_slice-3.ensures.value ∙ c.in_ok-needed.ensures.served) (c.as_slice-4.ensures.value ∙ c.in_ok-needed.ensures.needed) refl taken
 
 pub returns-clause-executed : goal.returns-clause-executed
 returns-clause-executed g c =

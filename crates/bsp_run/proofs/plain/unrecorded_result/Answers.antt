@@ -1,8 +1,11 @@
-use Rattle.std.proofs.Common.{◌≡◌, ◌∙◌, ◌+◌, ◌-◌, suc, List, None, Some, ap, sym, refl, arith, rules}
+use Rattle.std.proofs.Common.{◌≡◌, ◌∙◌, ◌+◌, ◌-◌, suc, List, None, Some, ap, sym, refl, arith}
 use Rattle.bsp_model.specs.declared.input.Input.{Input}
+use Rattle.bsp_model.specs.Input.{input_fault}
 use Rattle.bsp_model.proofs.Inputs.{lawful_input}
 use Rattle.bsp_step.specs.OutcomeParts.{OutcomeParts}
 use Rattle.bsp_step.specs.Turn.{turn_of}
+use Rattle.bsp_run.specs.RunErrors.{input_fault_of}
+use Rattle.bsp_run.proofs.RunErrors.{lawful_input_refused}
 use Rattle.bsp_run.proofs.UnrecordedRuns.{IsUnderway, underway_start, turns_are, some_turns, slots_are, goes_on, unrecorded_delivered, step_is, underway_next, result_ended, result_at_limit, few_rows, rows_at_limit, end_is}
 use Rattle.bsp_run.proofs.plain.unrecorded_result.Goals as goal
 
@@ -127,4 +130,5 @@ returns-clause-result g c =
     c.in_ok-ended_at_limit.ensures ∙ result_at_limit (turn_of (g.P.Program.acts c.args.program.now) (g.P.Program.ending c.args.program.now)) input (input.limit - c.loop-step.step) c.loop-step.kept u full
 
 pub returns-in_err-go_on-clause-input : goal.returns-in_err-go_on-clause-input
-returns-in_err-go_on-clause-input g c = search (rules, c.in_ok-kept.ensures.lawful, c.from_residual-in_err-go_on.ensures)
+returns-in_err-go_on-clause-input g c =
+    lawful_input_refused _ c.from_residual-in_err-go_on.result (input_fault c.args.input.now) c.in_ok-kept.ensures.lawful (λ e out. ap input_fault_of out) c.from_residual-in_err-go_on.ensures.1

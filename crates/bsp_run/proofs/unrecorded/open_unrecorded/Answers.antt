@@ -8,8 +8,8 @@ use Rattle.bsp_run.proofs.Opens.{opens_first, views_first}
 use Rattle.bsp_run.proofs.UnrecordedRuns.{unrecorded_start}
 use Rattle.bsp_run.proofs.unrecorded.open_unrecorded.Goals as goal
 
-pub open-views-requires : goal.open-views-requires
-open-views-requires c =
+pub open-requires : goal.open-requires
+open-requires c =
     let input = c.args.input.now in
     let h = lawful_input input c.in_ok-checked.ensures.ok in
     let cells = c.in_ok-cells.ensures ∙ ap (map (λ m. (m, no_messages m))) c.as_slice.ensures in
@@ -22,7 +22,7 @@ returns-clause-kept c =
     let h = lawful_input input c.in_ok-checked.ensures.ok in
     let cells = c.in_ok-cells.ensures ∙ ap (map (λ m. (m, no_messages m))) c.as_slice.ensures in
     let setting = c.in_ok-setting.ensures ∙ (λ i. record { step = 0; args = c.in_ok-args.ensures i; table = []; tag_size = 0 }) in
-    let views = c.open-views.ensures ∙ views_first input c.in_ok-setting.setting c.in_ok-cells.cells setting cells in
+    let views = c.in_ok-views.ensures ∙ views_first input c.in_ok-setting.setting c.in_ok-cells.cells setting cells in
     let many : length c.in_ok-cells.cells ≡ length input.mems = ap length cells ∙ length-map input.mems (λ m. (m, no_messages m)) in
     let count : c.len.result ≡ length input.mems = omega (arith, c.len.ensures, many) in
     unrecorded_start input _ h c.in_ok-args.ensures views c.in_ok-table.ensures refl (c.in_ok-lines.ensures ∙ ap (λ n. each_below n (lines_of_process [])) count) c.new-2.ensures

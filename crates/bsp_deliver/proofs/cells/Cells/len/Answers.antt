@@ -1,8 +1,6 @@
-use Rattle.std.proofs.Common.{length, ap, arith}
-use Rattle.bsp_deliver.proofs.Zipped.{length-zip_first}
+use Rattle.std.proofs.Common.{length, ap, sym, ◌∙◌}
+use Rattle.bsp_deliver.proofs.CellsOf.{length-cells_of}
 use Rattle.bsp_deliver.proofs.cells.Cells.len.Goals as goal
 
 pub returns : goal.returns
-returns c =
-    let queues = c.self.inside.queues in
-    omega (arith, c.len.ensures, queues.ok, length-zip_first c.self.inside.memories queues.items c.self.invariant, ap length c.self.view_is)
+returns c = c.len.ensures ∙ sym (length-cells_of c.self.inside.memories c.self.inside.queues) ∙ ap length c.self.view_is

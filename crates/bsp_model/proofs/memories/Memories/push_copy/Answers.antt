@@ -1,12 +1,31 @@
-use Rattle.bsp_model.proofs.PagedMemories.{ArePaged-push, memories_of-push}
+use Rattle.std.proofs.Common.{[], length, arith}
+use Rattle.std.proofs.lemmas.Result.{MatchResult-from_err}
+use Rattle.bsp_model.specs.Columns.{row_at, IsPut}
+use Rattle.bsp_model.proofs.PagedMemories.{ArePaged-same, memories_of-same, ArePaged-push, memories_of-push}
 use Rattle.bsp_model.proofs.memories.Memories.push_copy.Goals as goal
+
+pub invariant_of-self : goal.invariant_of-self
+invariant_of-self c = ArePaged-same c.self.inside.pages c.put.new.self c.self.inside.lasts c.self.invariant (λ k within. c.in_err-put.ensures.err.before k (omega (arith, within, c.len.ensures)))
+
+pub returns-in_err-put-clause-err : goal.returns-in_err-put-clause-err
+returns-in_err-put-clause-err c =
+    MatchResult-from_err _ _ _ c.from_residual-in_err-put.ensures.0
+    (λ _. memories_of-same c.self.inside.pages c.put.new.self c.self.inside.lasts c.args.self.now c.self.view_is (λ k within. c.in_err-put.ensures.err.before k (omega (arith, within, c.len.ensures))))
+
+pub returns-in_err-push-clause-err : goal.returns-in_err-push-clause-err
+returns-in_err-push-clause-err c =
+    MatchResult-from_err _ _ _ c.from_residual-in_err-push.ensures.0
+    (λ _. rw c.in_err-push.ensures.err
+    (memories_of-same c.self.inside.pages c.put.new.self c.self.inside.lasts c.args.self.now c.self.view_is (λ k within. c.in_ok-put.ensures.ok.before k (omega (arith, within, c.len.ensures)))))
 
 pub invariant_of-self-2 : goal.invariant_of-self-2
 invariant_of-self-2 c =
-    rw (c.push_reserved.ensures.items, c.in_ok-reserve.ensures.items, c.in_ok-push.ensures.ok, c.in_ok-pages.ensures)
-    (ArePaged-push c.self.inside.pages.items c.self.inside.lasts c.memory.inside.pages.now c.memory.inside.last.now c.memory.inside.len c.self.invariant c.memory.invariant)
+    let put : IsPut [] (row_at c.self.inside.pages) (length c.self.inside.lasts) c.memory.inside.pages.now (row_at c.put.new.self) = rw (c.len.ensures, c.in_ok-full.ensures) at c.in_ok-put.ensures.ok in
+    rw c.in_ok-push.ensures.ok
+    (ArePaged-push c.self.inside.pages c.put.new.self c.self.inside.lasts c.memory.inside.pages.now c.memory.inside.last.now c.memory.inside.len c.self.invariant put c.memory.invariant)
 
 pub returns-clause-ok : goal.returns-clause-ok
 returns-clause-ok c =
-    rw (c.push_reserved.ensures.items, c.in_ok-reserve.ensures.items, c.in_ok-push.ensures.ok, c.in_ok-pages.ensures, ← c.self.view_is)
-    (memories_of-push c.self.inside.pages.items c.self.inside.lasts c.memory.inside.pages.now c.memory.inside.last.now _ c.memory.inside.len c.self.invariant c.memory.invariant c.memory.view_is)
+    let put : IsPut [] (row_at c.self.inside.pages) (length c.self.inside.lasts) c.memory.inside.pages.now (row_at c.put.new.self) = rw (c.len.ensures, c.in_ok-full.ensures) at c.in_ok-put.ensures.ok in
+    rw c.in_ok-push.ensures.ok
+    (memories_of-push c.self.inside.pages c.put.new.self c.self.inside.lasts c.args.self.now c.memory.inside.pages.now c.memory.inside.last.now _ c.memory.inside.len c.self.view_is put c.memory.invariant c.memory.view_is)

@@ -1,28 +1,24 @@
-use Rattle.std.proofs.Common.{length, ap, arith}
-use Rattle.bsp_model.proofs.PagedMemories.{length-memories_of, length-lasts, ArePaged-more, memories_of-more}
+use Rattle.std.proofs.Common.{◌≤◌, ◌+◌, ◌-◌, [], length, ap, arith}
+use Rattle.bsp_model.specs.Columns.{row_at, AreTaken}
+use Rattle.bsp_model.proofs.PagedMemories.{length-memories_of, ArePaged-more, memories_of-more}
 use Rattle.bsp_model.proofs.memories.Memories.with_range.Goals as goal
 
 pub append_range-requires-clause-inside : goal.append_range-requires-clause-inside
 append_range-requires-clause-inside c =
-    let pages = c.more.inside.pages.items in
-    let lasts = c.more.inside.lasts in
-    omega (arith, c.requires.inside, length-lasts pages lasts c.more.invariant, length-memories_of pages lasts c.more.invariant, ap length c.as_ref.ensures, ap length c.more.view_is)
-
-pub offset_bounds-deref-from : goal.offset_bounds-deref-from
-offset_bounds-deref-from c =
-    let pages = c.more.inside.pages in
-    omega (arith, c.requires, pages.ok, pages.small, length-memories_of pages.items c.more.inside.lasts c.more.invariant, ap length c.more.view_is)
-
-pub slice_bounds-add_copies-end : goal.slice_bounds-add_copies-end
-slice_bounds-add_copies-end c =
-    omega (arith, c.requires.inside, ap length c.deref.ensures.value, length-memories_of c.more.inside.pages.items c.more.inside.lasts c.more.invariant, ap length c.more.view_is)
+    omega (arith, c.requires.inside, length-memories_of c.more.inside.pages c.more.inside.lasts, ap length c.as_ref.ensures, ap length c.more.view_is)
 
 pub invariant_of-result : goal.invariant_of-result
 invariant_of-result c =
-    rw (c.in_ok-add_copies.ensures, c.in_ok-append_range.ensures.ok, c.as_ref.ensures, c.deref.ensures.value)
-    (ArePaged-more c.self.inside.pages.items c.more.inside.pages.items c.self.inside.lasts c.more.inside.lasts c.args.from c.args.to c.self.invariant c.more.invariant)
+    let within : c.args.to ≤ length c.more.inside.lasts = omega (arith, c.requires.inside, length-memories_of c.more.inside.pages c.more.inside.lasts, ap length c.more.view_is) in
+    let taken : AreTaken [] (row_at c.self.inside.pages) (λ k. row_at c.more.inside.pages (c.args.from + (k - length c.self.inside.lasts))) (length c.self.inside.lasts) (length c.self.inside.lasts + (c.args.to - c.args.from)) (row_at c.in_ok-pages.pages) =
+    rw c.len.ensures at c.in_ok-pages.ensures in
+    rw (c.in_ok-append_range.ensures.ok, c.as_ref.ensures)
+    (ArePaged-more c.self.inside.pages c.more.inside.pages c.in_ok-pages.pages c.self.inside.lasts c.more.inside.lasts c.args.from c.args.to within c.self.invariant c.more.invariant taken)
 
 pub returns : goal.returns
 returns c =
-    rw (c.in_ok-add_copies.ensures, c.in_ok-append_range.ensures.ok, c.as_ref.ensures, c.deref.ensures.value, ← c.self.view_is, ← c.more.view_is)
-    (memories_of-more c.self.inside.pages.items c.more.inside.pages.items c.self.inside.lasts c.more.inside.lasts c.args.from c.args.to c.self.invariant c.more.invariant)
+    let within : c.args.to ≤ length c.more.inside.lasts = omega (arith, c.requires.inside, length-memories_of c.more.inside.pages c.more.inside.lasts, ap length c.more.view_is) in
+    let taken : AreTaken [] (row_at c.self.inside.pages) (λ k. row_at c.more.inside.pages (c.args.from + (k - length c.self.inside.lasts))) (length c.self.inside.lasts) (length c.self.inside.lasts + (c.args.to - c.args.from)) (row_at c.in_ok-pages.pages) =
+    rw c.len.ensures at c.in_ok-pages.ensures in
+    rw (c.in_ok-append_range.ensures.ok, c.as_ref.ensures)
+    (memories_of-more c.self.inside.pages c.more.inside.pages c.in_ok-pages.pages c.self.inside.lasts c.more.inside.lasts c.args.self c.args.more.now c.args.from c.args.to within c.self.view_is c.more.view_is taken)

@@ -4,8 +4,8 @@ use Rattle.bsp_run.specs.State.{no_messages}
 use Rattle.bsp_run.proofs.Opens.{opens_first, views_first}
 use Rattle.bsp_run.proofs.tape.Tape.open_lawful.Goals as goal
 
-pub open-views-requires : goal.open-views-requires
-open-views-requires c =
+pub open-requires : goal.open-requires
+open-requires c =
     let input = c.args.input.now in
     let cells = c.in_ok-cells.ensures ∙ ap (map (λ m. (m, no_messages m))) c.as_slice.ensures in
     let setting = c.in_ok-setting.ensures ∙ (λ i. record { step = 0; args = c.in_ok-args.ensures i; table = []; tag_size = 0 }) in
@@ -16,4 +16,4 @@ open_with-requires-clause-views c =
     let input = c.args.input.now in
     let cells = c.in_ok-cells.ensures ∙ ap (map (λ m. (m, no_messages m))) c.as_slice.ensures in
     let setting = c.in_ok-setting.ensures ∙ (λ i. record { step = 0; args = c.in_ok-args.ensures i; table = []; tag_size = 0 }) in
-    c.open-views.ensures ∙ views_first input c.in_ok-setting.setting c.in_ok-cells.cells setting cells
+    c.in_ok-views.ensures ∙ views_first input c.in_ok-setting.setting c.in_ok-cells.cells setting cells

@@ -1,14 +1,14 @@
-use Rattle.std.proofs.Common.{◌≡◌, ◌<◌, ℕ, length, ap, sym, subst, ◌∙◌, refl, arith}
+use Rattle.std.proofs.Common.{◌≡◌, ◌<◌, ℕ, length, ap, subst, ◌∙◌, arith}
 use Rattle.bsp_step.specs.declared.lists.Lists.{Lists}
 use Rattle.bsp_step.specs.declared.lists.TurnEnd.{TurnEnd}
 use Rattle.bsp_step.specs.OutcomeParts.{OutcomeParts, IsOutcome}
-use Rattle.bsp_step.specs.Inside.Outcomes.{outcomes_of, AreOutcomes, AreSameLists, HasLists}
+use Rattle.bsp_step.specs.Inside.Outcomes.{AreSameLists, HasLists}
 use Rattle.bsp_step.proofs.OutcomeColumns.{outcomes-push, lawful-push, same-outcomes, on_err}
 use Rattle.bsp_step.proofs.outcome_rows.OutcomeRows.add.Goals as goal
 
--- what an outcome has beside its memory and its lists
+-- how the turn of an outcome ended
 abbrev end_of : OutcomeParts → TurnEnd
-end_of o = record { fault = o.fault; ended = o.ended; tag = o.tag; work = o.work }
+end_of o = record { ended = o.ended; work = o.work }
 
 -- the processes before have the lists that they had
 same_below : (l old new : Lists) (len n : ℕ) → l ≡ old → len ≡ n → ((k : ℕ) → k < len → AreSameLists l new k) → (k : ℕ) → k < n → AreSameLists old new k

@@ -4,10 +4,11 @@ use Rattle.bsp_step.specs.OutcomeParts.{OutcomeParts, IsOutcome, no_outcome}
 use Rattle.bsp_step.specs.declared.outcome_rows.OutcomeRows.TheInside.{Inside}
 use Rattle.bsp_model.specs.Columns.{row_at}
 use Rattle.bsp_step.specs.declared.lists.Lists.{Lists}
-use Rattle.bsp_step.specs.Inside.Outcomes.{no_end, outcome_at, outcomes_of}
+use Rattle.bsp_step.specs.declared.lists.TurnEnd.{TurnEnd}
+use Rattle.bsp_step.specs.Inside.Outcomes.{no_end, first_at, outcome_at, outcomes_of}
 use Rattle.bsp_step.proofs.OutcomeColumns.{length-outcomes_of, outcome-outcomes_of}
 use Rattle.bsp_step.proofs.outcome_rows.OutcomeRows.get.Goals as goal
-use Rattle.bsp_step.proofs.outcome_rows.OutcomeRows.get.Goals.{After-get-5}
+use Rattle.bsp_step.proofs.outcome_rows.OutcomeRows.get.Goals.{After-from}
 
 within : (r : Inside) (now : List OutcomeParts) (pid : ℕ) → outcomes_of r.ends.items r.memories r.lists.value ≡ now → pid < length now → pid < length r.ends.items
 within r now pid seen l = omega (arith, l, length-outcomes_of r.ends.items r.memories r.lists.value, ap length seen)
@@ -19,8 +20,8 @@ pub get-requires : goal.get-requires
 get-requires c = omega (arith, c.self.invariant.count, within c.self.inside c.args.self.now c.args.pid c.self.view_is c.requires)
 
 -- the parts that are found make the outcome
-parts_of : (c : After-get-5)
-    → record { fault = c.index-end.result.now.fault; ended = c.index-end.result.now.ended; memory = c.get.result; stores = c.get-2.result; puts = c.get-3.result; gets = c.row.result.now; sends = c.get-4.result; pops = c.row-2.result.now; pushes = c.row-3.result.now; tag = c.index-end.result.now.tag; lines = c.get-5.result; work = c.index-end.result.now.work }
+parts_of : (c : After-from)
+    → record { fault = c.fault.result; ended = c.index-end.result.now.ended; memory = c.get.result; stores = c.get-2.result; puts = c.get-3.result; gets = c.row.result.now; sends = c.get-4.result; pops = c.row-2.result.now; pushes = c.row-3.result.now; tag = c.tag.result; lines = c.get-5.result; work = c.from.result }
     ≡ outcome_at c.self.inside.ends.items c.self.inside.memories c.self.inside.lists.value c.args.pid
 parts_of c =
     let r = c.self.inside in
@@ -28,7 +29,7 @@ parts_of c =
     c.index-end.ensures ∙ get_or_default r.ends.items c.args.pid c.index-end.result.now no_end (within r c.args.self.now c.args.pid c.self.view_is c.requires) in
     let all : c.deref-lists.result.now ≡ r.lists.value = c.deref-lists.ensures in
     λ i. record {
-      fault = (end i).fault;
+      fault = (c.fault.ensures ∙ ap (λ (l : Lists). first_at l.faults c.args.pid) all) i;
       ended = (end i).ended;
       memory = c.get.ensures i;
       stores = (c.get-2.ensures ∙ ap (λ (l : Lists). row_at l.stores c.args.pid) all) i;
@@ -37,9 +38,9 @@ parts_of c =
       sends = (c.get-4.ensures ∙ ap (λ (l : Lists). row_at l.sends c.args.pid) all) i;
       pops = (c.row-2.ensures ∙ ap (λ (l : Lists). row_at l.pops c.args.pid) all) i;
       pushes = (c.row-3.ensures ∙ ap (λ (l : Lists). row_at l.pushes c.args.pid) all) i;
-      tag = (end i).tag;
+      tag = (c.tag.ensures ∙ ap (λ (l : Lists). first_at l.tags c.args.pid) all) i;
       lines = (c.get-5.ensures ∙ ap (λ (l : Lists). row_at l.lines c.args.pid) all) i;
-      work = (end i).work;
+      work = (c.from.ensures ∙ ap (λ (e : TurnEnd). e.work) end) i;
     }
 
 pub invariant_of-result : goal.invariant_of-result

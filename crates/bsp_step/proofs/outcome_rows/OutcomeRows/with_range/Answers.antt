@@ -1,10 +1,9 @@
-use Rattle.std.proofs.Common.{◌≡◌, ◌<◌, ◌≤◌, ◌++◌, ℕ, List, length, ap, sym, subst, ◌∙◌, refl, arith}
+use Rattle.std.proofs.Common.{◌≡◌, ◌<◌, ◌≤◌, ◌++◌, ℕ, List, length, ap, sym, subst, ◌∙◌, arith}
 use Rattle.std.specs.Prelude.{slice_range}
 use Rattle.bsp_step.specs.declared.lists.Lists.{Lists}
-use Rattle.bsp_step.specs.declared.lists.TurnEnd.{TurnEnd}
 use Rattle.bsp_step.specs.declared.outcome_rows.OutcomeRows.TheInside.{Inside}
 use Rattle.bsp_step.specs.OutcomeParts.{OutcomeParts}
-use Rattle.bsp_step.specs.Inside.Outcomes.{outcomes_of, AreOutcomes, AreSameLists}
+use Rattle.bsp_step.specs.Inside.Outcomes.{outcomes_of, AreSameLists}
 use Rattle.bsp_step.proofs.OutcomeColumns.{length-outcomes_of, outcomes-range, lawful-range}
 use Rattle.bsp_step.proofs.outcome_rows.OutcomeRows.with_range.Goals as goal
 

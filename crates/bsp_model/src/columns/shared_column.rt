@@ -1,0 +1,127 @@
+//! For each process a list that its copies share.
+
+ghost use Rattle.std.specs.Prelude.{◌≡◌, ◌≤◌, ◌+◌, ◌-◌, ◌++◌, ℕ, [], length, IfOk, OnErr, OnOk};
+ghost use Rattle.bsp_model.specs.Columns.{row_at, AreCut, AreTaken, IsPut};
+
+use crate::{OutOfMemory, SharedSeq, TryCopy};
+use std::alloc::Global;
+use std::marker::Model;
+
+/// For each process, by its number, a list that copies share. The last ones, where empty, need not stand.
+#[derive(Debug, Drop)]
+pub struct SharedColumn<T> {
+    /// The lists of the first processes. Those of the others are empty.
+    pub(crate) rows: Vec<SharedSeq<T>>,
+}
+
+impl<T> Model for SharedColumn<T> {
+    ghost use Rattle.std.specs.Prelude.{List};
+
+    ghost Value = { List (List T) };
+
+    ghost view = { λ c. c.rows.items };
+}
+
+/// Adds empty lists until there are `count`, or none where there are as many. After `OutOfMemory` some of them are added.
+fn fill<T: Drop>(rows: &mut Vec<SharedSeq<T>>, count: usize) -> Result<(), OutOfMemory>
+    requires { length rows.old.items ≤ count }
+    ensures same { (k : ℕ) → row_at rows.new.items k ≡ row_at rows.old.items k }
+    ensures count { OnOk result (length rows.new.items ≡ count) }
+{
+    while rows.len() < count {
+        rows.push(SharedSeq::new())?;
+    }
+    Ok(())
+}
+
+/// Adds copies of lists, which share their items. After `OutOfMemory` some of them are added.
+fn add_copies<T: Drop>(
+    rows: &mut Vec<SharedSeq<T>>,
+    more: &[SharedSeq<T>],
+) -> Result<(), OutOfMemory>
+    ensures { OnOk result (rows.new.items ≡ rows.old.items ++ more.now) }
+{
+    for row in more {
+        rows.push(row.copy()?)?;
+    }
+    Ok(())
+}
+
+impl<T> SharedColumn<T> {
+    /// Empty lists alone, which take no memory.
+    pub fn new(alloc: Global) -> SharedColumn<T>
+        ensures { result ≡ [] }
+    {
+        SharedColumn {
+            rows: Vec::new(alloc),
+        }
+    }
+
+    /// The allocator that the column keeps.
+    #[inline(always)]
+    pub(crate) fn allocator(&self) -> Global {
+        *self.rows.allocator()
+    }
+
+    /// The list of a process.
+    #[inline(always)]
+    pub fn row(&self, place: usize) -> &[T]
+        ensures { result.now ≡ row_at self.now place }
+    {
+        if place < self.rows.len() {
+            self.rows[place].as_slice()
+        } else {
+            &[]
+        }
+    }
+}
+
+impl<T: Drop> SharedColumn<T> {
+    /// Empty lists alone, with the room that these take, or `OutOfMemory`.
+    pub fn with_room_of(
+        alloc: Global,
+        like: &SharedColumn<T>,
+    ) -> Result<SharedColumn<T>, OutOfMemory>
+        ensures { IfOk result (λ c. c ≡ []) }
+    {
+        Ok(SharedColumn {
+            rows: Vec::with_capacity(alloc, like.rows.len())?,
+        })
+    }
+
+    /// Makes `row` the list of a process, and leaves those behind it out. After `OutOfMemory` its own is left out too.
+    pub fn put(&mut self, place: usize, row: SharedSeq<T>) -> Result<(), OutOfMemory>
+        ensures ok { OnOk result (IsPut [] (row_at self.old) place row (row_at self.new)) }
+        ensures err { OnErr result (AreCut [] (row_at self.old) place (row_at self.new)) }
+    {
+        self.rows.truncate(place);
+        if row.is_empty() {
+            return Ok(());
+        }
+        fill(&mut self.rows, place)?;
+        self.rows.push(row)?;
+        Ok(())
+    }
+
+    /// The lists of the processes before `place`, and from there on those that another column has from `from` on, and before `to`, or
+    /// `OutOfMemory`. Copies share their items.
+    pub fn with_range(
+        self,
+        place: usize,
+        more: &SharedColumn<T>,
+        from: usize,
+        to: usize,
+    ) -> Result<SharedColumn<T>, OutOfMemory>
+        ensures { IfOk result (λ c. AreTaken [] (row_at self) (λ k. row_at more.now (from + (k - place))) place (place + (to - from)) (row_at c)) }
+    {
+        let SharedColumn { mut rows } = self;
+        rows.truncate(place);
+        let to = to.min(more.rows.len());
+        if to <= from {
+            return Ok(SharedColumn { rows });
+        }
+        fill(&mut rows, place)?;
+        add_copies(&mut rows, &more.rows[from..to])?;
+        Ok(SharedColumn { rows })
+    }
+}

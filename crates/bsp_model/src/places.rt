@@ -1,0 +1,47 @@
+//! Where processes stand in ascending lists of them.
+
+ghost use Rattle.std.specs.Prelude.{◌≡◌, ◌≢◌, ℕ, ◌<◌, ◌↔◌, All, IfNone, IfSome, IsTrue, length, nat_le, slice_index_or, ◌/◌};
+ghost use Rattle.std.specs.List.{Contains};
+ghost use Rattle.bsp_model.specs.Replaced.{IsAscending};
+
+/// Of how many processes one may have what it has in a place apart.
+const ONE_APART_OF: usize = 4;
+
+/// Whether what so few of so many processes have is to lie apart, where others are to share the rest.
+pub fn are_few(some: usize, all: usize) -> bool
+    ensures { result ≡ nat_le some (all / ONE_APART_OF) }
+{
+    some <= all / ONE_APART_OF
+}
+
+/// Where a process stands in a list of them in ascending order, if it does.
+#[inline(always)]
+pub fn place_among(processes: &[usize], pid: usize) -> Option<usize>
+    requires ascending { IsAscending processes.now }
+    ensures some { IfSome result (λ k. (k < length processes.now) × (slice_index_or processes.now k 0 ≡ pid)) }
+    ensures none { IfNone result ((k : ℕ) → k < length processes.now → pid ≢ slice_index_or processes.now k 0) }
+{
+    for place in 0..processes.len() {
+        if processes[place] >= pid {
+            return if processes[place] == pid {
+                Some(place)
+            } else {
+                None
+            };
+        }
+    }
+    None
+}
+
+/// Whether each of these processes stands in a list in ascending order.
+pub fn are_among(some: &[usize], processes: &[usize]) -> bool
+    requires ascending { IsAscending processes.now }
+    ensures { IsTrue result ↔ All (Contains processes.now) some.now }
+{
+    for k in 0..some.len() {
+        let Some(_place) = place_among(processes, some[k]) else {
+            return false;
+        };
+    }
+    true
+}

@@ -1,0 +1,146 @@
+//! The memories and queues of all processes, which copies share.
+
+ghost use Rattle.std.specs.Prelude.{◌≡◌, ◌<◌, [], All, IfOk, length, nat_eq, slice_index_or};
+ghost use Rattle.bsp_model.specs.Replaced.{replaced, IsAscending};
+ghost use Rattle.bsp_run.specs.Inside.SharedCells.{no_cell, with_others, AreOthers, IsBelow};
+
+use bsp_deliver::Cells;
+use bsp_model::{
+    MemoryRef, Message, OutOfMemory, Shared, TryCopy, are_among, are_few, place_among,
+};
+use std::alloc::Global;
+use std::marker::Model;
+
+/// The memory and the queue of each process. What a superstep of another run has alike is shared with it.
+#[derive(Drop)]
+pub struct SharedCells {
+    cells: Shared<Cells>,
+    /// What few processes have in the place of that.
+    others: Option<OtherCells>,
+}
+
+/// The memories and queues of some processes, which are in ascending order.
+#[derive(Drop)]
+pub struct OtherCells {
+    processes: Vec<usize>,
+    cells: Cells,
+}
+
+impl Model for SharedCells {
+    ghost use Rattle.std.specs.Prelude.{List, ℕ};
+    ghost use Rattle.bsp_model.specs.declared.request.Message.{Message};
+    ghost use Rattle.bsp_run.specs.Inside.SharedCells.{cells_with, HasOthers};
+
+    ghost Value = { List ((List ℕ) × (List Message)) };
+
+    ghost view = { λ c. cells_with c.cells c.others };
+
+    ghost invariant = { λ c. HasOthers c.cells c.others };
+}
+
+impl OtherCells {
+    /// The cells among which those of a process are, these or all others, and at which place.
+    #[inline(always)]
+    fn cells_of<'a>(&'a self, cells: &'a Cells, pid: usize) -> (&'a Cells, usize)
+        requires others { AreOthers cells.now self.now }
+        requires known { pid < length cells.now }
+        ensures inside { result.1 < length result.0.now }
+        ensures there { slice_index_or result.0.now result.1 no_cell ≡ slice_index_or (with_others cells.now self.now) pid no_cell }
+    {
+        match place_among(self.processes.as_slice(), pid) {
+            Some(place) => (&self.cells, place),
+            None => (cells, pid),
+        }
+    }
+
+    /// Cells of which new ones for these processes make what they make of `cells` with these in them.
+    fn cells_below(
+        &self,
+        alloc: Global,
+        cells: &Shared<Cells>,
+        processes: &[usize],
+    ) -> Result<Shared<Cells>, OutOfMemory>
+        requires others { AreOthers cells.now self.now }
+        requires ascending { IsAscending processes.now }
+        ensures count { IfOk result (λ below. length below ≡ length cells.now) }
+        ensures below { IfOk result (λ below. IsBelow below (with_others cells.now self.now) processes.now) }
+    {
+        let apart = self.processes.as_slice();
+        if are_among(apart, processes) {
+            return Ok(cells.copy()?);
+        }
+        Ok(Shared::new(alloc, cells.replaced(alloc, apart, &self.cells)?)?)
+    }
+}
+
+impl SharedCells {
+    /// These cells, or `OutOfMemory`.
+    pub fn new(alloc: Global, cells: Cells) -> Result<SharedCells, OutOfMemory>
+        ensures { IfOk result (λ c. c ≡ cells) }
+    {
+        Ok(SharedCells {
+            cells: Shared::new(alloc, cells)?,
+            others: None,
+        })
+    }
+
+    /// The number of processes.
+    #[inline(always)]
+    pub fn len(&self) -> usize
+        ensures { result ≡ length self.now }
+    {
+        self.cells.len()
+    }
+
+    /// The cells among which those of a process are, and at which place.
+    #[inline(always)]
+    pub fn cells_of(&self, pid: usize) -> (&Cells, usize)
+        requires { pid < length self.now }
+        ensures inside { result.1 < length result.0.now }
+        ensures there { slice_index_or result.0.now result.1 no_cell ≡ slice_index_or self.now pid no_cell }
+    {
+        match &self.others {
+            Some(others) => others.cells_of(&self.cells, pid),
+            None => (&self.cells, pid),
+        }
+    }
+
+    /// Cells of which new ones for these processes make what they make of these. None of them lies apart.
+    fn cells_below(&self, alloc: Global, processes: &[usize]) -> Result<Shared<Cells>, OutOfMemory>
+        requires ascending { IsAscending processes.now }
+        ensures count { IfOk result (λ cells. length cells ≡ length self.now) }
+        ensures below { IfOk result (λ cells. IsBelow cells self.now processes.now) }
+    {
+        match &self.others {
+            Some(others) => Ok(others.cells_below(alloc, &self.cells, processes)?),
+            None => Ok(self.cells.copy()?),
+        }
+    }
+
+    /// These cells, but for new ones of some processes, which are in ascending order. Where they are few they lie apart, and the rest is shared.
+    pub fn replaced(
+        &self,
+        alloc: Global,
+        processes: &[usize],
+        new: Cells,
+    ) -> Result<SharedCells, OutOfMemory>
+        requires known { All (λ p. p < length self.now) processes.now }
+        requires ascending { IsAscending processes.now }
+        requires count { length new ≡ length processes.now }
+        ensures { IfOk result (λ c. c ≡ replaced self.now processes.now new) }
+    {
+        let cells = self.cells_below(alloc, processes)?;
+        if !are_few(processes.len(), self.len()) {
+            let all = cells.replaced(alloc, processes, &new)?;
+            return Ok(SharedCells::new(alloc, all)?);
+        }
+        let others = OtherCells {
+            processes: processes.to_vec(alloc)?,
+            cells: new,
+        };
+        Ok(SharedCells {
+            cells,
+            others: Some(others),
+        })
+    }
+}

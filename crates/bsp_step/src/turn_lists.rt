@@ -1,0 +1,58 @@
+//! The lists that a turn leaves.
+
+ghost use Rattle.std.specs.Prelude.{◌≡◌};
+ghost use Rattle.bsp_step.specs.Inside.TurnLists.{no_lists};
+
+use bsp_model::{Get, Puts, Rows, Sends, Seq, Stores};
+use bsp_table::Area;
+use std::alloc::Global;
+
+/// The lists that a turn leaves. They lie in a box, so that an outcome and a context that move take few words with them.
+#[derive(Drop)]
+pub struct TurnLists {
+    /// The stores that were made, in order.
+    pub stores: Stores,
+    /// The puts, in issue order, resolved to process and start word.
+    pub puts: Puts,
+    /// The gets, in issue order, resolved to process and start word.
+    pub gets: Seq<Get>,
+    /// The sends, in issue order.
+    pub sends: Sends,
+    /// The popped slots, in issue order.
+    pub pops: Seq<usize>,
+    /// The pushed areas, in issue order.
+    pub pushes: Seq<Area>,
+    /// The printed lines, in order.
+    pub lines: Rows<u64>,
+}
+
+impl TurnLists {
+    /// Lists with nothing in them, which take no memory.
+    pub(crate) fn new(alloc: Global) -> TurnLists
+        ensures { result ≡ no_lists }
+    {
+        TurnLists {
+            stores: Stores::new(alloc),
+            puts: Puts::new(alloc),
+            gets: Seq::new(alloc),
+            sends: Sends::new(alloc),
+            pops: Seq::new(alloc),
+            pushes: Seq::new(alloc),
+            lines: Rows::new(alloc),
+        }
+    }
+
+    /// Takes everything out of the lists, which keep their room.
+    #[inline(always)]
+    pub(crate) fn clear(&mut self)
+        ensures { self.new ≡ no_lists }
+    {
+        self.stores.clear();
+        self.puts.clear();
+        self.gets.clear();
+        self.sends.clear();
+        self.pops.clear();
+        self.pushes.clear();
+        self.lines.clear();
+    }
+}
