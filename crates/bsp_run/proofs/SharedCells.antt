@@ -2,7 +2,7 @@
 use Rattle.std.proofs.Common.{◌≡◌, ◌≢◌, ◌<◌, ℕ, List, Option, None, Some, All, length, get_or, refl, sym, ap, subst, ◌∙◌, arith}
 use Rattle.std.proofs.lemmas.List.Elements.{All-get_or}
 use Rattle.bsp_model.specs.declared.request.Message.{Message}
-use Rattle.bsp_model.specs.Replaced.{replaced, IsAscending}
+use Rattle.bsp_model.specs.Replaced.{IsAscending}
 use Rattle.bsp_model.proofs.Replaced.{length-replaced, replaced-there, replaced-elsewhere}
 use Rattle.bsp_run.specs.declared.shared_cells.OtherCells.{OtherCells}
 use Rattle.bsp_run.specs.Inside.SharedCells.{no_cell, with_others, cells_with, AreOthers}

@@ -6,7 +6,10 @@ ghost use Rattle.bsp_step.specs.OutcomeParts.{IsOutcome, outcome_of};
 ghost use Rattle.bsp_step.specs.Inside.Others.{rows_of, with_others, AreOthers, IsBelow};
 
 use crate::{OutcomeRef, OutcomeRows};
-use bsp_model::{Get, Memories, OutOfMemory, PutsRef, RowsRef, SendsRef, Shared, TryCopy, are_among, are_few, place_among};
+use bsp_model::{
+    Get, Memories, OutOfMemory, PutsRef, RowsRef, SendsRef, Shared, TryCopy, are_among, are_few,
+    place_among,
+};
 use bsp_table::{Area, Registers};
 use std::alloc::Global;
 use std::marker::Model;

@@ -1,5 +1,5 @@
 -- What several outcomes leave, in columns.
-use Rattle.std.specs.Prelude.{ℕ, List, [], Option, None, ◌≡◌, ◌<◌, length, map, slice_get, slice_index_or}
+use Rattle.std.specs.Prelude.{ℕ, List, [], Option, ◌≡◌, ◌<◌, length, map, slice_get, slice_index_or}
 use Rattle.std.specs.List.{range_with_len}
 use Rattle.bsp_model.specs.Columns.{row_at}
 use Rattle.bsp_step.specs.declared.outcome.Ended.TheVariants.{Halt}

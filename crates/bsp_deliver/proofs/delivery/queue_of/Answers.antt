@@ -3,7 +3,7 @@ use Rattle.std.proofs.lemmas.Result.{IfOk-weaker}
 use Rattle.bsp_model.specs.declared.request.Send.{Send}
 use Rattle.bsp_model.specs.declared.request.Message.{Message}
 use Rattle.bsp_step.specs.ViewParts.{IsQueue}
-use Rattle.bsp_step.specs.OutcomeParts.{OutcomeParts, IsOutcome, outcome_of}
+use Rattle.bsp_step.specs.OutcomeParts.{OutcomeParts, outcome_of}
 use Rattle.bsp_deliver.specs.Requests.{all_sends}
 use Rattle.bsp_deliver.specs.Delivery.{message_of}
 use Rattle.bsp_deliver.proofs.Senders.{passing_more, outcome_at}

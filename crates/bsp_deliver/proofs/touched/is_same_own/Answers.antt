@@ -1,7 +1,6 @@
 use Rattle.std.proofs.Common.{List, map, sym, ap, ◌∙◌, arith, subst, All}
 use Rattle.std.proofs.lemmas.Bool.{false≢true}
 use Rattle.bsp_model.specs.declared.request.Get.{Get}
-use Rattle.bsp_step.specs.OutcomeParts.{OutcomeParts}
 use Rattle.bsp_deliver.specs.Requests.{words_read}
 use Rattle.bsp_deliver.specs.Inside.Comparison.{IsReadable}
 use Rattle.bsp_deliver.proofs.SameParts.{same_own, readable_of}
