@@ -1,20 +1,30 @@
 -- One pass over all requests leaves at each place what the requests to it alone would.
 use Rattle.std.proofs.Common.{◌≡◌, ℕ, ◌+◌, ◌<◌, ◌≤◌, ◌==◌, Bool, cond, List, [], ◌∷◌, ◌++◌, map, filter, fold, take, length, set, replicate, All, refl, sym, ◌∙◌, ap, arith, get_or, subst, inl, inr, ◌⊎◌, append_assoc, append-nil}
-use Rattle.std.proofs.lemmas.Bool.{eq-eqb, ne_eqb, cases_eq}
-use Rattle.std.proofs.lemmas.List.{length-set, length-map, length-replicate, get_or-map, get_or-replicate, get_or-set_same, get_or-set_other, ext_get_or}
+use Rattle.std.proofs.lemmas.Bool.{eq-eqb, ne_eqb, cases_eq, cases_lt}
+use Rattle.std.proofs.lemmas.List.{length-set, length-map, length-replicate, get_or_past, get_or-map, get_or-replicate, get_or-set_same, get_or-set_other, ext_get_or}
 use Rattle.std.proofs.lemmas.List.Elements.{All-head, All-tail}
 use Rattle.std.proofs.lemmas.Grind.{fold-append}
 use Rattle.std.proofs.lemmas.List.Folds.{fold-map}
 use Rattle.bsp_model.specs.declared.request.Put.{Put}
 use Rattle.bsp_model.specs.declared.request.Send.{Send}
 use Rattle.bsp_model.specs.declared.request.Message.{Message}
-use Rattle.bsp_step.specs.OutcomeParts.{OutcomeParts}
-use Rattle.bsp_deliver.specs.Requests.{requests_from, all_puts, all_sends}
+use Rattle.bsp_model.specs.Columns.{row_at}
+use Rattle.bsp_model.specs.declared.request.Get.{Get}
+use Rattle.bsp_step.specs.OutcomeParts.{OutcomeParts, outcome_of, no_outcome}
+use Rattle.bsp_deliver.specs.Requests.{requests_from, all_puts, all_sends, words_read}
 use Rattle.bsp_deliver.specs.Delivery.{get_write, put_write, message_of, delivery_parts, next_memory, next_queue}
 use Rattle.bsp_deliver.specs.Inside.Gathering.{overlay, changed_at, put_into, sent_into, put_at, sent_at, ArePlaces}
 use Rattle.bsp_deliver.specs.Condition.{sizes_of, IsPutInside, AreDeliverable, IsAscending}
 use Rattle.bsp_deliver.proofs.Writes.{overlay-none, overlay-overlay, length-overlay, memory_written-overlay, overlay-next_memory}
 use Rattle.bsp_deliver.proofs.Senders.{requests_of-more, all_requests, puts_inside, sizes-outcome_of, length-sizes_of}
+
+-- rows without items
+pub empty_rows : {X : Type 0} (count k : ℕ) → row_at (replicate {A = List X} count []) k ≡ []
+empty_rows {X = X} count k =
+    elim (cases_lt k count) [
+      | inl below ↦ get_or-replicate count k [] [] below
+      | inr past ↦ get_or_past (replicate {A = List X} count []) k [] (omega (arith, past, length-replicate {A = List X} count []))
+    ]
 
 -- one request more, at one place
 changed_one : {S R : Type 0} (step : S → R → S) (none : S) (place : R → ℕ) (items : List S) (r : R) (rs : List R) (k : ℕ) → k < length items
@@ -180,3 +190,18 @@ placed_all n i ps places l h = record {
     λ e. subst (λ x. get_or places x 0 ≡ k) e (h.here k (omega (arith, lk, l))),
   );
 }
+
+-- where nobody reads anything, the memories after computing stay as they are
+
+one_unread : (os : List OutcomeParts) (d : ℕ) → (outcome_of os d).gets ≡ [] → (outcome_of os d).memory ≡ overlay (delivery_parts os d).memory (map get_write (delivery_parts os d).gets)
+unfolding delivery_parts
+one_unread os d none =
+    let o = outcome_of os d in
+    sym (overlay-none o.memory) ∙ ap (λ (gs : List Get). overlay o.memory (map get_write (map (λ (g : Get). (g, words_read os g)) gs))) (sym none)
+
+pub all_unread : (os : List OutcomeParts) (ps : List ℕ) → All (λ (o : OutcomeParts). o.gets ≡ []) os → All (λ d. d < length os) ps
+    → map (λ p. (outcome_of os p).memory) ps ≡ map (λ d. overlay (delivery_parts os d).memory (map get_write (delivery_parts os d).gets)) ps
+all_unread os [] none known = refl
+all_unread os (p ∷ ps) none known =
+    ap (λ (m : List ℕ). m ∷ map (λ q. (outcome_of os q).memory) ps) (one_unread os p (none p no_outcome (All-head (λ d. d < length os) p ps known)))
+    ∙ ap (λ (ms : List (List ℕ)). overlay (delivery_parts os p).memory (map get_write (delivery_parts os p).gets) ∷ ms) (all_unread os ps none (All-tail (λ d. d < length os) p ps known))

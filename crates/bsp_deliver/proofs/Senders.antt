@@ -1,14 +1,15 @@
 -- Requests of several senders, and facts of the outcomes that are read one by one.
 use Rattle.std.proofs.Common.{◌≡◌, ℕ, ◌+◌, ◌<◌, ◌≤◌, ◌==◌, Bool, true, false, cond, List, [], ◌∷◌, ◌++◌, map, filter, take, length, All, refl, sym, ◌∙◌, ap, arith, get_or, subst, append_assoc, append-nil, Some}
 use Rattle.std.specs.Prelude.{slice_get}
+use Rattle.std.specs.Bool.{OnTrue}
 use Rattle.std.proofs.lemmas.Option.{get_or_from_slice_get}
 use Rattle.std.proofs.lemmas.List.{take_more, map-append, get_or-map, get_or_default, length-map}
 use Rattle.std.proofs.lemmas.List.Elements.{filter_more, filter-append, filter_passes, All-nil, All-append, All-map, All-head, All-tail, All-filter}
-use Rattle.std.proofs.lemmas.Bool.{eqb-true}
+use Rattle.std.proofs.lemmas.Bool.{eqb-true, OnTrue_at}
 use Rattle.std.proofs.lemmas.Grind.{common_steps}
 use Rattle.bsp_model.specs.declared.request.Put.{Put}
 use Rattle.bsp_step.specs.OutcomeParts.{OutcomeParts, no_outcome, outcome_of}
-use Rattle.bsp_deliver.specs.Requests.{requests_from, all_puts}
+use Rattle.bsp_deliver.specs.Requests.{requests_from, all_puts, all_sends}
 use Rattle.bsp_deliver.specs.Delivery.{delivery_parts}
 use Rattle.bsp_deliver.specs.Condition.{sizes_of, IsPutInside, AreRequestsInside, AreDeliverable}
 use Rattle.bsp_deliver.specs.Inside.Comparison.{IsReadable}
@@ -16,6 +17,17 @@ use Rattle.bsp_deliver.specs.Inside.Comparison.{IsReadable}
 -- a fact of each element, at the one that was read
 pub at_item : {X : Type 0} (P : X → Type 0) (xs : List X) (i : ℕ) (x : X) → All P xs → i < length xs → x ≡ get_or xs i x → P x
 at_item P xs i x h l e = subst P (sym e) (h i x l)
+
+-- where no sender has a request
+no_requests : {R : Type 0} (of : OutcomeParts → List R) (n : ℕ) (os : List OutcomeParts) → All (λ o. of o ≡ []) os → requests_from of n os ≡ []
+no_requests of n [] none = refl
+no_requests of n (o ∷ os) none =
+    ap (λ rs. map (λ r. (n, r)) rs ++ requests_from of (n + 1) os) (All-head (λ o. of o ≡ []) o os none)
+    ∙ no_requests of (n + 1) os (All-tail (λ o. of o ≡ []) o os none)
+
+pub none_sent : (os : List OutcomeParts) (nobody : Bool) → nobody ≡ true → OnTrue nobody (All (λ (o : OutcomeParts). o.sends ≡ []) os) → all_sends os ≡ []
+unfolding all_sends
+none_sent os nobody is none = no_requests (λ o. o.sends) 0 os (OnTrue_at is none)
 
 -- what stands at a place, as it is read there
 pub item_at : {X : Type 0} (xs : List X) (i : ℕ) (x : X) → slice_get xs i ≡ Some x → x ≡ get_or xs i x

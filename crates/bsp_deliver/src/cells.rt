@@ -93,8 +93,9 @@ impl Cells {
         ensures ok { OnOk result (self.new ≡ self.old ++ (memory, queue) ∷ []) }
         ensures err { OnErr result (self.new ≡ self.old) }
     {
+        let mut memory = memory;
         self.queues.put(self.memories.len(), queue)?;
-        self.memories.push(memory)?;
+        self.memories.push_from(&mut memory)?;
         Ok(())
     }
 

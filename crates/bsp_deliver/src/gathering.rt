@@ -1,7 +1,6 @@
 //! What a superstep's end brings to several processes, in one pass over all requests.
 
 ghost use Rattle.std.specs.Prelude.{◌≡◌, ◌<◌, ℕ, All, IfOk, OnOk, length, map, fold, replicate, []};
-ghost use Rattle.std.specs.Bool.{OnFalse};
 ghost use Rattle.bsp_model.specs.Columns.{row_at};
 ghost use Rattle.bsp_deliver.specs.Requests.{all_puts, all_sends};
 ghost use Rattle.bsp_deliver.specs.Delivery.{get_write, delivery_parts, next_memory, next_queue};
@@ -13,7 +12,7 @@ use crate::delivery::{deliver, message};
 use crate::lists::empty_lists;
 use crate::writing::memories_after;
 use bsp_model::{Message, OutOfMemory, SendsRef, Seq, SharedColumn};
-use bsp_step::Outcomes;
+use bsp_step::{ListKind, Outcomes};
 use std::alloc::Global;
 
 /// Where each of so many processes stands in the list. Those that aren't in it stand past its end.
@@ -67,19 +66,6 @@ fn add_all_messages(
     Ok(())
 }
 
-/// Whether any process sends a message.
-fn is_any_sent(outcomes: &Outcomes) -> bool
-    ensures { OnFalse result (all_sends outcomes.now ≡ []) }
-{
-    for sender in 0..outcomes.len() {
-        let own = outcomes.sends(sender);
-        if !own.is_empty() {
-            return true;
-        }
-    }
-    false
-}
-
 /// These queues, which their copies share from now on.
 fn shared_queues(
     alloc: Global,
@@ -108,7 +94,7 @@ fn queues_after(
     ensures { IfOk result (λ queues. (k : ℕ) → row_at queues k
         ≡ row_at (fold (λ qs s. sent_at places.now qs s.1) (replicate count []) (all_sends outcomes.now)) k) }
 {
-    if !is_any_sent(outcomes) {
+    if outcomes.is_without(ListKind::Sends) {
         return Ok(SharedColumn::new(alloc));
     }
     let mut queues = empty_lists(alloc, count)?;

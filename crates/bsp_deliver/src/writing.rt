@@ -4,12 +4,12 @@ ghost use Rattle.std.specs.Prelude.{◌≡◌, ◌+◌, ◌<◌, ◌≤◌, ◌+
 ghost use Rattle.bsp_deliver.specs.Requests.{all_puts, each_below, words_read};
 ghost use Rattle.bsp_deliver.specs.Delivery.{get_write, delivery_parts};
 ghost use Rattle.bsp_deliver.specs.Inside.Gathering.{overlay, put_at, ArePlaces};
-ghost use Rattle.bsp_deliver.specs.Condition.{AreDeliverable, AreRequestsInside, IsGetInside, sizes_of};
+ghost use Rattle.bsp_deliver.specs.Condition.{AreDeliverable, AreRequestsInside, IsAscending, IsGetInside, sizes_of};
 
 use crate::delivery::{piece_at, words_at};
 use bsp_model::limits::MOST_MEMORY_WORDS;
 use bsp_model::{Get, Memories, OutOfMemory, PutsRef};
-use bsp_step::Outcomes;
+use bsp_step::{ListKind, Outcomes};
 use std::alloc::Global;
 
 /// Writes the words that a get reads to the memory at the reader's place.
@@ -82,8 +82,12 @@ fn memories_with_gets(
 ) -> Result<Memories, OutOfMemory>
     requires deliverable { AreDeliverable outcomes.now }
     requires known { All (λ d. d < length outcomes.now) processes.now }
+    requires ascending { IsAscending processes.now }
     ensures { IfOk result (λ memories. memories ≡ map (λ d. overlay (delivery_parts outcomes.now d).memory (map get_write (delivery_parts outcomes.now d).gets)) processes.now) }
 {
+    if outcomes.is_without(ListKind::Gets) {
+        return Ok(outcomes.memories_of(alloc, processes)?);
+    }
     let mut memories = outcomes.room_for_memories(alloc, processes.len())?;
     for process in processes {
         add_memory(alloc, &mut memories, *process, outcomes)?;
@@ -136,6 +140,7 @@ pub(crate) fn memories_after(
 ) -> Result<Memories, OutOfMemory>
     requires deliverable { AreDeliverable outcomes.now }
     requires known { All (λ d. d < length outcomes.now) processes.now }
+    requires ascending { IsAscending processes.now }
     requires places { ArePlaces (length outcomes.now) processes.now places.now }
     ensures { IfOk result (λ memories. memories ≡ fold (λ ms s. put_at places.now ms s.1) (map (λ d. overlay (delivery_parts outcomes.now d).memory (map get_write (delivery_parts outcomes.now d).gets)) processes.now) (all_puts outcomes.now)) }
 {

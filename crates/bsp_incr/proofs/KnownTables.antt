@@ -18,8 +18,8 @@ use Rattle.bsp_run.proofs.Conditions.{view-views_of}
 use Rattle.bsp_run.proofs.Runs.{turns_closed}
 use Rattle.bsp_run.proofs.Records.{superstep, state_at-next, count-next, count-views_in, open_views-in, past-delivered}
 use Rattle.bsp_run.proofs.Laws.{taken-opened}
-use Rattle.bsp_incr.specs.declared.known_table.KnownTable.{KnownTable}
-use Rattle.bsp_incr.specs.declared.known_table.KnownTable.TheVariants.{AsBefore, Unknown}
+use Rattle.bsp_incr.specs.declared.compare.known_table.KnownTable.{KnownTable}
+use Rattle.bsp_incr.specs.declared.compare.known_table.KnownTable.TheVariants.{AsBefore, Unknown}
 use Rattle.bsp_incr.specs.Inside.Alike.{AllEndAlike}
 use Rattle.bsp_incr.specs.Inside.Before.{taken_before, delivered_outcomes, views_after, IsBefore}
 use Rattle.bsp_incr.specs.Inside.Known.{HaveSameTable, IsKnown, KnowsTable, KnowsNextTable}

@@ -1,7 +1,7 @@
 -- What edits replaced, put back one after the other.
 use Rattle.std.proofs.Common.{◌≡◌, List, [], ◌∷◌, ◌++◌, refl, ap}
 use Rattle.bsp_model.specs.declared.input.Input.{Input}
-use Rattle.bsp_incr.specs.declared.former.Former.{Former}
+use Rattle.bsp_incr.specs.declared.edit.former.Former.{Former}
 use Rattle.bsp_incr.specs.Inside.Formers.{with_former, restored}
 
 -- what came last is put back first

@@ -9,3 +9,5 @@ pub mod Marking
 pub mod Alike
 pub mod Stays
 pub mod Known
+pub mod Given
+pub mod OpenSuperstep

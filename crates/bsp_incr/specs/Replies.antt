@@ -12,8 +12,8 @@ use Rattle.bsp_incr.specs.declared.edit.EditRefusal.{EditRefusal}
 use Rattle.bsp_incr.specs.declared.reply.Update.{Update}
 use Rattle.bsp_incr.specs.declared.reply.Reply.{Reply}
 use Rattle.bsp_incr.specs.declared.reply.Reply.TheVariants.{Done, Refused}
-use Rattle.bsp_incr.specs.declared.error.EditError.{EditError}
-use Rattle.bsp_incr.specs.declared.error.EditError.TheVariants as error
+use Rattle.bsp_incr.specs.declared.edit.error.EditError.{EditError}
+use Rattle.bsp_incr.specs.declared.edit.error.EditError.TheVariants as error
 use Rattle.bsp_incr.specs.Edits.{refusal_of, edited}
 use Rattle.bsp_incr.specs.Exact.{IsExact}
 

@@ -2,38 +2,42 @@
 
 ghost use Rattle.std.specs.Prelude.{◌≡◌, IfOk, OnOk, OnErr, None, Some, option_map};
 ghost use Rattle.bsp_model.specs.Input.{input_fault};
-ghost use Rattle.bsp_step.specs.Turn.{turn_of};
 ghost use Rattle.bsp_run.specs.Run.{run};
 ghost use Rattle.bsp_run.specs.Law.{IsBspRun};
 ghost use Rattle.bsp_incr.specs.Inside.Changes.{update_of};
 ghost use Rattle.bsp_incr.specs.Edits.{refusal_of, edited};
 ghost use Rattle.bsp_incr.specs.Inside.Before.{IsBefore, IsBeforeEdits, AreArgsMarked, AreFirstMarked};
+ghost use Rattle.bsp_incr.specs.Inside.Given.{turn_by};
 
-use crate::counts::Counts;
-use crate::editing::make_edits;
-use crate::finishing::finished;
-use crate::former::restore;
-use crate::given::Given;
-use crate::known_table::KnownTable;
-use crate::marks::{Marks, marks_of_edits};
-use crate::opening::opened;
-use crate::places::processes_where;
+mod counts;
+mod executor;
+mod finishing;
+mod given;
+mod opening;
+mod under_way;
+mod workers;
+
+use crate::compare::{Marks, marks_of_edits, processes_where};
+use crate::edit::{make_edits, restore};
+use crate::rerun::finishing::finished;
+use crate::rerun::opening::opened;
 use crate::superstep::advance;
-use crate::workers::Workers;
 use crate::{Edit, Update};
-use bsp_model::{Input, OutOfMemory, Seq};
+use bsp_model::{Input, OutOfMemory};
 use bsp_pool::Gate;
 use bsp_run::History;
 use bsp_step::Program;
-use std::alloc::Global;
+pub use counts::Counts;
+pub use executor::Executor;
+pub use given::Given;
 use std::thread::Threads;
+pub use under_way::UnderWay;
+pub use workers::Workers;
 
 /// The run of a program on a lawful input, made against the run before, if there was one, of the same program and as many processes: a turn is
 /// taken only where the recorded one does not serve, and a delivery is made only where it depends on something else.
 pub fn rerun<P: Program, G: Gate, R: Threads + Sync>(
-    workers: &Workers<'_, R, G>,
-    alloc: Global,
-    program: &P,
+    executor: &Executor<'_, P, R, G>,
     old: Option<&History>,
     input: &Input,
     marks: Marks,
@@ -42,40 +46,38 @@ pub fn rerun<P: Program, G: Gate, R: Threads + Sync>(
     requires lawful { input_fault input.now ≡ None }
     requires args { AreArgsMarked (option_map (λ k. k.now) old) input.now marks.args.items }
     requires first { AreFirstMarked (option_map (λ k. k.now) old) input.now marks.first.items }
-    requires before { IsBefore (turn_of (P.acts program.now) (P.ending program.now)) input.now (option_map (λ k. k.now) old) }
-    ensures run { IfOk result (λ r. r.0 ≡ run (turn_of (P.acts program.now) (P.ending program.now)) input.now) }
-    ensures update { IfOk result (λ r. r.1 ≡ update_of (P.looks program.now) (option_map (λ k. k.now) old.entry) r.0) }
+    requires before { IsBefore (turn_by P.Program executor.now.program.now) input.now (option_map (λ k. k.now) old) }
+    ensures run { IfOk result (λ r. r.0 ≡ run (turn_by P.Program executor.now.program.now) input.now) }
+    ensures update { IfOk result
+        (λ r. r.1 ≡ update_of (P.looks executor.now.program.now) (option_map (λ k. k.now) old.entry) r.0) }
 {
+    let alloc = executor.alloc;
     let Marks {
         args: always,
-        first: mut marks,
+        first,
     } = marks;
     let other_args = processes_where(alloc, always.as_slice())?;
-    let mut update = Update {
-        executed: Seq::new(alloc),
-        redelivered: Seq::new(alloc),
-    };
     let given = Given {
-        workers,
+        workers: executor.workers,
         alloc,
-        program,
+        program: executor.program,
         input,
         old,
         always: always.as_slice(),
         other_args: other_args.as_slice(),
     };
-    let mut tape = opened(&given, marks.as_slice())?;
-    let mut table = KnownTable::Unknown;
+    let mut tape = opened(&given, first.as_slice())?;
+    let mut under_way = UnderWay::new(alloc, first, *counts);
     while tape.is_open() {
-        advance(
-            &given,
-            &mut tape,
-            &mut marks,
-            &mut table,
-            &mut update,
-            counts,
-        )?;
+        advance(&given, &mut tape, &mut under_way)?;
     }
+    let UnderWay {
+        marks: _,
+        table: _,
+        update,
+        counts: spent,
+    } = under_way;
+    *counts = spent;
     let executed = update.executed.as_slice();
     let history = finished(alloc, old, tape, input.mems.len(), executed)?;
     Ok((history, update))
@@ -83,28 +85,24 @@ pub fn rerun<P: Program, G: Gate, R: Threads + Sync>(
 
 /// The run of an edited input, made against the run of the input as it was.
 fn rerun_from_edits<P: Program, G: Gate, R: Threads + Sync>(
-    workers: &Workers<'_, R, G>,
-    alloc: Global,
-    program: &P,
+    executor: &Executor<'_, P, R, G>,
     old: &History,
     input: &Input,
     edits: &[Edit],
     counts: &mut Counts,
 ) -> Result<(History, Update), OutOfMemory>
     requires lawful { input_fault input.now ≡ None }
-    requires before { IsBeforeEdits (turn_of (P.acts program.now) (P.ending program.now)) edits.now input.now old.now }
-    ensures run { IfOk result (λ r. r.0 ≡ run (turn_of (P.acts program.now) (P.ending program.now)) input.now) }
-    ensures update { IfOk result (λ r. r.1 ≡ update_of (P.looks program.now) (Some old.now) r.0) }
+    requires before { IsBeforeEdits (turn_by P.Program executor.now.program.now) edits.now input.now old.now }
+    ensures run { IfOk result (λ r. r.0 ≡ run (turn_by P.Program executor.now.program.now) input.now) }
+    ensures update { IfOk result (λ r. r.1 ≡ update_of (P.looks executor.now.program.now) (Some old.now) r.0) }
 {
-    let marks = marks_of_edits(alloc, old, input, edits)?;
-    rerun(workers, alloc, program, Some(old), input, marks, counts)
+    let marks = marks_of_edits(executor.alloc, old, input, edits)?;
+    rerun(executor, Some(old), input, marks, counts)
 }
 
 /// Edits an input and makes its run again, against the run of the input as it was. After `OutOfMemory` the input is as before.
 pub fn rerun_edited<P: Program, G: Gate, R: Threads + Sync>(
-    workers: &Workers<'_, R, G>,
-    alloc: Global,
-    program: &P,
+    executor: &Executor<'_, P, R, G>,
     old: &History,
     input: &mut Input,
     edits: &[Edit],
@@ -112,14 +110,15 @@ pub fn rerun_edited<P: Program, G: Gate, R: Threads + Sync>(
 ) -> Result<(History, Update), OutOfMemory>
     requires lawful { input_fault input.old ≡ None }
     requires accepted { refusal_of input.old edits.now ≡ None }
-    requires before { IsBspRun (turn_of (P.acts program.now) (P.ending program.now)) input.old old.now }
+    requires before { IsBspRun (turn_by P.Program executor.now.program.now) input.old old.now }
     ensures given { OnOk result (input.new ≡ edited input.old edits.now) }
-    ensures run { IfOk result (λ r. r.0 ≡ run (turn_of (P.acts program.now) (P.ending program.now)) (edited input.old edits.now)) }
-    ensures update { IfOk result (λ r. r.1 ≡ update_of (P.looks program.now) (Some old.now) r.0) }
+    ensures run { IfOk result
+        (λ r. r.0 ≡ run (turn_by P.Program executor.now.program.now) (edited input.old edits.now)) }
+    ensures update { IfOk result (λ r. r.1 ≡ update_of (P.looks executor.now.program.now) (Some old.now) r.0) }
     ensures err { OnErr result (input.new ≡ input.old) }
 {
-    let formers = make_edits(alloc, input, edits)?;
-    match rerun_from_edits(workers, alloc, program, old, input, edits, counts) {
+    let formers = make_edits(executor.alloc, input, edits)?;
+    match rerun_from_edits(executor, old, input, edits, counts) {
         Ok(done) => Ok(done),
         Err(error) => {
             restore(input, formers);

@@ -1,15 +1,16 @@
 //! Sessions.
 
-use crate::counts::Counts;
-use crate::editing::{are_there, refusal_of};
-use crate::marks::all_marks;
-use crate::rerun::{rerun, rerun_edited};
-use crate::workers::Workers;
+mod replies;
+
+use crate::compare::all_marks;
+use crate::edit::{are_there, refusal_of};
+use crate::rerun::{Counts, Executor, Workers, rerun, rerun_edited};
 use crate::{Edit, EditError, Update};
 use bsp_model::{Input, Seq};
 use bsp_pool::Gate;
 use bsp_run::{History, RunError};
 use bsp_step::Program;
+pub use replies::{scratch_run, session_run};
 use std::alloc::Global;
 use std::marker::Model;
 use std::thread::Threads;
@@ -73,9 +74,14 @@ impl<P: Program + Drop> Session<P> {
             count: workers,
             gate,
         };
+        let executor = Executor {
+            program: &program,
+            alloc,
+            workers: &workers,
+        };
         let mut counts = Counts::new();
         let marks = all_marks(alloc, &input)?;
-        let (history, update) = rerun(&workers, alloc, &program, None, &input, marks, &mut counts)?;
+        let (history, update) = rerun(&executor, None, &input, marks, &mut counts)?;
         let session = Session {
             program,
             input,
@@ -137,10 +143,13 @@ impl<P: Program + Drop> Session<P> {
             count: workers,
             gate,
         };
-        let (history, update) = rerun_edited(
-            &workers,
+        let executor = Executor {
+            program: &self.program,
             alloc,
-            &self.program,
+            workers: &workers,
+        };
+        let (history, update) = rerun_edited(
+            &executor,
             &self.history,
             &mut self.input,
             edits,

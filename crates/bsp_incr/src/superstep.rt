@@ -1,23 +1,23 @@
 //! One superstep of a run that is made again, against the record of the run before.
 
 ghost use Rattle.std.specs.Prelude.{◌≡◌, ◌<◌, ◌++◌, [], IfOk, IfSome, OnOk, Some, is_some, map, length, option_map, true, false};
-ghost use Rattle.bsp_step.specs.Turn.{turn_of};
 ghost use Rattle.bsp_run.specs.Run.{after_turns, open_views, advance};
 ghost use Rattle.bsp_run.specs.Condition.{AreOutcomesOf, is_open, is_turned};
 ghost use Rattle.bsp_run.specs.Inside.Record.{IsRecord};
 ghost use Rattle.bsp_incr.specs.Inside.Changes.{differ_in};
-ghost use Rattle.bsp_incr.specs.Inside.Before.{taken_before, IsBefore, IsUnderWay};
+ghost use Rattle.bsp_incr.specs.Inside.Given.{run_before, turn_given, looks_given, taken_beside, IsGivenBefore, IsMidway};
 ghost use Rattle.bsp_incr.specs.Inside.Known.{AreDoubtful, KnowsTable, KnowsNextTable};
 
-use crate::alike::ends_as_before;
-use crate::before::{delivered_outcomes, outcomes_before, taken_before};
-use crate::counts::Counts;
-use crate::doubtful::Doubtful;
-use crate::ending::make_deliveries;
-use crate::given::Given;
-use crate::known_table::KnownTable;
-use crate::turns::turns_again;
-use crate::{Place, Update};
+mod deliveries;
+mod ending;
+mod reuse;
+mod turns;
+
+use crate::Place;
+use crate::compare::{Doubtful, KnownTable, delivered_outcomes, ends_as_before, open_superstep};
+use crate::rerun::{Counts, Given, UnderWay};
+use crate::superstep::ending::make_deliveries;
+use crate::superstep::turns::turns_again;
 use bsp_model::{OutOfMemory, Seq};
 use bsp_pool::Gate;
 use bsp_run::{History, Tape};
@@ -33,18 +33,14 @@ fn end_turns<P: Program, G: Gate, R: Threads + Sync>(
     outcomes: Outcomes,
 ) -> Result<Option<KnownTable>, OutOfMemory>
     requires open { is_open tape.old.phase ≡ true }
-    requires before { IsBefore (turn_of (P.acts given.now.program.now) (P.ending given.now.program.now)) given.now.input.now
-        (option_map (λ k. k.now) given.now.old) }
-    requires made { IsRecord (turn_of (P.acts given.now.program.now) (P.ending given.now.program.now)) given.now.input.now
-        tape.old }
-    requires doubtful { AreDoubtful (taken_before (option_map (λ k. k.now) given.now.old) (length tape.old.past))
-        (open_views tape.old) doubtful.now }
-    requires turns { outcomes ≡ map (turn_of (P.acts given.now.program.now) (P.ending given.now.program.now))
-        (open_views tape.old) }
+    requires before { IsGivenBefore given.now }
+    requires made { IsRecord (turn_given given.now) given.now.input.now tape.old }
+    requires doubtful { AreDoubtful (taken_beside given.now tape.old) (open_views tape.old) doubtful.now }
+    requires turns { outcomes ≡ map (turn_given given.now) (open_views tape.old) }
     requires within { AreOutcomesOf (open_views tape.old) outcomes }
     ensures turned { OnOk result (tape.new ≡ after_turns tape.old outcomes) }
     ensures answer { IfOk result (λ next. is_some next ≡ is_turned tape.new.phase) }
-    ensures known { IfOk result (λ next. IfSome next (KnowsNextTable (option_map (λ k. k.now) given.now.old) tape.new)) }
+    ensures known { IfOk result (λ next. IfSome next (KnowsNextTable (run_before given.now) tape.new)) }
 {
     let before = delivered_outcomes(given.old, tape.step());
     if ends_as_before(before, &outcomes, doubtful) {
@@ -67,32 +63,18 @@ fn take_turns<P: Program, G: Gate, R: Threads + Sync>(
     counts: &mut Counts,
 ) -> Result<Option<KnownTable>, OutOfMemory>
     requires open { is_open tape.old.phase ≡ true }
-    requires before { IsBefore (turn_of (P.acts given.now.program.now) (P.ending given.now.program.now)) given.now.input.now
-        (option_map (λ k. k.now) given.now.old) }
-    requires made { IsRecord (turn_of (P.acts given.now.program.now) (P.ending given.now.program.now)) given.now.input.now
-        tape.old }
-    requires doubtful { AreDoubtful (taken_before (option_map (λ k. k.now) given.now.old) (length tape.old.past))
-        (open_views tape.old) doubtful.now }
-    ensures turned { OnOk result (tape.new ≡ after_turns tape.old (map (turn_of (P.acts given.now.program.now) (P.ending given.now.program.now)) (open_views tape.old))) }
+    requires before { IsGivenBefore given.now }
+    requires made { IsRecord (turn_given given.now) given.now.input.now tape.old }
+    requires doubtful { AreDoubtful (taken_beside given.now tape.old) (open_views tape.old) doubtful.now }
+    ensures turned { OnOk result (tape.new ≡ after_turns tape.old (map (turn_given given.now) (open_views tape.old))) }
     ensures answer { IfOk result (λ next. is_some next ≡ is_turned tape.new.phase) }
-    ensures known { IfOk result (λ next. IfSome next (KnowsNextTable (option_map (λ k. k.now) given.now.old) tape.new)) }
-    ensures executed { OnOk result (executed.new ≡ executed.old ++ differ_in (P.looks given.now.program.now) (length tape.old.past) (taken_before (option_map (λ k. k.now) given.now.old) (length tape.old.past)) (open_views tape.old)) }
+    ensures known { IfOk result (λ next. IfSome next (KnowsNextTable (run_before given.now) tape.new)) }
+    ensures executed { OnOk result (executed.new ≡ executed.old
+        ++ differ_in (looks_given given.now) (length tape.old.past) (taken_beside given.now tape.old)
+        (open_views tape.old)) }
 {
-    let step = tape.step();
-    let old_views = taken_before(given.old, step);
-    let old_outcomes = outcomes_before(given.old, step);
-    let outcomes = turns_again(
-        given.workers,
-        given.alloc,
-        given.program,
-        step as u64,
-        &old_views,
-        old_outcomes,
-        tape.open_views(),
-        doubtful,
-        executed,
-        counts,
-    )?;
+    let superstep = open_superstep(given, tape);
+    let outcomes = turns_again(given, &superstep, doubtful, executed, counts)?;
     end_turns(given, tape, doubtful, outcomes)
 }
 
@@ -101,39 +83,27 @@ fn make_again<P: Program, G: Gate, R: Threads + Sync>(
     given: &Given<'_, P, R, G>,
     tape: &mut Tape,
     doubtful: &Doubtful,
-    marks: &mut Vec<bool>,
-    table: &mut KnownTable,
-    update: &mut Update,
-    counts: &mut Counts,
+    under_way: &mut UnderWay,
 ) -> Result<(), OutOfMemory>
     requires open { is_open tape.old.phase ≡ true }
-    requires doubtful { AreDoubtful (taken_before (option_map (λ k. k.now) given.now.old) (length tape.old.past))
-        (open_views tape.old) doubtful.now }
-    requires under_way { IsUnderWay (turn_of (P.acts given.now.program.now) (P.ending given.now.program.now)) (P.looks given.now.program.now) (option_map (λ k. k.now) given.now.old) given.now.input.now tape.old marks.old.items update.old }
-    ensures tape { OnOk result (tape.new ≡ advance (turn_of (P.acts given.now.program.now) (P.ending given.now.program.now)) tape.old) }
-    ensures under_way { OnOk result (IsUnderWay (turn_of (P.acts given.now.program.now) (P.ending given.now.program.now)) (P.looks given.now.program.now) (option_map (λ k. k.now) given.now.old) given.now.input.now tape.new marks.new.items update.new) }
-    ensures table { OnOk result (KnowsTable (option_map (λ k. k.now) given.now.old) tape.new table.new) }
+    requires doubtful { AreDoubtful (taken_beside given.now tape.old) (open_views tape.old) doubtful.now }
+    requires under_way { IsMidway given.now tape.old under_way.old }
+    ensures tape { OnOk result (tape.new ≡ advance (turn_given given.now) tape.old) }
+    ensures under_way { OnOk result (IsMidway given.now tape.new under_way.new) }
+    ensures table { OnOk result (KnowsTable (run_before given.now) tape.new under_way.new.table) }
 {
-    let Some(known) = take_turns(given, tape, doubtful, &mut update.executed, counts)? else {
+    let executed = &mut under_way.update.executed;
+    let Some(known) = take_turns(given, tape, doubtful, executed, &mut under_way.counts)? else {
         return Ok(());
     };
-    let processes = doubtful.processes.as_slice();
-    let next = make_deliveries(
-        given,
-        tape,
-        processes,
-        known,
-        &mut update.redelivered,
-        counts,
-    )?;
-    *marks = next.0;
-    *table = next.1;
+    make_deliveries(given, tape, doubtful.processes.as_slice(), known, under_way)?;
     Ok(())
 }
 
 /// The run before, where its superstep ended by delivery and nobody sees something else in it.
 fn taken_whole<'a>(old: Option<&'a History>, step: usize, doubtful: &[usize]) -> Option<&'a History>
-    ensures { IfSome result (λ h. (doubtful.now ≡ []) × (step < length h.now.past) × (option_map (λ k. k.now) old.entry ≡ Some h.now)) }
+    ensures { IfSome result (λ h. (doubtful.now ≡ []) × (step < length h.now.past)
+        × (option_map (λ k. k.now) old.entry ≡ Some h.now)) }
 {
     match old {
         Some(history) if doubtful.is_empty() && step < history.past().len() => Some(history),
@@ -146,34 +116,25 @@ fn taken_whole<'a>(old: Option<&'a History>, step: usize, doubtful: &[usize]) ->
 pub fn advance<P: Program, G: Gate, R: Threads + Sync>(
     given: &Given<'_, P, R, G>,
     tape: &mut Tape,
-    marks: &mut Vec<bool>,
-    table: &mut KnownTable,
-    update: &mut Update,
-    counts: &mut Counts,
+    under_way: &mut UnderWay,
 ) -> Result<(), OutOfMemory>
     requires between { is_turned tape.old.phase ≡ false }
-    requires under_way { IsUnderWay (turn_of (P.acts given.now.program.now) (P.ending given.now.program.now)) (P.looks given.now.program.now) (option_map (λ k. k.now) given.now.old) given.now.input.now tape.old marks.old.items update.old }
-    requires table { KnowsTable (option_map (λ k. k.now) given.now.old) tape.old table.old }
-    ensures tape { OnOk result (tape.new ≡ advance (turn_of (P.acts given.now.program.now) (P.ending given.now.program.now)) tape.old) }
-    ensures under_way { OnOk result (IsUnderWay (turn_of (P.acts given.now.program.now) (P.ending given.now.program.now)) (P.looks given.now.program.now) (option_map (λ k. k.now) given.now.old) given.now.input.now tape.new marks.new.items update.new) }
-    ensures table { OnOk result (KnowsTable (option_map (λ k. k.now) given.now.old) tape.new table.new) }
+    requires under_way { IsMidway given.now tape.old under_way.old }
+    requires table { KnowsTable (run_before given.now) tape.old under_way.old.table }
+    ensures tape { OnOk result (tape.new ≡ advance (turn_given given.now) tape.old) }
+    ensures under_way { OnOk result (IsMidway given.now tape.new under_way.new) }
+    ensures table { OnOk result (KnowsTable (run_before given.now) tape.new under_way.new.table) }
 {
     if !tape.is_open() {
         return Ok(());
     }
-    let step = tape.step();
-    let old_views = taken_before(given.old, step);
-    let doubtful = Doubtful::among(
-        given.alloc,
-        &old_views,
-        tape.open_views(),
-        marks.as_slice(),
-        *table,
-    )?;
-    if let Some(history) = taken_whole(given.old, step, doubtful.processes.as_slice()) {
+    let superstep = open_superstep(given, tape);
+    let marks = under_way.marks.as_slice();
+    let doubtful = Doubtful::among(given.alloc, &superstep, marks, under_way.table)?;
+    if let Some(history) = taken_whole(given.old, tape.step(), doubtful.processes.as_slice()) {
         tape.take_over(history)?;
-        *table = KnownTable::AsBefore;
+        under_way.table = KnownTable::AsBefore;
         return Ok(());
     }
-    make_again(given, tape, &doubtful, marks, table, update, counts)
+    make_again(given, tape, &doubtful, under_way)
 }

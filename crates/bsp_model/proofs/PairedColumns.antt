@@ -1,10 +1,11 @@
 -- Columns in which a row stands for what the two rows of a process are together.
 use Rattle.std.proofs.Common.{◌≡◌, inl, inr, ℕ, zero, suc, List, [], ◌∷◌, refl, sym, ap, ◌∙◌, subst, arith}
+use Rattle.std.specs.Prelude.{◌&&◌, length, nat_eq}
 use Rattle.std.proofs.lemmas.Bool.{cases_lt}
+use Rattle.std.proofs.lemmas.Bool.Decides.{nat_tests}
 use Rattle.bsp_model.specs.Columns.{row_at, AreCut, IsPut, AreTaken}
 use Rattle.bsp_model.specs.Inside.Columns.{pair_at, paired, puts_of, sends_of, AreSends}
 use Rattle.bsp_model.specs.Inside.HeadedRows.{rows_from}
-use Rattle.bsp_model.specs.Inside.Ranges.{stores_of}
 
 -- two rows without items
 
@@ -20,10 +21,6 @@ pub AreSends-none : AreSends [] []
 unfolding rows_from
 AreSends-none = (refl, λ k d within. absurd (omega (arith, within)))
 
-pub no_stores : stores_of [] [] ≡ []
-unfolding stores_of
-no_stores = refl
-
 -- what the two rows of a process stand for
 row_at-paired : {A B X : Type 0} (f : List A → List B → List X) (firsts : List (List A)) (seconds : List (List B)) (k : ℕ) → f [] [] ≡ [] → row_at (paired f firsts seconds) k ≡ f (row_at firsts k) (row_at seconds k)
 row_at-paired f [] [] k none = sym none
@@ -33,6 +30,13 @@ row_at-paired f (a ∷ firsts) [] zero none = refl
 row_at-paired f (a ∷ firsts) [] (suc k) none = row_at-paired f firsts [] k none
 row_at-paired f (a ∷ firsts) (b ∷ seconds) zero none = refl
 row_at-paired f (a ∷ firsts) (b ∷ seconds) (suc k) none = row_at-paired f firsts seconds k none
+
+-- no rows of either kind stand for no rows
+pub none-paired : {A B X : Type 0} (f : List A → List B → List X) (firsts : List (List A)) (seconds : List (List B)) → (nat_eq (length firsts) 0 && nat_eq (length seconds) 0) ≡ nat_eq (length (paired f firsts seconds)) 0
+none-paired f [] [] = refl
+none-paired f [] (b ∷ seconds) = grind (arith, nat_tests)
+none-paired f (a ∷ firsts) [] = grind (arith, nat_tests)
+none-paired f (a ∷ firsts) (b ∷ seconds) = grind (arith, nat_tests)
 
 -- the row of a process, where it is known what the two rows are
 pub row_from-pair : {A B X : Type 0} (f : List A → List B → List X) (pairs : (List (List A)) × (List (List B))) (rows : List (List X)) (k : ℕ) (pair : (List A) × (List B)) → f [] [] ≡ [] → paired f pairs.0 pairs.1 ≡ rows → pair ≡ pair_at pairs k

@@ -5,7 +5,8 @@ use Rattle.std.specs.List.{Contains}
 use Rattle.std.proofs.lemmas.Bool.{cases_eq}
 use Rattle.std.proofs.Math.ListN.{length-set}
 use Rattle.std.proofs.Math.Seq.{set-append_seam, drop-cons}
-use Rattle.std.proofs.lemmas.List.{length-append, take_rest, drop_all, map-set, get_or-set_same, get_or-set_other}
+use Rattle.std.proofs.lemmas.List.{ext_get_or, length-map, get_or-map, length-append, take_rest, drop_all, map-set, get_or-set_same, get_or-set_other}
+use Rattle.std.proofs.lemmas.List.Elements.{All-set}
 use Rattle.std.proofs.lemmas.List.Folds.{drop_split}
 use Rattle.std.proofs.lemmas.List.Edits.{length-between}
 use Rattle.bsp_model.specs.Replaced.{replaced, IsAscending}
@@ -97,6 +98,41 @@ replaced-there items (p ∷ ps) (x ∷ xs) zero d ascending inside new within =
     replaced-elsewhere (slice_set items p x) ps xs p d (first-below p ps ascending) ∙ get_or-set_same items p x d within
 replaced-there items (p ∷ ps) (x ∷ xs) (suc k) d ascending inside new within =
     replaced-there (slice_set items p x) ps xs k d (later-ascending p ps ascending) (omega arith) (omega arith) (omega (arith, within, length-set items p x))
+
+-- as many places as there are items, in ascending order, are all of them
+
+above_first : (ps : List ℕ) (k : ℕ) → IsAscending ps → k < length ps → k ≤ get_or ps k 0
+above_first ps zero ascending inside = omega arith
+above_first ps (suc k) ascending inside =
+    omega (arith, above_first ps k ascending (omega (arith, inside)), ascending k (suc k) (omega arith) inside)
+
+below_last : (ps : List ℕ) (k m : ℕ) → IsAscending ps → k + m < length ps → get_or ps k 0 + m ≤ get_or ps (k + m) 0
+below_last ps k zero ascending inside = let same : k + 0 ≡ k = omega arith in omega (arith, ap (λ n. get_or ps n 0) same)
+below_last ps k (suc m) ascending inside =
+    omega (arith, below_last ps k m ascending (omega (arith, inside)), ascending (k + m) (k + suc m) (omega arith) inside)
+
+pub all_places : (ps : List ℕ) (k : ℕ) → All (λ p. p < length ps) ps → IsAscending ps → k < length ps → get_or ps k 0 ≡ k
+all_places ps k known ascending inside =
+    let m = length ps - 1 - k in
+    let last : k + m < length ps = omega (arith, inside) in
+    omega (arith, inside, above_first ps k ascending inside, below_last ps k m ascending last, known (k + m) 0 last)
+
+pub map-all_places : {X Y : Type 0} (f : X → Y) (items : List X) (none : X) (ps : List ℕ) → All (λ p. p < length items) ps → IsAscending ps → length items ≡ length ps → map (λ p. f (get_or items p none)) ps ≡ map f items
+map-all_places f items none ps known ascending count =
+    let g : ℕ → _ = λ p. f (get_or items p none) in
+    ext_get_or (f none) (map g ps) (map f items) (length-map ps g ∙ sym count ∙ sym (length-map items f))
+    (λ k inside.
+    let below : k < length ps = omega (arith, inside, length-map ps g) in
+    get_or-map g ps k 0 (f none) below
+    ∙ ap g (all_places ps k (λ j d l. omega (arith, known j d l, count)) ascending below)
+    ∙ sym (get_or-map f items k none (f none) (omega (arith, below, count))))
+
+-- what holds of all items and of all new ones
+pub All-replaced : {X : Type 0} (P : X → Type 0) (items : List X) (ps : List ℕ) (xs : List X) → All P items → All P xs → All P (replaced items ps xs)
+All-replaced P items [] xs before new = before
+All-replaced P items (p ∷ ps) [] before new = before
+All-replaced P items (p ∷ ps) (x ∷ xs) before new =
+    All-replaced P (slice_set items p x) ps xs (All-set P items p x (new 0 x (omega arith)) before) (λ k d inside. new (suc k) d (omega arith))
 
 -- items that are replaced and then replaced again
 

@@ -7,8 +7,8 @@ ghost use Rattle.bsp_model.specs.Memory.{memory_written};
 mod tests;
 
 use crate::page::{Page, WORDS_OF_A_PAGE};
-use crate::paging::{cut_write, shared_pages, write_row};
-use crate::{Memory, MemoryRef, OutOfMemory, Rows, SharedColumn, SharedSeq};
+use crate::paging::{cut_write, shared_pages, take_pages, write_row};
+use crate::{Memory, MemoryRef, OutOfMemory, Rows, SharedColumn, TryCopy};
 use std::alloc::Global;
 use std::marker::Model;
 
@@ -77,29 +77,21 @@ impl Memories {
         }
     }
 
-    /// Adds the memory of one process more, and answers a memory without words, whose room serves again. After `OutOfMemory` nothing has
-    /// changed.
+    /// Adds the memory of one process more, and takes its words out of `memory`, in which the room for the words behind full pages stays. After
+    /// `OutOfMemory` these memories have not changed, and `memory` may have any words.
     #[inline(always)]
-    pub fn push(&mut self, memory: Memory) -> Result<Memory, OutOfMemory>
-        ensures ok { OnOk result (self.new ≡ self.old ++ memory ∷ []) }
+    pub fn push_from(&mut self, memory: &mut Memory) -> Result<(), OutOfMemory>
+        ensures ok { OnOk result (self.new ≡ self.old ++ memory.old ∷ []) }
         ensures err { OnErr result (self.new ≡ self.old) }
-        ensures empty { IfOk result (λ m. m ≡ []) }
+        ensures rest { OnOk result (memory.new ≡ []) }
     {
-        let Memory {
-            pages,
-            mut last,
-            ..
-        } = memory;
-        let alloc = self.pages.allocator();
-        let full = SharedSeq::from_vec(pages)?;
+        memory.len = memory.last.len();
+        let full = take_pages(&mut memory.pages)?;
         self.pages.put(self.lasts.len(), full)?;
-        self.lasts.push(last.as_slice())?;
-        last.clear();
-        Ok(Memory {
-            pages: Vec::new(alloc),
-            last,
-            len: 0,
-        })
+        self.lasts.push(memory.last.as_slice())?;
+        memory.last.clear();
+        memory.len = 0;
+        Ok(())
     }
 
     /// Adds a copy of a memory, which shares the pages that are full. After `OutOfMemory` nothing has changed.
@@ -146,5 +138,12 @@ impl Memories {
         let pages = pages.with_range(lasts.len(), &more.pages, from, to)?;
         lasts.append_range(&more.lasts.as_ref(), from, to)?;
         Ok(Memories { pages, lasts })
+    }
+}
+
+impl TryCopy for Memories {
+    fn copy(&self) -> Result<Memories, OutOfMemory> {
+        let memories = Memories::with_room_of(self.pages.allocator(), self)?;
+        memories.with_range(self, 0, self.len())
     }
 }

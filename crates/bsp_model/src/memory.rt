@@ -1,6 +1,6 @@
 //! The memory of a process.
 
-ghost use Rattle.std.specs.Prelude.{◌≡◌, ◌+◌, [], length, IfOk, nat_lt, nat_le, slice_set, slice_get, take, drop, OnErr};
+ghost use Rattle.std.specs.Prelude.{◌≡◌, ◌+◌, [], length, IfOk, nat_lt, nat_le, slice_set, slice_get, take, drop, OnErr, OnOk};
 ghost use Rattle.std.specs.Bool.{OnTrue, OnFalse};
 ghost use Rattle.bsp_model.specs.Memory.{memory_written, rest_of_page};
 
@@ -8,7 +8,7 @@ ghost use Rattle.bsp_model.specs.Memory.{memory_written, rest_of_page};
 mod tests;
 
 use crate::page::{Page, WORDS_OF_A_PAGE};
-use crate::paging::{cut_write, full_pages, write_pages};
+use crate::paging::{cut_write, full_pages, load_pages, write_pages};
 use crate::seq::replace_items;
 use crate::{MemoryRef, OutOfMemory, Same, TryCopy};
 use std::alloc::Global;
@@ -61,26 +61,19 @@ impl Memory {
         })
     }
 
-    /// A memory of the words of `source`, with which it shares the pages that are full; the words behind them are copied into the room of this
-    /// memory, whose own words are gone. After `OutOfMemory` this memory is dropped.
+    /// Makes the words of `source` the words of this memory. The pages that are full are shared with `source`; the words behind them are copied into
+    /// the room of this memory. After `OutOfMemory` it may have any words.
     #[inline(always)]
-    pub fn loaded_from(self, source: &MemoryRef<'_>) -> Result<Memory, OutOfMemory>
-        ensures { IfOk result (λ m. m ≡ source.now) }
+    pub fn load_from(&mut self, source: &MemoryRef<'_>) -> Result<(), OutOfMemory>
+        ensures { OnOk result (self.new ≡ source.now) }
     {
-        let mut pages = self.pages;
-        let mut last = self.last;
-        pages.clear();
-        pages.reserve(source.pages.len())?;
-        for page in source.pages {
-            pages.push_reserved(page.copy()?);
-        }
-        last.clear();
-        last.extend_from_slice(source.last)?;
-        Ok(Memory {
-            pages,
-            last,
-            len: source.len,
-        })
+        self.last.clear();
+        self.len = 0;
+        load_pages(&mut self.pages, source.pages)?;
+        self.len = WORDS_OF_A_PAGE * source.pages.len();
+        self.last.extend_from_slice(source.last)?;
+        self.len = source.len;
+        Ok(())
     }
 
     /// This memory, to be read where it lies.

@@ -67,6 +67,7 @@ impl<'a> MemoryRef<'a> {
     }
 
     /// The words from `address` on, to the end of the page that they are in: at least one, but none past the end of the memory.
+    #[inline(always)]
     pub fn words_from(&self, address: u64) -> &'a [u64]
         ensures { result.now ≡ rest_of_page self.now address }
     {
@@ -106,7 +107,9 @@ impl<'a> MemoryRef<'a> {
     pub fn to_memory(&self) -> Result<Memory, OutOfMemory>
         ensures { IfOk result (λ m. m ≡ self.now) }
     {
-        Memory::new(self.alloc).loaded_from(self)
+        let mut memory = Memory::new(self.alloc);
+        memory.load_from(self)?;
+        Ok(memory)
     }
 }
 

@@ -40,6 +40,7 @@ impl Page {
     }
 
     /// The words.
+    #[inline(always)]
     fn as_slice(&self) -> &[u64]
         ensures words { result.now ≡ self.now }
         ensures len { length self.now ≡ WORDS_OF_A_PAGE }
@@ -67,6 +68,7 @@ impl Page {
     }
 
     /// The words from a place on.
+    #[inline(always)]
     pub fn words_from(&self, place: usize) -> &[u64]
         requires { place < WORDS_OF_A_PAGE }
         ensures words { result.now ≡ drop place self.now }

@@ -1,6 +1,6 @@
 //! The full pages of a memory.
 
-ghost use Rattle.std.specs.Prelude.{◌≡◌, ◌≢◌, ℕ, ◌+◌, ◌*◌, ◌<◌, ◌≤◌, ◌↔◌, IsTrue, length, IfOk, MatchOption, OnOk, OnErr};
+ghost use Rattle.std.specs.Prelude.{◌≡◌, ◌≢◌, ℕ, [], ◌+◌, ◌*◌, ◌<◌, ◌≤◌, ◌↔◌, IsTrue, length, IfOk, MatchOption, OnOk, OnErr};
 ghost use Rattle.bsp_model.specs.Columns.{row_at};
 ghost use Rattle.bsp_model.specs.Inside.Cut.{IsCut};
 ghost use Rattle.bsp_model.specs.Inside.Pages.{paged_word, word_after};
@@ -8,6 +8,7 @@ ghost use Rattle.bsp_model.specs.Inside.Pages.{paged_word, word_after};
 use crate::page::{Page, WORDS_OF_A_PAGE};
 use crate::{OutOfMemory, SharedColumn, SharedSeq, TryCopy};
 use std::alloc::Global;
+use std::mem;
 use std::sync::Arc;
 
 /// A page for each of these parts of a list of words.
@@ -95,6 +96,52 @@ pub fn shared_pages(alloc: Global, pages: &[Page]) -> Result<SharedSeq<Page>, Ou
     ensures { IfOk result (λ new. new ≡ pages.now) }
 {
     SharedSeq::from_vec(copied_pages(alloc, pages)?)
+}
+
+/// Makes copies of `source`, which share their words, the pages of a list. After `OutOfMemory` it has none.
+#[inline(always)]
+pub fn load_pages(pages: &mut Vec<Page>, source: &[Page]) -> Result<(), OutOfMemory>
+    ensures ok { OnOk result (pages.new.items ≡ source.now) }
+    ensures err { OnErr result (pages.new.items ≡ []) }
+{
+    if pages.is_empty() && source.is_empty() {
+        return Ok(());
+    }
+    replace_pages(pages, source)
+}
+
+/// The same, where there are pages.
+#[inline(never)]
+fn replace_pages(pages: &mut Vec<Page>, source: &[Page]) -> Result<(), OutOfMemory>
+    ensures ok { OnOk result (pages.new.items ≡ source.now) }
+    ensures err { OnErr result (pages.new.items ≡ []) }
+{
+    pages.clear();
+    let alloc = *pages.allocator();
+    *pages = copied_pages(alloc, source)?;
+    Ok(())
+}
+
+/// The pages of a list, in a list that its copies share. None is left in the first.
+#[inline(always)]
+pub fn take_pages(pages: &mut Vec<Page>) -> Result<SharedSeq<Page>, OutOfMemory>
+    ensures taken { IfOk result (λ taken. taken ≡ pages.old.items) }
+    ensures rest { pages.new.items ≡ [] }
+{
+    if pages.is_empty() {
+        return Ok(SharedSeq::new());
+    }
+    take_some_pages(pages)
+}
+
+/// The same, where there are pages.
+#[inline(never)]
+fn take_some_pages(pages: &mut Vec<Page>) -> Result<SharedSeq<Page>, OutOfMemory>
+    ensures taken { IfOk result (λ taken. taken ≡ pages.old.items) }
+    ensures rest { pages.new.items ≡ [] }
+{
+    let none = Vec::new(*pages.allocator());
+    SharedSeq::from_vec(mem::replace(pages, none))
 }
 
 /// What `write_pages` does, in pages whose list copies may share: in a list of its own then. After `OutOfMemory` nothing has changed.

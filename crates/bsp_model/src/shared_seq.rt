@@ -26,6 +26,7 @@ impl<T> Model for SharedSeq<T> {
 
 impl<T> SharedSeq<T> {
     /// The empty list, which takes no memory.
+    #[inline(always)]
     pub fn new() -> SharedSeq<T>
         ensures { result ≡ [] }
     {
@@ -44,6 +45,7 @@ impl<T> SharedSeq<T> {
     }
 
     /// The number of items.
+    #[inline(always)]
     pub fn len(&self) -> usize
         ensures { result ≡ length self.now }
     {
@@ -51,6 +53,7 @@ impl<T> SharedSeq<T> {
     }
 
     /// Whether there is no item.
+    #[inline(always)]
     pub fn is_empty(&self) -> bool
         ensures { result ≡ nat_eq (length self.now) 0 }
     {

@@ -1,6 +1,7 @@
 //! The lines of a run.
 
 ghost use Rattle.std.specs.Prelude.{◌≡◌, ℕ, [], ◌+◌, ◌≤◌, ◌<◌, ◌++◌, length, option_map, option_to_list, slice_index_or, take, true, false, IfOk, IfSome, OnOk};
+ghost use Rattle.std.specs.Bool.{OnFalse, OnTrue};
 ghost use Rattle.bsp_deliver.specs.Requests.{each_below};
 ghost use Rattle.bsp_step.specs.OutcomeParts.{outcome_of};
 ghost use Rattle.bsp_run.specs.Supersteps.{outcomes_of};
@@ -10,15 +11,24 @@ ghost use Rattle.bsp_run.specs.Inside.Lines.{AreLinesUnlessMarked};
 
 use crate::{Lines, Superstep};
 use bsp_model::{OutOfMemory, Rows, RowsRef, Shared, SharedSeq, TryCopy};
-use bsp_step::Outcomes;
+use bsp_step::{ListKind, Outcomes};
 use std::alloc::Global;
+
+/// Whether a process may have printed lines in a superstep. It has not where there is no such process, or where no lines stand.
+#[inline(always)]
+fn may_have_lines(outcomes: &Outcomes, pid: usize) -> bool
+    ensures there { OnTrue result (pid < length outcomes.now) }
+    ensures none { OnFalse result ((outcome_of outcomes.now pid).lines ≡ []) }
+{
+    !outcomes.is_without(ListKind::Lines) && pid < outcomes.len()
+}
 
 /// Puts the lines of a process in one superstep behind the others.
 #[inline]
 fn add_lines(lines: &mut Lines, outcomes: &Outcomes, pid: usize) -> Result<(), OutOfMemory>
     ensures { OnOk result (lines.new ≡ lines.old ++ (outcome_of outcomes.now pid).lines) }
 {
-    if pid >= outcomes.len() {
+    if !may_have_lines(outcomes, pid) {
         return Ok(());
     }
     let own = outcomes.lines(pid);
@@ -108,7 +118,7 @@ fn place_behind_printed(lines: &Lines, at: usize, outcomes: &Outcomes, pid: usiz
     ensures same { IfSome result
         (λ behind. take behind lines.now ≡ take at lines.now ++ (outcome_of outcomes.now pid).lines) }
 {
-    if pid >= outcomes.len() {
+    if !may_have_lines(outcomes, pid) {
         return Some(at);
     }
     let own = outcomes.lines(pid);

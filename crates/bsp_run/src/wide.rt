@@ -42,11 +42,12 @@ pub(crate) fn turns_by_one<P: Program, G: Gate>(
     Ok(rows)
 }
 
-/// These outcomes, gathered.
-fn gathered(alloc: Global, outcomes: Vec<Outcome>) -> Result<OutcomeRows, OutOfMemory>
-    ensures { IfOk result (λ rows. rows ≡ outcomes.items) }
+/// These outcomes, gathered in `rows`.
+fn gathered(rows: OutcomeRows, outcomes: Vec<Outcome>) -> Result<OutcomeRows, OutOfMemory>
+    requires { rows ≡ [] }
+    ensures { IfOk result (λ all. all ≡ outcomes.items) }
 {
-    let mut rows = OutcomeRows::with_capacity(alloc, outcomes.len())?;
+    let mut rows = rows;
     for outcome in outcomes {
         let _spare = rows.push(outcome)?;
     }
@@ -56,30 +57,32 @@ fn gathered(alloc: Global, outcomes: Vec<Outcome>) -> Result<OutcomeRows, OutOfM
 /// The turns of some processes, in the order of the list, shared by 1 to 16 workers. `processes` are places in `views`. Whoever drew
 /// the place k of the list, counted from 0, passes the gate with k before that turn.
 ///
-/// One worker gathers each outcome as the turn leaves it; what several hand in is gathered once all have left.
+/// They are gathered in `rows`, in which there is nothing yet: by one worker as each turn leaves its outcome; what several hand in once all have
+/// left.
 ///
 /// # Errors
 /// `OutOfMemory` where the calling thread is refused memory for the list, or for a turn that no worker handed in.
 pub fn wide_turns<P: Program, G: Gate, R: Threads + Sync>(
     rt: &R,
     alloc: Global,
+    rows: OutcomeRows,
     program: &P,
     views: &Views,
     processes: &[usize],
     workers: usize,
     gate: &G,
 ) -> Result<OutcomeRows, OutOfMemory>
+    requires empty { rows ≡ [] }
     requires processes { All (λ p. p < length views.now) processes.now }
     requires workers { (0 < workers) × (workers ≤ 16) }
     ensures { IfOk result (λ all. all ≡ turns_of (turn_of (P.acts program.now) (P.ending program.now)) views.now processes.now) }
 {
     if workers.min(processes.len()) < 2 {
-        let rows = OutcomeRows::with_capacity(alloc, processes.len())?;
         return turns_by_one(alloc, rows, program, views, processes, gate);
     }
     let turns = Turns { program, views };
     let outcomes = phase(rt, alloc, &turns, processes, workers, gate)?;
-    gathered(alloc, outcomes)
+    gathered(rows, outcomes)
 }
 
 /// Passes the gate with each of so many places, in order.
@@ -199,14 +202,17 @@ pub fn run_wide<P: Program, G: Gate, R: Threads + Sync>(
         alloc,
         program,
         input,
-        &|program: &P, views: &Views, processes: &[usize], _like: &Outcomes| -> Result<
+        &|program: &P, views: &Views, processes: &[usize], like: &Outcomes| -> Result<
             Outcomes,
             OutOfMemory,
         >
             requires processes { All (λ p. p < length views.now) processes.now }
             requires workers { (0 < workers) × (workers ≤ 16) }
             ensures { IfOk result (λ all. all ≡ turns_of (turn_of (P.acts program.now) (P.ending program.now)) views.now processes.now) }
-        { wide_turns(rt, alloc, program, views, processes, workers, gate)?.share() },
+        {
+            let rows = like.room_for(alloc, processes.len())?;
+            wide_turns(rt, alloc, rows, program, views, processes, workers, gate)?.share()
+        },
         &|outcomes: &Outcomes, processes: &[usize]| -> Result<Cells, OutOfMemory>
             requires deliverable { AreDeliverable outcomes.now }
             requires processes { All (λ d. d < length outcomes.now) processes.now }

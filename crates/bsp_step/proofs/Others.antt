@@ -1,15 +1,26 @@
 -- Outcomes of which those of some processes lie apart.
 use Rattle.std.proofs.Common.{◌≡◌, ◌≢◌, ◌<◌, ℕ, List, Option, None, Some, All, length, get_or, refl, sym, ap, subst, ◌∙◌, arith}
+use Rattle.std.specs.Prelude.{Bool, true}
+use Rattle.std.specs.Bool.{OnTrue}
+use Rattle.std.proofs.lemmas.Bool.{OnTrue_at, OnTrue_from}
 use Rattle.std.proofs.lemmas.List.Elements.{All-get_or}
 use Rattle.bsp_model.specs.Replaced.{replaced, IsAscending}
-use Rattle.bsp_model.proofs.Replaced.{length-replaced, replaced-there, replaced-elsewhere}
+use Rattle.bsp_model.proofs.Replaced.{All-replaced, length-replaced, replaced-there, replaced-elsewhere}
 use Rattle.bsp_step.specs.OutcomeParts.{OutcomeParts, no_outcome}
-use Rattle.bsp_step.specs.declared.outcomes.Others.{Others}
+use Rattle.bsp_step.specs.declared.outcomes.others.Others.{Others}
+use Rattle.bsp_step.specs.declared.list_kind.ListKind.{ListKind}
+use Rattle.bsp_step.specs.ListKind.{IsWithout}
 use Rattle.bsp_step.specs.Inside.Others.{rows_of, outcomes_with, AreOthers}
 
 pub length-with : (rows : Option (List OutcomeParts)) (others : Option Others) → length (outcomes_with rows others) ≡ length (rows_of rows)
 length-with rows None = refl
 length-with rows (Some others) = length-replaced (rows_of rows) others.processes.items others.rows
+
+-- where neither these nor the others left anything of a kind
+pub without_others : (kind : ListKind) (rows : Option (List OutcomeParts)) (others : Others) (apart all : Bool) → apart ≡ true → OnTrue apart (All (IsWithout kind) others.rows)
+    → OnTrue all (All (IsWithout kind) (rows_of rows)) → OnTrue all (All (IsWithout kind) (outcomes_with rows (Some others)))
+without_others kind rows others apart all is none_apart none =
+    OnTrue_from all _ (λ yes. All-replaced (IsWithout kind) (rows_of rows) others.processes.items others.rows (OnTrue_at yes none) (OnTrue_at is none_apart))
 
 -- new outcomes for some processes of the others, in ascending order
 pub lie_apart : (rows now new : List OutcomeParts) (ps : List ℕ) (others : Others) → others.rows ≡ new → others.processes.items ≡ ps → length rows ≡ length now → All (λ p. p < length now) ps → IsAscending ps → length new ≡ length ps → AreOthers rows others

@@ -1,17 +1,26 @@
 -- Outcomes in columns: one more, and a range of others.
-use Rattle.std.proofs.Common.{◌≡◌, ◌≤◌, ◌<◌, ℕ, ◌+◌, ◌-◌, List, [], ◌∷◌, ◌++◌, length, get_or, refl, sym, ap, ◌∙◌, subst, arith, inl, inr, Result, Ok, Err, OnErr}
-use Rattle.std.specs.Prelude.{slice_get, slice_range}
+use Rattle.std.proofs.Common.{◌≡◌, ◌≤◌, ◌<◌, ℕ, ◌+◌, ◌-◌, List, [], ◌∷◌, ◌++◌, length, map, get_or, refl, sym, ap, ◌∙◌, subst, arith, inl, inr, Result, Ok, Err, OnErr}
+use Rattle.std.specs.Prelude.{slice_get, slice_range, All, Bool, true, false}
+use Rattle.std.specs.Bool.{OnTrue}
+use Rattle.bsp_model.specs.Columns.{row_at}
 use Rattle.std.proofs.Math.Nat.{eq-or-lt_of_le}
 use Rattle.std.proofs.Math.Seq.{get_or-append_right}
 use Rattle.std.proofs.lemmas.Bool.{cases_lt}
-use Rattle.std.proofs.lemmas.List.{same_lists, get_or_append_left, get_or_push, length_push, length-append}
+use Rattle.std.proofs.lemmas.List.{ext_get_or, length-map, get_or-map, same_lists, get_or_append_left, get_or_push, length_push, length-append}
 use Rattle.std.proofs.lemmas.List.FromFn.{length-map-range_with_len, get_or-map-range_with_len}
 use Rattle.std.proofs.lemmas.List.Edits.{length-between, get_or-between}
 use Rattle.bsp_model.specs.Limits.{most_memory_words}
+use Rattle.bsp_model.specs.Inside.Beside.{stores_beside, words_beside, AreBeside}
+use Rattle.bsp_model.specs.Inside.Columns.{pair_at}
+use Rattle.bsp_model.specs.Inside.Ranges.{stores_of, AreRanges}
+use Rattle.bsp_model.specs.declared.stores.range.Range.{Range}
+use Rattle.bsp_step.specs.declared.list_kind.ListKind.{ListKind}
+use Rattle.bsp_step.specs.declared.list_kind.ListKind.TheVariants.{Gets, Sends, Pops, Pushes, Lines}
 use Rattle.bsp_step.specs.declared.lists.Lists.{Lists}
 use Rattle.bsp_step.specs.declared.lists.TurnEnd.{TurnEnd}
-use Rattle.bsp_step.specs.OutcomeParts.{OutcomeParts, IsOutcome}
-use Rattle.bsp_step.specs.Inside.Outcomes.{no_end, outcome_in, outcome_at, outcomes_of, AreOutcomes, HasLists, AreSameLists}
+use Rattle.bsp_step.specs.OutcomeParts.{OutcomeParts, IsOutcome, no_outcome}
+use Rattle.bsp_step.specs.ListKind.{IsWithout}
+use Rattle.bsp_step.specs.Inside.Outcomes.{IsWithoutColumn, no_end, outcome_in, outcome_at, outcomes_of, AreOutcomes, HasLists, AreSameLists}
 
 -- the outcomes of a list, one by one
 
@@ -21,6 +30,43 @@ length-outcomes_of ends memories lists = length-map-range_with_len (outcome_at e
 pub outcome-outcomes_of : (ends : List TurnEnd) (memories : List (List ℕ)) (lists : Lists) (k : ℕ) (d : OutcomeParts) → k < length ends → get_or (outcomes_of ends memories lists) k d ≡ outcome_at ends memories lists k
 outcome-outcomes_of ends memories lists k d within = get_or-map-range_with_len (outcome_at ends memories lists) 0 (length ends) k k d within (omega arith)
 
+-- the memories of all
+pub memories-outcomes_of : (ends : List TurnEnd) (memories : List (List ℕ)) (lists : Lists) → length memories ≡ length ends → map (λ (o : OutcomeParts). o.memory) (outcomes_of ends memories lists) ≡ memories
+memories-outcomes_of ends memories lists count =
+    let all = outcomes_of ends memories lists in
+    let many = length-outcomes_of ends memories lists in
+    ext_get_or [] _ _ (length-map all (λ (o : OutcomeParts). o.memory) ∙ many ∙ sym count)
+    (λ k inside.
+    let below : k < length ends = omega (arith, inside, length-map all (λ (o : OutcomeParts). o.memory), many) in
+    get_or-map (λ (o : OutcomeParts). o.memory) all k no_outcome [] (omega (arith, below, many))
+    ∙ ap (λ (o : OutcomeParts). o.memory) (outcome-outcomes_of ends memories lists k no_outcome below))
+
+-- where no list of a kind stands
+
+none_left : {R : Type 0} (of : OutcomeParts → List R) (column : List (List R)) (ends : List TurnEnd) (memories : List (List ℕ)) (lists : Lists) → ((k : ℕ) → of (outcome_at ends memories lists k) ≡ row_at column k) → column ≡ []
+    → All (λ o. of o ≡ []) (outcomes_of ends memories lists)
+none_left of column ends memories lists left none =
+    λ k d inside.
+    ap of (outcome-outcomes_of ends memories lists k d (omega (arith, inside, length-outcomes_of ends memories lists)))
+    ∙ left k ∙ ap (λ rows. row_at rows k) none
+
+without_column : (kind : ListKind) (ends : List TurnEnd) (memories : List (List ℕ)) (lists : Lists) → IsWithoutColumn kind lists → All (IsWithout kind) (outcomes_of ends memories lists)
+without_column Gets ends memories lists none = none_left (λ o. o.gets) lists.gets ends memories lists (λ k. refl) none
+without_column Sends ends memories lists none = none_left (λ o. o.sends) lists.sends ends memories lists (λ k. refl) none
+without_column Pops ends memories lists none = none_left (λ o. o.pops) lists.pops ends memories lists (λ k. refl) none
+without_column Pushes ends memories lists none = none_left (λ o. o.pushes) lists.pushes ends memories lists (λ k. refl) none
+without_column Lines ends memories lists none = none_left (λ o. o.lines) lists.lines ends memories lists (λ k. refl) none
+
+pub without : (kind : ListKind) (ends : List TurnEnd) (memories : List (List ℕ)) (lists : Lists) (is : Bool) → OnTrue is (IsWithoutColumn kind lists) → OnTrue is (All (IsWithout kind) (outcomes_of ends memories lists))
+without kind ends memories lists false none = tt
+without kind ends memories lists true none = without_column kind ends memories lists none
+
+-- the same two rows of a process, beside the same memory, have their words as well
+same_beside : (old new : (List (List Range)) × (List (List ℕ))) (k : ℕ) (memory memory' : List ℕ) → pair_at new k ≡ pair_at old k → memory' ≡ memory → AreBeside old k memory → AreBeside new k memory'
+same_beside old new k memory memory' rows ms beside =
+    let rows_have : (List Range) × (List ℕ) → List ℕ → Type 0 = λ pair m. AreRanges pair.0 (words_beside pair.0 pair.1 m) in
+    subst (λ (pair : (List Range) × (List ℕ)). rows_have pair memory') (sym rows) (subst (rows_have (pair_at old k)) (sym ms) beside)
+
 -- what an outcome is made of is the same
 same_outcome : (end end' : TurnEnd) (memory memory' : List ℕ) (lists lists' : Lists) (k : ℕ) → end' ≡ end → memory' ≡ memory → AreSameLists lists lists' k → outcome_in end' memory' lists' k ≡ outcome_in end memory lists k
 same_outcome end end' memory memory' lists lists' k es ms ls =
@@ -28,7 +74,7 @@ same_outcome end end' memory memory' lists lists' k es ms ls =
       fault = slice_get (ls.faults i) 0;
       ended = (es i).ended;
       memory = ms i;
-      stores = ls.stores i;
+      stores = stores_of (ls.stores i).0 (words_beside (ls.stores i).0 (ls.stores i).1 (ms i));
       puts = ls.puts i;
       gets = ls.gets i;
       sends = ls.sends i;
@@ -47,7 +93,7 @@ before_push ends memories lists lists' end memory count same k below =
     same_outcome (get_or ends k no_end) (get_or (ends ++ end ∷ []) k no_end) (get_or memories k []) (get_or (memories ++ memory ∷ []) k []) lists lists' k
     (get_or_append_left ends (end ∷ []) no_end k below) (get_or_append_left memories (memory ∷ []) [] k (omega (arith, below, count))) (same k below)
 
-at_push : (ends : List TurnEnd) (memories : List (List ℕ)) (lists : Lists) (end : TurnEnd) (memory : List ℕ) (o : OutcomeParts) → length memories ≡ length ends → HasLists lists (length ends) o
+at_push : (ends : List TurnEnd) (memories : List (List ℕ)) (lists : Lists) (end : TurnEnd) (memory : List ℕ) (o : OutcomeParts) → length memories ≡ length ends → HasLists lists (length ends) memory o
     → end ≡ record { ended = o.ended; work = o.work } → outcome_at (ends ++ end ∷ []) (memories ++ memory ∷ []) lists (length ends) ≡ record o { memory = memory }
 at_push ends memories lists end memory o count has is =
     let es : get_or (ends ++ end ∷ []) (length ends) no_end ≡ record { ended = o.ended; work = o.work } = get_or_push ends end no_end (length ends) refl ∙ is in
@@ -56,7 +102,7 @@ at_push ends memories lists end memory o count has is =
       fault = has.faults i;
       ended = (es i).ended;
       memory = ms i;
-      stores = has.stores i;
+      stores = (ap (stores_beside lists.stores (length ends)) ms ∙ has.stores) i;
       puts = has.puts i;
       gets = has.gets i;
       sends = has.sends i;
@@ -89,7 +135,7 @@ each_push P n k within before last =
     ]
 
 pub outcomes-push : (ends : List TurnEnd) (memories : List (List ℕ)) (lists lists' : Lists) (end : TurnEnd) (memory : List ℕ) (o : OutcomeParts) → length memories ≡ length ends
-    → ((k : ℕ) → k < length ends → AreSameLists lists lists' k) → HasLists lists' (length ends) o → end ≡ record { ended = o.ended; work = o.work }
+    → ((k : ℕ) → k < length ends → AreSameLists lists lists' k) → HasLists lists' (length ends) memory o → end ≡ record { ended = o.ended; work = o.work }
     → outcomes_of (ends ++ end ∷ []) (memories ++ memory ∷ []) lists' ≡ outcomes_of ends memories lists ++ record o { memory = memory } ∷ []
 outcomes-push ends memories lists lists' end memory o count same has is =
     let n = length ends in
@@ -110,11 +156,15 @@ outcomes-push ends memories lists lists' end memory o count same has is =
     (λ k d within. alike k d (omega (arith, within, length-outcomes_of (ends ++ end ∷ []) (memories ++ memory ∷ []) lists', more)))
 
 pub lawful-push : (ends : List TurnEnd) (memories : List (List ℕ)) (lists lists' : Lists) (end : TurnEnd) (memory : List ℕ) (o : OutcomeParts) → AreOutcomes ends memories lists
-    → ((k : ℕ) → k < length ends → AreSameLists lists lists' k) → HasLists lists' (length ends) o → end ≡ record { ended = o.ended; work = o.work } → IsOutcome o → length memory ≤ most_memory_words
+    → ((k : ℕ) → k < length ends → AreSameLists lists lists' k) → HasLists lists' (length ends) memory o → end ≡ record { ended = o.ended; work = o.work } → IsOutcome o → length memory ≤ most_memory_words
     → AreOutcomes (ends ++ end ∷ []) (memories ++ memory ∷ []) lists'
 lawful-push ends memories lists lists' end memory o are same has is lawful short =
     record {
       count = length_push memories memory ∙ ap (λ (m : ℕ). m + 1) are.count ∙ sym (length_push ends end);
+      beside = λ k within. each_push (λ j. AreBeside lists'.stores j (get_or (memories ++ memory ∷ []) j [])) (length ends) k (omega (arith, within, length_push ends end))
+          (λ j below. same_beside lists.stores lists'.stores j (get_or memories j []) (get_or (memories ++ memory ∷ []) j []) (same j below).stores
+          (get_or_append_left memories (memory ∷ []) [] j (omega (arith, below, are.count))) (are.beside j below))
+          (subst (AreBeside lists'.stores (length ends)) (sym (get_or_push memories memory [] (length ends) are.count)) has.beside);
       lawful = λ k within. each_push (λ j. IsOutcome (outcome_at (ends ++ end ∷ []) (memories ++ memory ∷ []) lists' j)) (length ends) k (omega (arith, within, length_push ends end))
           (λ j below. subst IsOutcome (sym (before_push ends memories lists lists' end memory are.count same j below)) (are.lawful j below))
           (subst IsOutcome (sym (at_push ends memories lists' end memory o are.count has is)) (with_memory o memory lawful short));
@@ -130,10 +180,30 @@ same-outcomes ends memories lists lists' same =
     outcome-outcomes_of ends memories lists' k d below ∙ same_outcome (get_or ends k no_end) (get_or ends k no_end) (get_or memories k []) (get_or memories k []) lists lists' k refl refl (same k below)
     ∙ sym (outcome-outcomes_of ends memories lists k d below))
 
+-- One more outcome, at the names that its parts have where it is put.
+
+-- how the turn of an outcome ended
+abbrev pub end_of : OutcomeParts → TurnEnd
+end_of o = record { ended = o.ended; work = o.work }
+
+-- the processes before have the lists that they had
+pub same_below : (l old new : Lists) (len n : ℕ) → l ≡ old → len ≡ n → ((k : ℕ) → k < len → AreSameLists l new k) → (k : ℕ) → k < n → AreSameLists old new k
+same_below l old new len n is long same k below = subst (λ (m : Lists). AreSameLists m new k) is (same k (omega (arith, below, long)))
+
+-- so they have the outcomes that they had
+pub unchanged-below : (ends : List TurnEnd) (memories : List (List ℕ)) (l old new : Lists) (len : ℕ) (outcomes : List OutcomeParts) → l ≡ old → len ≡ length ends → ((k : ℕ) → k < len → AreSameLists l new k) → outcomes_of ends memories old ≡ outcomes → outcomes_of ends memories new ≡ outcomes
+unchanged-below ends memories l old new len outcomes is long same before = same-outcomes ends memories old new (same_below l old new len (length ends) is long same) ∙ before
+
+-- the lists of a process
+pub has_there : (lists : Lists) (len n : ℕ) (m memory : List ℕ) (o outcome : OutcomeParts) → len ≡ n → m ≡ memory → o ≡ outcome → HasLists lists len m o → HasLists lists n memory outcome
+has_there lists len n m memory o outcome place is same has =
+    subst (λ (k : ℕ). HasLists lists k memory outcome) place (subst (λ (ws : List ℕ). HasLists lists len ws outcome) is (subst (HasLists lists len m) same has))
+
 pub lawful-same : (ends : List TurnEnd) (memories : List (List ℕ)) (lists lists' : Lists) → AreOutcomes ends memories lists → ((k : ℕ) → k < length ends → AreSameLists lists lists' k) → AreOutcomes ends memories lists'
 lawful-same ends memories lists lists' are same =
     record {
       count = are.count;
+      beside = λ k below. same_beside lists.stores lists'.stores k (get_or memories k []) (get_or memories k []) (same k below).stores refl (are.beside k below);
       lawful = λ k below. subst IsOutcome (sym (same_outcome (get_or ends k no_end) (get_or ends k no_end) (get_or memories k []) (get_or memories k []) lists lists' k refl refl (same k below))) (are.lawful k below);
     }
 
@@ -196,10 +266,16 @@ pub lawful-range : (ends more_ends : List TurnEnd) (memories more_memories : Lis
     → AreOutcomes (ends ++ slice_range more_ends (length ends) to) (memories ++ slice_range more_memories (length ends) to) lists'
 lawful-range ends more_ends memories more_memories lists more lists' to are others order within before taken =
     let n = length ends in
+    let all_memories = memories ++ slice_range more_memories n to in
     let many : length (ends ++ slice_range more_ends n to) ≡ to = omega (arith, order, length-append ends (slice_range more_ends n to), length-between more_ends n to within) in
     let at = at_range ends more_ends memories more_memories lists more lists' to are.count others.count order within before taken in
     record {
       count = omega (arith, many, order, are.count, others.count, length-append memories (slice_range more_memories n to), length-between more_memories n to (omega (arith, within, others.count)));
+      beside = λ k l. each_range (λ j. AreBeside lists'.stores j (get_or all_memories j [])) n to k (omega (arith, l, many))
+          (λ j below. same_beside lists.stores lists'.stores j (get_or memories j []) (get_or all_memories j []) (before j below).stores
+          (get_or_append_left memories (slice_range more_memories n to) [] j (omega (arith, below, are.count))) (are.beside j below))
+          (λ j above below. same_beside more.stores lists'.stores j (get_or more_memories j []) (get_or all_memories j []) (taken j above below).stores
+          (behind memories more_memories [] j to are.count above below) (others.beside j (omega (arith, below, within))));
       lawful = λ k l. each_range (λ j. IsOutcome (outcome_at (ends ++ slice_range more_ends n to) (memories ++ slice_range more_memories n to) lists' j)) n to k (omega (arith, l, many))
           (λ j below. subst IsOutcome (sym (at.0 j below)) (are.lawful j below))
           (λ j above below. subst IsOutcome (sym (at.1 j above below)) (others.lawful j (omega (arith, below, within))));

@@ -13,7 +13,7 @@ abbrev pub context_of : Inside → Context
 context_of c =
     record {
       view = c.view.now;
-      memory = c.memory;
+      memory = c.lists.value.memory;
       left = c.left.now;
       stores = c.lists.value.stores;
       puts = c.lists.value.puts;

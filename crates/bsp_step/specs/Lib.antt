@@ -14,6 +14,7 @@ pub mod Calls
 pub mod Footprint
 pub mod Plan
 pub mod Footprints
+pub mod ListKind
 pub mod LooksEverywhere
 pub mod Reads
 pub mod Queue

@@ -7,7 +7,7 @@ outcome_parts o =
     record {
       fault = o.fault;
       ended = o.ended;
-      memory = o.memory;
+      memory = o.lists.value.memory;
       stores = o.lists.value.stores;
       puts = o.lists.value.puts;
       gets = o.lists.value.gets;

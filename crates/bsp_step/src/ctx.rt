@@ -16,7 +16,7 @@ mod remote;
 
 use crate::{Ended, Outcome, Stop, TurnLists, View};
 use bsp_model::limits::MOST_REQUESTS;
-use bsp_model::{End, Fault, Memory, Message, OutOfMemory};
+use bsp_model::{End, Fault, Message, OutOfMemory};
 use std::alloc::Global;
 use std::marker::Model;
 
@@ -25,7 +25,6 @@ use std::marker::Model;
 pub struct Ctx<'v> {
     view: &'v View<'v>,
     alloc: Global,
-    memory: Memory,
     left: &'v [Message],
     lists: Box<TurnLists>,
     tag: Option<u64>,
@@ -63,16 +62,11 @@ impl<'v> Ctx<'v> {
     ) -> Result<Ctx<'v>, OutOfMemory>
         ensures { IfOk result (λ c. c ≡ fresh view.now) }
     {
-        let Outcome {
-            memory,
-            mut lists,
-            ..
-        } = spare;
-        lists.clear();
+        let Outcome { mut lists, .. } = spare;
+        lists.begin(&view.memory)?;
         Ok(Ctx {
             view,
             alloc,
-            memory: memory.loaded_from(&view.memory)?,
             left: view.queue,
             lists,
             tag: None,
@@ -134,7 +128,6 @@ impl<'v> Ctx<'v> {
         Outcome {
             fault,
             ended,
-            memory: self.memory,
             lists: self.lists,
             tag: self.tag,
             work: self.work,

@@ -3,6 +3,7 @@
 
 mod answer;
 mod ctx;
+mod list_kind;
 mod lists;
 mod outcome;
 mod outcome_ref;
@@ -15,6 +16,7 @@ mod view;
 
 pub use answer::settle;
 pub use ctx::Ctx;
+pub use list_kind::ListKind;
 pub use outcome::{Ended, Outcome};
 pub use outcome_ref::OutcomeRef;
 pub use outcome_rows::OutcomeRows;

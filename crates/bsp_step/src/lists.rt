@@ -2,10 +2,13 @@
 
 ghost use Rattle.std.specs.Prelude.{◌≡◌, ◌≤◌, ◌<◌, ℕ, [], slice_get, OnOk};
 ghost use Rattle.bsp_model.specs.Columns.{row_at};
-ghost use Rattle.bsp_step.specs.Inside.Outcomes.{first_at, AreSameLists, HasLists};
+ghost use Rattle.std.specs.Bool.{OnTrue};
+ghost use Rattle.bsp_step.specs.Inside.Outcomes.{IsWithoutColumn, first_at, AreSameLists, HasLists};
 
-use crate::{Ended, OutcomeRef};
-use bsp_model::{Column, Fault, Get, LineColumn, OutOfMemory, PutColumn, SendColumn, StoreColumn};
+use crate::{Ended, ListKind, OutcomeRef};
+use bsp_model::{
+    Column, Fault, Get, LineColumn, MemoryRef, OutOfMemory, PutColumn, SendColumn, StoreColumn,
+};
 use bsp_table::Area;
 use std::alloc::Global;
 use std::slice;
@@ -97,15 +100,20 @@ impl Lists {
         Ok(())
     }
 
-    /// Makes copies of an outcome's lists, its fault and its choice of a tag size those of a process, behind which none stand any more.
-    /// After `OutOfMemory` some of them are.
+    /// Makes copies of an outcome's lists, its fault and its choice of a tag size those of a process, behind which none stand any more. The stores
+    /// are kept beside the memory that is kept of the process. After `OutOfMemory` some of them are.
     #[inline(always)]
-    pub(crate) fn put(&mut self, place: usize, outcome: &OutcomeRef<'_>) -> Result<(), OutOfMemory>
+    pub(crate) fn put(
+        &mut self,
+        place: usize,
+        outcome: &OutcomeRef<'_>,
+        memory: &MemoryRef<'_>,
+    ) -> Result<(), OutOfMemory>
         ensures before { (k : ℕ) → k < place → AreSameLists self.old self.new k }
-        ensures there { OnOk result (HasLists self.new place outcome.now) }
+        ensures there { OnOk result (HasLists self.new place memory.now outcome.now) }
     {
         let faults = self.faults.put(place, row_of_fault(&outcome.fault));
-        let stores = self.stores.put(place, &outcome.stores);
+        let stores = self.stores.put(place, &outcome.stores, memory);
         let puts = self.puts.put(place, &outcome.puts);
         let gets = self.gets.put(place, outcome.gets);
         let sends = self.sends.put(place, &outcome.sends);
@@ -115,6 +123,20 @@ impl Lists {
         let lines = self.lines.put(place, &outcome.lines);
         let requests = puts.and(gets).and(sends).and(pops).and(pushes);
         faults.and(stores).and(requests).and(tags).and(lines)
+    }
+
+    /// Whether no list of a kind stands.
+    #[inline(always)]
+    pub(crate) fn is_without(&self, kind: ListKind) -> bool
+        ensures { OnTrue result (IsWithoutColumn kind self.now) }
+    {
+        match kind {
+            ListKind::Gets => self.gets.is_empty(),
+            ListKind::Sends => self.sends.is_empty(),
+            ListKind::Pops => self.pops.is_empty(),
+            ListKind::Pushes => self.pushes.is_empty(),
+            ListKind::Lines => self.lines.is_empty(),
+        }
     }
 
     /// The fault of a process, if there is one.

@@ -4,7 +4,7 @@ ghost use Rattle.std.specs.Prelude.{◌≡◌, IfOk};
 ghost use Rattle.bsp_step.specs.OutcomeParts.{no_outcome};
 
 use crate::{OutcomeRef, TurnLists};
-use bsp_model::{Fault, Memory, OutOfMemory, Same, TryCopy};
+use bsp_model::{Fault, OutOfMemory, Same, TryCopy};
 use std::alloc::Global;
 use std::marker::Model;
 
@@ -24,9 +24,7 @@ pub struct Outcome {
     pub fault: Option<Fault>,
     /// How the turn ended; `Halt` where there is a fault.
     pub ended: Ended,
-    /// The memory after computing.
-    pub memory: Memory,
-    /// The stores that were made, the requests and the printed lines.
+    /// The memory after computing, the stores that were made, the requests and the printed lines.
     pub lists: Box<TurnLists>,
     /// The choice of the next tag size, if one was made.
     pub tag: Option<u64>,
@@ -54,7 +52,6 @@ impl Outcome {
         Ok(Outcome {
             fault: None,
             ended: Ended::Halt,
-            memory: Memory::new(alloc),
             lists: Box::new(alloc, TurnLists::new(alloc))?,
             tag: None,
             work: 0,
@@ -70,7 +67,7 @@ impl Outcome {
         OutcomeRef {
             fault: self.fault,
             ended: self.ended,
-            memory: self.memory.as_ref(),
+            memory: lists.memory.as_ref(),
             stores: lists.stores.as_ref(),
             puts: lists.puts.as_ref(),
             gets: lists.gets.as_slice(),

@@ -63,6 +63,7 @@ impl<'a> OutcomeRef<'a> {
         let mut pushes = Vec::new(alloc);
         pushes.extend_from_slice(self.pushes)?;
         let lists = TurnLists {
+            memory,
             stores: self.stores.to_stores(alloc)?,
             puts: self.puts.to_puts(alloc)?,
             gets: Seq::from_vec(gets),
@@ -74,7 +75,6 @@ impl<'a> OutcomeRef<'a> {
         Ok(Outcome {
             fault: self.fault,
             ended: self.ended,
-            memory,
             lists: Box::new(alloc, lists)?,
             tag: self.tag,
             work: self.work,

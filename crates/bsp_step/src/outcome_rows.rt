@@ -1,16 +1,16 @@
 //! What the turns of several processes leave, as it is gathered.
 
-ghost use Rattle.std.specs.Prelude.{◌≡◌, ◌≤◌, ◌<◌, ◌++◌, ◌∷◌, [], All, length, IfOk, OnErr, OnOk, slice_range};
-ghost use Rattle.bsp_model.specs.Limits.{most_memory_words};
+ghost use Rattle.std.specs.Prelude.{◌≡◌, ◌≤◌, ◌<◌, ◌++◌, ◌∷◌, [], All, length, map, IfOk, OnErr, OnOk, slice_range};
+ghost use Rattle.std.specs.Bool.{OnTrue};
 ghost use Rattle.bsp_model.specs.Replaced.{replaced, IsAscending};
 ghost use Rattle.bsp_step.specs.OutcomeParts.{outcome_of};
+ghost use Rattle.bsp_step.specs.ListKind.{IsWithout};
 
 use crate::lists::{Lists, TurnEnd};
-use crate::{Outcome, OutcomeRef, Outcomes};
-use bsp_model::{Memories, Memory, OutOfMemory, Shared};
+use crate::{ListKind, Outcome, OutcomeRef, Outcomes, TurnLists};
+use bsp_model::{Memories, Memory, OutOfMemory, Shared, TryCopy};
 use std::alloc::Global;
 use std::marker::Model;
-use std::mem;
 
 /// What the turns of several processes leave, by process, as it is gathered. All lists of a kind lie in one list, and so do all memories.
 #[derive(Drop)]
@@ -66,6 +66,13 @@ impl OutcomeRows {
         Memories::with_room_of(alloc, &self.memories)
     }
 
+    /// Copies of all memories, or `OutOfMemory`.
+    pub(crate) fn memories(&self) -> Result<Memories, OutOfMemory>
+        ensures { IfOk result (λ m. m ≡ map (λ o. o.memory) self.now) }
+    {
+        Ok(self.memories.copy()?)
+    }
+
     /// The allocator that the lists keep.
     pub(crate) fn allocator(&self) -> Global {
         *self.ends.allocator()
@@ -87,11 +94,12 @@ impl OutcomeRows {
     {
         let end = self.ends[pid];
         let lists: &Lists = &self.lists;
+        let memory = self.memories.get(pid);
         OutcomeRef {
             fault: lists.fault(pid),
             ended: end.ended,
-            memory: self.memories.get(pid),
-            stores: lists.stores.get(pid),
+            stores: lists.stores.get(pid, &memory),
+            memory,
             puts: lists.puts.get(pid),
             gets: lists.gets.row(pid),
             sends: lists.sends.get(pid),
@@ -103,22 +111,13 @@ impl OutcomeRows {
         }
     }
 
-    /// Adds an outcome with another memory, and answers a memory whose room serves again. After `OutOfMemory` nothing has changed.
+    /// Whether no list of a kind stands. Then no turn left any.
     #[inline(always)]
-    fn add(&mut self, outcome: &OutcomeRef<'_>, memory: Memory) -> Result<Memory, OutOfMemory>
-        requires { length memory ≤ most_memory_words }
-        ensures ok { OnOk result (self.new ≡ self.old ++ record outcome.now { memory = memory } ∷ []) }
-        ensures err { OnErr result (self.new ≡ self.old) }
-        ensures empty { IfOk result (λ m. m ≡ []) }
+    pub(crate) fn is_without(&self, kind: ListKind) -> bool
+        ensures { OnTrue result (All (IsWithout kind) self.now) }
     {
-        self.lists.put(self.ends.len(), outcome)?;
-        self.ends.reserve(1)?;
-        let spare = self.memories.push(memory)?;
-        self.ends.push_reserved(TurnEnd {
-            ended: outcome.ended,
-            work: outcome.work as u32,
-        });
-        Ok(spare)
+        let lists: &Lists = &self.lists;
+        lists.is_without(kind)
     }
 
     /// Adds what the turn of one process more left, and answers an outcome whose lists may serve again. After `OutOfMemory` nothing has changed.
@@ -128,9 +127,16 @@ impl OutcomeRows {
         ensures err { OnErr result (self.new ≡ self.old) }
     {
         let mut outcome = outcome;
-        let none = Memory::new(outcome.lists.gets.allocator());
-        let memory = mem::replace(&mut outcome.memory, none);
-        outcome.memory = self.add(&outcome.as_ref(), memory)?;
+        let left = outcome.as_ref();
+        let end = TurnEnd {
+            ended: left.ended,
+            work: left.work as u32,
+        };
+        self.lists.put(self.ends.len(), &left, &left.memory)?;
+        self.ends.reserve(1)?;
+        let lists: &mut TurnLists = &mut outcome.lists;
+        self.memories.push_from(&mut lists.memory)?;
+        self.ends.push_reserved(end);
         Ok(outcome)
     }
 
@@ -140,9 +146,15 @@ impl OutcomeRows {
         ensures ok { OnOk result (self.new ≡ self.old ++ record outcome.now { memory = memory } ∷ []) }
         ensures err { OnErr result (self.new ≡ self.old) }
     {
-        // That an outcome keeps its limits is known where a field of it is read.
-        let _work = outcome.work;
-        let _spare = self.add(outcome, memory)?;
+        let mut memory = memory;
+        let end = TurnEnd {
+            ended: outcome.ended,
+            work: outcome.work as u32,
+        };
+        self.lists.put(self.ends.len(), outcome, &memory.as_ref())?;
+        self.ends.reserve(1)?;
+        self.memories.push_from(&mut memory)?;
+        self.ends.push_reserved(end);
         Ok(())
     }
 

@@ -1,16 +1,20 @@
 //! What the turns of several processes leave.
 
-ghost use Rattle.std.specs.Prelude.{◌≡◌, ◌<◌, [], All, IfOk, OnOk, length, nat_eq};
+ghost use Rattle.std.specs.Prelude.{◌≡◌, ◌<◌, [], All, IfOk, IfSome, OnOk, length, map, nat_eq};
+ghost use Rattle.std.specs.Bool.{OnTrue};
 ghost use Rattle.bsp_model.specs.Replaced.{replaced, IsAscending};
 ghost use Rattle.bsp_step.specs.OutcomeParts.{IsOutcome, outcome_of};
-ghost use Rattle.bsp_step.specs.Inside.Others.{rows_of, with_others, AreOthers, IsBelow};
+ghost use Rattle.bsp_step.specs.Inside.Others.{rows_of, IsBelow};
+ghost use Rattle.bsp_step.specs.ListKind.{IsWithout};
 
-use crate::{OutcomeRef, OutcomeRows};
+mod others;
+mod registers;
+
+use crate::{ListKind, OutcomeRef, OutcomeRows};
+use others::Others;
 use bsp_model::{
-    Get, Memories, OutOfMemory, PutsRef, RowsRef, SendsRef, Shared, TryCopy, are_among, are_few,
-    place_among,
+    Get, Memories, MemoryRef, OutOfMemory, PutsRef, RowsRef, SendsRef, Shared, TryCopy, are_few,
 };
-use bsp_table::{Area, Registers};
 use std::alloc::Global;
 use std::marker::Model;
 
@@ -23,48 +27,6 @@ pub struct Outcomes {
     others: Option<Shared<Others>>,
 }
 
-/// The outcomes of some processes, which are in ascending order.
-#[derive(Drop)]
-pub(crate) struct Others {
-    processes: Vec<usize>,
-    rows: OutcomeRows,
-}
-
-impl Others {
-    /// The lists in which the outcome of a process lies, one of these or of all others, and at which place.
-    #[inline(always)]
-    fn lists_of<'a>(&'a self, rows: &'a OutcomeRows, pid: usize) -> (&'a OutcomeRows, usize)
-        requires others { AreOthers rows.now self.now }
-        requires known { pid < length rows.now }
-        ensures inside { result.1 < length result.0.now }
-        ensures there { outcome_of result.0.now result.1 ≡ outcome_of (with_others rows.now self.now) pid }
-    {
-        match place_among(self.processes.as_slice(), pid) {
-            Some(place) => (&self.rows, place),
-            None => (rows, pid),
-        }
-    }
-
-    /// Outcomes of which new ones for these processes make what they make of `rows` with these in it.
-    fn rows_below(
-        &self,
-        alloc: Global,
-        rows: &Shared<OutcomeRows>,
-        processes: &[usize],
-    ) -> Result<Shared<OutcomeRows>, OutOfMemory>
-        requires others { AreOthers rows.now self.now }
-        requires ascending { IsAscending processes.now }
-        ensures count { IfOk result (λ below. length below ≡ length rows.now) }
-        ensures below { IfOk result (λ below. IsBelow below (with_others rows.now self.now) processes.now) }
-    {
-        let apart = self.processes.as_slice();
-        if are_among(apart, processes) {
-            return Ok(rows.copy()?);
-        }
-        Ok(Shared::new(alloc, rows.replaced(alloc, apart, &self.rows)?)?)
-    }
-}
-
 impl Model for Outcomes {
     ghost use Rattle.std.specs.Prelude.{List};
     ghost use Rattle.bsp_step.specs.OutcomeParts.{OutcomeParts};
@@ -75,6 +37,17 @@ impl Model for Outcomes {
     ghost view = { λ o. outcomes_with o.rows o.others };
 
     ghost invariant = { λ o. HasOthers o.rows o.others };
+}
+
+/// Whether no list of this kind stands in the rows, if there are any.
+#[inline(always)]
+fn is_without(rows: &Option<Shared<OutcomeRows>>, kind: ListKind) -> bool
+    ensures { OnTrue result (All (IsWithout kind) (rows_of rows.now)) }
+{
+    match rows {
+        Some(rows) => rows.is_without(kind),
+        None => true,
+    }
 }
 
 /// The rows of the outcomes of some process.
@@ -129,6 +102,32 @@ impl Outcomes {
         }
     }
 
+    /// The lists of all processes, where they are so many and none lies apart.
+    fn all_rows(&self, count: usize) -> Option<&OutcomeRows>
+        ensures { IfSome result (λ rows. (rows.now ≡ self.now) × (length self.now ≡ count)) }
+    {
+        match (&self.rows, &self.others) {
+            (Some(rows), None) if rows.len() == count => Some(rows),
+            _ => None,
+        }
+    }
+
+    /// Copies of the memories of some processes, which are in ascending order; those of all are copied in one piece. Or `OutOfMemory`.
+    pub fn memories_of(&self, alloc: Global, processes: &[usize]) -> Result<Memories, OutOfMemory>
+        requires known { All (λ p. p < length self.now) processes.now }
+        requires ascending { IsAscending processes.now }
+        ensures { IfOk result (λ m. m ≡ map (λ p. (outcome_of self.now p).memory) processes.now) }
+    {
+        if let Some(rows) = self.all_rows(processes.len()) {
+            return Ok(rows.memories()?);
+        }
+        let mut memories = Memories::with_capacity(alloc, processes.len())?;
+        for process in processes {
+            memories.push_copy(&self.memory(*process))?;
+        }
+        Ok(memories)
+    }
+
     /// The number of processes.
     #[inline(always)]
     pub fn len(&self) -> usize
@@ -171,6 +170,15 @@ impl Outcomes {
         rows.get(place)
     }
 
+    /// The memory of a process after computing.
+    #[inline(always)]
+    pub fn memory(&self, pid: usize) -> MemoryRef<'_>
+        requires { pid < length self.now }
+        ensures { result ≡ (outcome_of self.now pid).memory }
+    {
+        self.get(pid).memory
+    }
+
     /// The puts that the turn of a process left. Where nothing else of an outcome is asked for, this and the like of it are cheaper than `get`.
     #[inline(always)]
     pub fn puts(&self, pid: usize) -> PutsRef<'_>
@@ -197,6 +205,17 @@ impl Outcomes {
         ensures limits { IsOutcome (outcome_of self.now pid) }
     {
         self.get(pid).sends
+    }
+
+    /// Whether no list of a kind stands. Then no turn left any. One that only once stood may be said to stand.
+    #[inline(always)]
+    pub fn is_without(&self, kind: ListKind) -> bool
+        ensures { OnTrue result (All (IsWithout kind) self.now) }
+    {
+        match &self.others {
+            Some(others) => others.is_without(kind) && is_without(&self.rows, kind),
+            None => is_without(&self.rows, kind),
+        }
     }
 
     /// The lines that the turn of a process printed.
@@ -253,26 +272,6 @@ impl Outcomes {
             rows: Some(rows),
             others: Some(Shared::new(alloc, others)?),
         })
-    }
-}
-
-impl Registers for Outcomes {
-    ghost use Rattle.std.specs.Prelude.{map};
-
-    ghost pops = { λ os. map (λ o. o.pops) os };
-
-    ghost pushes = { λ os. map (λ o. o.pushes) os };
-
-    fn count(&self) -> usize {
-        self.len()
-    }
-
-    fn pops(&self, pid: usize) -> &[usize] {
-        self.get(pid).pops
-    }
-
-    fn pushes(&self, pid: usize) -> &[Area] {
-        self.get(pid).pushes
     }
 }
 

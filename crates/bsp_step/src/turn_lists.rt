@@ -1,15 +1,17 @@
 //! The lists that a turn leaves.
 
-ghost use Rattle.std.specs.Prelude.{◌≡◌};
+ghost use Rattle.std.specs.Prelude.{◌≡◌, [], OnOk};
 ghost use Rattle.bsp_step.specs.Inside.TurnLists.{no_lists};
 
-use bsp_model::{Get, Puts, Rows, Sends, Seq, Stores};
+use bsp_model::{Get, Memory, MemoryRef, OutOfMemory, Puts, Rows, Sends, Seq, Stores};
 use bsp_table::Area;
 use std::alloc::Global;
 
-/// The lists that a turn leaves. They lie in a box, so that an outcome and a context that move take few words with them.
+/// The lists that a turn leaves, its memory first. They lie in a box, so that an outcome and a context that move take few words with them.
 #[derive(Drop)]
 pub struct TurnLists {
+    /// The memory after computing.
+    pub memory: Memory,
     /// The stores that were made, in order.
     pub stores: Stores,
     /// The puts, in issue order, resolved to process and start word.
@@ -29,9 +31,10 @@ pub struct TurnLists {
 impl TurnLists {
     /// Lists with nothing in them, which take no memory.
     pub(crate) fn new(alloc: Global) -> TurnLists
-        ensures { result ≡ no_lists }
+        ensures { result ≡ no_lists [] }
     {
         TurnLists {
+            memory: Memory::new(alloc),
             stores: Stores::new(alloc),
             puts: Puts::new(alloc),
             gets: Seq::new(alloc),
@@ -42,10 +45,11 @@ impl TurnLists {
         }
     }
 
-    /// Takes everything out of the lists, which keep their room.
+    /// Makes these words the memory, and takes everything out of the other lists, which keep their room. After `OutOfMemory` the memory may have any
+    /// words.
     #[inline(always)]
-    pub(crate) fn clear(&mut self)
-        ensures { self.new ≡ no_lists }
+    pub(crate) fn begin(&mut self, memory: &MemoryRef<'_>) -> Result<(), OutOfMemory>
+        ensures { OnOk result (self.new ≡ no_lists memory.now) }
     {
         self.stores.clear();
         self.puts.clear();
@@ -54,5 +58,6 @@ impl TurnLists {
         self.pops.clear();
         self.pushes.clear();
         self.lines.clear();
+        self.memory.load_from(memory)
     }
 }

@@ -1,9 +1,10 @@
 -- What the tests at the end of a superstep find, and what the next table keeps.
 use Rattle.std.proofs.Common.{◌≡◌, ◌≢◌, ◌≤◌, ◌<◌, ◌+◌, ◌-◌, ℕ, zero, suc, Bool, true, false, cond, Option, None, Some, List, [], ◌∷◌, ◌++◌, ◌==◌, ◌||◌, ◌&&◌, not, nat_lt, nat_eq, if◌then◌else◌, length, map, filter, All, refl, sym, ap, ◌∙◌, arith, get_or, subst, inl, inr, zero-add}
 use Rattle.std.specs.Prelude.{AllPairs}
+use Rattle.std.specs.Bool.{OnTrue}
 use Rattle.std.specs.List.{list_any, list_all, range_with_len}
 use Rattle.std.specs.Cmp.Lexicographic.{pointwise}
-use Rattle.std.proofs.lemmas.Bool.{and_parts, eq-eqb, ne_eqb, eqb-true, cases_eq, ltb-false, true_from_ne_false, false≢true}
+use Rattle.std.proofs.lemmas.Bool.{and_parts, eq-eqb, ne_eqb, eqb-true, cases_eq, ltb-false, OnTrue_at, true_from_ne_false, false≢true}
 use Rattle.std.proofs.lemmas.Bool.Decides.{Decides-eqb}
 use Rattle.std.proofs.lemmas.Slice.Eq.{slice_eq-Decides}
 use Rattle.std.proofs.lemmas.List.{length-map, length-append, map-id, map-append, append-nil, get_or-map, get_or_default}
@@ -222,3 +223,9 @@ within_after bound slots pops pushes none h into =
     (λ p d there.
     let each : length (get_or pushes p d) ≡ count_of_pushes pushes = count_of_each slots pops pushes none p d there in
     into p d there k no_area (omega arith)))
+
+-- lists without items are alike
+pub alike_where_none : {X : Type 0} (same : List X → List X → Bool) (all : List (List X)) (nothing : Bool) → same [] [] ≡ true → nothing ≡ true → OnTrue nothing (All (λ x. x ≡ []) all) → true ≡ are_alike same all
+alike_where_none same all nothing alike is none =
+    let empty : All (λ x. x ≡ []) all = OnTrue_at is none in
+    sym (are_alike_all same all [] (λ k l some. ap (λ first. same first (get_or all k [])) (empty 0 [] (omega arith)) ∙ ap (same []) (empty k [] l) ∙ alike))

@@ -15,7 +15,8 @@ use std::alloc::{AllocError, Global};
 
 /// What the processes ask of the registration table in a superstep, by process.
 pub trait Registers {
-    ghost use Rattle.std.specs.Prelude.{◌≡◌, ◌<◌, List, [], ℕ, length, slice_index_or};
+    ghost use Rattle.std.specs.Prelude.{◌≡◌, ◌<◌, All, List, [], ℕ, length, slice_index_or};
+    ghost use Rattle.std.specs.Bool.{OnTrue};
     ghost use Rattle.bsp_table.specs.declared.area.Area.{Area};
 
     ghost pops: { Self → List (List ℕ) };
@@ -36,6 +37,14 @@ pub trait Registers {
     fn pushes(&self, pid: usize) -> &[Area]
         requires { pid < length (pushes self.now) }
         ensures { result.now ≡ slice_index_or (pushes self.now) pid [] };
+
+    /// Whether it is plain, without going over the processes, that none popped a slot.
+    fn has_no_pops(&self) -> bool
+        ensures { OnTrue result (All (λ popped. popped ≡ []) (pops self.now)) };
+
+    /// Whether it is plain, without going over the processes, that none pushed an area.
+    fn has_no_pushes(&self) -> bool
+        ensures { OnTrue result (All (λ pushed. pushed ≡ []) (pushes self.now)) };
 }
 
 /// Why there is no next table.
@@ -61,6 +70,9 @@ fn is_same_pops<R: Registers>(all: &R, nprocs: usize) -> bool
     requires count { nprocs ≡ length (R.pops all.now) }
     ensures { result ≡ are_alike (pointwise nat_eq) (R.pops all.now) }
 {
+    if all.has_no_pops() {
+        return true;
+    }
     let first = all.pops(0);
     for pid in 1..nprocs {
         if first != all.pops(pid) {
@@ -76,6 +88,9 @@ fn is_same_count<R: Registers>(all: &R, nprocs: usize) -> bool
     requires count { nprocs ≡ length (R.pushes all.now) }
     ensures { result ≡ are_alike (λ p q. length p == length q) (R.pushes all.now) }
 {
+    if all.has_no_pushes() {
+        return true;
+    }
     let first = all.pushes(0).len();
     for pid in 1..nprocs {
         if first != all.pushes(pid).len() {

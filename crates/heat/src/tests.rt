@@ -1,4 +1,4 @@
-//! The run of the stored document.
+//! The run of the stored document, and runs whose allocations are counted.
 
 use crate::rod::run_heat;
 use bsp_model::{Input, Memory, OutOfMemory, Seq, Words};
@@ -69,4 +69,45 @@ fn rod_of_the_stored_document(rt: HostRuntime) -> Result<(), Fail> {
     }
     assert_eq!(rt; history.total(), 136);
     Ok(())
+}
+
+/// A run on one thread of a rod with 32 cells for each of so many processes, up to so many supersteps.
+fn run_long(alloc: Global, processes: usize, limit: u64) -> Result<(), Fail> {
+    let mut mems = Seq::new(alloc);
+    let mut args = Seq::new(alloc);
+    for _pid in 0..processes {
+        mems.push(Memory::from_words(alloc, &[7; 34])?)?;
+        args.push(Words::from_slice(alloc, &[1000])?)?;
+    }
+    let input = Input {
+        mems,
+        args,
+        limit,
+        g: 4,
+        l: 10,
+    };
+    run_heat(alloc, &input)?;
+    Ok(())
+}
+
+// `ci/count_allocations` counts what these allocate, by their names.
+
+#[test]
+fn plain_run_of_8_with_9(rt: HostRuntime) -> Result<(), Fail> {
+    run_long(rt.alloc(), 8, 9)
+}
+
+#[test]
+fn plain_run_of_8_with_10(rt: HostRuntime) -> Result<(), Fail> {
+    run_long(rt.alloc(), 8, 10)
+}
+
+#[test]
+fn plain_run_of_64_with_9(rt: HostRuntime) -> Result<(), Fail> {
+    run_long(rt.alloc(), 64, 9)
+}
+
+#[test]
+fn plain_run_of_64_with_10(rt: HostRuntime) -> Result<(), Fail> {
+    run_long(rt.alloc(), 64, 10)
 }

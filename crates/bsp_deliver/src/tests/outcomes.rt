@@ -91,6 +91,7 @@ fn outcome_of(
     let Requests { puts, gets } = requests;
     assert!(rt; memory.len() <= 4096 && puts.len() <= 64 && gets.len() <= 64);
     let lists = TurnLists {
+        memory: Memory::from_words(alloc, memory)?,
         stores: Stores::new(alloc),
         puts,
         gets,
@@ -102,7 +103,6 @@ fn outcome_of(
     Ok(Outcome {
         fault: None,
         ended: Ended::Sync,
-        memory: Memory::from_words(alloc, memory)?,
         lists: Box::new(alloc, lists)?,
         tag: None,
         work: 0,

@@ -1,8 +1,8 @@
 -- What edits replaced, put back.
 use Rattle.std.specs.Prelude.{List, [], ◌∷◌, slice_set}
 use Rattle.bsp_model.specs.declared.input.Input.{Input}
-use Rattle.bsp_incr.specs.declared.former.Former.{Former}
-use Rattle.bsp_incr.specs.declared.former.Former.TheVariants.{Memory, Args, Limit, Prices}
+use Rattle.bsp_incr.specs.declared.edit.former.Former.{Former}
+use Rattle.bsp_incr.specs.declared.edit.former.Former.TheVariants.{Memory, Args, Limit, Prices}
 
 -- the input with what an edit replaced
 abbrev pub with_former : Input → Former → Input

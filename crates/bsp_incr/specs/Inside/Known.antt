@@ -3,9 +3,9 @@ use Rattle.std.specs.Prelude.{◌≡◌, ◌<◌, true, List, Option, length, sl
 use Rattle.bsp_step.specs.ViewParts.{ViewParts}
 use Rattle.bsp_run.specs.Run.{Run, open_views, after_delivery}
 use Rattle.bsp_run.specs.Condition.{is_open, no_view}
-use Rattle.bsp_incr.specs.declared.doubtful.Doubtful.{Doubtful}
-use Rattle.bsp_incr.specs.declared.known_table.KnownTable.{KnownTable}
-use Rattle.bsp_incr.specs.declared.known_table.KnownTable.TheVariants.{AsBefore, Unknown}
+use Rattle.bsp_incr.specs.declared.compare.doubtful.Doubtful.{Doubtful}
+use Rattle.bsp_incr.specs.declared.compare.known_table.KnownTable.{KnownTable}
+use Rattle.bsp_incr.specs.declared.compare.known_table.KnownTable.TheVariants.{AsBefore, Unknown}
 use Rattle.bsp_incr.specs.Inside.Before.{taken_before, views_after}
 use Rattle.bsp_incr.specs.Inside.Marks.{ViewsDifferAtMost}
 

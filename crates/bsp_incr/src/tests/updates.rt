@@ -2,7 +2,7 @@
 
 use super::counting::{Counting, Passing};
 use super::inputs::Start;
-use crate::counts::Counts;
+use crate::rerun::Counts;
 use crate::{Edit, Place, Session, Update};
 use bsp_model::Input;
 use bsp_pool::Open;

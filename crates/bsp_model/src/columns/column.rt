@@ -1,6 +1,6 @@
 //! For each process a row of items.
 
-ghost use Rattle.std.specs.Prelude.{◌≡◌, [], IfOk, OnErr, OnOk};
+ghost use Rattle.std.specs.Prelude.{◌≡◌, [], IfOk, OnErr, OnOk, length, nat_eq};
 ghost use Rattle.bsp_model.specs.Columns.{row_at, AreCut, AreTaken, IsPut};
 
 use crate::{OutOfMemory, Rows};
@@ -30,6 +30,14 @@ impl<T> Column<T> {
         Column {
             rows: Rows::new(alloc),
         }
+    }
+
+    /// Whether no row stands. Then each is empty.
+    #[inline(always)]
+    pub fn is_empty(&self) -> bool
+        ensures { result ≡ nat_eq (length self.now) 0 }
+    {
+        self.rows.is_empty()
     }
 
     /// The row of a process.

@@ -1,6 +1,6 @@
 //! For each process printed lines.
 
-ghost use Rattle.std.specs.Prelude.{◌≡◌, [], IfOk, OnErr, OnOk};
+ghost use Rattle.std.specs.Prelude.{◌≡◌, [], IfOk, OnErr, OnOk, length, nat_eq};
 ghost use Rattle.bsp_model.specs.Columns.{row_at, AreCut, AreTaken, IsPut};
 
 use super::pairs::Pairs;
@@ -42,6 +42,14 @@ impl LineColumn {
         Ok(LineColumn {
             pairs: Pairs::with_room_of(alloc, &like.pairs)?,
         })
+    }
+
+    /// Whether none stand. Then no process has any.
+    #[inline(always)]
+    pub fn is_empty(&self) -> bool
+        ensures { result ≡ nat_eq (length self.now) 0 }
+    {
+        self.pairs.is_empty()
     }
 
     /// Those of a process, to be read where they lie.

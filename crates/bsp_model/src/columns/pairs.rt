@@ -1,6 +1,6 @@
 //! For each process two rows.
 
-ghost use Rattle.std.specs.Prelude.{◌≡◌, [], IfOk, OnErr, OnOk};
+ghost use Rattle.std.specs.Prelude.{◌≡◌, ◌&&◌, [], IfOk, OnErr, OnOk, length, nat_eq};
 ghost use Rattle.bsp_model.specs.Columns.{AreCut, AreTaken, IsPut};
 ghost use Rattle.bsp_model.specs.Inside.Columns.{pair_at};
 
@@ -33,6 +33,14 @@ impl<A, B> Pairs<A, B> {
             firsts: Column::new(alloc),
             seconds: Column::new(alloc),
         }
+    }
+
+    /// Whether no row stands. Then each is empty.
+    #[inline(always)]
+    pub fn is_empty(&self) -> bool
+        ensures { result ≡ (nat_eq (length self.now.0) 0 && nat_eq (length self.now.1) 0) }
+    {
+        self.firsts.is_empty() && self.seconds.is_empty()
     }
 
     /// The rows of a process.

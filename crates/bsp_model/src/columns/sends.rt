@@ -1,6 +1,6 @@
 //! For each process messages that it sends.
 
-ghost use Rattle.std.specs.Prelude.{◌≡◌, [], IfOk, OnErr, OnOk};
+ghost use Rattle.std.specs.Prelude.{◌≡◌, [], IfOk, OnErr, OnOk, length, nat_eq};
 ghost use Rattle.bsp_model.specs.Columns.{row_at, AreCut, AreTaken, IsPut};
 
 use super::pairs::Pairs;
@@ -45,6 +45,14 @@ impl SendColumn {
         Ok(SendColumn {
             pairs: Pairs::with_room_of(alloc, &like.pairs)?,
         })
+    }
+
+    /// Whether none stand. Then no process has any.
+    #[inline(always)]
+    pub fn is_empty(&self) -> bool
+        ensures { result ≡ nat_eq (length self.now) 0 }
+    {
+        self.pairs.is_empty()
     }
 
     /// Those of a process, to be read where they lie.

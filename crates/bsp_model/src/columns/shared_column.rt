@@ -90,7 +90,20 @@ impl<T: Drop> SharedColumn<T> {
     }
 
     /// Makes `row` the list of a process, and leaves those behind it out. After `OutOfMemory` its own is left out too.
+    #[inline(always)]
     pub fn put(&mut self, place: usize, row: SharedSeq<T>) -> Result<(), OutOfMemory>
+        ensures ok { OnOk result (IsPut [] (row_at self.old) place row (row_at self.new)) }
+        ensures err { OnErr result (AreCut [] (row_at self.old) place (row_at self.new)) }
+    {
+        if row.is_empty() && self.rows.len() <= place {
+            return Ok(());
+        }
+        self.put_there(place, row)
+    }
+
+    /// The same, where the column may change.
+    #[inline(never)]
+    fn put_there(&mut self, place: usize, row: SharedSeq<T>) -> Result<(), OutOfMemory>
         ensures ok { OnOk result (IsPut [] (row_at self.old) place row (row_at self.new)) }
         ensures err { OnErr result (AreCut [] (row_at self.old) place (row_at self.new)) }
     {

@@ -19,8 +19,8 @@ fn memory_of(alloc: Global, word: u64, count: usize) -> Result<Memory, OutOfMemo
 fn first_memories(alloc: Global) -> Result<Memories, OutOfMemory> {
     let mut memories = Memories::with_capacity(alloc, COUNTS.len())?;
     for pid in 0..COUNTS.len() {
-        let memory = memory_of(alloc, pid as u64 + 1, COUNTS[pid])?;
-        memories.push(memory)?;
+        let mut memory = memory_of(alloc, pid as u64 + 1, COUNTS[pid])?;
+        memories.push_from(&mut memory)?;
     }
     Ok(memories)
 }
@@ -28,7 +28,7 @@ fn first_memories(alloc: Global) -> Result<Memories, OutOfMemory> {
 /// New memories, the first of no word and the second of two pages and two words.
 fn new_memories(alloc: Global) -> Result<Memories, OutOfMemory> {
     let mut memories = Memories::with_capacity(alloc, 2)?;
-    memories.push(memory_of(alloc, 7, 0)?)?;
+    memories.push_from(&mut memory_of(alloc, 7, 0)?)?;
     memories.push_copy(&memory_of(alloc, 8, 130)?.as_ref())?;
     Ok(memories)
 }

@@ -1,7 +1,7 @@
 -- Outcomes of which those of some processes lie apart.
 use Rattle.std.specs.Prelude.{ℕ, ◌≡◌, ◌<◌, ⊤, List, [], Option, None, Some, All, length}
 use Rattle.bsp_model.specs.Replaced.{replaced, IsAscending}
-use Rattle.bsp_step.specs.declared.outcomes.Others.{Others}
+use Rattle.bsp_step.specs.declared.outcomes.others.Others.{Others}
 use Rattle.bsp_step.specs.OutcomeParts.{OutcomeParts}
 
 -- the outcomes in rows; none where there is no process

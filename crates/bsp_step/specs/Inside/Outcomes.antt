@@ -2,7 +2,11 @@
 use Rattle.std.specs.Prelude.{ℕ, List, [], Option, ◌≡◌, ◌<◌, length, map, slice_get, slice_index_or}
 use Rattle.std.specs.List.{range_with_len}
 use Rattle.bsp_model.specs.Columns.{row_at}
+use Rattle.bsp_model.specs.Inside.Beside.{stores_beside, AreBeside}
+use Rattle.bsp_model.specs.Inside.Columns.{pair_at}
 use Rattle.bsp_step.specs.declared.outcome.Ended.TheVariants.{Halt}
+use Rattle.bsp_step.specs.declared.list_kind.ListKind.{ListKind}
+use Rattle.bsp_step.specs.declared.list_kind.ListKind.TheVariants.{Gets, Sends, Pops, Pushes, Lines}
 use Rattle.bsp_step.specs.declared.lists.Lists.{Lists}
 use Rattle.bsp_step.specs.declared.lists.TurnEnd.{TurnEnd}
 use Rattle.bsp_step.specs.OutcomeParts.{OutcomeParts, IsOutcome}
@@ -15,14 +19,15 @@ no_end = record { ended = Halt; work = 0 }
 abbrev pub first_at : {X : Type 0} → List (List X) → ℕ → Option X
 first_at rows k = slice_get (row_at rows k) 0
 
--- an outcome, from how its turn ended, its memory, and a row of each list; its fault and its choice of a tag size are rows of one item
+-- an outcome, from how its turn ended, its memory, and a row of each list; its stores are kept beside its memory, and its fault and its choice of a tag
+-- size are rows of one item
 abbrev pub outcome_in : TurnEnd → List ℕ → Lists → ℕ → OutcomeParts
 outcome_in end memory lists k =
     record {
       fault = first_at lists.faults k;
       ended = end.ended;
       memory = memory;
-      stores = row_at lists.stores k;
+      stores = stores_beside lists.stores k memory;
       puts = row_at lists.puts k;
       gets = row_at lists.gets k;
       sends = row_at lists.sends k;
@@ -41,15 +46,17 @@ outcome_at ends memories lists k = outcome_in (slice_index_or ends k no_end) (sl
 abbrev pub outcomes_of : List TurnEnd → List (List ℕ) → Lists → List OutcomeParts
 outcomes_of ends memories lists = map (outcome_at ends memories lists) (range_with_len 0 (length ends))
 
--- Each process has a memory, and its outcome keeps the limits.
+-- Each process has a memory, beside which its stores are kept, and its outcome keeps the limits.
 pub record AreOutcomes (ends : List TurnEnd) (memories : List (List ℕ)) (lists : Lists) : Type 0 where
   pub count : length memories ≡ length ends
+  pub beside : (k : ℕ) → k < length ends → AreBeside lists.stores k (slice_index_or memories k [])
   pub lawful : (k : ℕ) → k < length ends → IsOutcome (outcome_at ends memories lists k)
 
--- The lists have those of this outcome as the rows of a process.
-pub record HasLists (lists : Lists) (k : ℕ) (o : OutcomeParts) : Type 0 where
+-- The lists have those of this outcome as the rows of a process, its stores beside this memory.
+pub record HasLists (lists : Lists) (k : ℕ) (memory : List ℕ) (o : OutcomeParts) : Type 0 where
   pub faults : first_at lists.faults k ≡ o.fault
-  pub stores : row_at lists.stores k ≡ o.stores
+  pub beside : AreBeside lists.stores k memory
+  pub stores : stores_beside lists.stores k memory ≡ o.stores
   pub puts : row_at lists.puts k ≡ o.puts
   pub gets : row_at lists.gets k ≡ o.gets
   pub sends : row_at lists.sends k ≡ o.sends
@@ -61,7 +68,7 @@ pub record HasLists (lists : Lists) (k : ℕ) (o : OutcomeParts) : Type 0 where
 -- A process has the same rows in two of them.
 pub record AreSameLists (old new : Lists) (k : ℕ) : Type 0 where
   pub faults : row_at new.faults k ≡ row_at old.faults k
-  pub stores : row_at new.stores k ≡ row_at old.stores k
+  pub stores : pair_at new.stores k ≡ pair_at old.stores k
   pub puts : row_at new.puts k ≡ row_at old.puts k
   pub gets : row_at new.gets k ≡ row_at old.gets k
   pub sends : row_at new.sends k ≡ row_at old.sends k
@@ -69,3 +76,11 @@ pub record AreSameLists (old new : Lists) (k : ℕ) : Type 0 where
   pub pushes : row_at new.pushes k ≡ row_at old.pushes k
   pub tags : row_at new.tags k ≡ row_at old.tags k
   pub lines : row_at new.lines k ≡ row_at old.lines k
+
+-- The column of a kind of list has no row.
+abbrev pub IsWithoutColumn : ListKind → Lists → Type 0
+IsWithoutColumn Gets lists = lists.gets ≡ []
+IsWithoutColumn Sends lists = lists.sends ≡ []
+IsWithoutColumn Pops lists = lists.pops ≡ []
+IsWithoutColumn Pushes lists = lists.pushes ≡ []
+IsWithoutColumn Lines lists = lists.lines ≡ []

@@ -5,7 +5,7 @@ ghost use Rattle.bsp_step.specs.Act as act;
 ghost use Rattle.bsp_step.specs.Blocks.{words_at, stores, with_stored};
 ghost use Rattle.bsp_step.specs.Calls.{PerformsAll, PutsWords};
 
-use crate::{Ctx, Stop};
+use crate::{Ctx, Stop, TurnLists};
 use bsp_model::limits::MOST_MEMORY_WORDS;
 use bsp_model::{Fault, OutOfMemory, Words};
 
@@ -18,7 +18,7 @@ impl<'v> Ctx<'v> {
         ensures within { IsSome result ↔ (address + length words.old ≤ length self.now.memory) }
         ensures short { length self.now.memory ≤ MOST_MEMORY_WORDS }
     {
-        self.memory.read(address, words).then_some(())
+        self.lists.memory.read(address, words).then_some(())
     }
 
     /// The `len` words of the own memory from `address` on, as they are now, or `None` where they pass its end: `load_words` into a new list.
@@ -31,7 +31,7 @@ impl<'v> Ctx<'v> {
             return Ok(None);
         }
         let mut words = vec![in self.alloc; 0; len as usize]?;
-        self.memory.read(address, words.as_mut_slice());
+        self.lists.memory.read(address, words.as_mut_slice());
         Ok(Some(Words::from_vec(words)))
     }
 
@@ -45,11 +45,10 @@ impl<'v> Ctx<'v> {
         if let Some(fault) = self.fault {
             return Err(Stop::Fault(fault));
         }
-        let room = (self.memory.len() as u64).saturating_sub(address);
+        let room = (self.lists.memory.len() as u64).saturating_sub(address);
         let (inside, past) = words.split_at(words.len().min(room as usize));
-        self.lists
-            .stores
-            .make_words(&mut self.memory, address, inside)?;
+        let lists: &mut TurnLists = &mut self.lists;
+        lists.stores.make_words(&mut lists.memory, address, inside)?;
         if !past.is_empty() {
             return self.refuse(Fault::BadLocal);
         }
@@ -70,13 +69,13 @@ impl<'v> Ctx<'v> {
     ) -> Result<Option<()>, Stop>
         ensures { PutsWords self.old (words_at self.old.memory from len) (λ words. act.put pid words area offset) self.new result }
     {
-        let own = self.memory.len() as u64;
+        let own = self.lists.memory.len() as u64;
         if from > own || len > own - from {
             return Ok(None);
         }
         let start = self.resolve(pid, area, offset, len)?;
         let mut words = vec![in self.alloc; 0; len as usize]?;
-        self.memory.read(from, words.as_mut_slice());
+        self.lists.memory.read(from, words.as_mut_slice());
         self.lists.puts.push(pid, start, words.as_slice())?;
         Ok(Some(()))
     }

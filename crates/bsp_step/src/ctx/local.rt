@@ -4,7 +4,7 @@ ghost use Rattle.std.specs.Prelude.{◌≡◌};
 ghost use Rattle.bsp_step.specs.Act as act;
 ghost use Rattle.bsp_step.specs.Calls.{Performs, PerformsAlways};
 
-use crate::{Ctx, Stop};
+use crate::{Ctx, Stop, TurnLists};
 use bsp_model::limits::{MOST_LINE_WORDS, MOST_LINES, MOST_WORK};
 use bsp_model::{Fault, Store};
 
@@ -18,14 +18,15 @@ impl<'v> Ctx<'v> {
         if let Some(fault) = self.fault {
             return Err(Stop::Fault(fault));
         }
-        if address >= self.memory.len() as u64 {
+        if address >= self.lists.memory.len() as u64 {
             return self.refuse(Fault::BadLocal);
         }
         let store = Store {
             addr: address,
             value,
         };
-        self.lists.stores.make(&mut self.memory, store)?;
+        let lists: &mut TurnLists = &mut self.lists;
+        lists.stores.make(&mut lists.memory, store)?;
         Ok(())
     }
 

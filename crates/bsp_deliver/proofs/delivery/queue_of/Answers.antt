@@ -1,4 +1,4 @@
-use Rattle.std.proofs.Common.{◌≡◌, ◌<◌, ◌==◌, ◌+◌, ◌++◌, ◌∙◌, ap, sym, arith, map, filter, length, List, subst}
+use Rattle.std.proofs.Common.{ℕ, ◌≡◌, ◌<◌, ◌==◌, ◌+◌, ◌++◌, ◌∙◌, ap, sym, arith, map, filter, length, List, subst}
 use Rattle.std.proofs.lemmas.Result.{IfOk-weaker}
 use Rattle.bsp_model.specs.declared.request.Send.{Send}
 use Rattle.bsp_model.specs.declared.request.Message.{Message}
@@ -6,9 +6,14 @@ use Rattle.bsp_step.specs.ViewParts.{IsQueue}
 use Rattle.bsp_step.specs.OutcomeParts.{OutcomeParts, outcome_of}
 use Rattle.bsp_deliver.specs.Requests.{all_sends}
 use Rattle.bsp_deliver.specs.Delivery.{message_of}
-use Rattle.bsp_deliver.proofs.Senders.{passing_more, outcome_at}
+use Rattle.bsp_deliver.proofs.Senders.{none_sent, passing_more, outcome_at}
 use Rattle.bsp_deliver.proofs.Queues.{IsQueueOf, no_senders, sender_more, queue_of_few}
 use Rattle.bsp_deliver.proofs.delivery.queue_of.Goals as goal
+
+pub returns-then-is_without-clause-messages : goal.returns-then-is_without-clause-messages
+returns-then-is_without-clause-messages c =
+    let to : List (ℕ × Send) → List Message = λ sends. map (λ (m : ℕ × Send). message_of m.1) (filter (λ (m : ℕ × Send). m.1.target == c.args.d) sends) in
+    c.new.ensures ∙ ap to (sym (none_sent c.args.outcomes.now c.is_without.result c.if-is_without.true c.is_without.ensures))
 
 pub returns-clause-limits : goal.returns-clause-limits
 returns-clause-limits c =

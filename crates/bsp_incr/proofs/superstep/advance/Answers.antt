@@ -1,16 +1,13 @@
-use Rattle.std.proofs.Common.{All, ◌≡◌, ◌<◌, ◌∙◌, List, Option, ap, sym, subst, length}
+use Rattle.std.proofs.Common.{All, ◌∙◌, List, Option, ap, sym, subst, length}
 use Rattle.std.specs.Prelude.{option_map}
 use Rattle.bsp_step.specs.ViewParts.{ViewParts, IsView}
 use Rattle.bsp_step.specs.OutcomeParts.{OutcomeParts}
 use Rattle.bsp_step.specs.Turn.{turn_of}
 use Rattle.bsp_run.specs.Run.{Run, after_turns, after_delivery, open_views}
 use Rattle.bsp_run.proofs.Runs.{open_phase, advance-closed, advance-delivers}
-use Rattle.bsp_run.proofs.Records.{open_views-in}
-use Rattle.bsp_incr.specs.Inside.Marks.{AreMarked, HaveOneTable}
+use Rattle.bsp_incr.specs.Inside.Marks.{AreMarked}
 use Rattle.bsp_incr.specs.Inside.Before.{taken_before}
-use Rattle.bsp_incr.proofs.RunBefore.{table_before, open_table}
-use Rattle.bsp_incr.proofs.Remaking.{count_taken}
-use Rattle.bsp_incr.specs.declared.known_table.KnownTable.TheVariants.{AsBefore}
+use Rattle.bsp_incr.specs.declared.compare.known_table.KnownTable.TheVariants.{AsBefore}
 use Rattle.bsp_incr.specs.Inside.Before.{IsUnderWay}
 use Rattle.bsp_incr.specs.Inside.Known.{IsKnown, KnowsTable}
 use Rattle.bsp_incr.proofs.KnownTables.{knows_taken}
@@ -27,47 +24,21 @@ among-requires-clause-marks g c =
     let turn = turn_of (g.P.Program.acts c.args.given.now.program.now) (g.P.Program.ending c.args.given.now.program.now) in
     let old : Option Run = option_map (λ k. k.now) c.args.given.now.old in
     let r : Run = c.args.tape.now in
-    let before = c.taken_before-old_views.ensures ∙ ap (taken_before old) c.step-step.ensures in
-    let now = c.open_views.ensures.views in
-    let marks = c.as_slice.ensures.value in
-    subst (λ (vs : List ViewParts). AreMarked vs c.open_views.result.now c.as_slice.result.now) (sym before)
-    (subst (λ (vs : List ViewParts). AreMarked (taken_before old (length r.past)) vs c.as_slice.result.now) (sym now)
+    let before = c.open_superstep-superstep.ensures.old_views in
+    let now = c.open_superstep-superstep.ensures.views in
+    let marks = c.as_slice-marks.ensures.value in
+    subst (λ (vs : List ViewParts). AreMarked vs c.open_superstep-superstep.result.views.now c.as_slice-marks.result.now) (sym before)
+    (subst (λ (vs : List ViewParts). AreMarked (taken_before old (length r.past)) vs c.as_slice-marks.result.now) (sym now)
     (subst (AreMarked (taken_before old (length r.past)) (open_views r)) (sym marks) (c.requires.under_way.marked (sym c.if-not-is_open.ensures))))
-
-pub among-requires-clause-old_table : goal.among-requires-clause-old_table
-among-requires-clause-old_table g c =
-    let turn = turn_of (g.P.Program.acts c.args.given.now.program.now) (g.P.Program.ending c.args.given.now.program.now) in
-    let old : Option Run = option_map (λ k. k.now) c.args.given.now.old in
-    let r : Run = c.args.tape.now in
-    let before = c.taken_before-old_views.ensures ∙ ap (taken_before old) c.step-step.ensures in
-    subst HaveOneTable (sym before) (table_before turn c.args.given.now.input.now old (length r.past) c.requires.under_way.before)
-
-pub among-requires-clause-table : goal.among-requires-clause-table
-among-requires-clause-table g c =
-    let turn = turn_of (g.P.Program.acts c.args.given.now.program.now) (g.P.Program.ending c.args.given.now.program.now) in
-    let old : Option Run = option_map (λ k. k.now) c.args.given.now.old in
-    let r : Run = c.args.tape.now in
-    let now = c.open_views.ensures.views in
-    subst HaveOneTable (sym now) (open_table turn c.args.given.now.input.now r c.requires.under_way.made)
-
-pub among-requires-clause-count : goal.among-requires-clause-count
-among-requires-clause-count g c =
-    let turn = turn_of (g.P.Program.acts c.args.given.now.program.now) (g.P.Program.ending c.args.given.now.program.now) in
-    let old : Option Run = option_map (λ k. k.now) c.args.given.now.old in
-    let r : Run = c.args.tape.now in
-    let before = c.taken_before-old_views.ensures ∙ ap (taken_before old) c.step-step.ensures in
-    let now = c.open_views.ensures.views ∙ open_views-in turn c.args.given.now.input.now r c.requires.under_way.made in
-    subst (λ (vs : List ViewParts). 0 < length vs → length vs ≡ length c.open_views.result.now) (sym before)
-    (count_taken turn c.args.given.now.input.now old (length r.past) c.open_views.result.now c.requires.under_way.before now)
 
 pub among-requires-clause-known : goal.among-requires-clause-known
 among-requires-clause-known g c =
     let old : Option Run = option_map (λ k. k.now) c.args.given.now.old in
     let r : Run = c.args.tape.now in
-    let before = c.taken_before-old_views.ensures ∙ ap (taken_before old) c.step-step.ensures in
-    let now = c.open_views.ensures.views in
-    subst (λ (vs : List ViewParts). IsKnown c.args.table.now vs c.open_views.result.now) (sym before)
-    (subst (λ (vs : List ViewParts). IsKnown c.args.table.now (taken_before old (length r.past)) vs) (sym now) (c.requires.table (sym c.if-not-is_open.ensures)))
+    let before = c.open_superstep-superstep.ensures.old_views in
+    let now = c.open_superstep-superstep.ensures.views in
+    subst (λ (vs : List ViewParts). IsKnown c.args.under_way.now.table vs c.open_superstep-superstep.result.views.now) (sym before)
+    (subst (λ (vs : List ViewParts). IsKnown c.args.under_way.now.table (taken_before old (length r.past)) vs) (sym now) (c.requires.table (sym c.if-not-is_open.ensures)))
 
 pub take_over-requires : goal.take_over-requires
 take_over-requires g c =
@@ -78,10 +49,10 @@ take_over-requires g c =
     let old = c.in-Some.history.now in
     let r : Run = c.args.tape.now in
     let started = sym c.if-not-is_open.ensures in
-    let now = c.open_views.ensures.views in
-    let stays = staying_whole turn j (option_map (λ k. k.now) c.args.given.now.old) old r c.step-step.result c.taken_before-old_views.result c.open_views.result.now c.in_ok-doubtful.doubtful.processes.items c.as_slice-2.result.now c.requires.under_way.before c.in-Some.ensures c.requires.under_way.made started (lawful_input c.args.given.now.input.now c.args.given.now.lawful).some_process
-    c.step-step.ensures c.taken_before-old_views.ensures now c.as_slice-2.ensures.value c.in_ok-doubtful.ensures.processes in
-    let within = subst (All IsView) now (c.open_views.ensures.limits (open_phase r.phase started)) in
+    let now = c.open_superstep-superstep.ensures.views in
+    let stays = staying_whole turn j (option_map (λ k. k.now) c.args.given.now.old) old r c.step.result c.open_superstep-superstep.result.old_views c.open_superstep-superstep.result.views.now c.in_ok-doubtful.doubtful.processes.items c.as_slice.result.now c.requires.under_way.before c.in-Some.ensures c.requires.under_way.made started (lawful_input c.args.given.now.input.now c.args.given.now.lawful).some_process
+    c.step.ensures (c.open_superstep-superstep.ensures.old_views ∙ ap (taken_before (option_map (λ k. k.now) c.args.given.now.old)) (sym c.step.ensures)) now c.as_slice.ensures.value c.in_ok-doubtful.ensures.processes in
+    let within = subst (All IsView) now c.open_superstep-superstep.ensures.limits in
     can_take_over acts ending stays.0.input_before j old r stays.1.before c.requires.under_way.made (open_phase r.phase started) (lawful_input c.args.given.now.input.now c.args.given.now.lawful).some_process stays.0.stands within stays.1.past stays.1.seen
 
 pub returns-in-Some-clause-tape : goal.returns-in-Some-clause-tape
@@ -93,9 +64,9 @@ returns-in-Some-clause-tape g c =
     let old = c.in-Some.history.now in
     let r : Run = c.args.tape.now in
     let started = sym c.if-not-is_open.ensures in
-    let now = c.open_views.ensures.views in
-    let stays = staying_whole turn j (option_map (λ k. k.now) c.args.given.now.old) old r c.step-step.result c.taken_before-old_views.result c.open_views.result.now c.in_ok-doubtful.doubtful.processes.items c.as_slice-2.result.now c.requires.under_way.before c.in-Some.ensures c.requires.under_way.made started (lawful_input c.args.given.now.input.now c.args.given.now.lawful).some_process
-    c.step-step.ensures c.taken_before-old_views.ensures now c.as_slice-2.ensures.value c.in_ok-doubtful.ensures.processes in
+    let now = c.open_superstep-superstep.ensures.views in
+    let stays = staying_whole turn j (option_map (λ k. k.now) c.args.given.now.old) old r c.step.result c.open_superstep-superstep.result.old_views c.open_superstep-superstep.result.views.now c.in_ok-doubtful.doubtful.processes.items c.as_slice.result.now c.requires.under_way.before c.in-Some.ensures c.requires.under_way.made started (lawful_input c.args.given.now.input.now c.args.given.now.lawful).some_process
+    c.step.ensures (c.open_superstep-superstep.ensures.old_views ∙ ap (taken_before (option_map (λ k. k.now) c.args.given.now.old)) (sym c.step.ensures)) now c.as_slice.ensures.value c.in_ok-doubtful.ensures.processes in
     c.in_ok-take_over.ensures.ok ∙ ap (λ (os : List OutcomeParts). after_delivery (after_turns r os)) (left turn stays.0.input_before j old r stays.1)
     ∙ sym (advance-delivers turn r (open_phase r.phase started) (goes_on turn stays.0.input_before j old r stays.1))
 
@@ -108,12 +79,12 @@ returns-in-Some-clause-under_way g c =
     let old = c.in-Some.history.now in
     let r : Run = c.args.tape.now in
     let started = sym c.if-not-is_open.ensures in
-    let now = c.open_views.ensures.views in
-    let stays = staying_whole turn j (option_map (λ k. k.now) c.args.given.now.old) old r c.step-step.result c.taken_before-old_views.result c.open_views.result.now c.in_ok-doubtful.doubtful.processes.items c.as_slice-2.result.now c.requires.under_way.before c.in-Some.ensures c.requires.under_way.made started (lawful_input c.args.given.now.input.now c.args.given.now.lawful).some_process
-    c.step-step.ensures c.taken_before-old_views.ensures now c.as_slice-2.ensures.value c.in_ok-doubtful.ensures.processes in
+    let now = c.open_superstep-superstep.ensures.views in
+    let stays = staying_whole turn j (option_map (λ k. k.now) c.args.given.now.old) old r c.step.result c.open_superstep-superstep.result.old_views c.open_superstep-superstep.result.views.now c.in_ok-doubtful.doubtful.processes.items c.as_slice.result.now c.requires.under_way.before c.in-Some.ensures c.requires.under_way.made started (lawful_input c.args.given.now.input.now c.args.given.now.lawful).some_process
+    c.step.ensures (c.open_superstep-superstep.ensures.old_views ∙ ap (taken_before (option_map (λ k. k.now) c.args.given.now.old)) (sym c.step.ensures)) now c.as_slice.ensures.value c.in_ok-doubtful.ensures.processes in
     let made = c.in_ok-take_over.ensures.ok ∙ ap (λ (os : List OutcomeParts). after_delivery (after_turns r os)) (left turn stays.0.input_before j old r stays.1) in
-    subst (λ before. IsUnderWay turn (g.P.Program.looks c.args.given.now.program.now) before j c.take_over.new.self c.args.marks.now.items c.args.update.now) (sym c.in-Some.ensures.2)
-    (under_way_taken turn (g.P.Program.looks c.args.given.now.program.now) j old r c.take_over.new.self c.args.marks.now.items c.args.update.now stays.0 stays.1 (subst (λ before. IsUnderWay turn (g.P.Program.looks c.args.given.now.program.now) before j r c.args.marks.now.items c.args.update.now) c.in-Some.ensures.2 c.requires.under_way) made)
+    subst (λ before. IsUnderWay turn (g.P.Program.looks c.args.given.now.program.now) before j c.take_over.new.self c.args.under_way.now.marks.items c.args.under_way.now.update) (sym c.in-Some.ensures.2)
+    (under_way_taken turn (g.P.Program.looks c.args.given.now.program.now) j old r c.take_over.new.self c.args.under_way.now.marks.items c.args.under_way.now.update stays.0 stays.1 (subst (λ before. IsUnderWay turn (g.P.Program.looks c.args.given.now.program.now) before j r c.args.under_way.now.marks.items c.args.under_way.now.update) c.in-Some.ensures.2 c.requires.under_way) made)
 
 pub returns-in-Some-clause-table : goal.returns-in-Some-clause-table
 returns-in-Some-clause-table g c =
@@ -124,9 +95,9 @@ returns-in-Some-clause-table g c =
     let old = c.in-Some.history.now in
     let r : Run = c.args.tape.now in
     let started = sym c.if-not-is_open.ensures in
-    let now = c.open_views.ensures.views in
-    let stays = staying_whole turn j (option_map (λ k. k.now) c.args.given.now.old) old r c.step-step.result c.taken_before-old_views.result c.open_views.result.now c.in_ok-doubtful.doubtful.processes.items c.as_slice-2.result.now c.requires.under_way.before c.in-Some.ensures c.requires.under_way.made started (lawful_input c.args.given.now.input.now c.args.given.now.lawful).some_process
-    c.step-step.ensures c.taken_before-old_views.ensures now c.as_slice-2.ensures.value c.in_ok-doubtful.ensures.processes in
+    let now = c.open_superstep-superstep.ensures.views in
+    let stays = staying_whole turn j (option_map (λ k. k.now) c.args.given.now.old) old r c.step.result c.open_superstep-superstep.result.old_views c.open_superstep-superstep.result.views.now c.in_ok-doubtful.doubtful.processes.items c.as_slice.result.now c.requires.under_way.before c.in-Some.ensures c.requires.under_way.made started (lawful_input c.args.given.now.input.now c.args.given.now.lawful).some_process
+    c.step.ensures (c.open_superstep-superstep.ensures.old_views ∙ ap (taken_before (option_map (λ k. k.now) c.args.given.now.old)) (sym c.step.ensures)) now c.as_slice.ensures.value c.in_ok-doubtful.ensures.processes in
     let made = c.in_ok-take_over.ensures.ok ∙ ap (λ (os : List OutcomeParts). after_delivery (after_turns r os)) (left turn stays.0.input_before j old r stays.1) in
-    let under = under_way_taken turn (g.P.Program.looks c.args.given.now.program.now) j old r c.take_over.new.self c.args.marks.now.items c.args.update.now stays.0 stays.1 (subst (λ before. IsUnderWay turn (g.P.Program.looks c.args.given.now.program.now) before j r c.args.marks.now.items c.args.update.now) c.in-Some.ensures.2 c.requires.under_way) made in
+    let under = under_way_taken turn (g.P.Program.looks c.args.given.now.program.now) j old r c.take_over.new.self c.args.under_way.now.marks.items c.args.under_way.now.update stays.0 stays.1 (subst (λ before. IsUnderWay turn (g.P.Program.looks c.args.given.now.program.now) before j r c.args.under_way.now.marks.items c.args.under_way.now.update) c.in-Some.ensures.2 c.requires.under_way) made in
     subst (λ before. KnowsTable before c.take_over.new.self AsBefore) (sym c.in-Some.ensures.2) (knows_taken turn j old r c.take_over.new.self stays.0 stays.1 under.made made)

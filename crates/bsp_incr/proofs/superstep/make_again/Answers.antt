@@ -46,7 +46,7 @@ make_deliveries-requires-clause-doubtful g c κs within =
     let outcomes = ap (λ (x : Run). x.outcomes) is ∙ outcomes-turned r us in
     let processes = c.args.doubtful.now.processes.items in
     let unchanged = unchanged_among turn c.args.given.now.input.now old (length r.past) (open_views r) processes c.requires.under_way.before (open_views-in turn c.args.given.now.input.now r c.requires.under_way.made) c.requires.doubtful.processes in
-    subst (OutcomesDifferAtMost (delivered_outcomes old (length c.take_turns.new.tape.past)) c.take_turns.new.tape.outcomes) (sym c.as_slice-processes.ensures.value)
+    subst (OutcomesDifferAtMost (delivered_outcomes old (length c.take_turns.new.tape.past)) c.take_turns.new.tape.outcomes) (sym c.as_slice.ensures.value)
     (subst (λ (os : List OutcomeParts). OutcomesDifferAtMost (delivered_outcomes old (length c.take_turns.new.tape.past)) os processes) (sym outcomes)
     (subst (λ n. OutcomesDifferAtMost (delivered_outcomes old n) us processes) (sym steps) unchanged))
 
@@ -65,7 +65,7 @@ returns-clause-tape g c =
     let r : Run = c.args.tape.now in
     let is = c.in_ok-known.ensures.turned in
     let delivers = ap (λ (x : Run). is_turned x.phase) (sym is) ∙ sym c.in_ok-known.ensures.answer ∙ ap is_some c.in-Some.is in
-    c.in_ok-next.ensures.tape ∙ ap after_delivery is ∙ sym (advance-delivers turn r (open_phase r.phase c.requires.open) delivers)
+    c.in_ok-make_deliveries.ensures.tape ∙ ap after_delivery is ∙ sym (advance-delivers turn r (open_phase r.phase c.requires.open) delivers)
 
 pub returns-clause-under_way : goal.returns-clause-under_way
 returns-clause-under_way g c =
@@ -80,13 +80,13 @@ returns-clause-under_way g c =
     let always = c.args.given.now.always.now in
     let delivers = ap (λ (x : Run). is_turned x.phase) (sym is) ∙ sym c.in_ok-known.ensures.answer ∙ ap is_some c.in-Some.is in
     let all : ℕ → List OutcomeParts → List Bool = λ n os. each_below (length os) (λ d. is_touched (delivered_outcomes old n) os d || get_or always d true) in
-    let places : ℕ → List OutcomeParts → List Place = λ n os. c.args.update.now.redelivered ++ touched_in n (delivered_outcomes old n) os in
-    under_way_delivered turn looks old c.args.given.now.input.now always r c.make_deliveries.new.tape c.args.marks.now.items c.in_ok-next.next.0.items c.args.update.now record { executed = c.take_turns.new.executed; redelivered = c.make_deliveries.new.redelivered }
+    let places : ℕ → List OutcomeParts → List Place = λ n os. c.args.under_way.now.update.redelivered ++ touched_in n (delivered_outcomes old n) os in
+    under_way_delivered turn looks old c.args.given.now.input.now always r c.make_deliveries.new.tape c.args.under_way.now.marks.items c.make_deliveries.new.under_way.marks.items c.args.under_way.now.update c.make_deliveries.new.under_way.update
     c.requires.open delivers c.args.given.now.marked c.requires.under_way
-    (c.in_ok-next.ensures.tape ∙ ap after_delivery is)
-    (c.in_ok-next.ensures.marks ∙ ap (λ n. all n c.take_turns.new.tape.outcomes) steps ∙ ap (all (length r.past)) outcomes)
-    c.in_ok-known.ensures.executed
-    (c.in_ok-next.ensures.redelivered ∙ ap (λ n. places n c.take_turns.new.tape.outcomes) steps ∙ ap (places (length r.past)) outcomes)
+    (c.in_ok-make_deliveries.ensures.tape ∙ ap after_delivery is)
+    (c.in_ok-make_deliveries.ensures.marks ∙ ap (λ n. all n c.take_turns.new.tape.outcomes) steps ∙ ap (all (length r.past)) outcomes)
+    (c.in_ok-make_deliveries.ensures.executed ∙ c.in_ok-known.ensures.executed)
+    (c.in_ok-make_deliveries.ensures.redelivered ∙ ap (λ n. places n c.take_turns.new.tape.outcomes) steps ∙ ap (places (length r.past)) outcomes)
 
 pub returns-in_default-clause-tape : goal.returns-in_default-clause-tape
 returns-in_default-clause-tape g c =
@@ -101,20 +101,20 @@ returns-in_default-clause-under_way g c =
     let turn = turn_of (g.P.Program.acts c.args.given.now.program.now) (g.P.Program.ending c.args.given.now.program.now) in
     let looks = g.P.Program.looks c.args.given.now.program.now in
     let old : Option Run = option_map (λ k. k.now) c.args.given.now.old in
-    under_way_turned turn looks old c.args.given.now.input.now c.args.tape.now c.take_turns.new.tape c.args.marks.now.items c.args.update.now record { executed = c.take_turns.new.executed; redelivered = c.args.update.now.redelivered }
-    c.requires.open c.requires.under_way c.in_ok-known.ensures.turned c.in_ok-known.ensures.executed (λ i. c.args.update.now.redelivered)
+    under_way_turned turn looks old c.args.given.now.input.now c.args.tape.now c.take_turns.new.tape c.args.under_way.now.marks.items c.args.under_way.now.update record { executed = c.take_turns.new.executed; redelivered = c.args.under_way.now.update.redelivered }
+    c.requires.open c.requires.under_way c.in_ok-known.ensures.turned c.in_ok-known.ensures.executed (λ i. c.args.under_way.now.update.redelivered)
 
 pub returns-clause-table : goal.returns-clause-table
 returns-clause-table g c =
     let turn = turn_of (g.P.Program.acts c.args.given.now.program.now) (g.P.Program.ending c.args.given.now.program.now) in
     let old : Option Run = option_map (λ k. k.now) c.args.given.now.old in
     let r : Run = c.args.tape.now in
-    knows_delivered turn c.args.given.now.input.now old r c.take_turns.new.tape c.make_deliveries.new.tape (map turn (open_views r)) c.in_ok-next.next.1 c.requires.under_way.before
-    c.in_ok-known.ensures.turned c.in_ok-next.ensures.tape c.in_ok-next.ensures.known
+    knows_delivered turn c.args.given.now.input.now old r c.take_turns.new.tape c.make_deliveries.new.tape (map turn (open_views r)) c.make_deliveries.new.under_way.table c.requires.under_way.before
+    c.in_ok-known.ensures.turned c.in_ok-make_deliveries.ensures.tape c.in_ok-make_deliveries.ensures.known
 
 pub returns-in_default-clause-table : goal.returns-in_default-clause-table
 returns-in_default-clause-table g c =
     let turn = turn_of (g.P.Program.acts c.args.given.now.program.now) (g.P.Program.ending c.args.given.now.program.now) in
     let old : Option Run = option_map (λ k. k.now) c.args.given.now.old in
     let r : Run = c.args.tape.now in
-    knows_ended old r c.take_turns.new.tape (map turn (open_views r)) c.args.table.now c.in_ok-known.ensures.turned
+    knows_ended old r c.take_turns.new.tape (map turn (open_views r)) c.args.under_way.now.table c.in_ok-known.ensures.turned

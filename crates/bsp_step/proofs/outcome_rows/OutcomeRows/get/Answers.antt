@@ -1,8 +1,9 @@
-use Rattle.std.proofs.Common.{◌≡◌, ◌<◌, ◌∙◌, ℕ, List, length, get_or, ap, sym, subst, arith}
+use Rattle.std.proofs.Common.{◌≡◌, ◌<◌, ◌∙◌, ℕ, List, [], length, get_or, ap, sym, subst, arith}
 use Rattle.std.proofs.lemmas.List.{get_or_default}
 use Rattle.bsp_step.specs.OutcomeParts.{OutcomeParts, IsOutcome, no_outcome}
 use Rattle.bsp_step.specs.declared.outcome_rows.OutcomeRows.TheInside.{Inside}
 use Rattle.bsp_model.specs.Columns.{row_at}
+use Rattle.bsp_model.specs.Inside.Beside.{stores_beside, AreBeside}
 use Rattle.bsp_step.specs.declared.lists.Lists.{Lists}
 use Rattle.bsp_step.specs.declared.lists.TurnEnd.{TurnEnd}
 use Rattle.bsp_step.specs.Inside.Outcomes.{no_end, first_at, outcome_at, outcomes_of}
@@ -16,12 +17,23 @@ within r now pid seen l = omega (arith, l, length-outcomes_of r.ends.items r.mem
 pub index-end-requires : goal.index-end-requires
 index-end-requires c = omega (arith, c.self.inside.ends.ok, within c.self.inside c.args.self.now c.args.pid c.self.view_is c.requires)
 
+pub get-memory-requires : goal.get-memory-requires
+get-memory-requires c = omega (arith, c.self.invariant.count, within c.self.inside c.args.self.now c.args.pid c.self.view_is c.requires)
+
+-- the stores that are kept beside a memory are so at other names of the lists and of the memory
+beside_there : (l lists : Lists) (m memory : List ℕ) (pid : ℕ) → l ≡ lists → m ≡ memory → AreBeside lists.stores pid memory → AreBeside l.stores pid m
+beside_there l lists m memory pid all is beside =
+    subst (λ (ls : Lists). AreBeside ls.stores pid m) (sym all) (subst (AreBeside lists.stores pid) (sym is) beside)
+
 pub get-requires : goal.get-requires
-get-requires c = omega (arith, c.self.invariant.count, within c.self.inside c.args.self.now c.args.pid c.self.view_is c.requires)
+get-requires c =
+    let r = c.self.inside in
+    beside_there c.deref-lists.result.now r.lists.value c.get-memory.result (get_or r.memories c.args.pid []) c.args.pid c.deref-lists.ensures c.get-memory.ensures
+    (c.self.invariant.beside c.args.pid (within r c.args.self.now c.args.pid c.self.view_is c.requires))
 
 -- the parts that are found make the outcome
 parts_of : (c : After-from)
-    → record { fault = c.fault.result; ended = c.index-end.result.now.ended; memory = c.get.result; stores = c.get-2.result; puts = c.get-3.result; gets = c.row.result.now; sends = c.get-4.result; pops = c.row-2.result.now; pushes = c.row-3.result.now; tag = c.tag.result; lines = c.get-5.result; work = c.from.result }
+    → record { fault = c.fault.result; ended = c.index-end.result.now.ended; memory = c.get-memory.result; stores = c.get.result; puts = c.get-2.result; gets = c.row.result.now; sends = c.get-3.result; pops = c.row-2.result.now; pushes = c.row-3.result.now; tag = c.tag.result; lines = c.get-4.result; work = c.from.result }
     ≡ outcome_at c.self.inside.ends.items c.self.inside.memories c.self.inside.lists.value c.args.pid
 parts_of c =
     let r = c.self.inside in
@@ -31,15 +43,15 @@ parts_of c =
     λ i. record {
       fault = (c.fault.ensures ∙ ap (λ (l : Lists). first_at l.faults c.args.pid) all) i;
       ended = (end i).ended;
-      memory = c.get.ensures i;
-      stores = (c.get-2.ensures ∙ ap (λ (l : Lists). row_at l.stores c.args.pid) all) i;
-      puts = (c.get-3.ensures ∙ ap (λ (l : Lists). row_at l.puts c.args.pid) all) i;
+      memory = c.get-memory.ensures i;
+      stores = (c.get.ensures ∙ ap (λ (l : Lists). stores_beside l.stores c.args.pid c.get-memory.result) all ∙ ap (stores_beside r.lists.value.stores c.args.pid) c.get-memory.ensures) i;
+      puts = (c.get-2.ensures ∙ ap (λ (l : Lists). row_at l.puts c.args.pid) all) i;
       gets = (c.row.ensures ∙ ap (λ (l : Lists). row_at l.gets c.args.pid) all) i;
-      sends = (c.get-4.ensures ∙ ap (λ (l : Lists). row_at l.sends c.args.pid) all) i;
+      sends = (c.get-3.ensures ∙ ap (λ (l : Lists). row_at l.sends c.args.pid) all) i;
       pops = (c.row-2.ensures ∙ ap (λ (l : Lists). row_at l.pops c.args.pid) all) i;
       pushes = (c.row-3.ensures ∙ ap (λ (l : Lists). row_at l.pushes c.args.pid) all) i;
       tag = (c.tag.ensures ∙ ap (λ (l : Lists). first_at l.tags c.args.pid) all) i;
-      lines = (c.get-5.ensures ∙ ap (λ (l : Lists). row_at l.lines c.args.pid) all) i;
+      lines = (c.get-4.ensures ∙ ap (λ (l : Lists). row_at l.lines c.args.pid) all) i;
       work = (c.from.ensures ∙ ap (λ (e : TurnEnd). e.work) end) i;
     }
 

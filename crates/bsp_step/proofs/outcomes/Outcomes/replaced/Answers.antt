@@ -1,5 +1,5 @@
 use Rattle.std.proofs.Common.{ap, ◌∙◌}
-use Rattle.bsp_step.specs.declared.outcomes.Others.{Others}
+use Rattle.bsp_step.specs.declared.outcomes.others.Others.{Others}
 use Rattle.bsp_step.proofs.Others.{lie_apart}
 use Rattle.bsp_step.proofs.outcomes.Outcomes.replaced.Goals as goal
 

@@ -1,0 +1,11 @@
+use Rattle.std.proofs.Common.{◌≡◌, ◌∙◌, All, []}
+use Rattle.std.proofs.lemmas.Bool.{OnTrue_at}
+use Rattle.bsp_step.specs.OutcomeParts.{OutcomeParts}
+use Rattle.bsp_deliver.proofs.Gathered.{all_unread}
+use Rattle.bsp_deliver.proofs.writing.memories_with_gets.Goals as goal
+
+pub returns-then-is_without : goal.returns-then-is_without
+returns-then-is_without c =
+    let os = c.args.outcomes.now in
+    let none : All (λ (o : OutcomeParts). o.gets ≡ []) os = OnTrue_at c.if-is_without.true c.is_without.ensures in
+    c.in_ok-memories_of.ensures ∙ all_unread os c.args.processes.now none c.requires.known

@@ -1,0 +1,30 @@
+use Rattle.std.proofs.Common.{ℕ, length, get_or, sym, subst, arith, inl, inr}
+use Rattle.std.proofs.lemmas.Bool.Decides.{eqb_tells}
+use Rattle.bsp_step.specs.OutcomeParts.{outcome_of}
+use Rattle.bsp_incr.specs.Inside.Alike.{CostsAlike}
+use Rattle.bsp_incr.proofs.Gathering.{listed_below}
+use Rattle.bsp_incr.proofs.Carrying.{not_listed, later_or_here}
+use Rattle.bsp_incr.proofs.Likeness.{costs_alike-same}
+use Rattle.bsp_incr.proofs.compare.alike.all_cost_alike.Goals as goal
+
+pub loop-process-init : goal.loop-process-init
+loop-process-init c = λ p l none.
+    costs_alike-same (outcome_of c.args.old.now p) (outcome_of c.args.new.now p)
+    (c.requires.doubtful.same p (omega (arith, l, c.requires.count)) l (not_listed c.requires.doubtful.test (length c.args.new.now) p c.args.doubtful.now c.requires.doubtful.listed l (λ j h. none j (omega arith) h)))
+
+pub costs_alike_at-requires-clause-old : goal.costs_alike_at-requires-clause-old
+costs_alike_at-requires-clause-old c = omega (arith, (listed_below (length c.args.new.now) c.requires.doubtful.test c.args.doubtful.now c.requires.doubtful.listed) c.loop-process.process-index 0 c.loop-process-test.true, c.requires.count)
+
+pub costs_alike_at-requires-clause-new : goal.costs_alike_at-requires-clause-new
+costs_alike_at-requires-clause-new c = (listed_below (length c.args.new.now) c.requires.doubtful.test c.args.doubtful.now c.requires.doubtful.listed) c.loop-process.process-index 0 c.loop-process-test.true
+
+pub loop-process-preserved : goal.loop-process-preserved
+loop-process-preserved c = λ p l none.
+    let at : ℕ = get_or c.args.doubtful.now c.loop-process.process-index 0 in
+    elim (eqb_tells p at) [
+      | inl w ↦ subst (λ k. CostsAlike (outcome_of c.args.old.now k) (outcome_of c.args.new.now k)) (sym w.1) (c.costs_alike_at.ensures c.if-not-costs_alike_at.false)
+      | inr w ↦ c.loop-process.invariant p l (later_or_here c.args.doubtful.now c.loop-process.process-index p w.1 none)
+    ]
+
+pub returns : goal.returns
+returns c = λ t p l. c.loop-process.invariant p l (λ j low high. absurd (omega (arith, low, high, c.loop-process-test.false)))

@@ -1,0 +1,6 @@
+use Rattle.std.proofs.Common.{◌≡◌, ◌++◌, take}
+use Rattle.bsp_incr.specs.Inside.Changes.{places_of}
+use Rattle.bsp_incr.proofs.compare.places.add_places.Given as goal
+
+abbrev pub invariant-loop-process : goal.invariant-loop-process
+invariant-loop-process l = l.places ≡ l.fn.places ++ places_of l.step (take l.process-index l.processes)

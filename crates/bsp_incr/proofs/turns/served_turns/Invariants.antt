@@ -1,7 +1,0 @@
-use Rattle.std.proofs.Common.{◌≡◌, take}
-use Rattle.bsp_step.specs.Turn.{turn_of}
-use Rattle.bsp_run.specs.Shares.{turns_of}
-use Rattle.bsp_incr.proofs.turns.served_turns.Given as goal
-
-abbrev pub invariant-loop-process : goal.invariant-loop-process
-invariant-loop-process g l = l.served ≡ turns_of (turn_of (g.P.Program.acts l.program) (g.P.Program.ending l.program)) l.views (take l.process-index l.processes)

@@ -1,0 +1,58 @@
+//! The open superstep of a run that is made again, beside that of the run before.
+
+ghost use Rattle.std.specs.Prelude.{◌≡◌, ◌<◌, All, length, map, option_map, true};
+ghost use Rattle.bsp_step.specs.ViewParts.{IsView};
+ghost use Rattle.bsp_run.specs.Run.{open_views};
+ghost use Rattle.bsp_run.specs.Condition.{is_open};
+ghost use Rattle.bsp_run.specs.Inside.Record.{IsRecord};
+ghost use Rattle.bsp_incr.specs.Inside.Before.{outcomes_if_any};
+ghost use Rattle.bsp_incr.specs.Inside.Given.{turn_given, taken_beside, IsGivenBefore};
+ghost use Rattle.bsp_incr.specs.Inside.Marks.{HaveOneTable};
+
+use crate::compare::before::{outcomes_before, taken_before};
+use crate::rerun::Given;
+use bsp_run::{Tape, Views, ViewsRef};
+use bsp_step::{Outcomes, Program};
+
+/// What the processes see in the open superstep, and what the run before has of the superstep with that number.
+#[derive(Drop)]
+pub struct OpenSuperstep<'old, 'new> {
+    /// Its number.
+    pub step: u64,
+    /// What the processes see.
+    pub views: &'new Views,
+    /// What the turns of the superstep before left in this run: those of this one will take about as much room.
+    pub like: &'new Outcomes,
+    /// What they saw in the run before; none where it took no turns of such a superstep.
+    pub old_views: ViewsRef<'old>,
+    /// What those turns left.
+    pub old_outcomes: Option<&'old Outcomes>,
+    ghost count: { 0 < length old_views → length old_views ≡ length views.now },
+    ghost table: { HaveOneTable views.now },
+    ghost old_table: { HaveOneTable old_views },
+}
+
+/// The open superstep of this run, beside that of the run before.
+pub fn open_superstep<'old, 'new, P: Program, R, G>(
+    given: &Given<'old, P, R, G>,
+    tape: &'new Tape,
+) -> OpenSuperstep<'old, 'new>
+    requires open { is_open tape.now.phase ≡ true }
+    requires before { IsGivenBefore given.now }
+    requires made { IsRecord (turn_given given.now) given.now.input.now tape.now }
+    ensures step { result.step ≡ length tape.now.past }
+    ensures views { result.views.now ≡ open_views tape.now }
+    ensures limits { All IsView result.views.now }
+    ensures old_views { result.old_views ≡ taken_beside given.now tape.now }
+    ensures recorded { outcomes_if_any (option_map (λ o. o.now) result.old_outcomes)
+        ≡ map (turn_given given.now) result.old_views }
+{
+    let step = tape.step();
+    OpenSuperstep {
+        step: step as u64,
+        views: tape.open_views(),
+        like: tape.outcomes_before(),
+        old_views: taken_before(given.old, step),
+        old_outcomes: outcomes_before(given.old, step),
+    }
+}

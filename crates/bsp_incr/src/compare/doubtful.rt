@@ -1,0 +1,61 @@
+//! Who may see something else in a superstep than in the run before.
+
+ghost use Rattle.std.specs.Prelude.{◌≡◌, ◌<◌, IfOk, length, true};
+ghost use Rattle.bsp_incr.specs.Inside.Marks.{AreMarked};
+ghost use Rattle.bsp_incr.specs.Inside.Known.{AreDoubtful, HaveSameTable, IsKnown};
+
+use crate::compare::beside::OpenSuperstep;
+use crate::compare::known_table::KnownTable;
+use crate::compare::looking::have_same_table;
+use crate::compare::places::{all_processes, processes_where};
+use bsp_model::OutOfMemory;
+use bsp_run::{Views, ViewsRef};
+use std::alloc::Global;
+
+/// What may be another in a superstep than in the run before.
+#[derive(Drop)]
+pub struct Doubtful {
+    /// The processes that may see something else, in order.
+    pub processes: Vec<usize>,
+    /// Whether all are known to see the table and the tag size of the run before.
+    pub same_table: bool,
+}
+
+/// Whether the processes of two supersteps see the same table and tag size. False where one of them has no process.
+fn is_same_table(old: &ViewsRef<'_>, new: &Views, known: KnownTable) -> bool
+    requires { IsKnown known old.now new.now }
+    ensures { result ≡ true → HaveSameTable old.now new.now }
+{
+    if old.is_empty() || new.is_empty() {
+        return false;
+    }
+    match known {
+        KnownTable::AsBefore => true,
+        KnownTable::Unknown => have_same_table(&old.get(0), &new.get(0)),
+    }
+}
+
+impl Doubtful {
+    /// The processes that are marked, where the table and the tag size are those of the run before, and else all.
+    pub fn among(
+        alloc: Global,
+        superstep: &OpenSuperstep<'_, '_>,
+        marks: &[bool],
+        known: KnownTable,
+    ) -> Result<Doubtful, OutOfMemory>
+        requires marks { AreMarked superstep.now.old_views superstep.now.views.now marks.now }
+        requires known { IsKnown known superstep.now.old_views superstep.now.views.now }
+        ensures { IfOk result (AreDoubtful superstep.now.old_views superstep.now.views.now) }
+    {
+        let same_table = is_same_table(&superstep.old_views, superstep.views, known);
+        let processes = if same_table {
+            processes_where(alloc, marks)?
+        } else {
+            all_processes(alloc, superstep.views.len())?
+        };
+        Ok(Doubtful {
+            processes,
+            same_table,
+        })
+    }
+}

@@ -1,0 +1,90 @@
+//! Whether the recorded turn of a view serves for another view.
+
+ghost use Rattle.std.specs.Prelude.{◌≡◌, ℕ, ◌+◌, ◌≤◌, ◌<◌, ◌↔◌, IsTrue, true, length, slice_index};
+ghost use Rattle.bsp_step.specs.Footprint.{AreAlikeButForWords};
+ghost use Rattle.bsp_incr.specs.Inside.Reuse.{same_where_looked_at, serves};
+
+use bsp_model::limits::MOST_MEMORY_WORDS;
+use bsp_model::{Same, are_same, are_same_words};
+use bsp_step::{Program, View};
+use bsp_table::Table;
+
+/// Whether a view has this table and this tag size.
+pub fn has_table(view: &View<'_>, table: &Table, tag_size: u64) -> bool
+    ensures table { result ≡ true → view.now.table ≡ table.now }
+    ensures tag_size { result ≡ true → view.now.tag_size ≡ tag_size }
+{
+    view.table.same(table) && view.tag_size == tag_size
+}
+
+/// Whether two views have the same table and the same tag size.
+pub fn have_same_table(old: &View<'_>, new: &View<'_>) -> bool
+    ensures table { result ≡ true → old.now.table ≡ new.now.table }
+    ensures tag_size { result ≡ true → old.now.tag_size ≡ new.now.tag_size }
+{
+    has_table(old, new.table, new.tag_size)
+}
+
+/// Whether two views are equal but for the words of their memories. The tables need not be compared where they are known to be the same.
+fn is_alike_but_for_words(old: &View<'_>, new: &View<'_>, same_table: bool) -> bool
+    requires { same_table ≡ true → old.now.table ≡ new.now.table }
+    ensures { IsTrue result ↔ AreAlikeButForWords old.now new.now }
+{
+    old.nprocs == new.nprocs
+        && old.pid == new.pid
+        && old.step == new.step
+        && are_same_words(old.args, new.args)
+        && (same_table || old.table.same(new.table))
+        && old.tag_size == new.tag_size
+        && are_same(old.queue, new.queue)
+        && old.memory.len() == new.memory.len()
+}
+
+/// Whether words of two views are equal at each address at which the program looks. The first of them are at the address `first`.
+fn are_alike_from<P: Program>(
+    program: &P,
+    view: &View<'_>,
+    first: u64,
+    old: &[u64],
+    new: &[u64],
+) -> bool
+    requires as_many { length old.now ≡ length new.now }
+    requires short { first + length old.now ≤ MOST_MEMORY_WORDS }
+    ensures { IsTrue result ↔ ((i : ℕ) → i < length old.now → IsTrue (P.looks program.now view.now (first + i))
+        → slice_index old.now i ≡ slice_index new.now i) }
+{
+    if are_same_words(old, new) {
+        return true;
+    }
+    for i in 0..old.len() {
+        if old[i] != new[i] && program.looks(view, first + i as u64) {
+            return false;
+        }
+    }
+    true
+}
+
+/// Whether the words are equal at each address at which the program looks.
+fn is_alike_where_looked_at<P: Program>(program: &P, old: &View<'_>, new: &View<'_>) -> bool
+    requires { length old.now.memory ≡ length new.now.memory }
+    ensures { result ≡ same_where_looked_at (P.looks program.now old.now) old.now.memory new.now.memory }
+{
+    let mut address = 0;
+    while address < old.memory.len() as u64 {
+        let before = old.memory.words_from(address);
+        let after = new.memory.words_from(address);
+        if !are_alike_from(program, old, address, before, after) {
+            return false;
+        }
+        address += before.len() as u64;
+    }
+    true
+}
+
+/// Whether the turn of the first view serves for the second. It takes no memory. The tables are not compared where they are known to be the same.
+pub fn serves<P: Program>(program: &P, old: &View<'_>, new: &View<'_>, same_table: bool) -> bool
+    requires { same_table ≡ true → old.now.table ≡ new.now.table }
+    ensures { result ≡ serves (P.looks program.now) old.now new.now }
+{
+    is_alike_but_for_words(old, new, same_table) && is_alike_where_looked_at(program, old, new)
+}

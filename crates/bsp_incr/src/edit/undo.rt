@@ -1,0 +1,135 @@
+//! Batches that take others back.
+
+ghost use Rattle.std.specs.Prelude.{◌≡◌, [], slice_index, slice_index_or, map, IfOk};
+ghost use Rattle.bsp_incr.specs.Undo.{former_of, undo_of};
+
+use crate::edit::editing::refusal_of;
+use crate::{Batch, Edit, EditError, Session, Update};
+use bsp_model::{Input, OutOfMemory, Seq};
+use bsp_pool::Gate;
+use bsp_step::Program;
+use std::alloc::Global;
+use std::thread::Threads;
+
+/// The word of a memory; 0 where there is none.
+pub fn word_of(input: &Input, pid: u64, addr: u64) -> u64
+    ensures { result ≡ slice_index (slice_index_or input.now.mems pid []) addr }
+{
+    let Some(memory) = input.mems.as_slice().get(pid as usize) else {
+        return 0;
+    };
+    match memory.load(addr) {
+        Some(word) => word,
+        None => 0,
+    }
+}
+
+/// An argument; 0 where there is none.
+pub fn arg_of(input: &Input, pid: u64, index: u64) -> u64
+    ensures { result ≡ slice_index (slice_index_or input.now.args pid []) index }
+{
+    let Some(args) = input.args.as_slice().get(pid as usize) else {
+        return 0;
+    };
+    match args.as_slice().get(index as usize) {
+        Some(arg) => *arg,
+        None => 0,
+    }
+}
+
+/// The edit that gives a part the value that it has.
+fn former_of(input: &Input, edit: &Edit) -> Edit
+    ensures { result ≡ former_of input.now edit.now }
+{
+    match *edit {
+        Edit::Word {
+            pid,
+            addr,
+            value: _,
+        } => {
+            let value = word_of(input, pid, addr);
+            Edit::Word { pid, addr, value }
+        }
+        Edit::Arg {
+            pid,
+            index,
+            value: _,
+        } => {
+            let value = arg_of(input, pid, index);
+            Edit::Arg { pid, index, value }
+        }
+        Edit::Limit(_) => Edit::Limit(input.limit),
+        Edit::Prices { g: _, l: _ } => Edit::Prices {
+            g: input.g,
+            l: input.l,
+        },
+    }
+}
+
+/// The batch that gives each part that a batch names the value that it has.
+fn formers_of(alloc: Global, input: &Input, edits: &[Edit]) -> Result<Batch, OutOfMemory>
+    ensures { IfOk result (λ undo. undo ≡ undo_of input.now edits.now) }
+{
+    let mut undo = Seq::with_capacity(alloc, edits.len())?;
+    for edit in edits {
+        undo.push(former_of(input, edit))?;
+    }
+    Ok(undo)
+}
+
+impl<P: Program + Drop> Session<P> {
+    ghost use Rattle.std.specs.Prelude.{◌≡◌, ◌<◌, ◌≤◌, IfOk, IfErr, OnOk, OnErr, None, Some};
+    ghost use Rattle.bsp_step.specs.Turn.{turn_of};
+    ghost use Rattle.bsp_run.specs.Law.{IsBspRun};
+    ghost use Rattle.bsp_incr.specs.Edits.{refusal_of, edited};
+    ghost use Rattle.bsp_incr.specs.Exact.{IsExact};
+    ghost use Rattle.bsp_incr.specs.Reused.{AreReused};
+    ghost use Rattle.bsp_incr.specs.Undo.{undo_of, TakesBack};
+    ghost use Rattle.bsp_incr.specs.Replies.{refusal_in};
+
+    /// The batch that takes this batch back, to be made before the batch is applied: after both, the input and the history are those of now. It gives
+    /// each part that the batch names the value that it has now. `Refused` exactly where the batch is not accepted, as by `apply`; else `Ok` or
+    /// `OutOfMemory`.
+    pub fn undo_of(&self, alloc: Global, edits: &[Edit]) -> Result<Batch, EditError>
+        ensures accepted { OnOk result (refusal_of self.now.input edits.now ≡ None) }
+        ensures refused { IfErr result (λ e. refusal_of self.now.input edits.now ≡ refusal_in e) }
+        ensures batch { IfOk result (λ undo. undo ≡ undo_of self.now.input edits.now) }
+        ensures back { IfOk result (λ undo. TakesBack self.now.input edits.now undo) }
+        ensures history { IfOk result (λ undo. IsBspRun (turn_of (P.acts self.now.program) (P.ending self.now.program)) (edited (edited self.now.input edits.now) undo) self.now.history) }
+    {
+        let input = self.input();
+        let _history = self.history();
+        if let Some(refusal) = refusal_of(input, edits) {
+            return Err(EditError::Refused(refusal));
+        }
+        Ok(formers_of(alloc, input, edits)?)
+    }
+
+    /// Applies a batch, and answers beside the update the batch that takes it back. All is as by `undo_of` and then `apply`: `Refused` exactly where
+    /// the batch is not accepted, else `Ok` or `OutOfMemory`, and after every `Err` nothing has changed.
+    pub fn apply_with_undo<R: Threads + Sync, G: Gate>(
+        &mut self,
+        rt: &R,
+        alloc: Global,
+        edits: &[Edit],
+        workers: usize,
+        gate: &G,
+    ) -> Result<(Update, Batch), EditError>
+        requires workers { (0 < workers) × (workers ≤ 16) }
+        ensures accepted { OnOk result (refusal_of self.old.input edits.now ≡ None) }
+        ensures refused { IfErr result (λ e. refusal_of self.old.input edits.now ≡ refusal_in e) }
+        ensures program { self.new.program ≡ self.old.program }
+        ensures given { OnOk result (self.new.input ≡ edited self.old.input edits.now) }
+        ensures law { OnOk result (IsBspRun (turn_of (P.acts self.old.program) (P.ending self.old.program)) self.new.input self.new.history) }
+        ensures exact { IfOk result (λ r. IsExact (P.looks self.old.program) (Some self.old.history) self.new.history r.0) }
+        ensures reused { OnOk result (AreReused (P.looks self.old.program) (Some self.old.history) self.new.history) }
+        ensures batch { IfOk result (λ r. r.1 ≡ undo_of self.old.input edits.now) }
+        ensures back { IfOk result (λ r. TakesBack self.old.input edits.now r.1) }
+        ensures before { IfOk result (λ r. IsBspRun (turn_of (P.acts self.old.program) (P.ending self.old.program)) (edited self.new.input r.1) self.old.history) }
+        ensures err { OnErr result (self.new ≡ self.old) }
+    {
+        let undo = self.undo_of(alloc, edits)?;
+        let update = self.apply(rt, alloc, edits, workers, gate)?;
+        Ok((update, undo))
+    }
+}

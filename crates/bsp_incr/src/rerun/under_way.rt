@@ -1,0 +1,44 @@
+//! What is kept of an update from superstep to superstep.
+
+ghost use Rattle.std.specs.Prelude.{◌≡◌, []};
+ghost use Rattle.bsp_incr.specs.declared.compare.known_table.KnownTable.TheVariants.{Unknown};
+
+use crate::Update;
+use crate::compare::KnownTable;
+use crate::rerun::counts::Counts;
+use bsp_model::Seq;
+use std::alloc::Global;
+
+/// An update under way, between two supersteps of the run that is made again.
+#[derive(Drop)]
+pub struct UnderWay {
+    /// Who may see something else in the open superstep than in the run before, by process. The table and the tag size are left aside.
+    pub marks: Vec<bool>,
+    /// What is known of these.
+    pub table: KnownTable,
+    /// What was done again so far.
+    pub update: Update,
+    /// What that cost, and what all updates before it did.
+    pub counts: Counts,
+}
+
+impl UnderWay {
+    /// Nothing is done yet, and nothing is known of the table.
+    pub fn new(alloc: Global, marks: Vec<bool>, counts: Counts) -> UnderWay
+        ensures marks { result.marks.items ≡ marks.items }
+        ensures table { result.table ≡ Unknown }
+        ensures executed { result.update.executed ≡ [] }
+        ensures redelivered { result.update.redelivered ≡ [] }
+    {
+        let update = Update {
+            executed: Seq::new(alloc),
+            redelivered: Seq::new(alloc),
+        };
+        UnderWay {
+            marks,
+            table: KnownTable::Unknown,
+            update,
+            counts,
+        }
+    }
+}

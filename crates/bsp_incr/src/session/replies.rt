@@ -1,0 +1,187 @@
+//! A session from its input to its last batch.
+
+ghost use Rattle.std.specs.Prelude.{◌≡◌, ◌<◌, ◌≤◌, None, Some, IfOk, IfErr, OnOk, map};
+ghost use Rattle.bsp_model.specs.Input.{input_fault};
+ghost use Rattle.bsp_step.specs.Turn.{turn_of};
+ghost use Rattle.bsp_run.specs.Run.{run};
+ghost use Rattle.bsp_run.specs.Result.{result_of};
+ghost use Rattle.bsp_run.specs.RunErrors.{input_fault_of};
+ghost use Rattle.bsp_incr.specs.Exact.{IsExact};
+ghost use Rattle.bsp_incr.specs.Replies.{input_after, without_update, AreReplies, AreScratchReplies};
+ghost use Rattle.bsp_incr.specs.Inside.Given.{turn_by};
+ghost use Rattle.bsp_incr.specs.Inside.Replies.{reply_to, replies};
+
+use crate::edit::{make_edits, refusal_of};
+use crate::rerun::Workers;
+use crate::{Batch, EditError, Reply, Session, Update};
+use bsp_model::{Input, OutOfMemory};
+use bsp_pool::Gate;
+use bsp_run::{History, RunError, run_result};
+use bsp_step::Program;
+use std::alloc::{AllocError, Global};
+use std::thread::Threads;
+
+/// The reply that gives a history.
+fn done(history: &History, update: Update) -> Result<Reply, OutOfMemory>
+    ensures { IfOk result (λ reply. reply ≡ Reply.Done (result_of history.now) (Some update)) }
+{
+    let result = history.result()?;
+    Ok(Reply::Done {
+        result,
+        update: Some(update),
+    })
+}
+
+/// The reply to a batch.
+fn reply<P: Program + Drop, R: Threads + Sync, G: Gate>(
+    workers: &Workers<'_, R, G>,
+    alloc: Global,
+    session: &mut Session<P>,
+    batch: &Batch,
+) -> Result<Reply, OutOfMemory>
+    ensures program { OnOk result (session.new.program ≡ session.old.program) }
+    ensures input { OnOk result (session.new.input ≡ input_after session.old.input batch.now) }
+    ensures reply { IfOk result (λ reply. reply ≡ reply_to (P.looks session.old.program)
+        (turn_by P.Program session.old.program) session.old.input batch.now) }
+{
+    // That the input is lawful, and the history its run, is known where they are read.
+    let _input = session.input();
+    let _history = session.history();
+    match session.apply(
+        workers.rt,
+        alloc,
+        batch.as_slice(),
+        workers.count,
+        workers.gate,
+    ) {
+        Ok(update) => done(session.history(), update),
+        Err(EditError::Refused(refusal)) => Ok(Reply::Refused(refusal)),
+        Err(EditError::OutOfMemory) => Err(AllocError),
+    }
+}
+
+/// The replies to the opening of a session, and to its batches.
+fn all_replies<P: Program + Drop, R: Threads + Sync, G: Gate>(
+    workers: &Workers<'_, R, G>,
+    alloc: Global,
+    session: &mut Session<P>,
+    update: Update,
+    batches: &[Batch],
+) -> Result<Vec<Reply>, OutOfMemory>
+    requires exact { IsExact (P.looks session.old.program) None session.old.history update }
+    ensures { IfOk result (λ all. all.items ≡ replies (P.looks session.old.program)
+        (turn_by P.Program session.old.program) session.old.input batches.now) }
+{
+    let mut all = Vec::new(alloc);
+    // That the input is lawful is known where it is read.
+    let _input = session.input();
+    let opening = done(session.history(), update)?;
+    all.push(opening)?;
+    for batch in batches {
+        let reply = reply(workers, alloc, session, batch)?;
+        all.push(reply)?;
+    }
+    Ok(all)
+}
+
+/// The replies of a session: the opening first, then one for each batch. 1 to 16 workers share the turns and the deliveries.
+/// `Input(f)` exactly where the input's check answers f, or `OutOfMemory`.
+pub fn session_run<P: Program + Drop, R: Threads + Sync, G: Gate>(
+    rt: &R,
+    alloc: Global,
+    program: P,
+    input: Input,
+    batches: &[Batch],
+    workers: usize,
+    gate: &G,
+) -> Result<Vec<Reply>, RunError>
+    requires workers { (0 < workers) × (workers ≤ 16) }
+    ensures law { IfOk result (λ all. AreReplies (P.looks program) (turn_of (P.acts program) (P.ending program)) input batches.now all.items) }
+    ensures lawful { OnOk result (input_fault input ≡ None) }
+    ensures input { IfErr result (λ e. input_fault input ≡ input_fault_of e) }
+{
+    let (mut session, update) = Session::open(rt, alloc, program, input, workers, gate)?;
+    let workers = Workers {
+        rt,
+        count: workers,
+        gate,
+    };
+    Ok(all_replies(&workers, alloc, &mut session, update, batches)?)
+}
+
+/// The reply that gives the run of an input, made afresh.
+fn scratch_done<P: Program>(alloc: Global, program: &P, input: &Input) -> Result<Reply, RunError>
+    ensures reply { IfOk result
+        (λ reply. reply ≡ Reply.Done (result_of (run (turn_by P.Program program.now) input.now)) None) }
+    ensures lawful { OnOk result (input_fault input.now ≡ None) }
+    ensures input { IfErr result (λ e. input_fault input.now ≡ input_fault_of e) }
+{
+    let result = run_result(alloc, program, input)?;
+    Ok(Reply::Done {
+        result,
+        update: None,
+    })
+}
+
+/// The reply to a batch, by a run made afresh where the batch is accepted.
+fn scratch_reply<P: Program>(
+    alloc: Global,
+    program: &P,
+    input: &mut Input,
+    batch: &Batch,
+) -> Result<Reply, OutOfMemory>
+    requires lawful { input_fault input.old ≡ None }
+    ensures input { OnOk result (input.new ≡ input_after input.old batch.now) }
+    ensures reply { IfOk result (λ reply. reply
+        ≡ without_update (reply_to (P.looks program.now) (turn_by P.Program program.now) input.old batch.now)) }
+    ensures lawful { OnOk result (input_fault input.new ≡ None) }
+{
+    match refusal_of(input, batch.as_slice()) {
+        Some(refusal) => return Ok(Reply::Refused(refusal)),
+        None => {}
+    }
+    let _formers = make_edits(alloc, input, batch.as_slice())?;
+    match scratch_done(alloc, program, input) {
+        Ok(reply) => Ok(reply),
+        Err(RunError::OutOfMemory) => Err(AllocError),
+        Err(RunError::Input(_)) => unreachable!(),
+    }
+}
+
+/// The opening's reply, and those to the batches.
+fn all_scratch_replies<P: Program>(
+    alloc: Global,
+    program: &P,
+    opening: Reply,
+    mut input: Input,
+    batches: &[Batch],
+) -> Result<Vec<Reply>, OutOfMemory>
+    requires lawful { input_fault input ≡ None }
+    requires opening { opening ≡ Reply.Done (result_of (run (turn_by P.Program program.now) input)) None }
+    ensures { IfOk result (λ all. all.items
+        ≡ map without_update (replies (P.looks program.now) (turn_by P.Program program.now) input batches.now)) }
+{
+    let mut all = Vec::new(alloc);
+    all.push(opening)?;
+    for batch in batches {
+        let reply = scratch_reply(alloc, program, &mut input, batch)?;
+        all.push(reply)?;
+    }
+    Ok(all)
+}
+
+/// The replies of `session_run` without their updates: each accepted input is run by itself on the calling thread, from its first superstep.
+/// `Input(f)` exactly where the input's check answers f, or `OutOfMemory`.
+pub fn scratch_run<P: Program>(
+    alloc: Global,
+    program: &P,
+    input: Input,
+    batches: &[Batch],
+) -> Result<Vec<Reply>, RunError>
+    ensures law { IfOk result (λ all. AreScratchReplies (P.looks program.now) (turn_of (P.acts program.now) (P.ending program.now)) input batches.now all.items) }
+    ensures lawful { OnOk result (input_fault input ≡ None) }
+    ensures input { IfErr result (λ e. input_fault input ≡ input_fault_of e) }
+{
+    let opening = scratch_done(alloc, program, &input)?;
+    Ok(all_scratch_replies(alloc, program, opening, input, batches)?)
+}

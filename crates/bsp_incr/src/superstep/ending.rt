@@ -1,0 +1,164 @@
+//! How a superstep of a run that is made again ends: its deliveries, and the opening of the next.
+
+ghost use Rattle.std.specs.Prelude.{◌≡◌, ◌≤◌, ◌<◌, ◌++◌, ◌||◌, IfOk, OnOk, length, option_map, slice_index_or, true};
+ghost use Rattle.bsp_deliver.specs.Requests.{each_below};
+ghost use Rattle.bsp_run.specs.Run.{after_delivery, open_views};
+ghost use Rattle.bsp_run.specs.Setting.{next_setting};
+ghost use Rattle.bsp_run.specs.Shares.{deliveries_to};
+ghost use Rattle.bsp_run.specs.Result.{cost_of_delivery, IsSmall};
+ghost use Rattle.bsp_incr.specs.Inside.Changes.{touched_in, is_touched, processes_where};
+ghost use Rattle.bsp_incr.specs.Inside.Marks.{AreDelivered, AreComparable, OutcomesDifferAtMost};
+ghost use Rattle.bsp_incr.specs.Inside.Given.{run_before, delivered_beside, views_after_beside};
+ghost use Rattle.bsp_incr.specs.Inside.Known.{IsKnown, KnowsNextTable};
+
+use crate::compare::{
+    KnownTable, add_places, all_cost_alike, delivered_outcomes, has_table, mark_too,
+    processes_where, views_after,
+};
+use crate::rerun::{Given, UnderWay};
+use crate::superstep::deliveries::{Deliveries, touched};
+use bsp_model::{CostRow, OutOfMemory};
+use bsp_pool::Gate;
+use bsp_run::{Phase, Setting, Tape, Views, wide_deliveries};
+use bsp_step::Program;
+use std::thread::Threads;
+
+/// The cost of the superstep whose turns are taken: that of the run before, at the prices in force, where no turn that may be another one charged other
+/// work or moved other numbers of words.
+fn cost<P: Program, G: Gate, R: Threads + Sync>(
+    given: &Given<'_, P, R, G>,
+    tape: &Tape,
+    doubtful: &[usize],
+) -> CostRow
+    requires turned { tape.now.phase ≡ Phase.Turned }
+    requires comparable { AreComparable (delivered_beside given.now tape.now) tape.now.outcomes }
+    requires doubtful { OutcomesDifferAtMost (delivered_beside given.now tape.now) tape.now.outcomes doubtful.now }
+    ensures value { result ≡ cost_of_delivery tape.now.g tape.now.l tape.now.outcomes }
+    ensures small { IsSmall result }
+{
+    let Some(history) = given.old else {
+        return tape.cost();
+    };
+    let Some(old) = delivered_outcomes(given.old, tape.step()) else {
+        return tape.cost();
+    };
+    if !all_cost_alike(old, tape.outcomes(), doubtful) {
+        return tape.cost();
+    }
+    tape.cost_like(history)
+}
+
+/// What all processes see alike in the next superstep. It is built and compared with that of the run before only where nothing is known of it.
+/// It answers what is known of the table there.
+fn next_setting(
+    tape: &Tape,
+    old_next: &Views,
+    known: KnownTable,
+) -> Result<(Setting, KnownTable), OutOfMemory>
+    requires turned { tape.now.phase ≡ Phase.Turned }
+    requires some { 1 ≤ length tape.now.outcomes }
+    requires processes { 0 < length old_next.now }
+    requires known { IsKnown known old_next.now (open_views (after_delivery tape.now)) }
+    ensures setting { IfOk result (λ r. r.0 ≡ next_setting tape.now) }
+    ensures known { IfOk result (λ r. IsKnown r.1 old_next.now (open_views (after_delivery tape.now))) }
+{
+    let first = old_next.get(0);
+    match known {
+        KnownTable::AsBefore => Ok((tape.next_setting_like(&first)?, known)),
+        KnownTable::Unknown => {
+            let setting = tape.next_setting()?;
+            if has_table(&first, &setting.table, setting.tag_size) {
+                Ok((setting, KnownTable::AsBefore))
+            } else {
+                Ok((setting, KnownTable::Unknown))
+            }
+        }
+    }
+}
+
+/// Opens the next superstep, after the deliveries that were made: what the other processes see lies where it lay in the run before. It answers what
+/// is known of the table there.
+fn open_next<P: Program, G: Gate, R: Threads + Sync>(
+    given: &Given<'_, P, R, G>,
+    tape: &mut Tape,
+    doubtful: &[usize],
+    made: Deliveries<'_>,
+    known: KnownTable,
+) -> Result<KnownTable, OutOfMemory>
+    requires turned { tape.old.phase ≡ Phase.Turned }
+    requires comparable { AreComparable (delivered_beside given.now tape.old) tape.old.outcomes }
+    requires next { AreDelivered (delivered_beside given.now tape.old) (views_after_beside given.now tape.old) }
+    requires processes { made.processes.now ≡ processes_where (length tape.old.outcomes)
+        (is_touched (delivered_beside given.now tape.old) tape.old.outcomes) }
+    requires cells { made.cells ≡ deliveries_to tape.old.outcomes made.processes.now }
+    requires doubtful { OutcomesDifferAtMost (delivered_beside given.now tape.old) tape.old.outcomes doubtful.now }
+    requires known { KnowsNextTable (run_before given.now) tape.old known }
+    ensures tape { OnOk result (tape.new ≡ after_delivery tape.old) }
+    ensures known { IfOk result (KnowsNextTable (run_before given.now) tape.old) }
+{
+    let Some(old_next) = views_after(given.old, tape.step()) else {
+        let _ = tape.delivered(made.cells)?;
+        return Ok(KnownTable::Unknown);
+    };
+    let (setting, known) = next_setting(tape, old_next, known)?;
+    let views = tape.next_views_like(old_next, setting, made.processes, made.cells)?;
+    let row = cost(given, tape, doubtful);
+    let _ = tape.delivered_as(views, row)?;
+    Ok(known)
+}
+
+/// The deliveries of the superstep whose turns are taken, and the marks of the next.
+pub fn make_deliveries<P: Program, G: Gate, R: Threads + Sync>(
+    given: &Given<'_, P, R, G>,
+    tape: &mut Tape,
+    doubtful: &[usize],
+    known: KnownTable,
+    under_way: &mut UnderWay,
+) -> Result<(), OutOfMemory>
+    requires turned { tape.old.phase ≡ Phase.Turned }
+    requires count { 0 < length (delivered_beside given.now tape.old)
+        → length (delivered_beside given.now tape.old) ≡ length tape.old.outcomes }
+    requires next { AreDelivered (delivered_beside given.now tape.old) (views_after_beside given.now tape.old) }
+    requires doubtful { OutcomesDifferAtMost (delivered_beside given.now tape.old) tape.old.outcomes doubtful.now }
+    requires always { length given.now.always.now ≡ length tape.old.outcomes }
+    requires known { KnowsNextTable (run_before given.now) tape.old known }
+    ensures tape { OnOk result (tape.new ≡ after_delivery tape.old) }
+    ensures known { OnOk result (KnowsNextTable (run_before given.now) tape.old under_way.new.table) }
+    ensures marks { OnOk result (under_way.new.marks.items ≡ each_below (length tape.old.outcomes)
+        (λ d. is_touched (delivered_beside given.now tape.old) tape.old.outcomes d
+        || slice_index_or given.now.always.now d true)) }
+    ensures executed { OnOk result (under_way.new.update.executed ≡ under_way.old.update.executed) }
+    ensures redelivered { OnOk result (under_way.new.update.redelivered ≡ under_way.old.update.redelivered
+        ++ touched_in (length tape.old.past) (delivered_beside given.now tape.old) tape.old.outcomes) }
+{
+    let step = tape.step();
+    let mut touched = touched(
+        given.alloc,
+        delivered_outcomes(given.old, step),
+        tape.outcomes(),
+        doubtful,
+    )?;
+    let processes = processes_where(given.alloc, touched.as_slice())?;
+    add_places(
+        &mut under_way.update.redelivered,
+        step as u64,
+        processes.as_slice(),
+    )?;
+    under_way.counts.deliver(processes.len());
+    let cells = wide_deliveries(
+        given.workers.rt,
+        given.alloc,
+        tape.outcomes(),
+        processes.as_slice(),
+        given.workers.count,
+        given.workers.gate,
+    )?;
+    let made = Deliveries {
+        processes: processes.as_slice(),
+        cells,
+    };
+    under_way.table = open_next(given, tape, doubtful, made, known)?;
+    mark_too(&mut touched, given.other_args);
+    under_way.marks = touched;
+    Ok(())
+}

@@ -1,0 +1,178 @@
+//! The turns of a superstep, of which those that serve from the run before are not taken again.
+
+ghost use Rattle.std.specs.Prelude.{◌≡◌, ◌<◌, ◌++◌, ◌∷◌, [], All, IfOk, OnOk, filter, map, length, not, option_map, slice_index_or, true, false};
+ghost use Rattle.bsp_model.specs.Replaced.{replaced, IsAscending};
+ghost use Rattle.bsp_run.specs.Condition.{no_view};
+ghost use Rattle.bsp_run.specs.Shares.{turns_of};
+ghost use Rattle.bsp_incr.specs.Inside.Before.{outcomes_if_any};
+ghost use Rattle.bsp_incr.specs.Inside.Changes.{differ_in};
+ghost use Rattle.bsp_incr.specs.Inside.Given.{turn_by, turn_given, looks_given};
+ghost use Rattle.bsp_incr.specs.Inside.Known.{AreDoubtful};
+ghost use Rattle.bsp_incr.specs.Inside.OpenSuperstep.{differs_now};
+
+use crate::Place;
+use crate::compare::{Doubtful, OpenSuperstep, add_places, serves};
+use crate::rerun::{Counts, Given};
+use crate::superstep::reuse::reuse;
+use bsp_model::{OutOfMemory, Seq, TryCopy};
+use bsp_pool::Gate;
+use bsp_run::wide_turns;
+use bsp_step::{OutcomeRows, Outcomes, Program};
+use std::thread::Threads;
+
+/// Whether the turn of a process has to be taken. The tables are not compared where all processes are known to see the same.
+fn needs_turn<P: Program>(
+    program: &P,
+    superstep: &OpenSuperstep<'_, '_>,
+    p: usize,
+    same_table: bool,
+) -> bool
+    requires place { p < length superstep.now.views.now }
+    requires same { same_table ≡ true → (slice_index_or superstep.now.old_views 0 no_view).table
+        ≡ (slice_index_or superstep.now.views.now 0 no_view).table }
+    ensures { result ≡ differs_now (P.looks program.now) superstep.now p }
+{
+    if p >= superstep.old_views.len() {
+        return true;
+    }
+    !serves(
+        program,
+        &superstep.old_views.get(p),
+        &superstep.views.get(p),
+        same_table,
+    )
+}
+
+/// Of the doubtful processes, those whose turn has to be taken, and then those for which the recorded one serves.
+fn needed_turns<P: Program, R, G>(
+    given: &Given<'_, P, R, G>,
+    superstep: &OpenSuperstep<'_, '_>,
+    doubtful: &Doubtful,
+    counts: &mut Counts,
+) -> Result<(Vec<usize>, Vec<usize>), OutOfMemory>
+    requires doubtful { AreDoubtful superstep.now.old_views superstep.now.views.now doubtful.now }
+    ensures needed { IfOk result (λ r. r.0.items
+        ≡ filter (differs_now (looks_given given.now) superstep.now) doubtful.now.processes.items) }
+    ensures served { IfOk result (λ r. r.1.items
+        ≡ filter (λ p. not (differs_now (looks_given given.now) superstep.now p)) doubtful.now.processes.items) }
+{
+    let processes = doubtful.processes.as_slice();
+    let mut needed = Vec::with_capacity(given.alloc, processes.len())?;
+    let mut served = Vec::new(given.alloc);
+    for process in processes {
+        counts.look();
+        if needs_turn(given.program, superstep, *process, doubtful.same_table) {
+            needed.push(*process)?;
+        } else {
+            served.push(*process)?;
+        }
+    }
+    Ok((needed, served))
+}
+
+/// Adds the turn of a process for which the recorded one serves, over the memory that it sees now.
+fn add_served<P: Program>(
+    rows: &mut OutcomeRows,
+    program: &P,
+    superstep: &OpenSuperstep<'_, '_>,
+    old_outcomes: &Outcomes,
+    p: usize,
+) -> Result<(), OutOfMemory>
+    requires place { p < length superstep.now.views.now }
+    requires recorded { old_outcomes.now ≡ map (turn_by P.Program program.now) superstep.now.old_views }
+    requires serves { differs_now (P.looks program.now) superstep.now p ≡ false }
+    ensures { OnOk result (rows.new ≡ rows.old
+        ++ turn_by P.Program program.now (slice_index_or superstep.now.views.now p no_view) ∷ []) }
+{
+    let recorded = superstep.old_views.get(p);
+    let outcome = old_outcomes.get(p);
+    let view = superstep.views.get(p);
+    reuse(rows, program, &recorded, outcome, &view)?;
+    Ok(())
+}
+
+/// The turns of processes for which the recorded ones serve.
+fn served_turns<P: Program, R, G>(
+    given: &Given<'_, P, R, G>,
+    superstep: &OpenSuperstep<'_, '_>,
+    old_outcomes: &Outcomes,
+    processes: &[usize],
+) -> Result<OutcomeRows, OutOfMemory>
+    requires known { All (λ p. p < length superstep.now.views.now) processes.now }
+    requires recorded { old_outcomes.now ≡ map (turn_given given.now) superstep.now.old_views }
+    requires serve { All (λ p. differs_now (looks_given given.now) superstep.now p ≡ false) processes.now }
+    ensures { IfOk result (λ all. all ≡ turns_of (turn_given given.now) superstep.now.views.now processes.now) }
+{
+    let mut served = OutcomeRows::with_capacity(given.alloc, processes.len())?;
+    for process in processes {
+        add_served(
+            &mut served,
+            given.program,
+            superstep,
+            old_outcomes,
+            *process,
+        )?;
+    }
+    Ok(served)
+}
+
+/// The recorded outcomes, with new ones for processes for which the recorded turns serve.
+fn with_served_turns<P: Program, R, G>(
+    given: &Given<'_, P, R, G>,
+    superstep: &OpenSuperstep<'_, '_>,
+    old_outcomes: &Outcomes,
+    processes: &[usize],
+) -> Result<Outcomes, OutOfMemory>
+    requires known { All (λ p. p < length superstep.now.views.now) processes.now }
+    requires within { All (λ p. p < length old_outcomes.now) processes.now }
+    requires ascending { IsAscending processes.now }
+    requires recorded { old_outcomes.now ≡ map (turn_given given.now) superstep.now.old_views }
+    requires serve { All (λ p. differs_now (looks_given given.now) superstep.now p ≡ false) processes.now }
+    ensures { IfOk result (λ all. all ≡ replaced old_outcomes.now processes.now
+        (turns_of (turn_given given.now) superstep.now.views.now processes.now)) }
+{
+    if processes.is_empty() {
+        return Ok(old_outcomes.copy()?);
+    }
+    let served = served_turns(given, superstep, old_outcomes, processes)?;
+    Ok(old_outcomes.replaced(given.alloc, processes, served)?)
+}
+
+/// The turns of a superstep: the workers take those that have to be taken, and their places are added.
+pub fn turns_again<P: Program, G: Gate, R: Threads + Sync>(
+    given: &Given<'_, P, R, G>,
+    superstep: &OpenSuperstep<'_, '_>,
+    doubtful: &Doubtful,
+    executed: &mut Seq<Place>,
+    counts: &mut Counts,
+) -> Result<Outcomes, OutOfMemory>
+    requires recorded { outcomes_if_any (option_map (λ o. o.now) superstep.now.old_outcomes)
+        ≡ map (turn_given given.now) superstep.now.old_views }
+    requires doubtful { AreDoubtful superstep.now.old_views superstep.now.views.now doubtful.now }
+    ensures turns { IfOk result (λ all. all ≡ map (turn_given given.now) superstep.now.views.now) }
+    ensures executed { OnOk result (executed.new ≡ executed.old
+        ++ differ_in (looks_given given.now) superstep.now.step superstep.now.old_views superstep.now.views.now) }
+{
+    let (needed, served) = needed_turns(given, superstep, doubtful, counts)?;
+    add_places(executed, superstep.step, needed.as_slice())?;
+    let rows = superstep.like.room_for(given.alloc, needed.len())?;
+    let taken = wide_turns(
+        given.workers.rt,
+        given.alloc,
+        rows,
+        given.program,
+        superstep.views,
+        needed.as_slice(),
+        given.workers.count,
+        given.workers.gate,
+    )?;
+    if superstep.old_views.is_empty() {
+        return Ok(taken.share()?);
+    }
+    let Some(old_outcomes) = superstep.old_outcomes else {
+        return Ok(taken.share()?);
+    };
+    let renewed = with_served_turns(given, superstep, old_outcomes, served.as_slice())?;
+    let all = renewed.replaced(given.alloc, needed.as_slice(), taken)?;
+    Ok(all)
+}

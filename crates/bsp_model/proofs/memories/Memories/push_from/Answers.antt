@@ -1,0 +1,36 @@
+use Rattle.std.proofs.Common.{[], length, refl, arith}
+use Rattle.std.proofs.lemmas.Result.{MatchResult-from_err}
+use Rattle.bsp_model.specs.Columns.{row_at, IsPut}
+use Rattle.bsp_model.specs.Inside.Pages.{words_of}
+use Rattle.bsp_model.proofs.PagedMemories.{ArePaged-same, memories_of-same, ArePaged-push, memories_of-push}
+use Rattle.bsp_model.proofs.memories.Memories.push_from.Goals as goal
+
+pub invariant_of-self : goal.invariant_of-self
+invariant_of-self c = ArePaged-same c.self.inside.pages c.put.new.self c.self.inside.lasts c.self.invariant (λ k within. c.in_err-put.ensures.err.before k (omega (arith, within, c.len.ensures)))
+
+pub returns-in_err-put-clause-err : goal.returns-in_err-put-clause-err
+returns-in_err-put-clause-err c =
+    MatchResult-from_err _ _ _ c.from_residual-in_err-put.ensures.0
+    (λ _. memories_of-same c.self.inside.pages c.put.new.self c.self.inside.lasts c.args.self.now c.self.view_is (λ k within. c.in_err-put.ensures.err.before k (omega (arith, within, c.len.ensures))))
+
+pub returns-in_err-push-clause-err : goal.returns-in_err-push-clause-err
+returns-in_err-push-clause-err c =
+    MatchResult-from_err _ _ _ c.from_residual-in_err-push.ensures.0
+    (λ _. rw c.in_err-push.ensures.err
+    (memories_of-same c.self.inside.pages c.put.new.self c.self.inside.lasts c.args.self.now c.self.view_is (λ k within. c.in_ok-put.ensures.ok.before k (omega (arith, within, c.len.ensures)))))
+
+pub invariant_of-self-2 : goal.invariant_of-self-2
+invariant_of-self-2 c =
+    let put : IsPut [] (row_at c.self.inside.pages) (length c.self.inside.lasts) c.memory.inside.pages.items (row_at c.put.new.self) = rw (c.len.ensures, c.in_ok-full.ensures.taken) at c.in_ok-put.ensures.ok in
+    rw (c.in_ok-push.ensures.ok, c.as_slice.ensures.value)
+    (ArePaged-push c.self.inside.pages c.put.new.self c.self.inside.lasts c.memory.inside.pages.items c.memory.inside.last.items c.memory.inside.len c.self.invariant put c.memory.invariant)
+
+pub returns-clause-ok : goal.returns-clause-ok
+returns-clause-ok c =
+    let put : IsPut [] (row_at c.self.inside.pages) (length c.self.inside.lasts) c.memory.inside.pages.items (row_at c.put.new.self) = rw (c.len.ensures, c.in_ok-full.ensures.taken) at c.in_ok-put.ensures.ok in
+    rw (c.in_ok-push.ensures.ok, c.as_slice.ensures.value)
+    (memories_of-push c.self.inside.pages c.put.new.self c.self.inside.lasts c.args.self.now c.memory.inside.pages.items c.memory.inside.last.items _ c.memory.inside.len c.self.view_is put c.memory.invariant c.memory.view_is)
+
+pub returns-clause-rest : goal.returns-clause-rest
+unfolding words_of
+returns-clause-rest c = refl

@@ -1,0 +1,21 @@
+-- Stores that are kept beside the memory that their turn left. Where they are one range, whose words stand in that memory in one piece, the range is
+-- kept alone, and its words are those of the memory.
+use Rattle.std.specs.Prelude.{ℕ, List, [], ◌∷◌, take}
+use Rattle.bsp_model.specs.declared.request.Store.{Store}
+use Rattle.bsp_model.specs.declared.stores.range.Range.{Range}
+use Rattle.bsp_model.specs.Columns.{row_at}
+use Rattle.bsp_model.specs.Memory.{rest_of_page}
+use Rattle.bsp_model.specs.Inside.Ranges.{stores_of, AreRanges}
+
+-- the words of ranges: those that are kept, but for a range without any those that the memory has there
+abbrev pub words_beside : List Range → List ℕ → List ℕ → List ℕ
+words_beside (r ∷ []) [] memory = take r.len (rest_of_page memory r.start)
+words_beside ranges values memory = values
+
+-- the stores of a process beside its memory, from the ranges of all and the words that are kept
+abbrev pub stores_beside : (List (List Range)) × (List (List ℕ)) → ℕ → List ℕ → List Store
+stores_beside rows k memory = stores_of (row_at rows.0 k) (words_beside (row_at rows.0 k) (row_at rows.1 k) memory)
+
+-- The ranges of a process have all their words beside its memory.
+abbrev pub AreBeside : (List (List Range)) × (List (List ℕ)) → ℕ → List ℕ → Type 0
+AreBeside rows k memory = AreRanges (row_at rows.0 k) (words_beside (row_at rows.0 k) (row_at rows.1 k) memory)

@@ -1,0 +1,16 @@
+//! The kinds of lists that a turn may leave.
+
+/// A kind of list that a turn may leave. In most supersteps no turn leaves any of some kinds, and they are not gone over.
+#[derive(Clone, Copy, Debug, PartialEq, Eq)]
+pub enum ListKind {
+    /// The gets.
+    Gets,
+    /// The messages.
+    Sends,
+    /// The popped slots.
+    Pops,
+    /// The pushed areas.
+    Pushes,
+    /// The printed lines.
+    Lines,
+}
