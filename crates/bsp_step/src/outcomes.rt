@@ -11,10 +11,10 @@ mod others;
 mod registers;
 
 use crate::{ListKind, OutcomeRef, OutcomeRows};
-use others::Others;
 use bsp_model::{
     Get, Memories, MemoryRef, OutOfMemory, PutsRef, RowsRef, SendsRef, Shared, TryCopy, are_few,
 };
+use others::Others;
 use std::alloc::Global;
 use std::marker::Model;
 
