@@ -7,7 +7,7 @@ use bsp_incr::{Edit, Session};
 use bsp_model::{Input, OutOfMemory};
 use bsp_pool::{Open, Timed};
 use bsp_programs::{MatVec, Prefix};
-use bsp_run::{run_plain, run_wide};
+use bsp_run::{run_plain, run_result, run_wide};
 use bsp_step::Program;
 use std::alloc::Global;
 use std::thread::Threads;
@@ -25,6 +25,7 @@ pub fn measure<R: Threads + Clock + Sync>(rt: &R, alloc: Global, words: &[String
     match name.as_str() {
         "prefix-input" => count(inputs::prefix(alloc)),
         "plain-prefix" => plain(alloc, &Prefix, inputs::prefix(alloc)),
+        "scratch-prefix" => scratch(alloc, &Prefix, inputs::prefix(alloc)),
         "wide-prefix" => wide(rt, alloc, &Prefix, inputs::prefix(alloc), words),
         "open-prefix" => opening(rt, alloc),
         "update-prefix" => update(rt, alloc, words),
@@ -51,6 +52,16 @@ fn count(input: Result<Input, OutOfMemory>) -> Result<u64> {
 fn plain<P: Program>(alloc: Global, program: &P, input: Result<Input, OutOfMemory>) -> Result<u64> {
     let history = run_plain(alloc, program, &input?).ok().context("no run")?;
     Ok(history.total())
+}
+
+/// Runs a program on one thread, without a record.
+fn scratch<P: Program>(
+    alloc: Global,
+    program: &P,
+    input: Result<Input, OutOfMemory>,
+) -> Result<u64> {
+    let result = run_result(alloc, program, &input?).ok().context("no run")?;
+    Ok(result.total)
 }
 
 /// Runs a program by so many workers as the word after the name says.

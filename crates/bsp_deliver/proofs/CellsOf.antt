@@ -90,7 +90,7 @@ at_between : {X : Type 0} (items : List X) (from to j : ℕ) (none : X) → j < 
 at_between items from to j none inside = get_or-take (to - from) (drop from items) j none inside ∙ get_or-drop from items j none
 
 pub cells_of-more : (memories others : List (List ℕ)) (queues more queues' : List (List Message)) (cells others' : List (List ℕ × List Message)) (from to : ℕ) → to ≤ length others → cells_of memories queues ≡ cells → cells_of others more ≡ others'
-    → AreTaken [] (row_at queues) (λ k. row_at more (from + (k - length memories))) (length memories) (length memories + (to - from)) (row_at queues')
+    → AreTaken [] (row_at queues) (length memories) (row_at more) from to (row_at queues')
     → cells_of (memories ++ slice_range others from to) queues' ≡ cells ++ slice_range others' from to
 cells_of-more memories others queues more queues' cells others' from to within is also taken =
     let long = length-between others from to within in

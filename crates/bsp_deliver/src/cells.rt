@@ -4,7 +4,9 @@ ghost use Rattle.std.specs.Prelude.{◌≡◌, ◌<◌, ◌≤◌, ◌++◌, ◌
 ghost use Rattle.bsp_model.specs.Replaced.{replaced, IsAscending};
 ghost use Rattle.bsp_deliver.specs.Inside.Cells.{cells_of};
 
-use bsp_model::{Memories, Memory, MemoryRef, Message, OutOfMemory, SharedColumn};
+use bsp_model::{
+    Memories, Memory, MemoryRef, Message, OutOfMemory, Share, SharedColumn, end_of_run,
+};
 use bsp_step::Queue;
 use std::alloc::Global;
 use std::marker::Model;
@@ -28,14 +30,21 @@ impl Model for Cells {
 }
 
 impl Cells {
+    /// Of no process, which takes no memory.
+    pub fn new(alloc: Global) -> Cells
+        ensures { result ≡ [] }
+    {
+        Cells {
+            memories: Memories::new(alloc),
+            queues: SharedColumn::new(alloc),
+        }
+    }
+
     /// Of no process, with room for so many, or `OutOfMemory`. Where there is to be none it takes no memory.
     pub fn with_capacity(alloc: Global, count: usize) -> Result<Cells, OutOfMemory>
         ensures { IfOk result (λ cells. cells ≡ []) }
     {
-        Ok(Cells {
-            memories: Memories::with_capacity(alloc, count)?,
-            queues: SharedColumn::new(alloc),
-        })
+        Cells::new(alloc).into_room(count)
     }
 
     /// Of no process, with the room that these take beside their full pages, or `OutOfMemory`.
@@ -43,9 +52,30 @@ impl Cells {
         ensures { IfOk result (λ cells. cells ≡ []) }
     {
         Ok(Cells {
-            memories: Memories::with_room_of(alloc, &like.memories)?,
+            memories: Memories::with_room_of(alloc, &like.memories, Share::whole())?,
             queues: SharedColumn::with_room_of(alloc, &like.queues)?,
         })
+    }
+
+    /// Takes all processes away. The room stays.
+    pub fn clear(&mut self)
+        ensures { self.new ≡ [] }
+    {
+        self.memories.clear();
+        self.queues.clear();
+    }
+
+    /// Of no process, in the room of these, which is made enough for so many. Or `OutOfMemory`.
+    pub(crate) fn into_room(self, count: usize) -> Result<Cells, OutOfMemory>
+        ensures { IfOk result (λ cells. cells ≡ []) }
+    {
+        let Cells {
+            memories,
+            mut queues,
+        } = self;
+        queues.clear();
+        let memories = memories.into_room(count)?;
+        Ok(Cells { memories, queues })
     }
 
     /// These memories, and the queue of each.
@@ -53,6 +83,13 @@ impl Cells {
         ensures { result ≡ cells_of memories queues }
     {
         Cells { memories, queues }
+    }
+
+    /// The memories, and the queue of each.
+    pub(crate) fn into_parts(self) -> (Memories, SharedColumn<Message>)
+        ensures { cells_of result.0 result.1 ≡ self }
+    {
+        (self.memories, self.queues)
     }
 
     /// The number of processes.
@@ -122,7 +159,8 @@ impl Cells {
         Ok(Cells { memories, queues })
     }
 
-    /// These memories and queues, but for new ones of some processes, which are in ascending order.
+    /// These memories and queues, but for new ones of some processes, which are in ascending order. Those of consecutive processes are copied in
+    /// one piece, and so is what lies between.
     pub fn replaced(
         &self,
         alloc: Global,
@@ -135,10 +173,13 @@ impl Cells {
         ensures { IfOk result (λ c. c ≡ replaced self.now processes.now cells.now) }
     {
         let mut new = Cells::with_room_of(alloc, self)?;
-        for place in 0..processes.len() {
+        let mut place = 0;
+        while place < processes.len() {
+            let end = end_of_run(processes, place);
             let done = new.len();
             new = new.with_range(self, done, processes[place])?;
-            new = new.with_range(cells, place, place + 1)?;
+            new = new.with_range(cells, place, end)?;
+            place = end;
         }
         let done = new.len();
         new.with_range(self, done, self.len())

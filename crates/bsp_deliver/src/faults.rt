@@ -7,7 +7,7 @@ ghost use Rattle.bsp_deliver.specs.SyncFault.{is_sync, same_tag, sync_fault, nex
 
 use bsp_model::SyncFault;
 use bsp_model::limits::MOST_TAG_WORDS;
-use bsp_step::{Ended, OutcomeRef, Outcomes};
+use bsp_step::{Ended, ListKind, OutcomeRef, Outcomes};
 use bsp_table::Table;
 
 /// Whether some process ended by sync. It takes no memory.
@@ -34,10 +34,13 @@ fn has_halt(outcomes: &Outcomes) -> bool
     false
 }
 
-/// Whether all processes made the same choice as the first.
+/// Whether all processes made the same choice as the first. Where no choice stands, they are not gone over.
 fn is_same_choice(first: &OutcomeRef<'_>, outcomes: &Outcomes) -> bool
     ensures { result ≡ list_all (λ o. same_tag first.now.tag o.tag) outcomes.now }
 {
+    if first.tag.is_none() && outcomes.is_without(ListKind::Tags) {
+        return true;
+    }
     for pid in 0..outcomes.len() {
         if first.tag != outcomes.get(pid).tag {
             return false;

@@ -66,14 +66,15 @@ fn add_all_messages(
     Ok(())
 }
 
-/// These queues, which their copies share from now on.
+/// These queues, which their copies share from now on, in the room of others.
 fn shared_queues(
-    alloc: Global,
     queues: Vec<Seq<Message>>,
+    room: SharedColumn<Message>,
 ) -> Result<SharedColumn<Message>, OutOfMemory>
     ensures { IfOk result (λ all. (k : ℕ) → row_at all k ≡ row_at queues.items k) }
 {
-    let mut all = SharedColumn::new(alloc);
+    let mut all = room;
+    all.clear();
     let mut place = 0;
     for queue in queues {
         all.put(place, queue.share()?)?;
@@ -82,12 +83,13 @@ fn shared_queues(
     Ok(all)
 }
 
-/// The queues of so many processes after delivery. Where nobody sends a message no list is made.
+/// The queues of so many processes after delivery, in the room of others. Where nobody sends a message no list is made.
 fn queues_after(
     alloc: Global,
     outcomes: &Outcomes,
     count: usize,
     places: &[usize],
+    room: SharedColumn<Message>,
 ) -> Result<SharedColumn<Message>, OutOfMemory>
     requires deliverable { AreDeliverable outcomes.now }
     requires places { length places.now ≡ length outcomes.now }
@@ -95,11 +97,13 @@ fn queues_after(
         ≡ row_at (fold (λ qs s. sent_at places.now qs s.1) (replicate count []) (all_sends outcomes.now)) k) }
 {
     if outcomes.is_without(ListKind::Sends) {
-        return Ok(SharedColumn::new(alloc));
+        let mut none = room;
+        none.clear();
+        return Ok(none);
     }
     let mut queues = empty_lists(alloc, count)?;
     add_all_messages(queues.as_mut_slice(), places, outcomes)?;
-    shared_queues(alloc, queues)
+    shared_queues(queues, room)
 }
 
 /// What `deliver` answers for each of these processes, in the order of the list, in one pass over all requests. The list is ascending.
@@ -107,6 +111,7 @@ fn deliver_together(
     alloc: Global,
     outcomes: &Outcomes,
     processes: &[usize],
+    room: Cells,
 ) -> Result<Cells, OutOfMemory>
     requires deliverable { AreDeliverable outcomes.now }
     requires known { All (λ d. d < length outcomes.now) processes.now }
@@ -115,17 +120,26 @@ fn deliver_together(
         ≡ map (λ d. (next_memory (delivery_parts outcomes.now d), next_queue (delivery_parts outcomes.now d))) processes.now) }
 {
     let places = places_of(alloc, outcomes.len(), processes)?;
-    let memories = memories_after(alloc, outcomes, processes, places.as_slice())?;
-    let queues = queues_after(alloc, outcomes, processes.len(), places.as_slice())?;
+    let (old_memories, old_queues) = room.into_parts();
+    let memories = memories_after(alloc, outcomes, processes, places.as_slice(), old_memories)?;
+    let queues = queues_after(
+        alloc,
+        outcomes,
+        processes.len(),
+        places.as_slice(),
+        old_queues,
+    )?;
     Ok(Cells::from_parts(memories, queues))
 }
 
 /// What `deliver` answers for each of these processes, in the order of the list. The list is ascending. For no process it takes no memory, one is
-/// delivered to by itself, and for several all requests are gone over once.
+/// delivered to by itself, and for several all requests are gone over once. What they get is gathered in the room of others, which are no longer
+/// needed.
 pub fn deliver_some(
     alloc: Global,
     outcomes: &Outcomes,
     processes: &[usize],
+    room: Cells,
 ) -> Result<Cells, OutOfMemory>
     requires deliverable { AreDeliverable outcomes.now }
     requires known { All (λ d. d < length outcomes.now) processes.now }
@@ -133,9 +147,9 @@ pub fn deliver_some(
     ensures { IfOk result (λ all. all ≡ map (λ d. (next_memory (delivery_parts outcomes.now d), next_queue (delivery_parts outcomes.now d))) processes.now) }
 {
     if processes.len() > 1 {
-        return deliver_together(alloc, outcomes, processes);
+        return deliver_together(alloc, outcomes, processes, room);
     }
-    let mut cells = Cells::with_capacity(alloc, processes.len())?;
+    let mut cells = room.into_room(processes.len())?;
     for process in processes {
         let (memory, queue) = deliver(alloc, *process, outcomes)?;
         cells.push(memory, queue)?;

@@ -2,6 +2,9 @@
 
 ghost use Rattle.std.specs.Prelude.{◌≡◌, ◌<◌, ◌↔◌, IsTrue, IfOk, All, length, map};
 ghost use Rattle.bsp_deliver.specs.Requests.{words_read};
+ghost use Rattle.std.specs.Bool.{OnTrue};
+ghost use Rattle.bsp_step.specs.ListKind.{IsWithout};
+ghost use Rattle.bsp_step.specs.declared.list_kind.ListKind as ListKind;
 ghost use Rattle.bsp_step.specs.OutcomeParts.{outcome_of};
 ghost use Rattle.bsp_deliver.specs.Delivery.{delivery_parts};
 ghost use Rattle.bsp_deliver.specs.Condition.{AreDeliverable};
@@ -12,7 +15,7 @@ ghost use Rattle.bsp_deliver.specs.Touched.{AreSameUnlessMarked, AreTouched};
 use crate::marking::mark_parcels;
 use crate::same::is_same_answer;
 use bsp_model::{Get, OutOfMemory, Same, are_same};
-use bsp_step::Outcomes;
+use bsp_step::{ListKind, Outcomes};
 use std::alloc::Global;
 
 /// Whether a get reads the words that it read before. Those of an owner whose outcome has not changed are the same.
@@ -71,9 +74,17 @@ fn has_same_own<'a>(old: &'a Outcomes, new: &'a Outcomes, changed: &[bool], p: u
     have_same_own(old, new, p)
 }
 
-/// Whether the memory of `p` after computing is the same as before, and so are its gets with the words that they read.
-fn is_same_own<'a>(old: &'a Outcomes, new: &'a Outcomes, changed: &[bool], p: usize) -> bool
+/// Whether the memory of `p` after computing is the same as before, and so are its gets with the words that they read. Where nobody gets words, no gets
+/// are looked for.
+fn is_same_own<'a>(
+    old: &'a Outcomes,
+    new: &'a Outcomes,
+    changed: &[bool],
+    nobody_gets: bool,
+    p: usize,
+) -> bool
     requires known { p < length new.now }
+    requires nobody { OnTrue nobody_gets (All (IsWithout ListKind.Gets) new.now) }
     requires count { length old.now ≡ length new.now }
     requires marks { length changed.now ≡ length new.now }
     requires before { AreDeliverable old.now }
@@ -83,6 +94,9 @@ fn is_same_own<'a>(old: &'a Outcomes, new: &'a Outcomes, changed: &[bool], p: us
 {
     if !has_same_own(old, new, changed, p) {
         return false;
+    }
+    if nobody_gets {
+        return true;
     }
     let gets = new.gets(p);
     read_same_words(old, new, changed, gets)
@@ -123,9 +137,10 @@ fn mark_touched<'a>(marks: &mut [bool], old: &'a Outcomes, new: &'a Outcomes, ch
     requires unchanged { AreSameUnlessMarked old.now new.now changed.now }
     ensures { AreMarkedUnless (λ d. delivery_parts old.now d ≡ delivery_parts new.now d) marks.old marks.new }
 {
+    let nobody_gets = new.is_without(ListKind::Gets);
     for p in 0..new.len() {
         mark_parcels_of(marks, old, new, changed, p);
-        if !marks[p] && !is_same_own(old, new, changed, p) {
+        if !marks[p] && !is_same_own(old, new, changed, nobody_gets, p) {
             marks[p] = true;
         }
     }

@@ -74,11 +74,12 @@ fn add_memory(
     Ok(())
 }
 
-/// The memories of these processes after computing, with the words over each that its gets read.
+/// The memories of these processes after computing, with the words over each that its gets read, in the room of others.
 fn memories_with_gets(
     alloc: Global,
     outcomes: &Outcomes,
     processes: &[usize],
+    room: Memories,
 ) -> Result<Memories, OutOfMemory>
     requires deliverable { AreDeliverable outcomes.now }
     requires known { All (λ d. d < length outcomes.now) processes.now }
@@ -86,9 +87,9 @@ fn memories_with_gets(
     ensures { IfOk result (λ memories. memories ≡ map (λ d. overlay (delivery_parts outcomes.now d).memory (map get_write (delivery_parts outcomes.now d).gets)) processes.now) }
 {
     if outcomes.is_without(ListKind::Gets) {
-        return Ok(outcomes.memories_of(alloc, processes)?);
+        return Ok(outcomes.memories_of(processes, room)?);
     }
-    let mut memories = outcomes.room_for_memories(alloc, processes.len())?;
+    let mut memories = outcomes.room_for_memories(processes.len(), room)?;
     for process in processes {
         add_memory(alloc, &mut memories, *process, outcomes)?;
     }
@@ -131,12 +132,13 @@ fn write_all_puts(
     Ok(())
 }
 
-/// The memories of these processes after delivery.
+/// The memories of these processes after delivery, in the room of others.
 pub(crate) fn memories_after(
     alloc: Global,
     outcomes: &Outcomes,
     processes: &[usize],
     places: &[usize],
+    room: Memories,
 ) -> Result<Memories, OutOfMemory>
     requires deliverable { AreDeliverable outcomes.now }
     requires known { All (λ d. d < length outcomes.now) processes.now }
@@ -144,7 +146,7 @@ pub(crate) fn memories_after(
     requires places { ArePlaces (length outcomes.now) processes.now places.now }
     ensures { IfOk result (λ memories. memories ≡ fold (λ ms s. put_at places.now ms s.1) (map (λ d. overlay (delivery_parts outcomes.now d).memory (map get_write (delivery_parts outcomes.now d).gets)) processes.now) (all_puts outcomes.now)) }
 {
-    let mut memories = memories_with_gets(alloc, outcomes, processes)?;
+    let mut memories = memories_with_gets(alloc, outcomes, processes, room)?;
     write_all_puts(&mut memories, places, outcomes)?;
     Ok(memories)
 }

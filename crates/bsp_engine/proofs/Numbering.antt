@@ -48,15 +48,16 @@ three_pieces r old a b c one two three e f g = two_pieces r old (a ++ b) c two t
 pub few_digits : (n : ℕ) → n < 2 ^ 64 → length (decimal n) ≤ 20
 few_digits n l = length-decimal-le 20 n (omega arith) (omega arith) l
 
-pub field_before : (numbers room buf : List ℕ) (left at start : ℕ) → 0 < left → left ≤ length numbers → 0 < start → start ≤ length buf → drop start buf ≡ decimal (get_or numbers (left - 1) 0) ++ drop at room → drop at room ≡ fields (drop left numbers)
-    → drop (start - 1) (slice_set buf (start - 1) 32) ≡ fields (drop (left - 1) numbers)
-field_before numbers room buf left at start some few low high one others =
+pub field_before : (numbers room buf rest : List ℕ) (left at start : ℕ) → 0 < left → left ≤ length numbers → 0 < start → start ≤ length buf → drop start buf ≡ decimal (get_or numbers (left - 1) 0) ++ drop at room → drop at room ≡ fields (drop left numbers) ++ rest
+    → drop (start - 1) (slice_set buf (start - 1) 32) ≡ fields (drop (left - 1) numbers) ++ rest
+field_before numbers room buf rest left at start some few low high one others =
     let digits = decimal (get_or numbers (left - 1) 0) in
     let next : start - 1 + 1 ≡ start = omega arith in
     let here : left ≡ left - 1 + 1 = omega arith in
+    let behind = fields (drop (left - 1 + 1) numbers) in
     drop-set buf (start - 1) 32 (omega arith)
-    ∙ ap (λ l. 32 ∷ l) (ap (λ k. drop k buf) next ∙ one ∙ ap (λ l. digits ++ l) (others ∙ ap (λ k. fields (drop k numbers)) here))
-    ∙ sym (ap fields (drop_more numbers (left - 1) 0 (omega arith)))
+    ∙ ap (λ l. 32 ∷ l) (ap (λ k. drop k buf) next ∙ one ∙ ap (λ l. digits ++ l) (others ∙ ap (λ k. fields (drop k numbers) ++ rest) here) ∙ sym (append_assoc digits behind rest))
+    ∙ sym (ap (λ l. fields l ++ rest) (drop_more numbers (left - 1) 0 (omega arith)))
 
 -- a text that has the first numbers, and then those of a part
 pub fields_grow : (numbers part : List ℕ) (i count : ℕ) (text old new : List ℕ) → part ≡ take count (drop i numbers) → old ≡ text ++ fields (take i numbers) → new ≡ old ++ fields part → new ≡ text ++ fields (take (i + count) numbers)

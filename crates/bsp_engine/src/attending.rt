@@ -7,6 +7,7 @@ ghost use Rattle.bsp_engine.specs.Live.{after, answer_block, answer_to, last_res
 ghost use Rattle.bsp_engine.specs.Inside.LiveReplies.{live_replying};
 
 use crate::asking::{asked_of, is_document};
+use crate::blocks::ROOM_OF_A_BLOCK;
 use crate::crew::Crew;
 use crate::document::document_block;
 use crate::errors::EngineError;
@@ -40,7 +41,7 @@ fn block_for<P: Program + Drop, R: Threads + Sync, G: Gate>(
     ensures text { IfOk result (λ text. text.items ≡ answer_block places number (last_result P.acts P.ending live.old) (answer_to (live_replying P.acts P.ending P.looks) live.old (asked_of line.now))) }
 {
     let asked = asked_of(crew.alloc, line)?;
-    let mut text = Vec::new(crew.alloc);
+    let mut text = Vec::with_capacity(crew.alloc, ROOM_OF_A_BLOCK)?;
     push_line(&mut text, "run", &[number])?;
     push_answer(crew, places, live, &mut text, asked)?;
     Ok(text)

@@ -13,6 +13,9 @@ use bsp_model::OutOfMemory;
 use bsp_run::RunResult;
 use std::alloc::Global;
 
+/// A report begins with so much room, in bytes: that of a block for some tens of processes.
+pub const ROOM_OF_A_BLOCK: usize = 4096;
+
 /// Appends all of a result, or what of it is another than in a result before.
 pub fn push_result_after(
     text: &mut Vec<u8>,
@@ -97,7 +100,7 @@ fn result_before<'a>(
 pub fn report(alloc: Global, replies: &[Reply], detail: Detail) -> Result<Vec<u8>, OutOfMemory>
     ensures { IfOk result (λ text. text.items ≡ text_of detail replies.now) }
 {
-    let mut text = Vec::new(alloc);
+    let mut text = Vec::with_capacity(alloc, ROOM_OF_A_BLOCK)?;
     let mut before = None;
     for (number, reply) in replies.iter().enumerate() {
         push_block(&mut text, detail.places, number as u64, before, reply)?;

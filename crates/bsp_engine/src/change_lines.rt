@@ -7,7 +7,7 @@ ghost use Rattle.bsp_engine.specs.Text.{cost_line, memory_line};
 
 use crate::lines::push_line;
 use crate::reporting::{push_cost, push_lines, push_memory_line, push_status};
-use bsp_model::{CostRow, Memory, MemoryRef, OutOfMemory, Same, Shared};
+use bsp_model::{CostRow, Memories, MemoryRef, OutOfMemory, Same};
 use bsp_run::{Lines, RunResult};
 
 /// The item at a place, if there is one.
@@ -22,15 +22,15 @@ pub fn item_at<T>(items: &[T], at: usize) -> Option<&T>
 pub fn push_other_memory<'a>(
     text: &mut Vec<u8>,
     pid: u64,
-    old: Option<&'a Memory>,
+    old: Option<MemoryRef<'a>>,
     new: &MemoryRef<'a>,
 ) -> Result<bool, OutOfMemory>
     ensures text { OnOk result (text.new.items ≡ text.old.items ++
-        piece_if memory_line pid (other same_words (option_map (λ m. m.now) old.entry) new.now)) }
-    ensures same { IfOk result (λ another. another ≡ false → option_map (λ m. m.now) old.entry ≡ Some new.now) }
+        piece_if memory_line pid (other same_words old.entry new.now)) }
+    ensures same { IfOk result (λ another. another ≡ false → old.entry ≡ Some new.now) }
 {
     if let Some(old) = old {
-        if new.same(&old.as_ref()) {
+        if new.same(&old) {
             return Ok(false);
         }
     }
@@ -38,16 +38,26 @@ pub fn push_other_memory<'a>(
     Ok(true)
 }
 
+/// The memory of a process, if there is one.
+fn memory_at(memories: &Memories, pid: usize) -> Option<MemoryRef<'_>>
+    ensures { result ≡ slice_get memories.now pid }
+{
+    if pid >= memories.len() {
+        return None;
+    }
+    Some(memories.get(pid))
+}
+
 fn push_other_memories(
     text: &mut Vec<u8>,
-    olds: &[Memory],
-    news: &[Memory],
+    olds: &Memories,
+    news: &Memories,
 ) -> Result<(), OutOfMemory>
     ensures { OnOk result (text.new.items ≡ text.old.items ++
         numbered (piece_if memory_line) 0 (others same_words olds.now news.now)) }
 {
-    for (pid, new) in news.iter().enumerate() {
-        push_other_memory(text, pid as u64, item_at(olds, pid), &new.as_ref())?;
+    for pid in 0..news.len() {
+        push_other_memory(text, pid as u64, memory_at(olds, pid), &news.get(pid))?;
     }
     Ok(())
 }
@@ -66,7 +76,7 @@ fn push_lines_or_silence(text: &mut Vec<u8>, pid: u64, lines: &Lines) -> Result<
 pub fn push_other_lines(
     text: &mut Vec<u8>,
     pid: u64,
-    old: Option<&Shared<Lines>>,
+    old: Option<&Lines>,
     new: &Lines,
 ) -> Result<bool, OutOfMemory>
     ensures text { OnOk result (text.new.items ≡ text.old.items ++
@@ -84,8 +94,8 @@ pub fn push_other_lines(
 
 fn push_all_other_lines(
     text: &mut Vec<u8>,
-    olds: &[Shared<Lines>],
-    news: &[Shared<Lines>],
+    olds: &[Lines],
+    news: &[Lines],
 ) -> Result<(), OutOfMemory>
     ensures { OnOk result (text.new.items ≡ text.old.items ++
         numbered (piece_if other_lines) 0 (others same_lines olds.now news.now)) }
@@ -152,7 +162,7 @@ pub fn push_changes(text: &mut Vec<u8>, old: &RunResult, new: &RunResult) -> Res
     ensures { OnOk result (text.new.items ≡ text.old.items ++ changes_lines (changes_of old.now new.now)) }
 {
     push_status(text, &new.status)?;
-    push_other_memories(text, old.memories.as_slice(), new.memories.as_slice())?;
+    push_other_memories(text, &old.memories, &new.memories)?;
     push_all_other_lines(text, old.lines.as_slice(), new.lines.as_slice())?;
     push_other_costs(text, old.costs.as_slice(), new.costs.as_slice())?;
     push_other_count(text, old.costs.len(), new.costs.len())?;

@@ -15,7 +15,7 @@ use crate::flags::flag_touched;
 use crate::lines::push_line;
 use crate::reporting::push_status;
 use bsp_incr::{Edit, Update};
-use bsp_model::{CostRow, Memory, OutOfMemory, Seq, Shared, TryCopy};
+use bsp_model::{CostRow, Memories, Memory, MemoryRef, OutOfMemory, Seq, TryCopy};
 use bsp_run::{History, Lines, RunResult, Status};
 use std::alloc::Global;
 use std::marker::Model;
@@ -25,7 +25,7 @@ use std::marker::Model;
 pub struct Last {
     status: Status,
     memories: Seq<Memory>,
-    lines: Seq<Shared<Lines>>,
+    lines: Seq<Lines>,
     costs: Seq<CostRow>,
     total: u64,
 }
@@ -38,8 +38,19 @@ impl Model for Last {
     ghost view = { λ l. record { status = l.status; memories = l.memories; lines = l.lines; costs = l.costs; total = l.total } };
 }
 
+/// These memories, each in a list of its own.
+fn own_memories(alloc: Global, memories: &Memories) -> Result<Seq<Memory>, OutOfMemory>
+    ensures { IfOk result (λ all. all ≡ memories.now) }
+{
+    let mut all = Seq::with_capacity(alloc, memories.len())?;
+    for pid in 0..memories.len() {
+        all.push(memories.get(pid).to_memory()?)?;
+    }
+    Ok(all)
+}
+
 /// These lines of each process, in a list of its own.
-fn own_lines(alloc: Global, shared: &[Shared<Lines>]) -> Result<Seq<Shared<Lines>>, OutOfMemory>
+fn own_lines(alloc: Global, shared: &[Lines]) -> Result<Seq<Lines>, OutOfMemory>
     ensures { IfOk result (λ all. all ≡ shared.now) }
 {
     let mut all = Seq::with_capacity(alloc, shared.len())?;
@@ -56,6 +67,14 @@ fn is_at_limit(status: &Status) -> bool
         Status::Limit => true,
         Status::Halted | Status::Faulted { .. } | Status::SyncFaulted { .. } => false,
     }
+}
+
+/// The memory that a process had, if there was one.
+fn old_memory(olds: &[Memory], pid: usize) -> Option<MemoryRef<'_>>
+    ensures { result ≡ slice_get olds.now pid }
+{
+    let memory = olds.get(pid)?;
+    Some(memory.as_ref())
 }
 
 /// Appends the line of a process's memory, if its flag is up and it has another one, and puts that in the place of the old one.
@@ -77,7 +96,7 @@ fn tell_memory(
     let Some(new) = history.memory(pid as u64) else {
         return Ok(());
     };
-    if push_other_memory(text, pid as u64, item_at(olds.as_slice(), pid), &new)? {
+    if push_other_memory(text, pid as u64, old_memory(olds.as_slice(), pid), &new)? {
         olds.set(pid, new.to_memory()?);
     }
     Ok(())
@@ -103,7 +122,7 @@ fn tell_memories(
 /// Appends the lines of a process, if its flag is up and it has other ones, and puts those in the place of the old ones.
 fn tell_lines(
     text: &mut Vec<u8>,
-    olds: &mut Seq<Shared<Lines>>,
+    olds: &mut Seq<Lines>,
     history: &History,
     pid: usize,
     flag: bool,
@@ -120,15 +139,14 @@ fn tell_lines(
         return Ok(());
     };
     if push_other_lines(text, pid as u64, item_at(olds.as_slice(), pid), &new)? {
-        let alloc = olds.allocator();
-        olds.set(pid, Shared::new(alloc, new.copy()?)?);
+        olds.set(pid, new.copy()?);
     }
     Ok(())
 }
 
 fn tell_all_lines(
     text: &mut Vec<u8>,
-    olds: &mut Seq<Shared<Lines>>,
+    olds: &mut Seq<Lines>,
     history: &History,
     flags: &[bool],
 ) -> Result<(), OutOfMemory>
@@ -157,7 +175,7 @@ impl Last {
         } = history.result()?;
         Ok(Last {
             status,
-            memories,
+            memories: own_memories(alloc, &memories)?,
             lines: own_lines(alloc, lines.as_slice())?,
             costs: Seq::from_vec(Vec::from_slice(alloc, costs.as_slice())?),
             total,

@@ -1,6 +1,6 @@
 //! The lines of a report.
 
-ghost use Rattle.std.specs.Prelude.{◌≡◌, ◌++◌, ◌∷◌, ◌*◌, ◌≤◌, OnOk, drop, length};
+ghost use Rattle.std.specs.Prelude.{◌≡◌, ◌+◌, ◌++◌, ◌∷◌, ◌*◌, ◌≤◌, OnOk, drop, length};
 ghost use Rattle.bsp_engine.specs.Lines.{field, fields, line};
 
 use bsp_model::{MemoryRef, OutOfMemory};
@@ -12,13 +12,21 @@ const FIELD: usize = 21;
 /// So many numbers are appended at once.
 const FEW: usize = 16;
 
-/// Writes numbers to the end of a room, each after a space. Answers where they begin.
-fn write_fields(room: &mut [u8], numbers: &[u64]) -> usize
-    requires { 21 * length numbers.now ≤ length room.old }
-    ensures within { result ≤ length room.old }
-    ensures written { drop result room.new ≡ fields numbers.now }
+/// The numbers of most lines are no more than these.
+const FEWER: usize = 4;
+
+/// The most bytes of a line's word and its LF, where the line is appended at once.
+const FRAME: usize = 17;
+
+/// Writes numbers into a room, each after a space, so that the last ends at `end`. Answers where they begin.
+fn write_fields(room: &mut [u8], end: usize, numbers: &[u64]) -> usize
+    requires inside { end ≤ length room.old }
+    requires fits { 21 * length numbers.now ≤ end }
+    ensures before { result ≤ end }
+    ensures short { end ≤ result + 21 * length numbers.now }
+    ensures written { drop result room.new ≡ fields numbers.now ++ drop end room.old }
 {
-    let mut at = room.len();
+    let mut at = end;
     let mut left = numbers.len();
     while left > 0 {
         left -= 1;
@@ -28,12 +36,52 @@ fn write_fields(room: &mut [u8], numbers: &[u64]) -> usize
     at
 }
 
+/// Writes bytes into a room, so that the last ends at `end`. Answers where they begin.
+fn write_bytes(room: &mut [u8], end: usize, bytes: &[u8]) -> usize
+    requires inside { end ≤ length room.old }
+    requires fits { length bytes.now ≤ end }
+    ensures before { result + length bytes.now ≡ end }
+    ensures written { drop result room.new ≡ bytes.now ++ drop end room.old }
+{
+    let start = end - bytes.len();
+    room[start..end].copy_from_slice(bytes);
+    start
+}
+
+/// Writes a line to the end of a room: a word, numbers, more numbers, and LF. Answers where it begins.
+fn write_line(room: &mut [u8], word: &[u8], numbers: &[u64], more: &[u64]) -> usize
+    requires { length word.now + 1 + 21 * (length numbers.now + length more.now) ≤ length room.old }
+    ensures within { result ≤ length room.old }
+    ensures written { drop result room.new ≡ line word.now (numbers.now ++ more.now) }
+{
+    let end = room.len();
+    let end = write_bytes(room, end, b"\n");
+    let end = write_fields(room, end, more);
+    let end = write_fields(room, end, numbers);
+    write_bytes(room, end, word)
+}
+
+/// Appends a line that is written into this room first.
+fn push_written(
+    text: &mut Vec<u8>,
+    room: &mut [u8],
+    word: &[u8],
+    numbers: &[u64],
+    more: &[u64],
+) -> Result<(), OutOfMemory>
+    requires { length word.now + 1 + 21 * (length numbers.now + length more.now) ≤ length room.old }
+    ensures { OnOk result (text.new.items ≡ text.old.items ++ line word.now (numbers.now ++ more.now)) }
+{
+    let start = write_line(room, word, numbers, more);
+    text.extend_from_slice(&room[start..])
+}
+
 /// Appends a number after a space.
 pub fn push_field(text: &mut Vec<u8>, number: u64) -> Result<(), OutOfMemory>
     ensures { OnOk result (text.new.items ≡ text.old.items ++ field number) }
 {
     let mut room = [0; FIELD];
-    let start = write_fields(&mut room, &[number]);
+    let start = write_fields(&mut room, FIELD, &[number]);
     text.extend_from_slice(&room[start..])
 }
 
@@ -43,12 +91,12 @@ fn push_few(text: &mut Vec<u8>, numbers: &[u64]) -> Result<(), OutOfMemory>
     ensures { OnOk result (text.new.items ≡ text.old.items ++ fields numbers.now) }
 {
     let mut room = [0; FIELD * FEW];
-    let start = write_fields(&mut room, numbers);
+    let start = write_fields(&mut room, FIELD * FEW, numbers);
     text.extend_from_slice(&room[start..])
 }
 
 /// Appends each number after a space.
-pub fn push_fields(text: &mut Vec<u8>, numbers: &[u64]) -> Result<(), OutOfMemory>
+fn push_fields(text: &mut Vec<u8>, numbers: &[u64]) -> Result<(), OutOfMemory>
     ensures { OnOk result (text.new.items ≡ text.old.items ++ fields numbers.now) }
 {
     let mut at = 0;
@@ -60,26 +108,47 @@ pub fn push_fields(text: &mut Vec<u8>, numbers: &[u64]) -> Result<(), OutOfMemor
     Ok(())
 }
 
-/// Appends each word of a memory after a space.
-pub fn push_memory(text: &mut Vec<u8>, memory: &MemoryRef<'_>) -> Result<(), OutOfMemory>
-    ensures { OnOk result (text.new.items ≡ text.old.items ++ fields memory.now) }
+/// Appends a line of any length: a word, numbers, more numbers, and LF.
+fn push_in_pieces(
+    text: &mut Vec<u8>,
+    word: &[u8],
+    numbers: &[u64],
+    more: &[u64],
+) -> Result<(), OutOfMemory>
+    ensures { OnOk result (text.new.items ≡ text.old.items ++ line word.now (numbers.now ++ more.now)) }
 {
-    let mut address = 0;
-    while address < memory.len() {
-        let page = memory.words_from(address as u64);
-        push_fields(text, page)?;
-        address += page.len();
+    text.extend_from_slice(word)?;
+    push_fields(text, numbers)?;
+    push_fields(text, more)?;
+    text.extend_from_slice(b"\n")
+}
+
+/// Appends a line: a word, numbers, more numbers, and LF.
+fn push_parts(
+    text: &mut Vec<u8>,
+    word: &[u8],
+    numbers: &[u64],
+    more: &[u64],
+) -> Result<(), OutOfMemory>
+    ensures { OnOk result (text.new.items ≡ text.old.items ++ line word.now (numbers.now ++ more.now)) }
+{
+    let count = numbers.len() + more.len();
+    if word.len() >= FRAME || count > FEW {
+        return push_in_pieces(text, word, numbers, more);
     }
-    Ok(())
+    if count > FEWER {
+        let mut room = [0; FRAME + FIELD * FEW];
+        return push_written(text, &mut room, word, numbers, more);
+    }
+    let mut room = [0; FRAME + FIELD * FEWER];
+    push_written(text, &mut room, word, numbers, more)
 }
 
 /// Appends a line: a word, numbers, and LF.
 pub fn push_line(text: &mut Vec<u8>, word: &str, numbers: &[u64]) -> Result<(), OutOfMemory>
     ensures { OnOk result (text.new.items ≡ text.old.items ++ line word.now numbers.now) }
 {
-    text.extend_from_slice(word.as_bytes())?;
-    push_fields(text, numbers)?;
-    text.extend_from_slice(b"\n")
+    push_parts(text, word.as_bytes(), &[], numbers)
 }
 
 /// Appends a line: a word, a number, more numbers, and LF.
@@ -91,8 +160,37 @@ pub fn push_long_line(
 ) -> Result<(), OutOfMemory>
     ensures { OnOk result (text.new.items ≡ text.old.items ++ line word.now (first ∷ others.now)) }
 {
+    push_parts(text, word.as_bytes(), &[first], others)
+}
+
+/// Appends each word of a memory after a space.
+fn push_memory(text: &mut Vec<u8>, memory: &MemoryRef<'_>) -> Result<(), OutOfMemory>
+    ensures { OnOk result (text.new.items ≡ text.old.items ++ fields memory.now) }
+{
+    let mut address = 0;
+    while address < memory.len() {
+        let page = memory.words_from(address as u64);
+        push_fields(text, page)?;
+        address += page.len();
+    }
+    Ok(())
+}
+
+/// Appends a line: a word, a number, the words of a memory, and LF.
+pub fn push_words_line(
+    text: &mut Vec<u8>,
+    word: &str,
+    number: u64,
+    memory: &MemoryRef<'_>,
+) -> Result<(), OutOfMemory>
+    ensures { OnOk result (text.new.items ≡ text.old.items ++ line word.now (number ∷ memory.now)) }
+{
+    let words = memory.words_from(0);
+    if words.len() == memory.len() {
+        return push_long_line(text, word, number, words);
+    }
     text.extend_from_slice(word.as_bytes())?;
-    push_field(text, first)?;
-    push_fields(text, others)?;
+    push_field(text, number)?;
+    push_memory(text, memory)?;
     text.extend_from_slice(b"\n")
 }

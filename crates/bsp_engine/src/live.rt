@@ -16,7 +16,7 @@ ghost use Rattle.bsp_engine.specs.Inside.LiveReplies.{live_replies, live_reply, 
 ghost use Rattle.bsp_engine.specs.Inside.Touched.{IsResultBefore};
 
 use crate::asking::{Asked, Unread};
-use crate::blocks::push_block;
+use crate::blocks::{ROOM_OF_A_BLOCK, push_block};
 use crate::crew::Crew;
 use crate::jobs::Job;
 use crate::last::Last;
@@ -246,7 +246,7 @@ pub fn begin<P: Program + Drop, R: Threads + Sync, G: Gate>(
         batches,
     } = job;
     let (mut live, opening) = open(crew, detail.changes, program, input)?;
-    let mut text = Vec::new(crew.alloc);
+    let mut text = Vec::with_capacity(crew.alloc, ROOM_OF_A_BLOCK)?;
     push_block(&mut text, detail.places, 0, None, &opening)?;
     make_all(crew, detail, &mut live, &mut text, batches.as_slice())?;
     text.extend_from_slice(b"ready\n")?;

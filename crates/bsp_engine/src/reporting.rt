@@ -5,10 +5,10 @@ ghost use Rattle.std.specs.List.{flat_map};
 ghost use Rattle.bsp_engine.specs.Lines.{line, numbered};
 ghost use Rattle.bsp_engine.specs.Text.{fault_word, fault_numbers, process_fault_line, sync_fault_word, status_lines, memory_line, print_lines, cost_line, result_lines, counts_line, update_places, update_lines, edit_fault_word, refusal_line};
 
-use crate::lines::{push_field, push_line, push_long_line, push_memory};
+use crate::lines::{push_field, push_line, push_long_line, push_words_line};
 use crate::places::push_places;
 use bsp_incr::{EditFault, EditRefusal, Update};
-use bsp_model::{CostRow, Fault, Memory, MemoryRef, OutOfMemory, Shared, SyncFault};
+use bsp_model::{CostRow, Fault, Memories, MemoryRef, OutOfMemory, SyncFault};
 use bsp_run::{Lines, ProcessFault, RunResult, Status};
 
 fn fault_word(fault: Fault) -> &'static str
@@ -107,17 +107,14 @@ pub fn push_memory_line(
 ) -> Result<(), OutOfMemory>
     ensures { OnOk result (text.new.items ≡ text.old.items ++ memory_line pid memory.now) }
 {
-    text.extend_from_slice(b"memory")?;
-    push_field(text, pid)?;
-    push_memory(text, memory)?;
-    text.extend_from_slice(b"\n")
+    push_words_line(text, "memory", pid, memory)
 }
 
-fn push_memories(text: &mut Vec<u8>, memories: &[Memory]) -> Result<(), OutOfMemory>
+fn push_memories(text: &mut Vec<u8>, memories: &Memories) -> Result<(), OutOfMemory>
     ensures { OnOk result (text.new.items ≡ text.old.items ++ numbered memory_line 0 memories.now) }
 {
-    for (pid, memory) in memories.iter().enumerate() {
-        push_memory_line(text, pid as u64, &memory.as_ref())?;
+    for pid in 0..memories.len() {
+        push_memory_line(text, pid as u64, &memories.get(pid))?;
     }
     Ok(())
 }
@@ -131,7 +128,7 @@ pub fn push_lines(text: &mut Vec<u8>, pid: u64, lines: &Lines) -> Result<(), Out
     Ok(())
 }
 
-fn push_all_lines(text: &mut Vec<u8>, lines: &[Shared<Lines>]) -> Result<(), OutOfMemory>
+fn push_all_lines(text: &mut Vec<u8>, lines: &[Lines]) -> Result<(), OutOfMemory>
     ensures { OnOk result (text.new.items ≡ text.old.items ++ numbered print_lines 0 lines.now) }
 {
     for (pid, lines) in lines.iter().enumerate() {
@@ -160,7 +157,7 @@ pub fn push_result(text: &mut Vec<u8>, run: &RunResult) -> Result<(), OutOfMemor
     ensures { OnOk result (text.new.items ≡ text.old.items ++ result_lines run.now) }
 {
     push_status(text, &run.status)?;
-    push_memories(text, run.memories.as_slice())?;
+    push_memories(text, &run.memories)?;
     push_all_lines(text, run.lines.as_slice())?;
     push_costs(text, run.costs.as_slice())?;
     push_line(text, "total", &[run.total])

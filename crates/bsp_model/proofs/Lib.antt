@@ -13,6 +13,7 @@ pub mod RowsCut
 pub mod RowsOf
 pub mod RowRanges
 pub mod SameRanges
+pub mod StoredWords
 pub mod Writes
 pub mod WrittenMemories
 pub mod SameWords

@@ -5,7 +5,8 @@ use Rattle.std.proofs.Math.ListN.{length-set}
 use Rattle.std.proofs.lemmas.Bool.{cases_lt}
 use Rattle.std.proofs.lemmas.Bool.Decides.{nat_tests}
 use Rattle.std.proofs.lemmas.Grind.{common_steps}
-use Rattle.std.proofs.lemmas.List.{set_past, take-append-drop, length-take}
+use Rattle.std.proofs.lemmas.List.{set_past, take-append-drop, length-take, drop-drop}
+use Rattle.std.proofs.Math.Seq.{take-add}
 use Rattle.bsp_model.specs.declared.request.Store.{Store}
 use Rattle.bsp_model.specs.declared.stores.range.Range.{Range}
 use Rattle.bsp_model.specs.Memory.{memory_written}
@@ -60,3 +61,18 @@ written_inside m start count words few =
 pub made_again-first : (m : List ℕ) (r : Range) (later : List Range) (values : List ℕ) → made_again m (stores_of (r ∷ later) values) ≡ made_again (made_again m (records r.start (take r.len values))) (stores_of later (drop r.len values))
 unfolding stores_of
 made_again-first m r later values = made_again-append m (records r.start (take r.len values)) (stores_of later (drop r.len values))
+
+-- the words of a piece of a source, and then those behind it
+pub written_piece : (m source piece : List ℕ) (start left : ℕ) → piece ≡ take (length piece) (drop start source) → length piece ≤ left
+    → made_again (made_again m (records start piece)) (records (start + length piece) (take (left - length piece) (drop (start + length piece) source))) ≡ made_again m (records start (take left (drop start source)))
+written_piece m source piece start left there few =
+    let count = length piece in
+    let behind = take (left - count) (drop (start + count) source) in
+    let all : count + (left - count) ≡ left = omega arith in
+    let both : piece ++ behind ≡ take left (drop start source) =
+    ap (λ (ws : List ℕ). ws ++ behind) there
+    ∙ ap (λ (ws : List ℕ). take count (drop start source) ++ take (left - count) ws) (sym (drop-drop count start source))
+    ∙ sym (take-add count (left - count) (drop start source))
+    ∙ ap (λ (n : ℕ). take n (drop start source)) all in
+    sym (made_again-append m (records start piece) (records (start + count) behind))
+    ∙ ap (made_again m) (sym (records-append start piece behind) ∙ ap (records start) both)

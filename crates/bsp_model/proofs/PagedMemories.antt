@@ -112,13 +112,13 @@ at_between : {X : Type 0} (rows : List (List X)) (from to j : ℕ) → j < to - 
 at_between rows from to j inside = get_or-take (to - from) (drop from rows) j [] inside ∙ get_or-drop from rows j []
 
 -- the full pages of the processes behind the others
-taken_behind : (pages more pages' : List (List (List ℕ))) (n from to j : ℕ) → AreTaken [] (row_at pages) (λ k. row_at more (from + (k - n))) n (n + (to - from)) (row_at pages') → j < to - from → row_at pages' (n + j) ≡ row_at more (from + j)
+taken_behind : (pages more pages' : List (List (List ℕ))) (n from to j : ℕ) → AreTaken [] (row_at pages) n (row_at more) from to (row_at pages') → j < to - from → row_at pages' (n + j) ≡ row_at more (from + j)
 taken_behind pages more pages' n from to j taken inside =
     let same : (n + j) - n ≡ j = omega arith in
     taken.taken (n + j) (omega arith) (omega (arith, inside)) ∙ ap (λ (i : ℕ). row_at more (from + i)) same
 
 pub ArePaged-more : (pages more pages' : List (List (List ℕ))) (lasts others : List (List ℕ)) (from to : ℕ) → to ≤ length others → ArePaged pages lasts → ArePaged more others
-    → AreTaken [] (row_at pages) (λ k. row_at more (from + (k - length lasts))) (length lasts) (length lasts + (to - from)) (row_at pages')
+    → AreTaken [] (row_at pages) (length lasts) (row_at more) from to (row_at pages')
     → ArePaged pages' (lasts ++ slice_range others from to)
 ArePaged-more pages more pages' lasts others from to within are also taken =
     let long = length-between others from to within in
@@ -129,7 +129,7 @@ ArePaged-more pages more pages' lasts others from to within are also taken =
     same_has (row_at more (from + j)) (row_at more (from + j)) (row_at others (from + j)) (row_at (slice_range others from to) j) refl (at_between others from to j there) (also (from + j) (omega (arith, there, within))))
 
 pub memories_of-more : (pages more pages' : List (List (List ℕ))) (lasts others memories others' : List (List ℕ)) (from to : ℕ) → to ≤ length others → memories_of pages lasts ≡ memories → memories_of more others ≡ others'
-    → AreTaken [] (row_at pages) (λ k. row_at more (from + (k - length lasts))) (length lasts) (length lasts + (to - from)) (row_at pages')
+    → AreTaken [] (row_at pages) (length lasts) (row_at more) from to (row_at pages')
     → memories_of pages' (lasts ++ slice_range others from to) ≡ memories ++ slice_range others' from to
 memories_of-more pages more pages' lasts others memories others' from to within is also taken =
     let long = length-between others from to within in

@@ -1,5 +1,5 @@
 -- Columns in which a row stands for what the two rows of a process are together.
-use Rattle.std.proofs.Common.{◌≡◌, inl, inr, ℕ, zero, suc, List, [], ◌∷◌, refl, sym, ap, ◌∙◌, subst, arith}
+use Rattle.std.proofs.Common.{◌≡◌, inl, inr, ◌+◌, ◌-◌, ℕ, zero, suc, List, [], ◌∷◌, refl, sym, ap, ◌∙◌, subst, arith}
 use Rattle.std.specs.Prelude.{◌&&◌, length, nat_eq}
 use Rattle.std.proofs.lemmas.Bool.{cases_lt}
 use Rattle.std.proofs.lemmas.Bool.Decides.{nat_tests}
@@ -63,11 +63,12 @@ put_paired f old new rows place a b row none is made put = record {
   behind = λ k above. same_row f new k ([], []) none (put.behind k above) ∙ none;
 }
 
-pub taken_paired : {A B X : Type 0} (f : List A → List B → List X) (old more new : (List (List A)) × (List (List B))) (rows others : List (List X)) (from to : ℕ) → f [] [] ≡ [] → paired f old.0 old.1 ≡ rows → paired f more.0 more.1 ≡ others
-    → AreTaken ([], []) (pair_at old) (pair_at more) from to (pair_at new) → AreTaken [] (row_at rows) (row_at others) from to (row_at (paired f new.0 new.1))
-taken_paired f old more new rows others from to none is are taken = record {
+pub taken_paired : {A B X : Type 0} (f : List A → List B → List X) (old more new : (List (List A)) × (List (List B))) (rows others : List (List X)) (place from to : ℕ) → f [] [] ≡ [] → paired f old.0 old.1 ≡ rows → paired f more.0 more.1 ≡ others
+    → AreTaken ([], []) (pair_at old) place (pair_at more) from to (pair_at new)
+    → AreTaken [] (row_at rows) place (row_at others) from to (row_at (paired f new.0 new.1))
+taken_paired f old more new rows others place from to none is are taken = record {
   before = λ k below. same_row f new k (pair_at old k) none (taken.before k below) ∙ row_from-pair f old rows k (pair_at old k) none is refl;
-  taken = λ k above below. same_row f new k (pair_at more k) none (taken.taken k above below) ∙ row_from-pair f more others k (pair_at more k) none are refl;
+  taken = λ k above below. let there = from + (k - place) in same_row f new k (pair_at more there) none (taken.taken k above below) ∙ row_from-pair f more others there (pair_at more there) none are refl;
   behind = λ k above over. same_row f new k ([], []) none (taken.behind k above over) ∙ none;
 }
 
@@ -98,13 +99,13 @@ put_law L old new place a b none law row put k =
       ]
     ]
 
-pub taken_law : {A B : Type 0} (L : List A → List B → Type 0) (old more new : (List (List A)) × (List (List B))) (from to : ℕ) → L [] [] → ((k : ℕ) → L (pair_at old k).0 (pair_at old k).1) → ((k : ℕ) → L (pair_at more k).0 (pair_at more k).1)
-    → AreTaken ([], []) (pair_at old) (pair_at more) from to (pair_at new) → (k : ℕ) → L (pair_at new k).0 (pair_at new k).1
-taken_law L old more new from to none law other taken k =
-    elim (cases_lt k from) [
+pub taken_law : {A B : Type 0} (L : List A → List B → Type 0) (old more new : (List (List A)) × (List (List B))) (place from to : ℕ) → L [] [] → ((k : ℕ) → L (pair_at old k).0 (pair_at old k).1) → ((k : ℕ) → L (pair_at more k).0 (pair_at more k).1)
+    → AreTaken ([], []) (pair_at old) place (pair_at more) from to (pair_at new) → (k : ℕ) → L (pair_at new k).0 (pair_at new k).1
+taken_law L old more new place from to none law other taken k =
+    elim (cases_lt k place) [
       | inl below ↦ law_at L (pair_at old k) (pair_at new k) (taken.before k below) (law k)
-      | inr above ↦ elim (cases_lt k to) [
-        | inl within ↦ law_at L (pair_at more k) (pair_at new k) (taken.taken k above within) (other k)
+      | inr above ↦ elim (cases_lt k (place + (to - from))) [
+        | inl within ↦ let there = from + (k - place) in law_at L (pair_at more there) (pair_at new k) (taken.taken k above within) (other there)
         | inr behind ↦ law_at L ([], []) (pair_at new k) (taken.behind k above behind) none
       ]
     ]

@@ -1,12 +1,12 @@
 -- What a list is in which items are replaced.
-use Rattle.std.proofs.Common.{All, inl, inr, ◌≡◌, ◌≢◌, ◌<◌, ◌≤◌, ◌+◌, ◌-◌, ℕ, zero, suc, List, [], ◌∷◌, ◌++◌, length, get_or, take, drop, map, refl, sym, ap, ◌∙◌, arith, append_assoc, add-one}
+use Rattle.std.proofs.Common.{All, inl, inr, ◌≡◌, ◌≢◌, ◌<◌, ◌≤◌, ◌+◌, ◌-◌, ℕ, zero, suc, List, [], ◌∷◌, ◌++◌, length, get_or, drop, map, refl, sym, ap, ◌∙◌, subst, arith, append_assoc, drop-drop}
 use Rattle.std.specs.Prelude.{slice_range, slice_set}
 use Rattle.std.specs.List.{Contains}
 use Rattle.std.proofs.lemmas.Bool.{cases_eq}
 use Rattle.std.proofs.Math.ListN.{length-set}
 use Rattle.std.proofs.Math.Seq.{set-append_seam, drop-cons}
-use Rattle.std.proofs.lemmas.List.{ext_get_or, length-map, get_or-map, length-append, take_rest, drop_all, map-set, get_or-set_same, get_or-set_other}
-use Rattle.std.proofs.lemmas.List.Elements.{All-set}
+use Rattle.std.proofs.lemmas.List.{ext_get_or, length-map, get_or-map, get_or-drop, length-append, length-drop, append-nil, take_rest, drop_all, map-set, get_or-set_same, get_or-set_other}
+use Rattle.std.proofs.lemmas.List.Elements.{All-set, All-get_or}
 use Rattle.std.proofs.lemmas.List.Folds.{drop_split}
 use Rattle.std.proofs.lemmas.List.Edits.{length-between}
 use Rattle.bsp_model.specs.Replaced.{replaced, IsAscending}
@@ -35,41 +35,64 @@ front-put front items x within =
     ∙ sym (set-append_seam front (get_or items (length front) x) (drop (suc (length front)) items) x)
     ∙ ap (λ rest. slice_set (front ++ rest) (length front) x) (sym (drop-cons items (length front) x within))
 
--- the items from a place on begin with the one there
-pub first_left : {X : Type 0} (items : List X) (k : ℕ) (none : X) → k < length items → drop k items ≡ get_or items k none ∷ drop (k + 1) items
-first_left items k none within = rw add-one (drop-cons items k none within)
+-- new items at the places that come next, one behind the other
+front-run : {X : Type 0} (front run items later : List X) (ps : List ℕ) → length run ≤ length ps → length front + length run ≤ length items → ((j : ℕ) → j < length run → get_or ps j 0 ≡ length front + j)
+    → replaced ((front ++ run) ++ drop (length (front ++ run)) items) (drop (length run) ps) later ≡ replaced (front ++ drop (length front) items) ps (run ++ later)
+front-run front [] items later ps few within at = ap (λ fs. replaced (fs ++ drop (length fs) items) ps later) (append-nil front)
+front-run front (x ∷ run) items later [] few within at = absurd (omega (arith, few))
+front-run front (x ∷ run) items later (p ∷ ps) few within at =
+    let one : length (front ++ x ∷ []) ≡ suc (length front) = omega (arith, length-append front (x ∷ [])) in
+    let first : length front ≡ p = omega (arith, at 0 (omega arith)) in
+    let next : (j : ℕ) → j < length run → get_or ps j 0 ≡ length (front ++ x ∷ []) + j = λ j inside. omega (arith, at (suc j) (omega (arith, inside)), one) in
+    ap (λ fs. replaced (fs ++ drop (length fs) items) (drop (length run) ps) later) (sym (append_assoc front (x ∷ []) run))
+    ∙ front-run (front ++ x ∷ []) run items later ps (omega (arith, few)) (omega (arith, within, one)) next
+    ∙ ap (λ js. replaced js ps (run ++ later)) (front-put front items x (omega (arith, within)) ∙ ap (λ n. slice_set (front ++ drop (length front) items) n x) first)
 
-pub range-one : {X : Type 0} (items : List X) (k : ℕ) (none : X) → k < length items → slice_range items k (k + 1) ≡ get_or items k none ∷ []
-range-one items k none within =
-    let one : (k + 1) - k ≡ 1 = omega arith in
-    ap (λ n. take n (drop k items)) one ∙ ap (take 1) (first_left items k none within)
+-- These are the items in front of those that are still to be looked at, with the new ones of the first k places.
+pub record IsFront {X : Type 0} (items : List X) (ps : List ℕ) (xs : List X) (k : ℕ) (front : List X) : Type 0 where
+  pub rest : replaced (front ++ drop (length front) items) (drop k ps) (drop k xs) ≡ replaced items ps xs
+  pub within : length front ≤ length items
+  pub below : (j : ℕ) → k ≤ j → j < length ps → length front ≤ get_or ps j 0
 
--- the item at the next place is replaced
-pub replaced-next : {X : Type 0} (front before new items : List X) (x : X) (ps : List ℕ) (xs later : List X) (k : ℕ) → k < length ps → length front ≤ get_or ps k 0 → get_or ps k 0 < length items
-    → before ≡ front ++ slice_range items (length front) (get_or ps k 0) → new ≡ before ++ x ∷ [] → xs ≡ x ∷ later
-    → (length new ≡ get_or ps k 0 + 1) × (replaced (new ++ drop (length new) items) (drop (k + 1) ps) later ≡ replaced (front ++ drop (length front) items) (drop k ps) xs)
-replaced-next {X = X} front before new items x ps xs later k inside order within before_is new_is xs_is =
+pub no_front : {X : Type 0} (items front : List X) (ps : List ℕ) (xs : List X) → front ≡ [] → IsFront items ps xs 0 front
+no_front items front ps xs is = subst (IsFront items ps xs 0) (sym is) (record { rest = refl; within = omega arith; below = λ j above inside. omega arith })
+
+-- the items up to the next place, and then the new ones of a run of places
+pub front-more : {X : Type 0} (items front before new : List X) (ps : List ℕ) (xs : List X) (k e : ℕ) → All (λ p. p < length items) ps → IsAscending ps → length xs ≡ length ps → IsFront items ps xs k front
+    → k < e → e ≤ length ps → ((j : ℕ) → k ≤ j → j < e → get_or ps j 0 ≡ get_or ps k 0 + (j - k))
+    → before ≡ front ++ slice_range items (length front) (get_or ps k 0) → new ≡ before ++ slice_range xs k e
+    → IsFront items ps xs e new
+front-more {X = X} items front before new ps xs k e known ascending count is some inside run before_is new_is =
     let p = get_or ps k 0 in
-    let long : length before ≡ p = ap length before_is ∙ length-front front items p order (omega (arith, within)) in
-    let short : length before < length items = omega (arith, within, long) in
+    let xs_run = slice_range xs k e in
+    let order : length front ≤ p = is.below k (omega arith) (omega (arith, some, inside)) in
+    let final : p + (e - k) ≡ get_or ps (e - 1) 0 + 1 = omega (arith, some, run (e - 1) (omega (arith, some)) (omega (arith, some))) in
+    let last : get_or ps (e - 1) 0 < length items = All-get_or (λ p. p < length items) ps (e - 1) 0 (omega (arith, some, inside)) known in
+    let long : length before ≡ p = ap length before_is ∙ length-front front items p order (omega (arith, final, last, some)) in
+    let many : length xs_run ≡ e - k = length-between xs k e (omega (arith, inside, count)) in
+    let ends : k + length xs_run ≡ e = omega (arith, some, many) in
+    let more : length new ≡ p + (e - k) = omega (arith, ap length new_is, length-append before xs_run, long, many) in
     let grown : before ++ drop (length before) items ≡ front ++ drop (length front) items =
     ap (λ n. before ++ drop n items) long ∙ ap (λ rest. rest ++ drop p items) before_is ∙ front-grows front items p order in
-    let put : new ++ drop (length new) items ≡ slice_set (front ++ drop (length front) items) p x =
-    ap (λ (js : List X). js ++ drop (length js) items) new_is
-    ∙ front-put before items x short
-    ∙ ap (λ js. slice_set js (length before) x) grown
-    ∙ ap (λ n. slice_set (front ++ drop (length front) items) n x) long in
-    let first : drop k ps ≡ p ∷ drop (k + 1) ps = rw add-one (drop-cons ps k 0 inside) in (
-      omega (arith, ap length new_is, length-append before (x ∷ []), long),
-      ap (λ js. replaced js (drop (k + 1) ps) later) put
-          ∙ ap (λ qs. replaced (front ++ drop (length front) items) qs (x ∷ later)) (sym first)
-          ∙ ap (λ ys. replaced (front ++ drop (length front) items) (drop k ps) ys) (sym xs_is),
-    )
+    let places : (j : ℕ) → j < length xs_run → get_or (drop k ps) j 0 ≡ length before + j =
+    λ j below.
+    let there : k + j < e = omega (arith, below, many) in
+    omega (arith, get_or-drop k ps j 0, long, run (k + j) (omega arith) there) in
+    record {
+      rest = ap (λ (js : List X). replaced (js ++ drop (length js) items) (drop e ps) (drop e xs)) new_is
+          ∙ ap (λ qs. replaced ((before ++ xs_run) ++ drop (length (before ++ xs_run)) items) qs (drop e xs)) (sym (drop-drop (length xs_run) k ps ∙ ap (λ n. drop n ps) ends))
+          ∙ front-run before xs_run items (drop e xs) (drop k ps) (omega (arith, length-drop k ps, many, inside)) (omega (arith, long, many, final, last)) places
+          ∙ ap (λ ys. replaced (before ++ drop (length before) items) (drop k ps) ys) (sym (drop_split xs k e (omega (arith, some))))
+          ∙ ap (λ js. replaced js (drop k ps) (drop k xs)) grown
+          ∙ is.rest;
+      within = omega (arith, more, final, last);
+      below = λ j above below. omega (arith, more, final, ascending (e - 1) j (omega (arith, some, above)) below);
+    }
 
 -- no place is left
-pub replaced-last : {X : Type 0} (front items : List X) (ps : List ℕ) (xs : List X) (k : ℕ) → length ps ≤ k → front ++ slice_range items (length front) (length items) ≡ replaced (front ++ drop (length front) items) (drop k ps) xs
-replaced-last front items ps xs k past =
-    ap (λ rest. front ++ rest) (take_rest items (length front)) ∙ ap (λ qs. replaced (front ++ drop (length front) items) qs xs) (sym (drop_all k ps past))
+pub whole_front : {X : Type 0} (items front : List X) (ps : List ℕ) (xs : List X) (k : ℕ) → length ps ≤ k → IsFront items ps xs k front → front ++ slice_range items (length front) (length items) ≡ replaced items ps xs
+whole_front items front ps xs k past is =
+    ap (λ rest. front ++ rest) (take_rest items (length front)) ∙ ap (λ qs. replaced (front ++ drop (length front) items) qs (drop k xs)) (sym (drop_all k ps past)) ∙ is.rest
 
 -- what is made of each item
 pub map-replaced : {X Y : Type 0} (f : X → Y) (items : List X) (ps : List ℕ) (xs : List X) → map f (replaced items ps xs) ≡ replaced (map f items) ps (map f xs)

@@ -1,29 +1,13 @@
 -- The same stores are kept as the same ranges.
-use Rattle.std.proofs.Common.{◌≡◌, ◌<◌, ◌+◌, ℕ, List, [], ◌∷◌, ◌++◌, length, get_or, take, drop, refl, sym, ap, ◌∙◌, subst, arith, suc, zero, inl, inr, map, take-append-drop}
+use Rattle.std.proofs.Common.{◌≡◌, ◌<◌, ◌+◌, ℕ, List, [], ◌∷◌, ◌++◌, length, get_or, take, drop, refl, sym, ap, ◌∙◌, subst, arith, suc, zero, inl, inr}
 use Rattle.std.proofs.lemmas.Bool.{cases_lt}
-use Rattle.std.proofs.lemmas.List.{map-append, append_cancel_left, get_or-append-add, length-take-le, length-drop, nil_from_length}
+use Rattle.std.proofs.lemmas.List.{append_cancel_left, get_or-append-add, length-take-le, length-drop}
 use Rattle.bsp_model.specs.declared.request.Store.{Store}
 use Rattle.bsp_model.specs.declared.stores.range.Range.{Range}
-use Rattle.bsp_model.specs.Stores.{records}
+use Rattle.bsp_model.specs.Stores.{records, words_stored}
 use Rattle.bsp_model.specs.Inside.Ranges.{stores_of, AreRanges}
 use Rattle.bsp_model.proofs.Ranges.{length-records}
-
-abbrev value_of : Store → ℕ
-value_of s = s.value
-
-values-records : (start : ℕ) (words : List ℕ) → map value_of (records start words) ≡ words
-values-records start [] = refl
-values-records start (word ∷ words) = ap (λ (ws : List ℕ). word ∷ ws) (values-records (start + 1) words)
-
--- the words that were stored
-values-stores_of : (ranges : List Range) (values : List ℕ) → AreRanges ranges values → map value_of (stores_of ranges values) ≡ values
-unfolding stores_of
-values-stores_of [] values are = sym (nil_from_length values are)
-values-stores_of (r ∷ later) values are =
-    map-append value_of (records r.start (take r.len values)) (stores_of later (drop r.len values))
-    ∙ ap (λ (ws : List ℕ). ws ++ map value_of (stores_of later (drop r.len values))) (values-records r.start (take r.len values))
-    ∙ ap (λ (ws : List ℕ). take r.len values ++ ws) (values-stores_of later (drop r.len values) are.3)
-    ∙ take-append-drop r.len values
+use Rattle.bsp_model.proofs.StoredWords.{words-stores_of}
 
 addr-records : (start : ℕ) (words : List ℕ) (more : List Store) (k : ℕ) (d : Store) → k < length words → (get_or (records start words ++ more) k d).addr ≡ start + k
 addr-records start [] more k d within = absurd (omega arith)
@@ -84,5 +68,5 @@ same_ranges (r ∷ rs) (q ∷ qs) values are other e =
 
 pub same_stores : (rs qs : List Range) (vs ws : List ℕ) → AreRanges rs vs → AreRanges qs ws → stores_of rs vs ≡ stores_of qs ws → (rs ≡ qs) × (vs ≡ ws)
 same_stores rs qs vs ws are other e =
-    let values : vs ≡ ws = sym (values-stores_of rs vs are) ∙ ap (map value_of) e ∙ values-stores_of qs ws other in
+    let values : vs ≡ ws = sym (words-stores_of rs vs are) ∙ ap words_stored e ∙ words-stores_of qs ws other in
     (same_ranges rs qs ws (subst (AreRanges rs) values are) other (ap (stores_of rs) (sym values) ∙ e), values)

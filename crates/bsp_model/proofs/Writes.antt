@@ -10,7 +10,7 @@ use mathlib.Core.Logic.{inl, inr}
 use Rattle.bsp_model.specs.Memory.{memory_written}
 use Rattle.bsp_model.specs.Inside.Cut.{IsCut}
 use Rattle.bsp_model.specs.declared.paging.Cut.{Cut}
-use Rattle.bsp_model.specs.Inside.Pages.{paged_word, words_of, HasPages, word_after}
+use Rattle.bsp_model.specs.Inside.Pages.{paged_word, words_of, HasPages, word_after, AreWritten}
 use Rattle.bsp_model.proofs.Pages.{words_of-each, get_or-words_of, words_len, paged_word_at, parts, place_below, in_full, in_last}
 
 -- which word stands at an address
@@ -235,7 +235,7 @@ each_written pages pages' words old len start e inside changed =
     changed i h ∙ word_of_list pages old words start i was ∙ sym (replaced old words start i (omega arith))) in
     rw yes all
 
-pub written : (full full' : List (List ℕ)) (last last' words front behind old : List ℕ) (len start n place : ℕ) → words_of (full ++ last ∷ []) len ≡ old → HasPages full last len → start + length words ≤ len → length full' ≡ length full → n ≡ min (length words) (64 * length full - start) → front ≡ take n words → behind ≡ drop n words → ((i : ℕ) → paged_word full' i ≡ word_after (paged_word full) (min start (64 * length full)) front i) → place ≡ start + n - 64 * length full → last' ≡ take place last ++ behind ++ drop (place + length behind) last → words_of (full' ++ last' ∷ []) len ≡ memory_written old start words
+pub written : (full full' : List (List ℕ)) (last last' words front behind old : List ℕ) (len start n place : ℕ) → words_of (full ++ last ∷ []) len ≡ old → HasPages full last len → start + length words ≤ len → length full' ≡ length full → n ≡ min (length words) (64 * length full - start) → front ≡ take n words → behind ≡ drop n words → AreWritten full (min start (64 * length full)) front full' → place ≡ start + n - 64 * length full → last' ≡ take place last ++ behind ++ drop (place + length behind) last → words_of (full' ++ last' ∷ []) len ≡ memory_written old start words
 written full full' last last' words front behind old len start n place e pages inside count n_is front_is behind_is changed place_is last'_is =
     let all = pages.count in
     let short = pages.short in
@@ -248,7 +248,7 @@ written full full' last last' words front behind old len start n place e pages i
     ])
 
 -- a whole write whose words are cut
-pub cut_written : (full full' : List (List ℕ)) (last last' words old : List ℕ) (len count start : ℕ) (cut : Cut) → words_of (full ++ last ∷ []) len ≡ old → HasPages full last len → count ≡ 64 * length full → IsCut count len start words cut → length full' ≡ length full → ((i : ℕ) → paged_word full' i ≡ word_after (paged_word full) cut.start cut.front.now i) → last' ≡ take cut.place last ++ cut.behind.now ++ drop (cut.place + length cut.behind.now) last → words_of (full' ++ last' ∷ []) len ≡ memory_written old start words
+pub cut_written : (full full' : List (List ℕ)) (last last' words old : List ℕ) (len count start : ℕ) (cut : Cut) → words_of (full ++ last ∷ []) len ≡ old → HasPages full last len → count ≡ 64 * length full → IsCut count len start words cut → length full' ≡ length full → AreWritten full cut.start cut.front.now full' → last' ≡ take cut.place last ++ cut.behind.now ++ drop (cut.place + length cut.behind.now) last → words_of (full' ++ last' ∷ []) len ≡ memory_written old start words
 cut_written full full' last last' words old len count start cut e pages count_is is same changed last'_is =
     let n = min (length words) (64 * length full - start) in
     let at : min (length words) (count - start) ≡ n = ap (λ (k : ℕ). min (length words) (k - start)) count_is in
@@ -259,6 +259,12 @@ cut_written full full' last last' words old len count start cut e pages count_is
     (λ i. changed i ∙ ap (λ (k : ℕ). word_after (paged_word full) k cut.front.now i) first)
     (is.place ∙ ap (λ (k : ℕ). start + k - count) at ∙ ap (λ (k : ℕ). start + n - k) count_is)
     last'_is
+
+-- a whole write where no page is full
+pub last_written : (full : List (List ℕ)) (last last' words old : List ℕ) (len start : ℕ) → words_of (full ++ last ∷ []) len ≡ old → HasPages full last len → length full ≡ 0 → start + length words ≤ len → last' ≡ take start last ++ words ++ drop (start + length words) last → words_of (full ++ last' ∷ []) len ≡ memory_written old start words
+last_written full last last' words old len start e pages none inside last'_is =
+    written full full last last' words [] words old len start 0 start e pages inside refl (omega (arith, none)) refl refl
+    (λ i. no_words (paged_word full) (min start (64 * length full)) i [] refl) (omega (arith, none)) last'_is
 
 pub not_written : (pages : List (List ℕ)) (words old : List ℕ) (len start : ℕ) → words_of pages len ≡ old → len < start + length words → old ≡ memory_written old start words
 not_written pages words old len start e past =

@@ -1,5 +1,5 @@
 -- Columns: for each process, by its number, a row.
-use Rattle.std.specs.Prelude.{ℕ, ◌≡◌, ◌<◌, ◌≤◌, List, [], slice_index_or}
+use Rattle.std.specs.Prelude.{ℕ, ◌≡◌, ◌<◌, ◌≤◌, ◌+◌, ◌-◌, List, [], slice_index_or}
 
 -- the row of a process in a list of rows; empty where there is none
 abbrev pub row_at : {X : Type 0} → List (List X) → ℕ → List X
@@ -16,8 +16,8 @@ pub record IsPut {X : Type 0} (empty : X) (old : ℕ → X) (place : ℕ) (row :
   pub there : new place ≡ row
   pub behind : (k : ℕ) → place < k → new k ≡ empty
 
--- The processes from one on, and before another, have the rows that they have in another column, and those behind them are left out.
-pub record AreTaken {X : Type 0} (empty : X) (old more : ℕ → X) (from to : ℕ) (new : ℕ → X) : Type 0 where
-  pub before : (k : ℕ) → k < from → new k ≡ old k
-  pub taken : (k : ℕ) → from ≤ k → k < to → new k ≡ more k
-  pub behind : (k : ℕ) → from ≤ k → to ≤ k → new k ≡ empty
+-- The processes from a place on have the rows that others have from one on, and before another, and those behind them are left out.
+pub record AreTaken {X : Type 0} (empty : X) (old : ℕ → X) (place : ℕ) (more : ℕ → X) (from to : ℕ) (new : ℕ → X) : Type 0 where
+  pub before : (k : ℕ) → k < place → new k ≡ old k
+  pub taken : (k : ℕ) → place ≤ k → k < place + (to - from) → new k ≡ more (from + (k - place))
+  pub behind : (k : ℕ) → place ≤ k → place + (to - from) ≤ k → new k ≡ empty

@@ -3,7 +3,7 @@
 ghost use Rattle.std.specs.Prelude.{◌≡◌, ◌<◌, ◌≤◌, ◌++◌, ◌∷◌, [], length, IfOk, OnErr, OnOk, nat_eq, slice_get, slice_index_or};
 ghost use Rattle.bsp_model.specs.Inside.HeadedRows.{AreEnds, start_at};
 
-use crate::seq::are_same;
+use crate::seq::{append_items, are_same};
 use crate::words::are_same_words;
 use crate::{OutOfMemory, Same};
 use std::alloc::Global;
@@ -50,6 +50,7 @@ impl<'a, H> Model for HeadedRowsRef<'a, H> {
 }
 
 /// Where the words of a row start, and where they end, among so many words.
+#[inline]
 fn bounds<H>(heads: &[(H, usize)], count: usize, place: usize) -> (usize, usize)
     requires ends { AreEnds 0 heads.now count }
     requires known { place < length heads.now }
@@ -108,14 +109,15 @@ impl<H: Copy> HeadedRows<H> {
     }
 
     /// Adds a row of the words of `front` and then those of `back`. After `OutOfMemory` nothing has changed.
+    #[inline]
     pub fn push(&mut self, head: H, front: &[u64], back: &[u64]) -> Result<(), OutOfMemory>
         ensures ok { OnOk result (self.new ≡ self.old ++ (head, front.now ++ back.now) ∷ []) }
         ensures err { OnErr result (self.new ≡ self.old) }
     {
         self.heads.reserve(1)?;
         let before = self.words.len();
-        self.words.extend_from_slice(front)?;
-        if let Err(error) = self.words.extend_from_slice(back) {
+        append_items(&mut self.words, front)?;
+        if let Err(error) = append_items(&mut self.words, back) {
             self.words.truncate(before);
             return Err(error);
         }
@@ -134,6 +136,7 @@ impl<'a, H> HeadedRowsRef<'a, H> {
     }
 
     /// Whether there is no row.
+    #[inline]
     pub fn is_empty(&self) -> bool
         ensures { result ≡ nat_eq (length self.now) 0 }
     {
@@ -141,6 +144,7 @@ impl<'a, H> HeadedRowsRef<'a, H> {
     }
 
     /// The head and the words of a row.
+    #[inline]
     pub fn at(&self, place: usize) -> (&'a H, &'a [u64])
         requires { place < length self.now }
         ensures { slice_get self.now place ≡ Some (result.0.now, result.1.now) }

@@ -20,9 +20,11 @@ mod row_ends;
 mod rows;
 mod sends;
 mod seq;
+mod share;
 mod shared;
 mod shared_seq;
 mod stores;
+mod stores_ref;
 mod words;
 
 pub use columns::{Column, LineColumn, PutColumn, SendColumn, SharedColumn, StoreColumn};
@@ -33,16 +35,18 @@ pub use input::Input;
 pub use memories::Memories;
 pub use memory::Memory;
 pub use memory_ref::MemoryRef;
-pub use places::{are_among, are_few, place_among};
+pub use places::{are_among, are_few, end_of_run, place_among};
 pub use puts::{PutView, Puts, PutsRef};
 pub use request::{Get, Message, Put, Send, Store};
 pub use rows::{Rows, RowsRef};
 pub use sends::{SendView, Sends, SendsRef};
 pub use seq::{Seq, are_same};
+pub use share::Share;
 pub use shared::Shared;
 pub use shared_seq::SharedSeq;
 pub use std::alloc::AllocError as OutOfMemory;
-pub use stores::{Stores, StoresRef};
+pub use stores::Stores;
+pub use stores_ref::StoresRef;
 pub use words::are_same_words;
 
 /// A list of 64-bit words.

@@ -1,14 +1,15 @@
 //! The memories of several processes.
 
 ghost use Rattle.std.specs.Prelude.{◌≡◌, ◌<◌, ◌≤◌, ◌+◌, ◌++◌, ◌∷◌, [], All, IfOk, OnErr, OnOk, length, nat_le, slice_index_or, slice_range, slice_set};
+ghost use Rattle.bsp_model.specs.Columns.{row_at};
 ghost use Rattle.bsp_model.specs.Memory.{memory_written};
 
 #[cfg(test)]
 mod tests;
 
 use crate::page::{Page, WORDS_OF_A_PAGE};
-use crate::paging::{cut_write, shared_pages, take_pages, write_row};
-use crate::{Memory, MemoryRef, OutOfMemory, Rows, SharedColumn, TryCopy};
+use crate::paging::{cut_write, is_within, shared_pages, take_pages, write_row};
+use crate::{Memory, MemoryRef, OutOfMemory, Rows, Share, SharedColumn, TryCopy};
 use std::alloc::Global;
 use std::marker::Model;
 
@@ -37,20 +38,70 @@ impl Memories {
     pub fn with_capacity(alloc: Global, count: usize) -> Result<Memories, OutOfMemory>
         ensures { IfOk result (λ m. m ≡ []) }
     {
-        Ok(Memories {
-            pages: SharedColumn::new(alloc),
-            lasts: Rows::with_capacity(alloc, count, 0)?,
-        })
+        Memories::new(alloc).into_room(count)
     }
 
-    /// No memories, with the room that these take beside their full pages, or `OutOfMemory`.
-    pub fn with_room_of(alloc: Global, like: &Memories) -> Result<Memories, OutOfMemory>
+    /// No memories, with a share of the room that these take beside their full pages, or `OutOfMemory`.
+    pub fn with_room_of(
+        alloc: Global,
+        like: &Memories,
+        share: Share,
+    ) -> Result<Memories, OutOfMemory>
         ensures { IfOk result (λ m. m ≡ []) }
     {
-        Ok(Memories {
-            pages: SharedColumn::with_room_of(alloc, &like.pages)?,
-            lasts: Rows::with_room_of(alloc, &like.lasts)?,
-        })
+        Memories::new(alloc).into_room_like(like, share)
+    }
+
+    /// No memories, which take no memory.
+    pub fn new(alloc: Global) -> Memories
+        ensures { result ≡ [] }
+    {
+        Memories {
+            pages: SharedColumn::new(alloc),
+            lasts: Rows::new(alloc),
+        }
+    }
+
+    /// Takes all memories away. Their room stays.
+    pub fn clear(&mut self)
+        ensures { self.new ≡ [] }
+    {
+        self.pages.clear();
+        self.lasts.clear();
+    }
+
+    /// No memories, in the room of these, which is made enough for so many. Or `OutOfMemory`.
+    pub fn into_room(self, count: usize) -> Result<Memories, OutOfMemory>
+        ensures { IfOk result (λ m. m ≡ []) }
+    {
+        let Memories {
+            mut pages,
+            mut lasts,
+        } = self;
+        pages.clear();
+        lasts.make_room(count, 0)?;
+        Ok(Memories { pages, lasts })
+    }
+
+    /// No memories, in the room of these, which is made enough for a share of what others take beside their full pages. Or `OutOfMemory`.
+    pub fn into_room_like(self, like: &Memories, share: Share) -> Result<Memories, OutOfMemory>
+        ensures { IfOk result (λ m. m ≡ []) }
+    {
+        let Memories {
+            mut pages,
+            mut lasts,
+        } = self;
+        pages.make_room_like(&like.pages, share)?;
+        lasts.make_room_like(&like.lasts, share)?;
+        Ok(Memories { pages, lasts })
+    }
+
+    /// A copy of these memories in the room of others, or `OutOfMemory`. Full pages are shared.
+    pub fn copy_into(&self, room: Memories) -> Result<Memories, OutOfMemory>
+        ensures { IfOk result (λ m. m ≡ self.now) }
+    {
+        let memories = room.into_room_like(self, Share::whole())?;
+        memories.with_range(self, 0, self.len())
     }
 
     /// The number of memories.
@@ -95,6 +146,7 @@ impl Memories {
     }
 
     /// Adds a copy of a memory, which shares the pages that are full. After `OutOfMemory` nothing has changed.
+    #[inline]
     pub fn push_copy(&mut self, memory: &MemoryRef<'_>) -> Result<(), OutOfMemory>
         ensures ok { OnOk result (self.new ≡ self.old ++ memory.now ∷ []) }
         ensures err { OnErr result (self.new ≡ self.old) }
@@ -107,10 +159,30 @@ impl Memories {
 
     /// Makes `words` the words of a process's memory from `start` on. False, and nothing changes, where they pass the end; after `OutOfMemory`
     /// nothing has changed. Other copies of the memory stay as they are.
+    #[inline]
     pub fn write(&mut self, pid: usize, start: u64, words: &[u64]) -> Result<bool, OutOfMemory>
         requires { pid < length self.old }
         ensures within { IfOk result (λ found. found ≡ nat_le (start + length words.now) (length (slice_index_or self.old pid []))) }
         ensures written { IfOk result (λ found. self.new ≡ slice_set self.old pid (memory_written (slice_index_or self.old pid []) start words.now)) }
+        ensures err { OnErr result (self.new ≡ self.old) }
+    {
+        if !self.pages.row(pid).is_empty() {
+            return self.write_paged(pid, start, words);
+        }
+        if !is_within(self.lasts.row(pid).len(), start, words.len()) {
+            return Ok(false);
+        }
+        self.lasts.replace(pid, start as usize, words);
+        Ok(true)
+    }
+
+    /// The same, where the memory may have full pages.
+    #[inline(never)]
+    fn write_paged(&mut self, pid: usize, start: u64, words: &[u64]) -> Result<bool, OutOfMemory>
+        requires { pid < length self.old }
+        ensures within { IfOk result (λ found. found ≡ nat_le (start + length words.now) (length (row_at self.old pid))) }
+        ensures written { let new = memory_written (row_at self.old pid) start words.now in
+            IfOk result (λ found. self.new ≡ slice_set self.old pid new) }
         ensures err { OnErr result (self.new ≡ self.old) }
     {
         let full = WORDS_OF_A_PAGE * self.pages.row(pid).len();
@@ -134,6 +206,9 @@ impl Memories {
         requires inside { to ≤ length more.now }
         ensures { IfOk result (λ m. m ≡ self ++ slice_range more.now from to) }
     {
+        if from == to {
+            return Ok(self);
+        }
         let Memories { pages, mut lasts } = self;
         let pages = pages.with_range(lasts.len(), &more.pages, from, to)?;
         lasts.append_range(&more.lasts.as_ref(), from, to)?;
@@ -143,7 +218,6 @@ impl Memories {
 
 impl TryCopy for Memories {
     fn copy(&self) -> Result<Memories, OutOfMemory> {
-        let memories = Memories::with_room_of(self.pages.allocator(), self)?;
-        memories.with_range(self, 0, self.len())
+        self.copy_into(Memories::new(self.pages.allocator()))
     }
 }

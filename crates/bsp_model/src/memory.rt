@@ -8,7 +8,7 @@ ghost use Rattle.bsp_model.specs.Memory.{memory_written, rest_of_page};
 mod tests;
 
 use crate::page::{Page, WORDS_OF_A_PAGE};
-use crate::paging::{cut_write, full_pages, load_pages, write_pages};
+use crate::paging::{cut_write, full_pages, is_within, load_pages, write_pages};
 use crate::seq::replace_items;
 use crate::{MemoryRef, OutOfMemory, Same, TryCopy};
 use std::alloc::Global;
@@ -152,7 +152,25 @@ impl Memory {
     }
 
     /// Makes `words` the words from `start` on. False, and nothing changes, where they pass the end; after `OutOfMemory` nothing has changed.
+    #[inline]
     pub fn write(&mut self, start: u64, words: &[u64]) -> Result<bool, OutOfMemory>
+        ensures within { IfOk result (λ found. found ≡ nat_le (start + length words.now) (length self.old)) }
+        ensures written { IfOk result (λ found. self.new ≡ memory_written self.old start words.now) }
+        ensures err { OnErr result (self.new ≡ self.old) }
+    {
+        if !self.pages.is_empty() {
+            return self.write_paged(start, words);
+        }
+        if !is_within(self.len, start, words.len()) {
+            return Ok(false);
+        }
+        replace_items(self.last.as_mut_slice(), start as usize, words);
+        Ok(true)
+    }
+
+    /// The same, where there may be full pages.
+    #[inline(never)]
+    fn write_paged(&mut self, start: u64, words: &[u64]) -> Result<bool, OutOfMemory>
         ensures within { IfOk result (λ found. found ≡ nat_le (start + length words.now) (length self.old)) }
         ensures written { IfOk result (λ found. self.new ≡ memory_written self.old start words.now) }
         ensures err { OnErr result (self.new ≡ self.old) }

@@ -1,11 +1,11 @@
 //! A memory that is read where it lies.
 
-ghost use Rattle.std.specs.Prelude.{◌≡◌, ◌+◌, length, IfOk, nat_le, slice_get, take, drop};
+ghost use Rattle.std.specs.Prelude.{◌≡◌, ◌+◌, ◌^◌, ◌<◌, ◌≤◌, [], length, IfOk, nat_le, slice_get, take, drop};
 ghost use Rattle.std.specs.Bool.{OnTrue, OnFalse};
 ghost use Rattle.bsp_model.specs.Memory.{rest_of_page};
 
 use crate::page::{Page, WORDS_OF_A_PAGE};
-use crate::paging::are_same_pages;
+use crate::paging::{are_same_pages, is_within};
 use crate::seq::replace_items;
 use crate::{Memory, OutOfMemory, Same, are_same_words};
 use std::alloc::Global;
@@ -36,7 +36,35 @@ impl<'a> Model for MemoryRef<'a> {
 }
 
 impl<'a> MemoryRef<'a> {
+    /// No words.
+    #[inline(always)]
+    pub(crate) fn empty(alloc: Global) -> MemoryRef<'a>
+        ensures { result ≡ [] }
+    {
+        MemoryRef {
+            alloc,
+            pages: &[],
+            last: &[],
+            len: 0,
+        }
+    }
+
+    /// The same words, to be read by another.
+    #[inline(always)]
+    pub(crate) fn again(&self) -> MemoryRef<'a>
+        ensures same { result ≡ self.now }
+        ensures fits { length self.now < 2 ^ 64 }
+    {
+        MemoryRef {
+            alloc: self.alloc,
+            pages: self.pages,
+            last: self.last,
+            len: self.len,
+        }
+    }
+
     /// The number of words.
+    #[inline]
     pub fn len(&self) -> usize
         ensures { result ≡ length self.now }
     {
@@ -44,6 +72,7 @@ impl<'a> MemoryRef<'a> {
     }
 
     /// Whether there is no word.
+    #[inline]
     pub fn is_empty(&self) -> bool
         ensures { result ≡ nat_le (length self.now) 0 }
     {
@@ -51,6 +80,7 @@ impl<'a> MemoryRef<'a> {
     }
 
     /// The word at `address`, if there is one.
+    #[inline]
     pub fn load(&self, address: u64) -> Option<u64>
         ensures { result ≡ slice_get self.now address }
     {
@@ -83,22 +113,31 @@ impl<'a> MemoryRef<'a> {
         &self.last[place..]
     }
 
+    /// The words from `address` on, but at most so many, as far as they lie in one piece: at least one where there is any.
+    #[inline(always)]
+    pub(crate) fn piece(&self, address: u64, most: usize) -> &'a [u64]
+        ensures there { result.now ≡ take (length result.now) (drop address self.now) }
+        ensures few { length result.now ≤ most }
+        ensures some { address < length self.now → 0 < most → 0 < length result.now }
+    {
+        let words = self.words_from(address);
+        &words[..words.len().min(most)]
+    }
+
     /// Copies the words from `start` on to `words`. False, and nothing is copied, where they pass the end.
     pub fn read(&self, start: u64, words: &mut [u64]) -> bool
         ensures within { result ≡ nat_le (start + length words.old) (length self.now) }
         ensures read { OnTrue result (words.new ≡ take (length words.old) (drop start self.now)) }
         ensures past { OnFalse result (words.new ≡ words.old) }
     {
-        let len = self.len() as u64;
-        if start > len || words.len() as u64 > len - start {
+        if !is_within(self.len(), start, words.len()) {
             return false;
         }
         let mut copied = 0;
         while copied < words.len() {
-            let page = self.words_from(start + copied as u64);
-            let count = page.len().min(words.len() - copied);
-            replace_items(words, copied, &page[..count]);
-            copied += count;
+            let piece = self.piece(start + copied as u64, words.len() - copied);
+            replace_items(words, copied, piece);
+            copied += piece.len();
         }
         true
     }

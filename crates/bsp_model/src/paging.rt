@@ -1,9 +1,9 @@
 //! The full pages of a memory.
 
-ghost use Rattle.std.specs.Prelude.{◌≡◌, ◌≢◌, ℕ, [], ◌+◌, ◌*◌, ◌<◌, ◌≤◌, ◌↔◌, IsTrue, length, IfOk, MatchOption, OnOk, OnErr};
+ghost use Rattle.std.specs.Prelude.{◌≡◌, ◌≢◌, ℕ, [], ◌+◌, ◌*◌, ◌<◌, ◌≤◌, ◌↔◌, IsTrue, length, IfOk, MatchOption, OnOk, OnErr, nat_le};
 ghost use Rattle.bsp_model.specs.Columns.{row_at};
 ghost use Rattle.bsp_model.specs.Inside.Cut.{IsCut};
-ghost use Rattle.bsp_model.specs.Inside.Pages.{paged_word, word_after};
+ghost use Rattle.bsp_model.specs.Inside.Pages.{paged_word, word_after, AreWritten};
 
 use crate::page::{Page, WORDS_OF_A_PAGE};
 use crate::{OutOfMemory, SharedColumn, SharedSeq, TryCopy};
@@ -61,7 +61,7 @@ pub fn write_pages(
 ) -> Result<(), OutOfMemory>
     requires { start + length words.now ≤ WORDS_OF_A_PAGE * length pages.old }
     ensures count { length pages.new ≡ length pages.old }
-    ensures ok { OnOk result ((i : ℕ) → paged_word pages.new i ≡ word_after (paged_word pages.old) start words.now i) }
+    ensures ok { OnOk result (AreWritten pages.old start words.now pages.new) }
     ensures err { OnErr result (pages.new ≡ pages.old) }
 {
     if words.is_empty() {
@@ -92,7 +92,19 @@ fn copied_pages(alloc: Global, pages: &[Page]) -> Result<Vec<Page>, OutOfMemory>
 }
 
 /// Copies of these pages, which share their words, in a list that its copies share. For no page it takes no memory.
+#[inline(always)]
 pub fn shared_pages(alloc: Global, pages: &[Page]) -> Result<SharedSeq<Page>, OutOfMemory>
+    ensures { IfOk result (λ new. new ≡ pages.now) }
+{
+    if pages.is_empty() {
+        return Ok(SharedSeq::new());
+    }
+    share_some_pages(alloc, pages)
+}
+
+/// The same, where there are pages.
+#[inline(never)]
+fn share_some_pages(alloc: Global, pages: &[Page]) -> Result<SharedSeq<Page>, OutOfMemory>
     ensures { IfOk result (λ new. new ≡ pages.now) }
 {
     SharedSeq::from_vec(copied_pages(alloc, pages)?)
@@ -153,7 +165,7 @@ pub fn write_shared_pages(
 ) -> Result<(), OutOfMemory>
     requires { start + length words.now ≤ WORDS_OF_A_PAGE * length pages.old }
     ensures count { length pages.new ≡ length pages.old }
-    ensures ok { OnOk result ((i : ℕ) → paged_word pages.new i ≡ word_after (paged_word pages.old) start words.now i) }
+    ensures ok { OnOk result (AreWritten pages.old start words.now pages.new) }
     ensures err { OnErr result (pages.new ≡ pages.old) }
 {
     if words.is_empty() {
@@ -180,7 +192,7 @@ pub fn write_row(
     requires { start + length words.now ≤ WORDS_OF_A_PAGE * length (row_at column.old place) }
     ensures others { (k : ℕ) → k ≢ place → row_at column.new k ≡ row_at column.old k }
     ensures count { length (row_at column.new place) ≡ length (row_at column.old place) }
-    ensures ok { OnOk result ((i : ℕ) → paged_word (row_at column.new place) i ≡ word_after (paged_word (row_at column.old place)) start words.now i) }
+    ensures ok { OnOk result (AreWritten (row_at column.old place) start words.now (row_at column.new place)) }
     ensures err { OnErr result (column.new ≡ column.old) }
 {
     if place < column.rows.len() {
@@ -189,6 +201,14 @@ pub fn write_row(
         return write_shared_pages(alloc, pages, start, words);
     }
     Ok(())
+}
+
+/// Whether so many words from `start` on lie in a memory of `len` words.
+#[inline(always)]
+pub fn is_within(len: usize, start: u64, count: usize) -> bool
+    ensures { result ≡ nat_le (start + count) len }
+{
+    start <= len as u64 && count <= len - start as usize
 }
 
 /// A write of words, cut where the full pages of a memory end.
@@ -209,7 +229,7 @@ pub fn cut_write(full: usize, len: usize, start: u64, words: &[u64]) -> Option<C
     requires { full ≤ len }
     ensures { MatchOption result (len < start + length words.now) (IsCut full len start words.now) }
 {
-    if start > len as u64 || words.len() > len - start as usize {
+    if !is_within(len, start, words.len()) {
         return None;
     }
     let start = start as usize;

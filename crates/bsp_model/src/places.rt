@@ -1,6 +1,6 @@
 //! Where processes stand in ascending lists of them.
 
-ghost use Rattle.std.specs.Prelude.{◌≡◌, ◌≢◌, ℕ, ◌<◌, ◌↔◌, All, IfNone, IfSome, IsTrue, length, nat_le, slice_index_or, ◌/◌};
+ghost use Rattle.std.specs.Prelude.{◌≡◌, ◌≢◌, ◌≤◌, ◌+◌, ◌-◌, ℕ, ◌<◌, ◌↔◌, All, IfNone, IfSome, IsTrue, length, nat_le, slice_index_or, ◌/◌};
 ghost use Rattle.std.specs.List.{Contains};
 ghost use Rattle.bsp_model.specs.Replaced.{IsAscending};
 
@@ -31,6 +31,25 @@ pub fn place_among(processes: &[usize], pid: usize) -> Option<usize>
         }
     }
     None
+}
+
+/// Where the run of consecutive numbers ends that begins at a place of an ascending list of processes.
+pub fn end_of_run(processes: &[usize], place: usize) -> usize
+    requires ascending { IsAscending processes.now }
+    requires known { place < length processes.now }
+    ensures some { place < result }
+    ensures inside { result ≤ length processes.now }
+    ensures run { (k : ℕ) → place ≤ k → k < result →
+        slice_index_or processes.now k 0 ≡ slice_index_or processes.now place 0 + (k - place) }
+    ensures longest { result < length processes.now →
+        slice_index_or processes.now place 0 + (result - place) < slice_index_or processes.now result 0 }
+{
+    for end in place + 1..processes.len() {
+        if processes[end] - processes[place] > end - place {
+            return end;
+        }
+    }
+    processes.len()
 }
 
 /// Whether each of these processes stands in a list in ascending order.

@@ -74,6 +74,7 @@ impl Puts {
     }
 
     /// The number of puts.
+    #[inline]
     pub fn len(&self) -> usize
         ensures { result ≡ length self.now }
     {
@@ -98,6 +99,7 @@ impl Puts {
     }
 
     /// Adds a put. After `OutOfMemory` nothing has changed.
+    #[inline]
     pub fn push(&mut self, target: u64, start: u64, words: &[u64]) -> Result<(), OutOfMemory>
         ensures ok { OnOk result (self.new ≡ self.old ++ record { target = target; start = start; words = words.now } ∷ []) }
         ensures err { OnErr result (self.new ≡ self.old) }
@@ -109,6 +111,7 @@ impl Puts {
 
 impl<'a> PutsRef<'a> {
     /// The number of puts.
+    #[inline]
     pub fn len(&self) -> usize
         ensures { result ≡ length self.now }
     {
@@ -116,6 +119,7 @@ impl<'a> PutsRef<'a> {
     }
 
     /// Whether there is no put.
+    #[inline]
     pub fn is_empty(&self) -> bool
         ensures { result ≡ nat_eq (length self.now) 0 }
     {
@@ -123,6 +127,7 @@ impl<'a> PutsRef<'a> {
     }
 
     /// The put at a place.
+    #[inline]
     pub fn at(&self, place: usize) -> PutView<'a>
         requires { place < length self.now }
         ensures { slice_get self.now place ≡ Some (record { target = result.target; start = result.start; words = result.words.now }) }

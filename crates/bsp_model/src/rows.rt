@@ -3,8 +3,10 @@
 ghost use Rattle.std.specs.Prelude.{◌≡◌, ◌<◌, ◌≤◌, ◌+◌, ◌^◌, ◌++◌, ◌∷◌, [], ℕ, drop, length, map, nat_eq, ◌-◌, option_map, slice_get, slice_index, slice_index_or, slice_range, slice_set, take, EachIndex, IfOk, OnErr, OnOk, vec_capacity, vec_len};
 ghost use Rattle.bsp_model.specs.Columns.{row_at};
 
+mod room;
+
 use crate::row_ends::{add_ends, bounds_of, start_of};
-use crate::seq::{are_same, replace_items};
+use crate::seq::{append_items, are_same, replace_items};
 use crate::{OutOfMemory, Same, TryCopy};
 use std::alloc::Global;
 use std::marker::Model;
@@ -147,20 +149,6 @@ impl<'a, T> RowsRef<'a, T> {
 }
 
 impl<T: Copy> Rows<T> {
-    /// No rows, with room for so many rows and so many items in all, or `OutOfMemory`.
-    pub(crate) fn with_capacity(
-        alloc: Global,
-        rows: usize,
-        items: usize,
-    ) -> Result<Rows<T>, OutOfMemory>
-        ensures { IfOk result (λ r. r ≡ []) }
-    {
-        Ok(Rows {
-            items: Vec::with_capacity(alloc, items)?,
-            ends: Vec::with_capacity(alloc, rows)?,
-        })
-    }
-
     /// Takes all rows away. Their room stays.
     pub fn clear(&mut self)
         ensures { self.new ≡ [] }
@@ -169,25 +157,20 @@ impl<T: Copy> Rows<T> {
         self.ends.clear();
     }
 
-    /// No rows, with the room that these take, or `OutOfMemory`.
-    pub(crate) fn with_room_of(alloc: Global, like: &Rows<T>) -> Result<Rows<T>, OutOfMemory>
-        ensures { IfOk result (λ r. r ≡ []) }
-    {
-        Rows::with_capacity(alloc, like.ends.len(), like.items.len())
-    }
-
     /// Puts a row of these items at the end. After `OutOfMemory` nothing has changed.
+    #[inline(always)]
     pub fn push(&mut self, row: &[T]) -> Result<(), OutOfMemory>
         ensures ok { OnOk result (self.new ≡ self.old ++ row.now ∷ []) }
         ensures err { OnErr result (self.new ≡ self.old) }
     {
         self.ends.reserve(1)?;
-        self.items.extend_from_slice(row)?;
+        append_items(&mut self.items, row)?;
         self.ends.push_reserved(self.items.len());
         Ok(())
     }
 
     /// Keeps the first `count` rows alone, or all where there are no more.
+    #[inline(always)]
     pub(crate) fn truncate(&mut self, count: usize)
         ensures { self.new ≡ take count self.old }
     {
@@ -198,6 +181,7 @@ impl<T: Copy> Rows<T> {
     }
 
     /// Puts empty rows at the end until there are `count`, or none where there are as many. After `OutOfMemory` some of them are put.
+    #[inline(always)]
     pub(crate) fn fill(&mut self, count: usize) -> Result<(), OutOfMemory>
         requires { length self.old ≤ count }
         ensures same { (k : ℕ) → row_at self.new k ≡ row_at self.old k }
@@ -211,6 +195,7 @@ impl<T: Copy> Rows<T> {
     }
 
     /// Makes `items` the items of the row `number` from `place` on.
+    #[inline(always)]
     pub(crate) fn replace(&mut self, number: usize, place: usize, items: &[T])
         requires known { number < length self.old }
         requires inside { place + length items.now ≤ length (slice_index_or self.old number []) }
@@ -245,6 +230,9 @@ impl<T: Copy> Rows<T> {
         ensures ok { OnOk result (self.new ≡ self.old ++ slice_range more.now from to) }
         ensures err { OnErr result (self.new ≡ self.old) }
     {
+        if from == to {
+            return Ok(());
+        }
         let ends = more.ends;
         let (start, end) = bounds_of(ends, more.items.len(), from, to);
         self.ends.reserve(to - from)?;

@@ -78,6 +78,7 @@ impl Sends {
     }
 
     /// The number of messages.
+    #[inline]
     pub fn len(&self) -> usize
         ensures { result ≡ length self.now }
     {
@@ -102,6 +103,7 @@ impl Sends {
     }
 
     /// Adds a message. After `OutOfMemory` nothing has changed.
+    #[inline]
     pub fn push(&mut self, target: u64, tag: &[u64], words: &[u64]) -> Result<(), OutOfMemory>
         ensures ok { OnOk result (self.new ≡ self.old ++ record { target = target; tag = tag.now; words = words.now } ∷ []) }
         ensures err { OnErr result (self.new ≡ self.old) }
@@ -114,6 +116,7 @@ impl Sends {
 
 impl<'a> SendsRef<'a> {
     /// The number of messages.
+    #[inline]
     pub fn len(&self) -> usize
         ensures { result ≡ length self.now }
     {
@@ -121,6 +124,7 @@ impl<'a> SendsRef<'a> {
     }
 
     /// Whether there is no message.
+    #[inline]
     pub fn is_empty(&self) -> bool
         ensures { result ≡ nat_eq (length self.now) 0 }
     {
@@ -128,6 +132,7 @@ impl<'a> SendsRef<'a> {
     }
 
     /// The message at a place.
+    #[inline]
     pub fn at(&self, place: usize) -> SendView<'a>
         requires { place < length self.now }
         ensures { slice_get self.now place ≡ Some (record { target = result.target; tag = result.tag.now; words = result.words.now }) }

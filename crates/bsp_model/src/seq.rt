@@ -54,6 +54,7 @@ impl<T> Seq<T> {
     }
 
     /// The items.
+    #[inline]
     pub fn as_slice(&self) -> &[T]
         ensures { result.now ≡ self.now }
     {
@@ -61,6 +62,7 @@ impl<T> Seq<T> {
     }
 
     /// The number of items.
+    #[inline]
     pub fn len(&self) -> usize
         ensures { result ≡ length self.now }
     {
@@ -73,6 +75,7 @@ impl<T> Seq<T> {
     }
 
     /// Whether there is no item.
+    #[inline]
     pub fn is_empty(&self) -> bool
         ensures { result ≡ nat_eq (length self.now) 0 }
     {
@@ -161,11 +164,30 @@ pub fn are_same<T: Same>(items: &[T], others: &[T]) -> bool
 }
 
 /// Makes `new` the items of a list from `start` on.
+#[inline(always)]
 pub(crate) fn replace_items<T: Copy>(items: &mut [T], start: usize, new: &[T])
     requires { start + length new.now ≤ length items.old }
     ensures { items.new ≡ take start items.old ++ new.now ++ drop (start + length new.now) items.old }
 {
+    if let [item] = new {
+        items[start] = *item;
+        return;
+    }
     items[start..start + new.len()].copy_from_slice(new);
+}
+
+/// Puts items at the end of a list. After `OutOfMemory` it has not changed.
+#[inline(always)]
+pub(crate) fn append_items<T: Copy>(items: &mut Vec<T>, more: &[T]) -> Result<(), OutOfMemory>
+    ensures ok { OnOk result (items.new.items ≡ items.old.items ++ more.now) }
+    ensures err { OnErr result (items.new.items ≡ items.old.items) }
+{
+    match more {
+        [] => {}
+        [item] => items.push(*item)?,
+        _ => items.extend_from_slice(more)?,
+    }
+    Ok(())
 }
 
 impl Seq<u64> {

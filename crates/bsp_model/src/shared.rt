@@ -1,6 +1,9 @@
 //! A value that its copies share.
 
-ghost use Rattle.std.specs.Prelude.{◌≡◌, IfOk};
+ghost use Rattle.std.specs.Prelude.{◌≡◌, IfErr, IfOk};
+
+#[cfg(test)]
+mod tests;
 
 use crate::{OutOfMemory, Same, TryCopy};
 use std::alloc::{AllocError, Global};
@@ -40,6 +43,17 @@ impl<T: Drop> Shared<T> {
         match Arc::new(alloc, value) {
             Ok(value) => Ok(Shared { value }),
             Err(_) => Err(AllocError),
+        }
+    }
+
+    /// The value itself, where no copy shares it; else this, as it was.
+    pub fn try_unwrap(self) -> Result<T, Shared<T>>
+        ensures value { IfOk result (λ value. value ≡ self) }
+        ensures shared { IfErr result (λ shared. shared ≡ self) }
+    {
+        match Arc::try_unwrap(self.value) {
+            Ok(value) => Ok(value),
+            Err(value) => Err(Shared { value }),
         }
     }
 }

@@ -1,15 +1,14 @@
 //! The stores of a turn, kept as ranges of words.
 
-ghost use Rattle.std.specs.Prelude.{◌≡◌, ◌-◌, ◌<◌, ◌≤◌, ◌++◌, ◌∷◌, [], length, IfOk, OnOk, OnErr, slice_set};
+ghost use Rattle.std.specs.Prelude.{◌≡◌, ◌-◌, ◌<◌, ◌≤◌, ◌++◌, ◌∷◌, [], length, OnOk, OnErr, slice_set};
 ghost use Rattle.bsp_model.specs.Memory.{memory_written};
-ghost use Rattle.bsp_model.specs.Stores.{records, made_again};
+ghost use Rattle.bsp_model.specs.Stores.{records};
 
 pub(crate) mod range;
 #[cfg(test)]
 mod tests;
 
-use crate::seq::are_same;
-use crate::{Memory, OutOfMemory, Same, Store, TryCopy};
+use crate::{Memory, MemoryRef, OutOfMemory, Same, Store, StoresRef, TryCopy};
 use range::{Range, add_words};
 use std::alloc::Global;
 use std::marker::Model;
@@ -18,9 +17,9 @@ use std::marker::Model;
 #[derive(Debug, Drop)]
 pub struct Stores {
     /// The ranges, in order. None of them goes on where the one before it ended.
-    ranges: Vec<Range>,
+    pub(crate) ranges: Vec<Range>,
     /// The words that were stored, in order: those of the first range, then those of the second, and so on.
-    values: Vec<u64>,
+    pub(crate) values: Vec<u64>,
 }
 
 impl Model for Stores {
@@ -33,27 +32,6 @@ impl Model for Stores {
     ghost view = { λ s. stores_of s.ranges.items s.values.items };
 
     ghost invariant = { λ s. AreRanges s.ranges.items s.values.items };
-}
-
-/// Stores in the order in which they were made, read where they lie.
-#[derive(Drop)]
-pub struct StoresRef<'a> {
-    /// The ranges, in order. None of them goes on where the one before it ended.
-    pub(crate) ranges: &'a [Range],
-    /// The words that were stored, in order.
-    pub(crate) values: &'a [u64],
-}
-
-impl<'a> Model for StoresRef<'a> {
-    ghost use Rattle.std.specs.Prelude.{List};
-    ghost use Rattle.bsp_model.specs.declared.request.Store.{Store};
-    ghost use Rattle.bsp_model.specs.Inside.Ranges.{stores_of, AreRanges};
-
-    ghost Value = { List Store };
-
-    ghost view = { λ s. stores_of s.ranges.now s.values.now };
-
-    ghost invariant = { λ s. AreRanges s.ranges.now s.values.now };
 }
 
 impl Stores {
@@ -75,6 +53,7 @@ impl Stores {
         StoresRef {
             ranges: self.ranges.as_slice(),
             values: self.values.as_slice(),
+            memory: MemoryRef::empty(*self.values.allocator()),
         }
     }
 
@@ -129,47 +108,6 @@ impl Stores {
         }
         add_words(&mut self.ranges, start, words.len());
         Ok(())
-    }
-}
-
-/// Makes `words` the words of a memory from `start` on, as far as it has them.
-fn write_inside(memory: &mut Memory, start: u64, words: &[u64]) -> Result<(), OutOfMemory>
-    ensures { OnOk result (memory.new ≡ made_again memory.old (records start words.now)) }
-{
-    let room = (memory.len() as u64).saturating_sub(start);
-    let inside = words.len().min(room as usize);
-    let _ = memory.write(start, &words[..inside])?;
-    Ok(())
-}
-
-impl<'a> StoresRef<'a> {
-    /// Makes the stores again in another memory, range by range. What lies past its end is left out. After `OutOfMemory` some of them are made.
-    pub fn make_again(&self, memory: &mut Memory) -> Result<(), OutOfMemory>
-        ensures { OnOk result (memory.new ≡ made_again memory.old self.now) }
-    {
-        let mut values = self.values;
-        for range in self.ranges {
-            let (words, later) = values.split_at(range.len);
-            write_inside(memory, range.start, words)?;
-            values = later;
-        }
-        Ok(())
-    }
-
-    /// Stores of their own, equal to these, or `OutOfMemory`.
-    pub fn to_stores(&self, alloc: Global) -> Result<Stores, OutOfMemory>
-        ensures { IfOk result (λ stores. stores ≡ self.now) }
-    {
-        let mut ranges = Vec::new(alloc);
-        ranges.extend_from_slice(self.ranges)?;
-        let values = self.values.to_vec(alloc)?;
-        Ok(Stores { ranges, values })
-    }
-}
-
-impl<'a> Same for StoresRef<'a> {
-    fn same(&self, other: &StoresRef<'a>) -> bool {
-        are_same(self.ranges, other.ranges) && are_same(self.values, other.values)
     }
 }
 

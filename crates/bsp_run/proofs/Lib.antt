@@ -18,3 +18,5 @@ pub mod ViewsWithin
 pub mod SameLines
 pub mod SharedCells
 pub mod RunErrors
+pub mod Gathered
+pub mod PrintedLines

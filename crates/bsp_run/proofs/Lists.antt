@@ -1,7 +1,7 @@
 -- Lists that are made by a function.
 use Rattle.std.proofs.Common.{◌≡◌, ◌<◌, ℕ, ◌+◌, List, [], ◌∷◌, ◌++◌, map, All, refl, ap, sym, ◌∙◌, arith}
 use Rattle.std.specs.List.{range_with_len}
-use Rattle.std.proofs.lemmas.List.FromFn.{map-range_with_len_more, length-range_with_len, get_or-range_with_len}
+use Rattle.std.proofs.lemmas.List.FromFn.{map-range_with_len_more, length-range_with_len, get_or-range_with_len, fill_by_all, get_or-map-range_with_len, length-map-range_with_len}
 use Rattle.bsp_deliver.specs.Requests.{each_below}
 use Rattle.bsp_deliver.specs.Condition.{IsAscending}
 
@@ -34,3 +34,8 @@ pub range_ascending : (n : ℕ) → IsAscending (range_with_len 0 n)
 range_ascending n = λ j k l lk.
     let here : k < n = omega (arith, length-range_with_len 0 n) in
     omega (arith, l, get_or-range_with_len 0 n k 0 here, get_or-range_with_len 0 n j 0 (omega arith))
+
+-- functions that agree below n make the same list
+pub each_below-agree : {X : Type 0} (n : ℕ) (f g : ℕ → X) → ((k : ℕ) → k < n → f k ≡ g k) → each_below n f ≡ each_below n g
+each_below-agree n f g h =
+    fill_by_all g (each_below n f) n (f 0) (length-map-range_with_len f 0 n) (λ k l. get_or-map-range_with_len f 0 n k k (f 0) l (omega arith) ∙ h k l)

@@ -1,12 +1,12 @@
 -- The shares of all processes are a whole superstep.
-use Rattle.std.proofs.Common.{◌≡◌, ℕ, List, map, length, All, get_or, true, sym, ap, ◌∙◌, subst, refl}
+use Rattle.std.proofs.Common.{◌≡◌, ℕ, List, [], map, length, All, get_or, true, sym, ap, ◌∙◌, subst, refl}
 use Rattle.std.specs.List.{range_with_len}
 use Rattle.std.proofs.lemmas.List.{get_or-map, length-map}
 use Rattle.std.proofs.lemmas.List.FromFn.{fill_by_all}
 use Rattle.bsp_model.specs.declared.request.Message.{Message}
 use Rattle.bsp_model.specs.declared.fault.End.{End}
 use Rattle.bsp_step.specs.ViewParts.{ViewParts, IsView}
-use Rattle.bsp_step.specs.OutcomeParts.{OutcomeParts, no_outcome}
+use Rattle.bsp_step.specs.OutcomeParts.{OutcomeParts, no_outcome, outcome_of}
 use Rattle.bsp_step.specs.Act.{Act}
 use Rattle.bsp_step.specs.Turn.{turn_of}
 use Rattle.bsp_run.specs.Run.{Run, open_views, after_turns}
@@ -25,6 +25,12 @@ turns_of-all turn vs =
 pub deliveries_to-all : (os : List OutcomeParts) → deliveries_to os (range_with_len 0 (length os)) ≡ deliveries_of os
 unfolding deliveries_of
 deliveries_to-all os = refl
+
+-- the memories of all processes, by number
+pub memories-all : (os : List OutcomeParts) → map (λ p. (outcome_of os p).memory) (range_with_len 0 (length os)) ≡ map (λ o. o.memory) os
+memories-all os =
+    let memory = λ (o : OutcomeParts). o.memory in
+    sym (fill_by_all (λ p. (outcome_of os p).memory) (map memory os) (length os) [] (length-map os memory) (λ p l. get_or-map memory os p no_outcome [] l))
 
 -- What is known of the outcomes of the open superstep that are made of the views shown.
 pub record AreTurnsOf (turn : ViewParts → OutcomeParts) (r : Run) (vs : List ViewParts) (os : List OutcomeParts) : Type 0 where

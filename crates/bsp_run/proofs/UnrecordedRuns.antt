@@ -1,10 +1,10 @@
 -- Runs of which no record is kept.
-use Rattle.std.proofs.Common.{◌≡◌, ◌≢◌, ◌≤◌, ◌<◌, ◌+◌, ◌-◌, ◌==◌, ◌++◌, ◌∷◌, ℕ, zero, suc, Bool, true, false, cond, List, [], map, length, All, Option, None, Some, get_or, refl, sym, ap, ◌∙◌, subst, arith, length-append}
+use Rattle.std.proofs.Common.{◌≡◌, ◌≢◌, ◌≤◌, ◌<◌, ◌+◌, ◌-◌, ◌==◌, ◌++◌, ◌∷◌, ℕ, zero, suc, Bool, true, false, cond, List, [], map, length, All, Option, None, Some, refl, sym, ap, ◌∙◌, subst, arith, length-append}
 use Rattle.std.specs.Prelude.{option_to_list}
+use Rattle.std.specs.List.{range_with_len}
 use Rattle.std.proofs.lemmas.Grind.{flat_map-append}
 use Rattle.std.proofs.lemmas.List.{map-append, append-nil, length-map}
 use Rattle.std.proofs.lemmas.List.Concat.{flat_map-cons}
-use Rattle.std.proofs.lemmas.List.FromFn.{fill_by_all, get_or-map-range_with_len, length-map-range_with_len}
 use Rattle.std.proofs.lemmas.List.Elements.{All-nil}
 use Rattle.bsp_model.specs.declared.input.Input.{Input}
 use Rattle.bsp_model.specs.declared.cost.CostRow.{CostRow}
@@ -31,9 +31,10 @@ use Rattle.bsp_run.specs.Inside.Opening.{CanOpen}
 use Rattle.bsp_run.specs.Condition.{IsInPhase, IsAtLimit, IsRun, AreOutcomesOf, is_open, is_turned, is_ended}
 use Rattle.bsp_run.specs.Inside.Condition.{CanSync}
 use Rattle.bsp_run.specs.Result.{status_in, status_of, memories_of, lines_of, lines_of_process, costs_of, cost_of_delivery, cost_of_end, total_of, result_of, IsSmall}
-use Rattle.bsp_run.specs.Inside.Unrecorded.{lines_and, state_after}
+use Rattle.bsp_run.specs.Inside.Unrecorded.{lines_and, lines_in, state_after, AreLinesAnd}
 use Rattle.bsp_run.specs.Inside.IsUnrecorded.{IsUnrecorded}
-use Rattle.bsp_run.proofs.Conditions.{count_of_outcomes, AreDeliverable-from_turns, pops_are_slots}
+use Rattle.bsp_run.proofs.Lists.{each_below-agree}
+use Rattle.bsp_run.proofs.Conditions.{length-views_of, count_of_outcomes, AreDeliverable-from_turns, pops_are_slots}
 use Rattle.bsp_run.proofs.Laws.{supersteps-limit, outcomes-last, outcomes-ended}
 use Rattle.bsp_run.proofs.Opens.{start_is_run, state_seen-views_of}
 use Rattle.std.proofs.lemmas.Bool.Decides.{nat_tests}
@@ -50,20 +51,21 @@ pub record IsUnderway (turn : ViewParts → OutcomeParts) (input : Input) (n : �
   pub full : n ≡ 0 → so_far.phase ≡ Ended Limit
   pub same : IsUnrecorded input so_far kept
 
-pub unrecorded_start : (input : Input) (kept : Unrecorded) → IsLawfulInput input → kept.args ≡ input.args → kept.views ≡ open_views (start input) → kept.table ≡ [] → kept.tag_size ≡ 0
-    → kept.lines.items ≡ each_below (length input.mems) (lines_of_process []) → kept.costs ≡ [] → IsUnrecorded input (start input) kept
+pub unrecorded_start : (input : Input) (kept : Unrecorded) → IsLawfulInput input → kept.args ≡ input.args → kept.processes.items ≡ range_with_len 0 (length input.mems) → kept.views ≡ open_views (start input) → kept.table ≡ [] → kept.tag_size ≡ 0
+    → kept.lines.items ≡ [] → kept.costs ≡ [] → IsUnrecorded input (start input) kept
 unfolding start first_state
-unrecorded_start input kept h ea ev et eg el ec =
+unrecorded_start input kept h ea ep ev et eg el ec =
     record {
       run = start_is_run input h;
       limit = refl;
       g = refl;
       l = refl;
       args = ea;
+      processes = ep;
       views = ev;
       table = et;
       tag_size = eg;
-      lines = el;
+      lines = λ p. ap (λ (printed : List (List (List (List ℕ)))). lines_in printed p) el;
       costs = ec;
       small = subst (All IsSmall) (sym ec) (All-nil IsSmall);
     }
@@ -91,6 +93,10 @@ turns_are acts ending input kept r vs os h ev eo =
     let turn = turn_of acts ending in
     let made : os ≡ map turn (open_views r) = eo ∙ ap (map turn) (ev ∙ h.views) in
     (made, subst (AreOutcomesOf (open_views r)) (sym made) (AreOutcomesOf-turns acts ending (open_views r) (views_within r h.run)))
+
+-- the processes are those that have taken their turns
+pub processes_are : (input : Input) (kept : Unrecorded) (r : Run) (os : List OutcomeParts) → IsUnrecorded input r kept → AreOutcomesOf (open_views r) os → kept.processes.items ≡ range_with_len 0 (length os)
+processes_are input kept r os h turns = h.processes ∙ ap (range_with_len 0) (sym (count_of_outcomes r.args (length r.past) r.state os turns))
 
 pub some_turns : (input : Input) (kept : Unrecorded) (r : Run) (os : List OutcomeParts) → IsUnrecorded input r kept → AreOutcomesOf (open_views r) os → 1 ≤ length os
 some_turns input kept r os h turns = omega (arith, h.run.state.some, count_of_outcomes r.args (length r.past) r.state os turns)
@@ -136,17 +142,11 @@ one_turn : (os : List OutcomeParts) (p : ℕ) → lines_of_process (os ∷ []) p
 one_turn os p = flat_map-cons (λ (us : List OutcomeParts). (outcome_of us p).lines) os [] ∙ append-nil ((outcome_of os p).lines)
 
 -- the lines of one superstep more
-pub lines_more : (n : ℕ) (turns : List (List OutcomeParts)) (os : List OutcomeParts) (lines : List (List (List ℕ))) → lines ≡ each_below n (lines_of_process turns) → lines_and lines os ≡ each_below n (lines_of_process (turns ++ os ∷ []))
-lines_more n turns os lines e =
-    let f : ℕ → List (List ℕ) = lines_of_process turns in
-    let long : length lines ≡ n = ap (λ (xs : List (List (List ℕ))). length xs) e ∙ length-map-range_with_len f 0 n in
-    let both : ℕ → List (List ℕ) = λ p. get_or lines p [] ++ (outcome_of os p).lines in
-    fill_by_all (lines_of_process (turns ++ os ∷ [])) (lines_and lines os) n [] (length-map-range_with_len both 0 (length lines) ∙ long)
-    (λ k l.
-    get_or-map-range_with_len both 0 (length lines) k k [] (omega (arith, long, l)) (omega arith)
-    ∙ ap (λ (xs : List (List ℕ)). xs ++ (outcome_of os k).lines) (ap (λ (xs : List (List (List ℕ))). get_or xs k []) e ∙ get_or-map-range_with_len f 0 n k k [] l (omega arith))
-    ∙ ap (λ (xs : List (List ℕ)). lines_of_process turns k ++ xs) (sym (one_turn os k))
-    ∙ sym (flat_map-append (λ (us : List OutcomeParts). (outcome_of us k).lines) turns (os ∷ [])))
+pub lines_more : (turns : List (List OutcomeParts)) (os : List OutcomeParts) (printed : List (List (List (List ℕ)))) (p : ℕ) → lines_in printed p ≡ lines_of_process turns p → lines_and printed os p ≡ lines_of_process (turns ++ os ∷ []) p
+lines_more turns os printed p e =
+    ap (λ (xs : List (List ℕ)). xs ++ (outcome_of os p).lines) e
+    ∙ ap (λ (xs : List (List ℕ)). lines_of_process turns p ++ xs) (sym (one_turn os p))
+    ∙ sym (flat_map-append (λ (us : List OutcomeParts). (outcome_of us p).lines) turns (os ∷ []))
 
 costs_more : (price : List OutcomeParts → CostRow) (past : List Superstep) (vs : List ViewParts) (os : List OutcomeParts) → map price (outcomes_of past) ++ price os ∷ [] ≡ map price (outcomes_of (past ++ record { views = vs; outcomes = os } ∷ []))
 costs_more price past vs os =
@@ -154,11 +154,11 @@ costs_more price past vs os =
     sym (ap (map price) (map-append of past (record { views = vs; outcomes = os } ∷ [])) ∙ map-append price (map of past) (os ∷ []))
 
 -- What is kept after the next superstep has opened.
-pub unrecorded_delivered : (input : Input) (r : Run) (os : List OutcomeParts) (old new : Unrecorded) (step : ℕ) → IsUnrecorded input r old → AreOutcomesOf (open_views r) os → IsRun (after_delivery (after_turns r os)) → step ≡ length r.past + 1 → new.args ≡ old.args
-    → new.views ≡ views_of old.args step (state_after old.table old.tag_size os) → new.table ≡ (state_after old.table old.tag_size os).table → new.tag_size ≡ (state_after old.table old.tag_size os).tag_size → new.lines.items ≡ lines_and old.lines.items os
+pub unrecorded_delivered : (input : Input) (r : Run) (os : List OutcomeParts) (old new : Unrecorded) (step : ℕ) → IsUnrecorded input r old → AreOutcomesOf (open_views r) os → IsRun (after_delivery (after_turns r os)) → step ≡ length r.past + 1 → new.args ≡ old.args → new.processes.items ≡ old.processes.items
+    → new.views ≡ views_of old.args step (state_after old.table old.tag_size os) → new.table ≡ (state_after old.table old.tag_size os).table → new.tag_size ≡ (state_after old.table old.tag_size os).tag_size → AreLinesAnd old.lines.items os new.lines.items
     → new.costs ≡ old.costs ++ cost_of_delivery input.g input.l os ∷ [] → All IsSmall new.costs → IsUnrecorded input (after_delivery (after_turns r os)) new
 unfolding after_turns after_delivery
-unrecorded_delivered input r os old new step h turns next es ea ev et eg el ec small =
+unrecorded_delivered input r os old new step h turns next es ea ep ev et eg el ec small =
     let of : Superstep → List OutcomeParts = λ s. s.outcomes in
     let one : List Superstep = record { views = open_views r; outcomes = os } ∷ [] in
     let state : state_after old.table old.tag_size os ≡ next_state r.state os = state_is input old r os h in
@@ -168,12 +168,11 @@ unrecorded_delivered input r os old new step h turns next es ea ev et eg el ec s
       g = h.g;
       l = h.l;
       args = ea ∙ h.args;
+      processes = ep ∙ h.processes ∙ ap (range_with_len 0) (sym (count-next_state r.args (length r.past) r.state os turns));
       views = ev ∙ ap (λ (a : List (List ℕ)). views_of a step (state_after old.table old.tag_size os)) h.args ∙ ap (views_of r.args step) state ∙ ap (λ n. views_of r.args n (next_state r.state os)) (es ∙ sym (length-append r.past one));
       table = et ∙ ap (λ (s : State). s.table) state;
       tag_size = eg ∙ ap (λ (s : State). s.tag_size) state;
-      lines = el ∙ lines_more (length r.state.memories) (outcomes_of r.past) os old.lines.items h.lines
-          ∙ ap (λ n. each_below n (lines_of_process (outcomes_of r.past ++ os ∷ []))) (sym (count-next_state r.args (length r.past) r.state os turns))
-          ∙ ap (λ (us : List (List OutcomeParts)). each_below (length (next_state r.state os).memories) (lines_of_process us)) (sym (map-append of r.past one));
+      lines = λ p. el.each p ∙ lines_more (outcomes_of r.past) os old.lines.items p (h.lines p) ∙ ap (λ (us : List (List OutcomeParts)). lines_of_process us p) (sym (map-append of r.past one));
       costs = ec ∙ ap (λ (rows : List CostRow). rows ++ cost_of_delivery input.g input.l os ∷ []) h.costs
           ∙ ap (λ g. map (cost_of_delivery r.g r.l) (outcomes_of r.past) ++ cost_of_delivery g input.l os ∷ []) (sym h.g)
           ∙ ap (λ l. map (cost_of_delivery r.g r.l) (outcomes_of r.past) ++ cost_of_delivery r.g l os ∷ []) (sym h.l)
@@ -240,11 +239,14 @@ full_next : (r : Run) (os : List OutcomeParts) (m n : ℕ) → n ≡ 0 → lengt
 unfolding after_turns after_delivery
 full_next r os m n z left e = full_if ((length r.past + 1) == r.limit) (length r.past + 1) r.limit refl (omega (arith, z, left, e))
 
-ended_parts : (r : Run) (os : List OutcomeParts) (status : Status) (kept : Unrecorded) (input : Input) → IsUnrecorded input r kept → (after_turns r os).phase ≡ Ended status → is_limit (Ended status) ≡ false
-    → record { status = status; memories = map (λ (o : OutcomeParts). o.memory) os; lines = lines_and kept.lines.items os; costs = kept.costs ++ cost_of_end os ∷ []; total = total_of (kept.costs ++ cost_of_end os ∷ []) } ≡ result_of (after_turns r os)
+ended_parts : (r : Run) (os : List OutcomeParts) (status : Status) (kept : Unrecorded) (input : Input) → IsUnrecorded input r kept → length os ≡ length r.state.memories → (after_turns r os).phase ≡ Ended status → is_limit (Ended status) ≡ false
+    → record { status = status; memories = map (λ (o : OutcomeParts). o.memory) os; lines = each_below (length os) (lines_and kept.lines.items os); costs = kept.costs ++ cost_of_end os ∷ []; total = total_of (kept.costs ++ cost_of_end os ∷ []) } ≡ result_of (after_turns r os)
 unfolding after_turns
-ended_parts r os status kept input h e n =
-    result_is (after_turns r os) status (lines_and kept.lines.items os) (kept.costs ++ cost_of_end os ∷ []) e n (lines_more (length r.state.memories) (outcomes_of r.past) os kept.lines.items h.lines) (ap (λ (rows : List CostRow). rows ++ cost_of_end os ∷ []) h.costs)
+ended_parts r os status kept input h count e n =
+    let lines : ℕ → List (List ℕ) = lines_and kept.lines.items os in
+    let turns : List (List OutcomeParts) = outcomes_of r.past ++ os ∷ [] in
+    let same = ap (λ k. each_below k lines) count ∙ each_below-agree (length r.state.memories) lines (lines_of_process turns) (λ p l. lines_more (outcomes_of r.past) os kept.lines.items p (h.lines p)) in
+    result_is (after_turns r os) status (each_below (length os) lines) (kept.costs ++ cost_of_end os ∷ []) e n same (ap (λ (rows : List CostRow). rows ++ cost_of_end os ∷ []) h.costs)
 
 -- The next superstep has opened, or the limit is reached.
 pub underway_next : (turn : ViewParts → OutcomeParts) (input : Input) (m n : ℕ) (old new : Unrecorded) (os : List OutcomeParts) (u : IsUnderway turn input m old) → m ≡ suc n → os ≡ map turn (open_views u.so_far) → end_of (length (u.so_far).past) (u.so_far).state.table os ≡ None
@@ -267,7 +269,7 @@ underway_next turn input m n old new os u e made none same =
 
 -- What the run gives that ended with this superstep.
 pub result_ended : (turn : ViewParts → OutcomeParts) (input : Input) (m n : ℕ) (kept : Unrecorded) (os : List OutcomeParts) (status : Status) (u : IsUnderway turn input m kept) → m ≡ suc n → os ≡ map turn (open_views u.so_far)
-    → end_of (length (u.so_far).past) (u.so_far).state.table os ≡ Some status → record { status = status; memories = map (λ (o : OutcomeParts). o.memory) os; lines = lines_and kept.lines.items os; costs = kept.costs ++ cost_of_end os ∷ []; total = total_of (kept.costs ++ cost_of_end os ∷ []) } ≡ result_of (run turn input)
+    → end_of (length (u.so_far).past) (u.so_far).state.table os ≡ Some status → record { status = status; memories = map (λ (o : OutcomeParts). o.memory) os; lines = each_below (length os) (lines_and kept.lines.items os); costs = kept.costs ++ cost_of_end os ∷ []; total = total_of (kept.costs ++ cost_of_end os ∷ []) } ≡ result_of (run turn input)
 result_ended turn input m n kept os status u e made ends =
     let r : Run = u.so_far in
     let phase : r.phase ≡ Open = u.opened (omega (arith, e)) in
@@ -276,16 +278,20 @@ result_ended turn input m n kept os status u e made ends =
     let closed : is_turned (after_turns r (map turn (open_views r))).phase ≡ false = ap (λ (us : List OutcomeParts). is_turned (after_turns r us).phase) (sym made) ∙ ap is_turned here in
     let next : advance turn r ≡ t = advance-ends turn r phase closed ∙ ap (after_turns r) (sym made) in
     let ran : t ≡ run turn input = sym (stays turn n t (turns_closed r os)) ∙ ap (times n (advance turn)) (sym next) ∙ sym (times_more turn m n r e) ∙ u.rest in
-    ended_parts r os status kept input u.same here (no_limit status (length r.past) r.state.table os ends) ∙ ap result_of ran
+    let count : length os ≡ length r.state.memories = ap (λ (us : List OutcomeParts). length us) made ∙ length-map (open_views r) turn ∙ length-views_of r.args (length r.past) r.state in
+    ended_parts r os status kept input u.same count here (no_limit status (length r.past) r.state.table os ends) ∙ ap result_of ran
 
 -- What the run gives that ended at the limit.
 pub result_at_limit : (turn : ViewParts → OutcomeParts) (input : Input) (n : ℕ) (kept : Unrecorded) → IsUnderway turn input n kept → n ≡ 0
-    → record { status = Limit; memories = map (λ (v : ViewParts). v.memory) kept.views; lines = kept.lines.items; costs = kept.costs; total = total_of kept.costs } ≡ result_of (run turn input)
+    → record { status = Limit; memories = map (λ (v : ViewParts). v.memory) kept.views; lines = each_below (length kept.views) (lines_in kept.lines.items); costs = kept.costs; total = total_of kept.costs } ≡ result_of (run turn input)
 result_at_limit turn input n kept u z =
     let r : Run = u.so_far in
     let ran : r ≡ run turn input = sym (ap (λ k. times k (advance turn) r) z) ∙ u.rest in
     let memories = ap (map (λ (v : ViewParts). v.memory)) u.same.views ∙ ap (λ (s : State). s.memories) (state_seen-views_of r.args (length r.past) r.state u.same.run.state.same_count) in
-    limit_result_is r (map (λ (v : ViewParts). v.memory) kept.views) kept.lines.items kept.costs (u.full z) memories u.same.lines u.same.costs ∙ ap result_of ran
+    let lines : ℕ → List (List ℕ) = lines_in kept.lines.items in
+    let count : length kept.views ≡ length r.state.memories = ap (λ (vs : List ViewParts). length vs) u.same.views ∙ length-views_of r.args (length r.past) r.state in
+    let same = ap (λ k. each_below k lines) count ∙ each_below-agree (length r.state.memories) lines (lines_of_process (outcomes_of r.past)) (λ p l. u.same.lines p) in
+    limit_result_is r (map (λ (v : ViewParts). v.memory) kept.views) (each_below (length kept.views) lines) kept.costs (u.full z) memories same u.same.costs ∙ ap result_of ran
 
 -- there is a row for each superstep so far
 pub few_rows : (turn : ViewParts → OutcomeParts) (input : Input) (n : ℕ) (kept : Unrecorded) (u : IsUnderway turn input n kept) → length kept.costs ≡ length (u.so_far).past

@@ -9,13 +9,17 @@ ghost use Rattle.bsp_run.specs.Ending.{end_of, faults_from};
 use crate::{ProcessFault, Status};
 use bsp_deliver::{has_sync, sync_fault};
 use bsp_model::{OutOfMemory, Seq};
-use bsp_step::Outcomes;
+use bsp_step::{ListKind, Outcomes};
 use bsp_table::Table;
 use std::alloc::Global;
 
+/// Whether some process has a fault. Where no fault stands, they are not gone over.
 fn has_fault(outcomes: &Outcomes) -> bool
     ensures { result ≡ list_any (λ o. is_some o.fault) outcomes.now }
 {
+    if outcomes.is_without(ListKind::Faults) {
+        return false;
+    }
     for pid in 0..outcomes.len() {
         if outcomes.get(pid).fault.is_some() {
             return true;

@@ -11,8 +11,9 @@ ghost use Rattle.bsp_run.specs.Result.{status_of, memories_of, lines_of, costs_o
 use crate::costs::{all_costs, total_of};
 use crate::keeping::{is_limit, last_turn};
 use crate::lines::all_lines;
+use crate::supersteps::numbers;
 use crate::{Arguments, Lines, Phase, RunResult, Status, Superstep, Tape, Views};
-use bsp_model::{CostRow, Memory, MemoryRef, OutOfMemory, Seq, Shared, SharedSeq, TryCopy};
+use bsp_model::{CostRow, Memories, MemoryRef, OutOfMemory, Shared, SharedSeq, TryCopy};
 use bsp_step::Outcomes;
 use std::alloc::Global;
 use std::marker::Model;
@@ -21,7 +22,7 @@ use std::marker::Model;
 #[derive(Drop)]
 pub struct History {
     pub(crate) run: Tape,
-    lines: SharedSeq<Shared<Lines>>,
+    lines: SharedSeq<Lines>,
     costs: SharedSeq<CostRow>,
     total: u64,
 }
@@ -74,7 +75,7 @@ impl Tape {
     /// The history of a run that has ended. It shares those of these lines that are the same, as those of a process that is not marked are.
     fn finish_sharing(
         self,
-        lines: &SharedSeq<Shared<Lines>>,
+        lines: &SharedSeq<Lines>,
         marks: &[bool],
     ) -> Result<History, OutOfMemory>
         requires ended { is_ended self.phase ≡ true }
@@ -160,13 +161,13 @@ impl History {
 }
 
 /// The memories of these views.
-pub(crate) fn memories_of_views(alloc: Global, views: &Views) -> Result<Seq<Memory>, OutOfMemory>
+pub(crate) fn memories_of_views(alloc: Global, views: &Views) -> Result<Memories, OutOfMemory>
     ensures { IfOk result (λ all. all ≡ map (λ v. v.memory) views.now) }
 {
-    let mut all = Seq::new(alloc);
+    let mut all = Memories::with_capacity(alloc, views.len())?;
     for pid in 0..views.len() {
         let view = views.get(pid);
-        all.push(view.memory.to_memory()?)?;
+        all.push_copy(&view.memory)?;
     }
     Ok(all)
 }
@@ -186,14 +187,12 @@ fn memory_seen(views: &Views, pid: usize) -> Option<MemoryRef<'_>>
 pub(crate) fn memories_of_outcomes(
     alloc: Global,
     outcomes: &Outcomes,
-) -> Result<Seq<Memory>, OutOfMemory>
+) -> Result<Memories, OutOfMemory>
     ensures { IfOk result (λ all. all ≡ map (λ o. o.memory) outcomes.now) }
 {
-    let mut all = Seq::new(alloc);
-    for pid in 0..outcomes.len() {
-        all.push(outcomes.get(pid).memory.to_memory()?)?;
-    }
-    Ok(all)
+    let processes = numbers(alloc, outcomes.len())?;
+    let room = Memories::with_capacity(alloc, 0)?;
+    outcomes.memories_of(processes.as_slice(), room)
 }
 
 impl History {
@@ -250,7 +249,7 @@ impl History {
     }
 
     /// The memories of all processes.
-    fn memories(&self) -> Result<Seq<Memory>, OutOfMemory>
+    fn memories(&self) -> Result<Memories, OutOfMemory>
         ensures { IfOk result (λ all. all ≡ memories_of self.now) }
     {
         let run = &self.run;

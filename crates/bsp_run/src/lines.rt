@@ -6,11 +6,10 @@ ghost use Rattle.bsp_deliver.specs.Requests.{each_below};
 ghost use Rattle.bsp_step.specs.OutcomeParts.{outcome_of};
 ghost use Rattle.bsp_run.specs.Supersteps.{outcomes_of};
 ghost use Rattle.bsp_run.specs.Result.{lines_of_process};
-ghost use Rattle.bsp_run.specs.Inside.Unrecorded.{lines_and};
-ghost use Rattle.bsp_run.specs.Inside.Lines.{AreLinesUnlessMarked};
+ghost use Rattle.bsp_run.specs.Inside.Lines.{is_taken, lines_from, AreGathered, AreLinesUnlessMarked};
 
 use crate::{Lines, Superstep};
-use bsp_model::{OutOfMemory, Rows, RowsRef, Shared, SharedSeq, TryCopy};
+use bsp_model::{LineColumn, OutOfMemory, Rows, RowsRef, Shared, SharedSeq, TryCopy};
 use bsp_step::{ListKind, Outcomes};
 use std::alloc::Global;
 
@@ -25,7 +24,7 @@ fn may_have_lines(outcomes: &Outcomes, pid: usize) -> bool
 
 /// Puts the lines of a process in one superstep behind the others.
 #[inline]
-fn add_lines(lines: &mut Lines, outcomes: &Outcomes, pid: usize) -> Result<(), OutOfMemory>
+fn add_lines(lines: &mut Rows<u64>, outcomes: &Outcomes, pid: usize) -> Result<(), OutOfMemory>
     ensures { OnOk result (lines.new ≡ lines.old ++ (outcome_of outcomes.now pid).lines) }
 {
     if !may_have_lines(outcomes, pid) {
@@ -35,67 +34,27 @@ fn add_lines(lines: &mut Lines, outcomes: &Outcomes, pid: usize) -> Result<(), O
     lines.append(&own)
 }
 
-/// Adds the lines of each process in one superstep to those that it printed before.
-pub fn add_all_lines(lines: &mut Vec<Lines>, outcomes: &Outcomes) -> Result<(), OutOfMemory>
-    ensures { OnOk result (lines.new.items ≡ lines_and lines.old.items outcomes.now) }
+/// Makes these the lines of a process in these supersteps, and then in the one that ended the run, if there is one.
+fn take_lines(
+    lines: &mut Rows<u64>,
+    past: &[Superstep],
+    last: Option<&Outcomes>,
+    pid: usize,
+) -> Result<(), OutOfMemory>
+    ensures { OnOk result (lines.new ≡ lines_of_process (outcomes_of past.now ++ option_to_list (option_map (λ o. o.now) last.entry)) pid) }
 {
-    for pid in 0..lines.len() {
-        add_lines(&mut lines[pid], outcomes, pid)?;
+    lines.clear();
+    for superstep in past {
+        add_lines(lines, &superstep.outcomes, pid)?;
+    }
+    if let Some(outcomes) = last {
+        add_lines(lines, outcomes, pid)?;
     }
     Ok(())
 }
 
-/// These lines of each process, for a result.
-pub fn share_lines(alloc: Global, all: Vec<Lines>) -> Result<SharedSeq<Shared<Lines>>, OutOfMemory>
-    ensures { IfOk result (λ shared. shared ≡ all.items) }
-{
-    let mut shared = Vec::with_capacity(alloc, all.len())?;
-    for lines in all {
-        shared.push(Shared::new(alloc, lines)?)?;
-    }
-    Ok(SharedSeq::from_vec(shared)?)
-}
-
-/// No lines, for each process.
-pub fn no_lines(alloc: Global, nprocs: usize) -> Result<Vec<Lines>, OutOfMemory>
-    ensures { IfOk result (λ all. all.items ≡ each_below nprocs (lines_of_process [])) }
-{
-    let mut all = Vec::with_capacity(alloc, nprocs)?;
-    for _pid in 0..nprocs {
-        all.push(Rows::new(alloc))?;
-    }
-    Ok(all)
-}
-
-/// The lines of a process in these supersteps.
-fn lines_of_past(alloc: Global, past: &[Superstep], pid: usize) -> Result<Lines, OutOfMemory>
-    ensures { IfOk result (λ lines. lines ≡ lines_of_process (outcomes_of past.now) pid) }
-{
-    let mut lines = Rows::new(alloc);
-    for superstep in past {
-        add_lines(&mut lines, &superstep.outcomes, pid)?;
-    }
-    Ok(lines)
-}
-
-/// The lines of a process in these supersteps, and then in the one that ended the run, if there is one.
-fn lines_of_run(
-    alloc: Global,
-    past: &[Superstep],
-    last: Option<&Outcomes>,
-    pid: usize,
-) -> Result<Lines, OutOfMemory>
-    ensures { IfOk result (λ lines. lines ≡ lines_of_process (outcomes_of past.now ++ option_to_list (option_map (λ o. o.now) last.entry)) pid) }
-{
-    let mut lines = lines_of_past(alloc, past, pid)?;
-    if let Some(outcomes) = last {
-        add_lines(&mut lines, outcomes, pid)?;
-    }
-    Ok(lines)
-}
-
 /// The place behind more lines in a list, if they stand there from a place on.
-fn place_behind(lines: &Lines, at: usize, more: &RowsRef<'_, u64>) -> Option<usize>
+fn place_behind(lines: &RowsRef<'_, u64>, at: usize, more: &RowsRef<'_, u64>) -> Option<usize>
     requires { at ≤ length lines.now }
     ensures inside { IfSome result (λ behind. behind ≤ length lines.now) }
     ensures same { IfSome result (λ behind. take behind lines.now ≡ take at lines.now ++ more.now) }
@@ -112,7 +71,12 @@ fn place_behind(lines: &Lines, at: usize, more: &RowsRef<'_, u64>) -> Option<usi
 }
 
 /// The same for the lines of a process in one superstep.
-fn place_behind_printed(lines: &Lines, at: usize, outcomes: &Outcomes, pid: usize) -> Option<usize>
+fn place_behind_printed(
+    lines: &RowsRef<'_, u64>,
+    at: usize,
+    outcomes: &Outcomes,
+    pid: usize,
+) -> Option<usize>
     requires { at ≤ length lines.now }
     ensures inside { IfSome result (λ behind. behind ≤ length lines.now) }
     ensures same { IfSome result
@@ -126,7 +90,12 @@ fn place_behind_printed(lines: &Lines, at: usize, outcomes: &Outcomes, pid: usiz
 }
 
 /// Whether these are the lines of a process. It takes no memory.
-fn are_lines_of(lines: &Lines, past: &[Superstep], last: Option<&Outcomes>, pid: usize) -> bool
+fn are_lines_of(
+    lines: &RowsRef<'_, u64>,
+    past: &[Superstep],
+    last: Option<&Outcomes>,
+    pid: usize,
+) -> bool
     ensures { result ≡ true → lines.now ≡ lines_of_process (outcomes_of past.now ++ option_to_list (option_map (λ o. o.now) last.entry)) pid }
 {
     let mut at = 0;
@@ -164,48 +133,152 @@ fn is_none_marked(marks: &[bool], nprocs: usize) -> bool
     true
 }
 
-/// The lines of a process: those of another run, which it shares, if they are the same. They are not looked at where it is not marked.
-fn shared_lines(
-    alloc: Global,
-    before: &[Shared<Lines>],
+/// Whether the lines of all of so many processes are those of a run before, which had as many.
+fn are_all_taken(before: &[Lines], marks: &[bool], nprocs: usize) -> bool
+    ensures count { result ≡ true → length before.now ≡ nprocs }
+    ensures unmarked { result ≡ true → (p : ℕ) → p < nprocs → slice_index_or marks.now p true ≡ false }
+{
+    before.len() == nprocs && is_none_marked(marks, nprocs)
+}
+
+/// Whether the lines of a process are those of a run before: it had such a process, which is not marked.
+fn is_taken(before: &[Lines], marks: &[bool], pid: usize) -> bool
+    ensures taken { result ≡ is_taken before.now marks.now pid }
+    ensures known { result ≡ true → pid < length before.now }
+{
+    pid < before.len() && !is_marked(marks, pid)
+}
+
+/// Whether a process of a run before has other lines now. They are not looked at where it is not marked.
+fn has_other_lines(
+    before: &[Lines],
     marks: &[bool],
     past: &[Superstep],
     last: Option<&Outcomes>,
     pid: usize,
-) -> Result<Shared<Lines>, OutOfMemory>
-    requires { AreLinesUnlessMarked before.now marks.now
+) -> bool
+    requires known { pid < length before.now }
+    requires same { AreLinesUnlessMarked before.now marks.now
         (outcomes_of past.now ++ option_to_list (option_map (λ o. o.now) last)) }
-    ensures { IfOk result (λ lines. lines ≡ lines_of_process (outcomes_of past.now ++ option_to_list (option_map (λ o. o.now) last.entry)) pid) }
+    ensures { result ≡ false → slice_index_or before.now pid [] ≡ lines_of_process (outcomes_of past.now ++ option_to_list (option_map (λ o. o.now) last.entry)) pid }
 {
-    if let Some(lines) = before.get(pid) {
-        if !is_marked(marks, pid) || are_lines_of(lines, past, last, pid) {
-            return lines.copy();
-        }
-    }
-    Ok(Shared::new(alloc, lines_of_run(alloc, past, last, pid)?)?)
+    is_marked(marks, pid) && !are_lines_of(&before[pid].as_ref(), past, last, pid)
 }
 
-/// The lines of each process. Those that are the same as in `before` are shared, as those of a process that is not marked are.
-#[tactic(auto, using(crate::proofs::Lists::each_below_more))]
-pub fn all_lines(
+/// Marks the processes of a run before that have other lines now, of those that are marked.
+fn mark_others(
     alloc: Global,
-    before: &SharedSeq<Shared<Lines>>,
+    before: &[Lines],
+    marks: &[bool],
+    past: &[Superstep],
+    last: Option<&Outcomes>,
+) -> Result<Vec<bool>, OutOfMemory>
+    requires { AreLinesUnlessMarked before.now marks.now
+        (outcomes_of past.now ++ option_to_list (option_map (λ o. o.now) last)) }
+    ensures { IfOk result (λ others. AreLinesUnlessMarked before.now others.items
+        (outcomes_of past.now ++ option_to_list (option_map (λ o. o.now) last.entry))) }
+{
+    let mut others = Vec::with_capacity(alloc, before.len())?;
+    for pid in 0..before.len() {
+        others.push(has_other_lines(before, marks, past, last, pid))?;
+    }
+    Ok(others)
+}
+
+/// The lines of each process that are not taken from a run before, in one column.
+fn gathered(
+    alloc: Global,
+    before: &[Lines],
     marks: &[bool],
     past: &[Superstep],
     last: Option<&Outcomes>,
     nprocs: usize,
-) -> Result<SharedSeq<Shared<Lines>>, OutOfMemory>
+) -> Result<LineColumn, OutOfMemory>
+    ensures { IfOk result (λ all. AreGathered before.now marks.now
+        (outcomes_of past.now ++ option_to_list (option_map (λ o. o.now) last.entry)) nprocs all) }
+{
+    let mut all = LineColumn::new(alloc);
+    let mut lines = Rows::new(alloc);
+    for pid in 0..nprocs {
+        if !is_taken(before, marks, pid) {
+            take_lines(&mut lines, past, last, pid)?;
+            all.put(pid, &lines.as_ref())?;
+        }
+    }
+    Ok(all)
+}
+
+/// The lines of a process: those of a run before, or else those in a column.
+fn lines_from(
+    before: &[Lines],
+    marks: &[bool],
+    all: &Shared<LineColumn>,
+    pid: usize,
+) -> Result<Lines, OutOfMemory>
+    ensures { IfOk result (λ lines. lines ≡ lines_from before.now marks.now all.now pid) }
+{
+    if is_taken(before, marks, pid) {
+        return before[pid].copy();
+    }
+    Lines::at(all, pid)
+}
+
+/// The lines of each process: those of a run before, or else those in a column.
+#[tactic(auto, using(crate::proofs::Lists::each_below_more))]
+pub fn each_lines(
+    alloc: Global,
+    before: &[Lines],
+    marks: &[bool],
+    all: &Shared<LineColumn>,
+    nprocs: usize,
+) -> Result<SharedSeq<Lines>, OutOfMemory>
+    ensures { IfOk result (λ each. each ≡ each_below nprocs (lines_from before.now marks.now all.now)) }
+{
+    let mut each = Vec::with_capacity(alloc, nprocs)?;
+    for pid in 0..nprocs {
+        each.push(lines_from(before, marks, all, pid)?)?;
+    }
+    Ok(SharedSeq::from_vec(each)?)
+}
+
+/// The lines of each process: those of a run before where it is not marked. The others are gathered in one column, if there are any.
+fn lines_taken(
+    alloc: Global,
+    before: &SharedSeq<Lines>,
+    marks: &[bool],
+    past: &[Superstep],
+    last: Option<&Outcomes>,
+    nprocs: usize,
+) -> Result<SharedSeq<Lines>, OutOfMemory>
     requires { AreLinesUnlessMarked before.now marks.now
         (outcomes_of past.now ++ option_to_list (option_map (λ o. o.now) last)) }
-    ensures { IfOk result (λ all. all ≡ each_below nprocs (lines_of_process (outcomes_of past.now ++ option_to_list (option_map (λ o. o.now) last.entry)))) }
+    ensures { IfOk result (λ each. each ≡ each_below nprocs (lines_of_process (outcomes_of past.now ++ option_to_list (option_map (λ o. o.now) last.entry)))) }
 {
-    if before.len() == nprocs && is_none_marked(marks, nprocs) {
+    if are_all_taken(before.as_slice(), marks, nprocs) {
         return before.copy();
     }
     let before = before.as_slice();
-    let mut all = Vec::with_capacity(alloc, nprocs)?;
-    for pid in 0..nprocs {
-        all.push(shared_lines(alloc, before, marks, past, last, pid)?)?;
+    let all = gathered(alloc, before, marks, past, last, nprocs)?;
+    let all = Shared::new(alloc, all)?;
+    Ok(each_lines(alloc, before, marks, &all, nprocs)?)
+}
+
+/// The lines of each process. Those that are the same as in `before` are shared, as those of a process that is not marked are.
+pub fn all_lines(
+    alloc: Global,
+    before: &SharedSeq<Lines>,
+    marks: &[bool],
+    past: &[Superstep],
+    last: Option<&Outcomes>,
+    nprocs: usize,
+) -> Result<SharedSeq<Lines>, OutOfMemory>
+    requires { AreLinesUnlessMarked before.now marks.now
+        (outcomes_of past.now ++ option_to_list (option_map (λ o. o.now) last)) }
+    ensures { IfOk result (λ each. each ≡ each_below nprocs (lines_of_process (outcomes_of past.now ++ option_to_list (option_map (λ o. o.now) last.entry)))) }
+{
+    if are_all_taken(before.as_slice(), marks, nprocs) {
+        return before.copy();
     }
-    Ok(SharedSeq::from_vec(all)?)
+    let others = mark_others(alloc, before.as_slice(), marks, past, last)?;
+    Ok(lines_taken(alloc, before, others.as_slice(), past, last, nprocs)?)
 }

@@ -55,26 +55,28 @@ pub fn run_plain<P: Program>(alloc: Global, program: &P, input: &Input) -> Resul
             requires processes { All (λ d. d < length outcomes.now) processes.now }
             requires ascending { IsAscending processes.now }
             ensures { IfOk result (λ all. all ≡ deliveries_to outcomes.now processes.now) }
-        { deliver_some(alloc, outcomes, processes) },
+        { deliver_some(alloc, outcomes, processes, Cells::new(alloc)) },
     )
 }
 
-/// The turns of all processes, for whose outcomes as much room is taken as those of the superstep before have.
+/// The turns of all processes, gathered in the room of outcomes that are no longer needed, and an outcome whose lists may serve again, as those
+/// of `spare` do here.
 fn all_turns<P: Program>(
     alloc: Global,
     program: &P,
     views: &Views,
-    before: &Outcomes,
-) -> Result<Outcomes, OutOfMemory>
-    ensures { IfOk result (λ all. all ≡ map (turn_of (P.acts program.now) (P.ending program.now)) views.now) }
+    before: Outcomes,
+    spare: Outcome,
+) -> Result<(Outcomes, Outcome), OutOfMemory>
+    ensures { IfOk result (λ all. all.0 ≡ map (turn_of (P.acts program.now) (P.ending program.now)) views.now) }
 {
-    let mut rows = before.room_for(alloc, views.len())?;
-    let mut spare = Outcome::new(alloc)?;
+    let mut rows = before.into_room(alloc, views.len())?;
+    let mut spare = spare;
     for pid in 0..views.len() {
         let outcome = turn_reusing(alloc, program, &views.get(pid), spare)?;
         spare = rows.push(outcome)?;
     }
-    rows.share()
+    Ok((rows.share()?, spare))
 }
 
 /// What the run of a program on an input gives, superstep by superstep.
@@ -89,13 +91,15 @@ fn unrecorded_result<P: Program>(
 {
     let mut kept = open_unrecorded(alloc, input)?;
     let mut before = Outcomes::new();
+    let mut spare = Outcome::new(alloc)?;
     for step in 0..input.limit {
-        let outcomes = all_turns(alloc, program, &kept.views, &before)?;
+        let (outcomes, rest) = all_turns(alloc, program, &kept.views, before, spare)?;
         if let Some(status) = end_of(alloc, step, &kept.table, &outcomes)? {
             return Ok(ended(alloc, kept, status, &outcomes)?);
         }
-        go_on(alloc, input, step + 1, &mut kept, &outcomes)?;
+        kept = go_on(alloc, input, step + 1, kept, &outcomes)?;
         before = outcomes;
+        spare = rest;
     }
     Ok(ended_at_limit(alloc, kept)?)
 }

@@ -3,14 +3,11 @@
 ghost use Rattle.std.specs.Prelude.{◌≡◌};
 ghost use Rattle.bsp_run.specs.declared.result.RunError.TheVariants.{OutOfMemory};
 
+use crate::Lines;
 use bsp_model::{
-    CostRow, Fault, InputFault, Memory, OutOfMemory, Rows, Seq, Shared, SharedSeq, SyncFault,
-    TryCopy,
+    CostRow, Fault, InputFault, Memories, OutOfMemory, Seq, SharedSeq, SyncFault, TryCopy,
 };
 use std::alloc::AllocError;
-
-/// The lines that a process printed, in order.
-pub type Lines = Rows<u64>;
 
 /// A fault of a process.
 #[derive(Clone, Copy, Debug, PartialEq, Eq)]
@@ -45,10 +42,10 @@ pub enum Status {
 pub struct RunResult {
     /// How it ended.
     pub status: Status,
-    /// The memory of each process: after the last computing, or after the last delivery at `Limit`.
-    pub memories: Seq<Memory>,
+    /// The memory of each process, which `get` lends: after the last computing, or after the last delivery at `Limit`.
+    pub memories: Memories,
     /// The lines of each process, one superstep after the other.
-    pub lines: SharedSeq<Shared<Lines>>,
+    pub lines: SharedSeq<Lines>,
     /// The cost of each superstep.
     pub costs: SharedSeq<CostRow>,
     /// The sum of the costs.

@@ -84,6 +84,20 @@ impl SharedCells {
         })
     }
 
+    /// No cells, in the room of these where no copy shares it.
+    pub fn into_room(self, alloc: Global) -> Cells
+        ensures { result ≡ [] }
+    {
+        let SharedCells { cells, others: _ } = self;
+        match cells.try_unwrap() {
+            Ok(mut cells) => {
+                cells.clear();
+                cells
+            }
+            Err(_) => Cells::new(alloc),
+        }
+    }
+
     /// The number of processes.
     #[inline(always)]
     pub fn len(&self) -> usize

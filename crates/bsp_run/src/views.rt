@@ -68,6 +68,14 @@ impl Views {
         })
     }
 
+    /// No memories and queues, in the room of these where no copy shares it.
+    pub(crate) fn into_room(self, alloc: Global) -> Cells
+        ensures { result ≡ [] }
+    {
+        let Views { setting: _, cells } = self;
+        cells.into_room(alloc)
+    }
+
     /// The number of processes.
     pub fn len(&self) -> usize
         ensures { result ≡ length self.now }

@@ -171,7 +171,7 @@ pub fn wide_deliveries<G: Gate, R: Threads + Sync>(
 {
     if workers.min(processes.len()) < 2 || gate.now().is_some() && is_light(outcomes) {
         pass_all(gate, processes.len());
-        return deliver_some(alloc, outcomes, processes);
+        return deliver_some(alloc, outcomes, processes, Cells::new(alloc));
     }
     let sorted = sort_requests(alloc, outcomes)?;
     let deliveries = Deliveries {

@@ -1,6 +1,6 @@
 -- Outcomes in columns: one more, and a range of others.
 use Rattle.std.proofs.Common.{◌≡◌, ◌≤◌, ◌<◌, ℕ, ◌+◌, ◌-◌, List, [], ◌∷◌, ◌++◌, length, map, get_or, refl, sym, ap, ◌∙◌, subst, arith, inl, inr, Result, Ok, Err, OnErr}
-use Rattle.std.specs.Prelude.{slice_get, slice_range, All, Bool, true, false}
+use Rattle.std.specs.Prelude.{slice_get, slice_range, All, Bool, None, true, false}
 use Rattle.std.specs.Bool.{OnTrue}
 use Rattle.bsp_model.specs.Columns.{row_at}
 use Rattle.std.proofs.Math.Nat.{eq-or-lt_of_le}
@@ -15,12 +15,12 @@ use Rattle.bsp_model.specs.Inside.Columns.{pair_at}
 use Rattle.bsp_model.specs.Inside.Ranges.{stores_of, AreRanges}
 use Rattle.bsp_model.specs.declared.stores.range.Range.{Range}
 use Rattle.bsp_step.specs.declared.list_kind.ListKind.{ListKind}
-use Rattle.bsp_step.specs.declared.list_kind.ListKind.TheVariants.{Gets, Sends, Pops, Pushes, Lines}
+use Rattle.bsp_step.specs.declared.list_kind.ListKind.TheVariants.{Faults, Gets, Sends, Pops, Pushes, Tags, Lines}
 use Rattle.bsp_step.specs.declared.lists.Lists.{Lists}
 use Rattle.bsp_step.specs.declared.lists.TurnEnd.{TurnEnd}
 use Rattle.bsp_step.specs.OutcomeParts.{OutcomeParts, IsOutcome, no_outcome}
 use Rattle.bsp_step.specs.ListKind.{IsWithout}
-use Rattle.bsp_step.specs.Inside.Outcomes.{IsWithoutColumn, no_end, outcome_in, outcome_at, outcomes_of, AreOutcomes, HasLists, AreSameLists}
+use Rattle.bsp_step.specs.Inside.Outcomes.{first_at, IsWithoutColumn, no_end, outcome_in, outcome_at, outcomes_of, AreOutcomes, HasLists, AreSameLists}
 
 -- the outcomes of a list, one by one
 
@@ -43,33 +43,36 @@ memories-outcomes_of ends memories lists count =
 
 -- where no list of a kind stands
 
-none_left : {R : Type 0} (of : OutcomeParts → List R) (column : List (List R)) (ends : List TurnEnd) (memories : List (List ℕ)) (lists : Lists) → ((k : ℕ) → of (outcome_at ends memories lists k) ≡ row_at column k) → column ≡ []
-    → All (λ o. of o ≡ []) (outcomes_of ends memories lists)
-none_left of column ends memories lists left none =
+none_left : {R X : Type 0} (of : OutcomeParts → X) (nothing : X) (read : List (List R) → ℕ → X) (column : List (List R)) (ends : List TurnEnd) (memories : List (List ℕ)) (lists : Lists)
+    → ((k : ℕ) → of (outcome_at ends memories lists k) ≡ read column k) → ((k : ℕ) → read [] k ≡ nothing) → column ≡ []
+    → All (λ o. of o ≡ nothing) (outcomes_of ends memories lists)
+none_left of nothing read column ends memories lists left empty none =
     λ k d inside.
     ap of (outcome-outcomes_of ends memories lists k d (omega (arith, inside, length-outcomes_of ends memories lists)))
-    ∙ left k ∙ ap (λ rows. row_at rows k) none
+    ∙ left k ∙ ap (λ rows. read rows k) none ∙ empty k
 
 without_column : (kind : ListKind) (ends : List TurnEnd) (memories : List (List ℕ)) (lists : Lists) → IsWithoutColumn kind lists → All (IsWithout kind) (outcomes_of ends memories lists)
-without_column Gets ends memories lists none = none_left (λ o. o.gets) lists.gets ends memories lists (λ k. refl) none
-without_column Sends ends memories lists none = none_left (λ o. o.sends) lists.sends ends memories lists (λ k. refl) none
-without_column Pops ends memories lists none = none_left (λ o. o.pops) lists.pops ends memories lists (λ k. refl) none
-without_column Pushes ends memories lists none = none_left (λ o. o.pushes) lists.pushes ends memories lists (λ k. refl) none
-without_column Lines ends memories lists none = none_left (λ o. o.lines) lists.lines ends memories lists (λ k. refl) none
+without_column Faults ends memories lists none = none_left (λ o. o.fault) None first_at lists.faults ends memories lists (λ k. refl) (λ k. refl) none
+without_column Gets ends memories lists none = none_left (λ o. o.gets) [] row_at lists.gets ends memories lists (λ k. refl) (λ k. refl) none
+without_column Sends ends memories lists none = none_left (λ o. o.sends) [] row_at lists.sends ends memories lists (λ k. refl) (λ k. refl) none
+without_column Pops ends memories lists none = none_left (λ o. o.pops) [] row_at lists.pops ends memories lists (λ k. refl) (λ k. refl) none
+without_column Pushes ends memories lists none = none_left (λ o. o.pushes) [] row_at lists.pushes ends memories lists (λ k. refl) (λ k. refl) none
+without_column Tags ends memories lists none = none_left (λ o. o.tag) None first_at lists.tags ends memories lists (λ k. refl) (λ k. refl) none
+without_column Lines ends memories lists none = none_left (λ o. o.lines) [] row_at lists.lines ends memories lists (λ k. refl) (λ k. refl) none
 
 pub without : (kind : ListKind) (ends : List TurnEnd) (memories : List (List ℕ)) (lists : Lists) (is : Bool) → OnTrue is (IsWithoutColumn kind lists) → OnTrue is (All (IsWithout kind) (outcomes_of ends memories lists))
 without kind ends memories lists false none = tt
 without kind ends memories lists true none = without_column kind ends memories lists none
 
 -- the same two rows of a process, beside the same memory, have their words as well
-same_beside : (old new : (List (List Range)) × (List (List ℕ))) (k : ℕ) (memory memory' : List ℕ) → pair_at new k ≡ pair_at old k → memory' ≡ memory → AreBeside old k memory → AreBeside new k memory'
-same_beside old new k memory memory' rows ms beside =
+same_beside : (old new : (List (List Range)) × (List (List ℕ))) (j k : ℕ) (memory memory' : List ℕ) → pair_at new k ≡ pair_at old j → memory' ≡ memory → AreBeside old j memory → AreBeside new k memory'
+same_beside old new j k memory memory' rows ms beside =
     let rows_have : (List Range) × (List ℕ) → List ℕ → Type 0 = λ pair m. AreRanges pair.0 (words_beside pair.0 pair.1 m) in
-    subst (λ (pair : (List Range) × (List ℕ)). rows_have pair memory') (sym rows) (subst (rows_have (pair_at old k)) (sym ms) beside)
+    subst (λ (pair : (List Range) × (List ℕ)). rows_have pair memory') (sym rows) (subst (rows_have (pair_at old j)) (sym ms) beside)
 
 -- what an outcome is made of is the same
-same_outcome : (end end' : TurnEnd) (memory memory' : List ℕ) (lists lists' : Lists) (k : ℕ) → end' ≡ end → memory' ≡ memory → AreSameLists lists lists' k → outcome_in end' memory' lists' k ≡ outcome_in end memory lists k
-same_outcome end end' memory memory' lists lists' k es ms ls =
+same_outcome : (end end' : TurnEnd) (memory memory' : List ℕ) (lists lists' : Lists) (j k : ℕ) → end' ≡ end → memory' ≡ memory → AreSameLists lists j lists' k → outcome_in end' memory' lists' k ≡ outcome_in end memory lists j
+same_outcome end end' memory memory' lists lists' j k es ms ls =
     λ i. record {
       fault = slice_get (ls.faults i) 0;
       ended = (es i).ended;
@@ -87,10 +90,10 @@ same_outcome end end' memory memory' lists lists' k es ms ls =
 
 -- one more
 
-before_push : (ends : List TurnEnd) (memories : List (List ℕ)) (lists lists' : Lists) (end : TurnEnd) (memory : List ℕ) → length memories ≡ length ends → ((k : ℕ) → k < length ends → AreSameLists lists lists' k)
+before_push : (ends : List TurnEnd) (memories : List (List ℕ)) (lists lists' : Lists) (end : TurnEnd) (memory : List ℕ) → length memories ≡ length ends → ((k : ℕ) → k < length ends → AreSameLists lists k lists' k)
     → (k : ℕ) → k < length ends → outcome_at (ends ++ end ∷ []) (memories ++ memory ∷ []) lists' k ≡ outcome_at ends memories lists k
 before_push ends memories lists lists' end memory count same k below =
-    same_outcome (get_or ends k no_end) (get_or (ends ++ end ∷ []) k no_end) (get_or memories k []) (get_or (memories ++ memory ∷ []) k []) lists lists' k
+    same_outcome (get_or ends k no_end) (get_or (ends ++ end ∷ []) k no_end) (get_or memories k []) (get_or (memories ++ memory ∷ []) k []) lists lists' k k
     (get_or_append_left ends (end ∷ []) no_end k below) (get_or_append_left memories (memory ∷ []) [] k (omega (arith, below, count))) (same k below)
 
 at_push : (ends : List TurnEnd) (memories : List (List ℕ)) (lists : Lists) (end : TurnEnd) (memory : List ℕ) (o : OutcomeParts) → length memories ≡ length ends → HasLists lists (length ends) memory o
@@ -135,7 +138,7 @@ each_push P n k within before last =
     ]
 
 pub outcomes-push : (ends : List TurnEnd) (memories : List (List ℕ)) (lists lists' : Lists) (end : TurnEnd) (memory : List ℕ) (o : OutcomeParts) → length memories ≡ length ends
-    → ((k : ℕ) → k < length ends → AreSameLists lists lists' k) → HasLists lists' (length ends) memory o → end ≡ record { ended = o.ended; work = o.work }
+    → ((k : ℕ) → k < length ends → AreSameLists lists k lists' k) → HasLists lists' (length ends) memory o → end ≡ record { ended = o.ended; work = o.work }
     → outcomes_of (ends ++ end ∷ []) (memories ++ memory ∷ []) lists' ≡ outcomes_of ends memories lists ++ record o { memory = memory } ∷ []
 outcomes-push ends memories lists lists' end memory o count same has is =
     let n = length ends in
@@ -156,13 +159,13 @@ outcomes-push ends memories lists lists' end memory o count same has is =
     (λ k d within. alike k d (omega (arith, within, length-outcomes_of (ends ++ end ∷ []) (memories ++ memory ∷ []) lists', more)))
 
 pub lawful-push : (ends : List TurnEnd) (memories : List (List ℕ)) (lists lists' : Lists) (end : TurnEnd) (memory : List ℕ) (o : OutcomeParts) → AreOutcomes ends memories lists
-    → ((k : ℕ) → k < length ends → AreSameLists lists lists' k) → HasLists lists' (length ends) memory o → end ≡ record { ended = o.ended; work = o.work } → IsOutcome o → length memory ≤ most_memory_words
+    → ((k : ℕ) → k < length ends → AreSameLists lists k lists' k) → HasLists lists' (length ends) memory o → end ≡ record { ended = o.ended; work = o.work } → IsOutcome o → length memory ≤ most_memory_words
     → AreOutcomes (ends ++ end ∷ []) (memories ++ memory ∷ []) lists'
 lawful-push ends memories lists lists' end memory o are same has is lawful short =
     record {
       count = length_push memories memory ∙ ap (λ (m : ℕ). m + 1) are.count ∙ sym (length_push ends end);
       beside = λ k within. each_push (λ j. AreBeside lists'.stores j (get_or (memories ++ memory ∷ []) j [])) (length ends) k (omega (arith, within, length_push ends end))
-          (λ j below. same_beside lists.stores lists'.stores j (get_or memories j []) (get_or (memories ++ memory ∷ []) j []) (same j below).stores
+          (λ j below. same_beside lists.stores lists'.stores j j (get_or memories j []) (get_or (memories ++ memory ∷ []) j []) (same j below).stores
           (get_or_append_left memories (memory ∷ []) [] j (omega (arith, below, are.count))) (are.beside j below))
           (subst (AreBeside lists'.stores (length ends)) (sym (get_or_push memories memory [] (length ends) are.count)) has.beside);
       lawful = λ k within. each_push (λ j. IsOutcome (outcome_at (ends ++ end ∷ []) (memories ++ memory ∷ []) lists' j)) (length ends) k (omega (arith, within, length_push ends end))
@@ -172,12 +175,12 @@ lawful-push ends memories lists lists' end memory o are same has is lawful short
 
 -- other lists that the processes have alike
 
-pub same-outcomes : (ends : List TurnEnd) (memories : List (List ℕ)) (lists lists' : Lists) → ((k : ℕ) → k < length ends → AreSameLists lists lists' k) → outcomes_of ends memories lists' ≡ outcomes_of ends memories lists
+pub same-outcomes : (ends : List TurnEnd) (memories : List (List ℕ)) (lists lists' : Lists) → ((k : ℕ) → k < length ends → AreSameLists lists k lists' k) → outcomes_of ends memories lists' ≡ outcomes_of ends memories lists
 same-outcomes ends memories lists lists' same =
     same_lists _ _ (length-outcomes_of ends memories lists' ∙ sym (length-outcomes_of ends memories lists))
     (λ k d within.
     let below : k < length ends = omega (arith, within, length-outcomes_of ends memories lists') in
-    outcome-outcomes_of ends memories lists' k d below ∙ same_outcome (get_or ends k no_end) (get_or ends k no_end) (get_or memories k []) (get_or memories k []) lists lists' k refl refl (same k below)
+    outcome-outcomes_of ends memories lists' k d below ∙ same_outcome (get_or ends k no_end) (get_or ends k no_end) (get_or memories k []) (get_or memories k []) lists lists' k k refl refl (same k below)
     ∙ sym (outcome-outcomes_of ends memories lists k d below))
 
 -- One more outcome, at the names that its parts have where it is put.
@@ -187,11 +190,11 @@ abbrev pub end_of : OutcomeParts → TurnEnd
 end_of o = record { ended = o.ended; work = o.work }
 
 -- the processes before have the lists that they had
-pub same_below : (l old new : Lists) (len n : ℕ) → l ≡ old → len ≡ n → ((k : ℕ) → k < len → AreSameLists l new k) → (k : ℕ) → k < n → AreSameLists old new k
-same_below l old new len n is long same k below = subst (λ (m : Lists). AreSameLists m new k) is (same k (omega (arith, below, long)))
+pub same_below : (l old new : Lists) (len n : ℕ) → l ≡ old → len ≡ n → ((k : ℕ) → k < len → AreSameLists l k new k) → (k : ℕ) → k < n → AreSameLists old k new k
+same_below l old new len n is long same k below = subst (λ (m : Lists). AreSameLists m k new k) is (same k (omega (arith, below, long)))
 
 -- so they have the outcomes that they had
-pub unchanged-below : (ends : List TurnEnd) (memories : List (List ℕ)) (l old new : Lists) (len : ℕ) (outcomes : List OutcomeParts) → l ≡ old → len ≡ length ends → ((k : ℕ) → k < len → AreSameLists l new k) → outcomes_of ends memories old ≡ outcomes → outcomes_of ends memories new ≡ outcomes
+pub unchanged-below : (ends : List TurnEnd) (memories : List (List ℕ)) (l old new : Lists) (len : ℕ) (outcomes : List OutcomeParts) → l ≡ old → len ≡ length ends → ((k : ℕ) → k < len → AreSameLists l k new k) → outcomes_of ends memories old ≡ outcomes → outcomes_of ends memories new ≡ outcomes
 unchanged-below ends memories l old new len outcomes is long same before = same-outcomes ends memories old new (same_below l old new len (length ends) is long same) ∙ before
 
 -- the lists of a process
@@ -199,86 +202,89 @@ pub has_there : (lists : Lists) (len n : ℕ) (m memory : List ℕ) (o outcome :
 has_there lists len n m memory o outcome place is same has =
     subst (λ (k : ℕ). HasLists lists k memory outcome) place (subst (λ (ws : List ℕ). HasLists lists len ws outcome) is (subst (HasLists lists len m) same has))
 
-pub lawful-same : (ends : List TurnEnd) (memories : List (List ℕ)) (lists lists' : Lists) → AreOutcomes ends memories lists → ((k : ℕ) → k < length ends → AreSameLists lists lists' k) → AreOutcomes ends memories lists'
+pub lawful-same : (ends : List TurnEnd) (memories : List (List ℕ)) (lists lists' : Lists) → AreOutcomes ends memories lists → ((k : ℕ) → k < length ends → AreSameLists lists k lists' k) → AreOutcomes ends memories lists'
 lawful-same ends memories lists lists' are same =
     record {
       count = are.count;
-      beside = λ k below. same_beside lists.stores lists'.stores k (get_or memories k []) (get_or memories k []) (same k below).stores refl (are.beside k below);
-      lawful = λ k below. subst IsOutcome (sym (same_outcome (get_or ends k no_end) (get_or ends k no_end) (get_or memories k []) (get_or memories k []) lists lists' k refl refl (same k below))) (are.lawful k below);
+      beside = λ k below. same_beside lists.stores lists'.stores k k (get_or memories k []) (get_or memories k []) (same k below).stores refl (are.beside k below);
+      lawful = λ k below. subst IsOutcome (sym (same_outcome (get_or ends k no_end) (get_or ends k no_end) (get_or memories k []) (get_or memories k []) lists lists' k k refl refl (same k below))) (are.lawful k below);
     }
 
 -- a range of others
 
 -- an item behind those in front
-behind : {X : Type 0} (front more : List X) (d : X) (k to : ℕ) {n : ℕ} → length front ≡ n → n ≤ k → k < to → get_or (front ++ slice_range more n to) k d ≡ get_or more k d
-behind front more d k to {n = n} long above below =
-    get_or-append_right front (slice_range more n to) k d (omega (arith, above, long)) ∙ get_or-between more n to (k - length front) d (omega (arith, above, below, long))
-    ∙ ap (λ (i : ℕ). get_or more i d) (let there : n + (k - length front) ≡ k = omega (arith, above, long) in there)
+behind : {X : Type 0} (front more : List X) (d : X) (k from to : ℕ) {n : ℕ} → length front ≡ n → n ≤ k → k < n + (to - from) → get_or (front ++ slice_range more from to) k d ≡ get_or more (from + (k - n)) d
+behind front more d k from to {n = n} long above below =
+    get_or-append_right front (slice_range more from to) k d (omega (arith, above, long)) ∙ get_or-between more from to (k - length front) d (omega (arith, above, below, long))
+    ∙ ap (λ (m : ℕ). get_or more (from + (k - m)) d) long
 
 -- the outcome of each process, in front and behind
-at_range : (ends more_ends : List TurnEnd) (memories more_memories : List (List ℕ)) (lists more lists' : Lists) (to : ℕ) → length memories ≡ length ends → length more_memories ≡ length more_ends → length ends ≤ to → to ≤ length more_ends
-    → ((k : ℕ) → k < length ends → AreSameLists lists lists' k) → ((k : ℕ) → length ends ≤ k → k < to → AreSameLists more lists' k)
-    → ((k : ℕ) → k < length ends → outcome_at (ends ++ slice_range more_ends (length ends) to) (memories ++ slice_range more_memories (length ends) to) lists' k ≡ outcome_at ends memories lists k)
-    × ((k : ℕ) → length ends ≤ k → k < to → outcome_at (ends ++ slice_range more_ends (length ends) to) (memories ++ slice_range more_memories (length ends) to) lists' k ≡ outcome_at more_ends more_memories more k)
-at_range ends more_ends memories more_memories lists more lists' to count more_count order within before taken =
+at_range : (ends more_ends : List TurnEnd) (memories more_memories : List (List ℕ)) (lists more lists' : Lists) (from to : ℕ) → length memories ≡ length ends
+    → ((k : ℕ) → k < length ends → AreSameLists lists k lists' k) → ((k : ℕ) → length ends ≤ k → k < length ends + (to - from) → AreSameLists more (from + (k - length ends)) lists' k)
+    → ((k : ℕ) → k < length ends → outcome_at (ends ++ slice_range more_ends from to) (memories ++ slice_range more_memories from to) lists' k ≡ outcome_at ends memories lists k)
+    × ((k : ℕ) → length ends ≤ k → k < length ends + (to - from)
+    → outcome_at (ends ++ slice_range more_ends from to) (memories ++ slice_range more_memories from to) lists' k ≡ outcome_at more_ends more_memories more (from + (k - length ends)))
+at_range ends more_ends memories more_memories lists more lists' from to count before taken =
     let n = length ends in (
       λ k below.
-          same_outcome (get_or ends k no_end) _ (get_or memories k []) _ lists lists' k
-          (get_or_append_left ends (slice_range more_ends n to) no_end k below) (get_or_append_left memories (slice_range more_memories n to) [] k (omega (arith, below, count))) (before k below),
+          same_outcome (get_or ends k no_end) _ (get_or memories k []) _ lists lists' k k
+          (get_or_append_left ends (slice_range more_ends from to) no_end k below) (get_or_append_left memories (slice_range more_memories from to) [] k (omega (arith, below, count))) (before k below),
       λ k above below.
-          same_outcome (get_or more_ends k no_end) _ (get_or more_memories k []) _ more lists' k
-          (behind ends more_ends no_end k to refl above below) (behind memories more_memories [] k to count above below) (taken k above below),
+          let there = from + (k - n) in
+          same_outcome (get_or more_ends there no_end) _ (get_or more_memories there []) _ more lists' there k
+          (behind ends more_ends no_end k from to refl above below) (behind memories more_memories [] k from to count above below) (taken k above below),
     )
 
 -- a place in front of another or from it on
-pub each_range : (P : ℕ → Type 0) (n to k : ℕ) → k < to → ((j : ℕ) → j < n → P j) → ((j : ℕ) → n ≤ j → j < to → P j) → P k
+each_range : (P : ℕ → Type 0) (n to k : ℕ) → k < to → ((j : ℕ) → j < n → P j) → ((j : ℕ) → n ≤ j → j < to → P j) → P k
 each_range P n to k within before after =
     elim (cases_lt k n) [
       | inl below ↦ before k below
       | inr above ↦ after k above within
     ]
 
-pub outcomes-range : (ends more_ends : List TurnEnd) (memories more_memories : List (List ℕ)) (lists more lists' : Lists) (to : ℕ) → length memories ≡ length ends → length more_memories ≡ length more_ends → length ends ≤ to → to ≤ length more_ends
-    → ((k : ℕ) → k < length ends → AreSameLists lists lists' k) → ((k : ℕ) → length ends ≤ k → k < to → AreSameLists more lists' k)
-    → outcomes_of (ends ++ slice_range more_ends (length ends) to) (memories ++ slice_range more_memories (length ends) to) lists'
-    ≡ outcomes_of ends memories lists ++ slice_range (outcomes_of more_ends more_memories more) (length (outcomes_of ends memories lists)) to
-outcomes-range ends more_ends memories more_memories lists more lists' to count more_count order within before taken =
+pub outcomes-range : (ends more_ends : List TurnEnd) (memories more_memories : List (List ℕ)) (lists more lists' : Lists) (from to : ℕ) → length memories ≡ length ends → to ≤ length more_ends
+    → ((k : ℕ) → k < length ends → AreSameLists lists k lists' k) → ((k : ℕ) → length ends ≤ k → k < length ends + (to - from) → AreSameLists more (from + (k - length ends)) lists' k)
+    → outcomes_of (ends ++ slice_range more_ends from to) (memories ++ slice_range more_memories from to) lists' ≡ outcomes_of ends memories lists ++ slice_range (outcomes_of more_ends more_memories more) from to
+outcomes-range ends more_ends memories more_memories lists more lists' from to count within before taken =
     let n = length ends in
-    let all_ends = ends ++ slice_range more_ends n to in
-    let all_memories = memories ++ slice_range more_memories n to in
+    let all_ends = ends ++ slice_range more_ends from to in
+    let all_memories = memories ++ slice_range more_memories from to in
     let all = outcomes_of all_ends all_memories lists' in
     let front = outcomes_of ends memories lists in
     let others = outcomes_of more_ends more_memories more in
     let long : length front ≡ n = length-outcomes_of ends memories lists in
-    let many : length all_ends ≡ to = omega (arith, order, length-append ends (slice_range more_ends n to), length-between more_ends n to within) in
+    let many : length all_ends ≡ n + (to - from) = omega (arith, length-append ends (slice_range more_ends from to), length-between more_ends from to within) in
     let other : length others ≡ length more_ends = length-outcomes_of more_ends more_memories more in
-    let at = at_range ends more_ends memories more_memories lists more lists' to count more_count order within before taken in
-    same_lists _ _ (omega (arith, order, many, long, other, length-outcomes_of all_ends all_memories lists', length-append front (slice_range others (length front) to), length-between others (length front) to (omega (arith, within, other))))
-    (λ k d l. each_range (λ j. get_or all j d ≡ get_or (front ++ slice_range others (length front) to) j d) n to k (omega (arith, l, many, length-outcomes_of all_ends all_memories lists'))
-    (λ j below. outcome-outcomes_of all_ends all_memories lists' j d (omega (arith, below, order, many)) ∙ at.0 j below ∙ sym (outcome-outcomes_of ends memories lists j d below)
-    ∙ sym (get_or_append_left front (slice_range others (length front) to) d j (omega (arith, below, long))))
+    let at = at_range ends more_ends memories more_memories lists more lists' from to count before taken in
+    same_lists _ _ (omega (arith, many, long, length-outcomes_of all_ends all_memories lists', length-append front (slice_range others from to), length-between others from to (omega (arith, within, other))))
+    (λ k d l. each_range (λ j. get_or all j d ≡ get_or (front ++ slice_range others from to) j d) n (n + (to - from)) k (omega (arith, l, many, length-outcomes_of all_ends all_memories lists'))
+    (λ j below. outcome-outcomes_of all_ends all_memories lists' j d (omega (arith, below, many)) ∙ at.0 j below ∙ sym (outcome-outcomes_of ends memories lists j d below)
+    ∙ sym (get_or_append_left front (slice_range others from to) d j (omega (arith, below, long))))
     (λ j above below. outcome-outcomes_of all_ends all_memories lists' j d (omega (arith, below, many)) ∙ at.1 j above below
-    ∙ sym (outcome-outcomes_of more_ends more_memories more j d (omega (arith, below, within)))
-    ∙ sym (behind front others d j to refl (omega (arith, above, long)) below)))
+    ∙ sym (outcome-outcomes_of more_ends more_memories more (from + (j - n)) d (omega (arith, above, below, within)))
+    ∙ sym (behind front others d j from to long above below)))
 
-pub lawful-range : (ends more_ends : List TurnEnd) (memories more_memories : List (List ℕ)) (lists more lists' : Lists) (to : ℕ) → AreOutcomes ends memories lists → AreOutcomes more_ends more_memories more → length ends ≤ to → to ≤ length more_ends
-    → ((k : ℕ) → k < length ends → AreSameLists lists lists' k) → ((k : ℕ) → length ends ≤ k → k < to → AreSameLists more lists' k)
-    → AreOutcomes (ends ++ slice_range more_ends (length ends) to) (memories ++ slice_range more_memories (length ends) to) lists'
-lawful-range ends more_ends memories more_memories lists more lists' to are others order within before taken =
+pub lawful-range : (ends more_ends : List TurnEnd) (memories more_memories : List (List ℕ)) (lists more lists' : Lists) (from to : ℕ) → AreOutcomes ends memories lists → AreOutcomes more_ends more_memories more → to ≤ length more_ends
+    → ((k : ℕ) → k < length ends → AreSameLists lists k lists' k) → ((k : ℕ) → length ends ≤ k → k < length ends + (to - from) → AreSameLists more (from + (k - length ends)) lists' k)
+    → AreOutcomes (ends ++ slice_range more_ends from to) (memories ++ slice_range more_memories from to) lists'
+lawful-range ends more_ends memories more_memories lists more lists' from to are others within before taken =
     let n = length ends in
-    let all_memories = memories ++ slice_range more_memories n to in
-    let many : length (ends ++ slice_range more_ends n to) ≡ to = omega (arith, order, length-append ends (slice_range more_ends n to), length-between more_ends n to within) in
-    let at = at_range ends more_ends memories more_memories lists more lists' to are.count others.count order within before taken in
+    let all_memories = memories ++ slice_range more_memories from to in
+    let many : length (ends ++ slice_range more_ends from to) ≡ n + (to - from) = omega (arith, length-append ends (slice_range more_ends from to), length-between more_ends from to within) in
+    let at = at_range ends more_ends memories more_memories lists more lists' from to are.count before taken in
     record {
-      count = omega (arith, many, order, are.count, others.count, length-append memories (slice_range more_memories n to), length-between more_memories n to (omega (arith, within, others.count)));
-      beside = λ k l. each_range (λ j. AreBeside lists'.stores j (get_or all_memories j [])) n to k (omega (arith, l, many))
-          (λ j below. same_beside lists.stores lists'.stores j (get_or memories j []) (get_or all_memories j []) (before j below).stores
-          (get_or_append_left memories (slice_range more_memories n to) [] j (omega (arith, below, are.count))) (are.beside j below))
-          (λ j above below. same_beside more.stores lists'.stores j (get_or more_memories j []) (get_or all_memories j []) (taken j above below).stores
-          (behind memories more_memories [] j to are.count above below) (others.beside j (omega (arith, below, within))));
-      lawful = λ k l. each_range (λ j. IsOutcome (outcome_at (ends ++ slice_range more_ends n to) (memories ++ slice_range more_memories n to) lists' j)) n to k (omega (arith, l, many))
+      count = omega (arith, many, are.count, length-append memories (slice_range more_memories from to), length-between more_memories from to (omega (arith, within, others.count)));
+      beside = λ k l. each_range (λ j. AreBeside lists'.stores j (get_or all_memories j [])) n (n + (to - from)) k (omega (arith, l, many))
+          (λ j below. same_beside lists.stores lists'.stores j j (get_or memories j []) (get_or all_memories j []) (before j below).stores
+          (get_or_append_left memories (slice_range more_memories from to) [] j (omega (arith, below, are.count))) (are.beside j below))
+          (λ j above below.
+          let there = from + (j - n) in
+          same_beside more.stores lists'.stores there j (get_or more_memories there []) (get_or all_memories j []) (taken j above below).stores
+          (behind memories more_memories [] j from to are.count above below) (others.beside there (omega (arith, above, below, within))));
+      lawful = λ k l. each_range (λ j. IsOutcome (outcome_at (ends ++ slice_range more_ends from to) (memories ++ slice_range more_memories from to) lists' j)) n (n + (to - from)) k (omega (arith, l, many))
           (λ j below. subst IsOutcome (sym (at.0 j below)) (are.lawful j below))
-          (λ j above below. subst IsOutcome (sym (at.1 j above below)) (others.lawful j (omega (arith, below, within))));
+          (λ j above below. subst IsOutcome (sym (at.1 j above below)) (others.lawful (from + (j - n)) (omega (arith, above, below, within))));
     }
 
 -- what holds anyhow holds after an error

@@ -1,13 +1,14 @@
 //! The lists that several outcomes have, in columns.
 
-ghost use Rattle.std.specs.Prelude.{◌≡◌, ◌≤◌, ◌<◌, ℕ, [], slice_get, OnOk};
+ghost use Rattle.std.specs.Prelude.{◌≡◌, ◌≤◌, ◌<◌, ◌+◌, ◌-◌, ℕ, [], slice_get, OnOk};
 ghost use Rattle.bsp_model.specs.Columns.{row_at};
 ghost use Rattle.std.specs.Bool.{OnTrue};
-ghost use Rattle.bsp_step.specs.Inside.Outcomes.{IsWithoutColumn, first_at, AreSameLists, HasLists};
+ghost use Rattle.bsp_step.specs.Inside.Outcomes.{IsWithoutColumn, first_at, AreSameLists, HasLists, HasRare, KeepsRest};
 
-use crate::{Ended, ListKind, OutcomeRef};
+use crate::{Ended, ListKind, Outcome, OutcomeRef, RareLists, TurnLists};
 use bsp_model::{
-    Column, Fault, Get, LineColumn, MemoryRef, OutOfMemory, PutColumn, SendColumn, StoreColumn,
+    Column, Fault, Get, LineColumn, MemoryRef, OutOfMemory, PutColumn, SendColumn, Share,
+    StoreColumn,
 };
 use bsp_table::Area;
 use std::alloc::Global;
@@ -73,31 +74,58 @@ impl Lists {
         }
     }
 
-    /// No lists for any process, with the room that these take, or `OutOfMemory`.
-    pub(crate) fn with_room_of(alloc: Global, like: &Lists) -> Result<Lists, OutOfMemory> {
+    /// No lists for any process, with a share of the room that these take, or `OutOfMemory`.
+    pub(crate) fn with_room_of(
+        alloc: Global,
+        like: &Lists,
+        share: Share,
+    ) -> Result<Lists, OutOfMemory> {
         let mut lists = Lists::new(alloc);
-        lists.make_room_for_requests(alloc, like)?;
-        lists.make_room_for_others(alloc, like)?;
+        lists.make_room_for_requests(alloc, like, share)?;
+        lists.make_room_for_others(alloc, like, share)?;
         Ok(lists)
     }
 
-    /// Empties the requests, and makes the room for them that others take, or `OutOfMemory`.
-    fn make_room_for_requests(&mut self, alloc: Global, like: &Lists) -> Result<(), OutOfMemory> {
-        self.puts = PutColumn::with_room_of(alloc, &like.puts)?;
-        self.gets = Column::with_room_of(alloc, &like.gets)?;
-        self.sends = SendColumn::with_room_of(alloc, &like.sends)?;
-        self.pops = Column::with_room_of(alloc, &like.pops)?;
-        self.pushes = Column::with_room_of(alloc, &like.pushes)?;
+    /// Empties the requests, and makes a share of the room for them that others take, or `OutOfMemory`.
+    fn make_room_for_requests(
+        &mut self,
+        alloc: Global,
+        like: &Lists,
+        share: Share,
+    ) -> Result<(), OutOfMemory> {
+        self.puts = PutColumn::with_room_of(alloc, &like.puts, share)?;
+        self.gets = Column::with_room_of(alloc, &like.gets, share)?;
+        self.sends = SendColumn::with_room_of(alloc, &like.sends, share)?;
+        self.pops = Column::with_room_of(alloc, &like.pops, share)?;
+        self.pushes = Column::with_room_of(alloc, &like.pushes, share)?;
         Ok(())
     }
 
-    /// Empties the lists that are no requests, and makes the room for them that others take, or `OutOfMemory`.
-    fn make_room_for_others(&mut self, alloc: Global, like: &Lists) -> Result<(), OutOfMemory> {
-        self.faults = Column::with_room_of(alloc, &like.faults)?;
-        self.stores = StoreColumn::with_room_of(alloc, &like.stores)?;
-        self.tags = Column::with_room_of(alloc, &like.tags)?;
-        self.lines = LineColumn::with_room_of(alloc, &like.lines)?;
+    /// Empties the lists that are no requests, and makes a share of the room for them that others take, or `OutOfMemory`.
+    fn make_room_for_others(
+        &mut self,
+        alloc: Global,
+        like: &Lists,
+        share: Share,
+    ) -> Result<(), OutOfMemory> {
+        self.faults = Column::with_room_of(alloc, &like.faults, share)?;
+        self.stores = StoreColumn::with_room_of(alloc, &like.stores, share)?;
+        self.tags = Column::with_room_of(alloc, &like.tags, share)?;
+        self.lines = LineColumn::with_room_of(alloc, &like.lines, share)?;
         Ok(())
+    }
+
+    /// Leaves no lists for any process. Their room stays.
+    pub(crate) fn clear(&mut self) {
+        self.faults.clear();
+        self.stores.clear();
+        self.puts.clear();
+        self.gets.clear();
+        self.sends.clear();
+        self.pops.clear();
+        self.pushes.clear();
+        self.tags.clear();
+        self.lines.clear();
     }
 
     /// Makes copies of an outcome's lists, its fault and its choice of a tag size those of a process, behind which none stand any more. The stores
@@ -109,20 +137,72 @@ impl Lists {
         outcome: &OutcomeRef<'_>,
         memory: &MemoryRef<'_>,
     ) -> Result<(), OutOfMemory>
-        ensures before { (k : ℕ) → k < place → AreSameLists self.old self.new k }
+        ensures before { (k : ℕ) → k < place → AreSameLists self.old k self.new k }
         ensures there { OnOk result (HasLists self.new place memory.now outcome.now) }
     {
-        let faults = self.faults.put(place, row_of_fault(&outcome.fault));
+        // The rows of one item are lent, so these are copies: else all of the outcome would have to lie in memory.
+        let (fault, tag) = (outcome.fault, outcome.tag);
+        let faults = self.faults.put(place, row_of_fault(&fault));
         let stores = self.stores.put(place, &outcome.stores, memory);
         let puts = self.puts.put(place, &outcome.puts);
         let gets = self.gets.put(place, outcome.gets);
         let sends = self.sends.put(place, &outcome.sends);
         let pops = self.pops.put(place, outcome.pops);
         let pushes = self.pushes.put(place, outcome.pushes);
-        let tags = self.tags.put(place, row_of_tag(&outcome.tag));
+        let tags = self.tags.put(place, row_of_tag(&tag));
         let lines = self.lines.put(place, &outcome.lines);
         let requests = puts.and(gets).and(sends).and(pops).and(pushes);
         faults.and(stores).and(requests).and(tags).and(lines)
+    }
+
+    /// The same for what a turn has just left, each of whose lists is read where it lies when its turn comes.
+    #[inline(always)]
+    pub(crate) fn put_own(&mut self, place: usize, outcome: &Outcome) -> Result<(), OutOfMemory>
+        ensures before { (k : ℕ) → k < place → AreSameLists self.old k self.new k }
+        ensures there { OnOk result (HasLists self.new place outcome.now.memory outcome.now) }
+    {
+        let lists: &TurnLists = &outcome.lists;
+        let (fault, tag) = (outcome.fault, outcome.tag);
+        let faults = self.faults.put(place, row_of_fault(&fault));
+        let memory = lists.memory.as_ref();
+        let stores = self.stores.put(place, &lists.stores.as_ref(), &memory);
+        let puts = self.puts.put(place, &lists.puts.as_ref());
+        let tags = self.tags.put(place, row_of_tag(&tag));
+        let rare = self.put_rare(place, &lists.rare);
+        faults.and(stores).and(puts).and(tags).and(rare)
+    }
+
+    /// Makes copies of these lists those of a process, behind which none stand any more. After `OutOfMemory` some of them are.
+    #[inline(always)]
+    fn put_rare(&mut self, place: usize, rare: &RareLists) -> Result<(), OutOfMemory>
+        ensures before { (k : ℕ) → k < place → AreSameLists self.old k self.new k }
+        ensures there { OnOk result (HasRare self.new place rare.now) }
+        ensures rest { KeepsRest self.old self.new }
+    {
+        if rare.is_used() {
+            return self.put_used(place, rare);
+        }
+        self.gets.cut(place);
+        self.sends.cut(place);
+        self.pops.cut(place);
+        self.pushes.cut(place);
+        self.lines.cut(place);
+        Ok(())
+    }
+
+    /// The same, where there may be some.
+    #[inline(never)]
+    fn put_used(&mut self, place: usize, rare: &RareLists) -> Result<(), OutOfMemory>
+        ensures before { (k : ℕ) → k < place → AreSameLists self.old k self.new k }
+        ensures there { OnOk result (HasRare self.new place rare.now) }
+        ensures rest { KeepsRest self.old self.new }
+    {
+        let gets = self.gets.put(place, rare.gets());
+        let sends = self.sends.put(place, &rare.sends());
+        let pops = self.pops.put(place, rare.pops());
+        let pushes = self.pushes.put(place, rare.pushes());
+        let lines = self.lines.put(place, &rare.lines());
+        gets.and(sends).and(pops).and(pushes).and(lines)
     }
 
     /// Whether no list of a kind stands.
@@ -131,10 +211,12 @@ impl Lists {
         ensures { OnTrue result (IsWithoutColumn kind self.now) }
     {
         match kind {
+            ListKind::Faults => self.faults.is_empty(),
             ListKind::Gets => self.gets.is_empty(),
             ListKind::Sends => self.sends.is_empty(),
             ListKind::Pops => self.pops.is_empty(),
             ListKind::Pushes => self.pushes.is_empty(),
+            ListKind::Tags => self.tags.is_empty(),
             ListKind::Lines => self.lines.is_empty(),
         }
     }
@@ -155,26 +237,28 @@ impl Lists {
         self.tags.row(place).first().copied()
     }
 
-    /// Makes copies of the lists of others those of the same processes, from `from` on and before `to`, behind which none stand any more. After
-    /// `OutOfMemory` some of them are.
+    /// Makes copies of the lists that others have from `from` on, and before `to`, those of the processes from `place` on, behind which none
+    /// stand any more. After `OutOfMemory` some of them are.
     pub(crate) fn take_range(
         &mut self,
+        place: usize,
         more: &Lists,
         from: usize,
         to: usize,
     ) -> Result<(), OutOfMemory>
-        ensures before { (k : ℕ) → k < from → AreSameLists self.old self.new k }
-        ensures taken { OnOk result ((k : ℕ) → from ≤ k → k < to → AreSameLists more.now self.new k) }
+        ensures before { (k : ℕ) → k < place → AreSameLists self.old k self.new k }
+        ensures taken { OnOk result
+            ((k : ℕ) → place ≤ k → k < place + (to - from) → AreSameLists more.now (from + (k - place)) self.new k) }
     {
-        let faults = self.faults.take_range(&more.faults, from, to);
-        let stores = self.stores.take_range(&more.stores, from, to);
-        let puts = self.puts.take_range(&more.puts, from, to);
-        let gets = self.gets.take_range(&more.gets, from, to);
-        let sends = self.sends.take_range(&more.sends, from, to);
-        let pops = self.pops.take_range(&more.pops, from, to);
-        let pushes = self.pushes.take_range(&more.pushes, from, to);
-        let tags = self.tags.take_range(&more.tags, from, to);
-        let lines = self.lines.take_range(&more.lines, from, to);
+        let faults = self.faults.take_range(place, &more.faults, from, to);
+        let stores = self.stores.take_range(place, &more.stores, from, to);
+        let puts = self.puts.take_range(place, &more.puts, from, to);
+        let gets = self.gets.take_range(place, &more.gets, from, to);
+        let sends = self.sends.take_range(place, &more.sends, from, to);
+        let pops = self.pops.take_range(place, &more.pops, from, to);
+        let pushes = self.pushes.take_range(place, &more.pushes, from, to);
+        let tags = self.tags.take_range(place, &more.tags, from, to);
+        let lines = self.lines.take_range(place, &more.lines, from, to);
         let requests = puts.and(gets).and(sends).and(pops).and(pushes);
         faults.and(stores).and(requests).and(tags).and(lines)
     }

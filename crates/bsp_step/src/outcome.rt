@@ -70,12 +70,12 @@ impl Outcome {
             memory: lists.memory.as_ref(),
             stores: lists.stores.as_ref(),
             puts: lists.puts.as_ref(),
-            gets: lists.gets.as_slice(),
-            sends: lists.sends.as_ref(),
-            pops: lists.pops.as_slice(),
-            pushes: lists.pushes.as_slice(),
+            gets: lists.rare.gets(),
+            sends: lists.rare.sends(),
+            pops: lists.rare.pops(),
+            pushes: lists.rare.pushes(),
             tag: self.tag,
-            lines: lists.lines.as_ref(),
+            lines: lists.rare.lines(),
             work: self.work,
         }
     }
@@ -83,7 +83,7 @@ impl Outcome {
 
 impl TryCopy for Outcome {
     fn copy(&self) -> Result<Outcome, OutOfMemory> {
-        self.as_ref().to_outcome(self.lists.gets.allocator())
+        self.as_ref().to_outcome(self.lists.rare.allocator())
     }
 }
 

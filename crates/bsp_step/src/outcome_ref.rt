@@ -2,7 +2,7 @@
 
 ghost use Rattle.std.specs.Prelude.{◌≡◌, ◌↔◌, IfOk, IsTrue, length};
 
-use crate::{Ended, Outcome, TurnLists};
+use crate::{Ended, Outcome, RareLists, TurnLists};
 use bsp_model::{
     Fault, Get, Memory, MemoryRef, OutOfMemory, PutsRef, RowsRef, Same, SendsRef, Seq, StoresRef,
     are_same,
@@ -66,11 +66,13 @@ impl<'a> OutcomeRef<'a> {
             memory,
             stores: self.stores.to_stores(alloc)?,
             puts: self.puts.to_puts(alloc)?,
-            gets: Seq::from_vec(gets),
-            sends: self.sends.to_sends(alloc)?,
-            pops: Seq::from_vec(self.pops.to_vec(alloc)?),
-            pushes: Seq::from_vec(pushes),
-            lines: self.lines.to_rows(alloc)?,
+            rare: RareLists::of(
+                Seq::from_vec(gets),
+                self.sends.to_sends(alloc)?,
+                Seq::from_vec(self.pops.to_vec(alloc)?),
+                Seq::from_vec(pushes),
+                self.lines.to_rows(alloc)?,
+            ),
         };
         Ok(Outcome {
             fault: self.fault,

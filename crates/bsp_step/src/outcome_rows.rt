@@ -8,7 +8,7 @@ ghost use Rattle.bsp_step.specs.ListKind.{IsWithout};
 
 use crate::lists::{Lists, TurnEnd};
 use crate::{ListKind, Outcome, OutcomeRef, Outcomes, TurnLists};
-use bsp_model::{Memories, Memory, OutOfMemory, Shared, TryCopy};
+use bsp_model::{Memories, Memory, OutOfMemory, Share, end_of_run};
 use std::alloc::Global;
 use std::marker::Model;
 
@@ -45,32 +45,46 @@ impl OutcomeRows {
         })
     }
 
-    /// No outcomes, with the room that these take, or `OutOfMemory`.
+    /// No outcomes, with a share of the room that these take, or `OutOfMemory`.
     pub(crate) fn with_room_of(
         alloc: Global,
         like: &OutcomeRows,
+        share: Share,
     ) -> Result<OutcomeRows, OutOfMemory>
         ensures { IfOk result (λ o. o ≡ []) }
     {
         Ok(OutcomeRows {
-            ends: Vec::with_capacity(alloc, like.ends.len())?,
-            memories: Memories::with_room_of(alloc, &like.memories)?,
-            lists: Box::new(alloc, Lists::with_room_of(alloc, &like.lists)?)?,
+            ends: Vec::with_capacity(alloc, share.part(like.ends.len()))?,
+            memories: Memories::with_room_of(alloc, &like.memories, share)?,
+            lists: Box::new(alloc, Lists::with_room_of(alloc, &like.lists, share)?)?,
         })
     }
 
-    /// No memories, with the room that those of these outcomes take, or `OutOfMemory`.
-    pub(crate) fn room_for_memories(&self, alloc: Global) -> Result<Memories, OutOfMemory>
-        ensures { IfOk result (λ m. m ≡ []) }
+    /// Takes all outcomes away. Their room stays.
+    pub(crate) fn clear(&mut self)
+        ensures { self.new ≡ [] }
     {
-        Memories::with_room_of(alloc, &self.memories)
+        self.ends.clear();
+        self.memories.clear();
+        self.lists.clear();
     }
 
-    /// Copies of all memories, or `OutOfMemory`.
-    pub(crate) fn memories(&self) -> Result<Memories, OutOfMemory>
+    /// No memories, in the room of others, which is made enough for a share of those of these outcomes. Or `OutOfMemory`.
+    pub(crate) fn room_for_memories(
+        &self,
+        room: Memories,
+        share: Share,
+    ) -> Result<Memories, OutOfMemory>
+        ensures { IfOk result (λ m. m ≡ []) }
+    {
+        room.into_room_like(&self.memories, share)
+    }
+
+    /// Copies of all memories in the room of others, or `OutOfMemory`.
+    pub(crate) fn memories(&self, room: Memories) -> Result<Memories, OutOfMemory>
         ensures { IfOk result (λ m. m ≡ map (λ o. o.memory) self.now) }
     {
-        Ok(self.memories.copy()?)
+        Ok(self.memories.copy_into(room)?)
     }
 
     /// The allocator that the lists keep.
@@ -127,12 +141,11 @@ impl OutcomeRows {
         ensures err { OnErr result (self.new ≡ self.old) }
     {
         let mut outcome = outcome;
-        let left = outcome.as_ref();
         let end = TurnEnd {
-            ended: left.ended,
-            work: left.work as u32,
+            ended: outcome.ended,
+            work: outcome.work as u32,
         };
-        self.lists.put(self.ends.len(), &left, &left.memory)?;
+        self.lists.put_own(self.ends.len(), &outcome)?;
         self.ends.reserve(1)?;
         let lists: &mut TurnLists = &mut outcome.lists;
         self.memories.push_from(&mut lists.memory)?;
@@ -158,14 +171,13 @@ impl OutcomeRows {
         Ok(())
     }
 
-    /// These outcomes, and behind them those that others have from `from` on, the next process, and before `to`.
+    /// These outcomes, and behind them those that others have from `from` on, and before `to`, or `OutOfMemory`.
     pub(crate) fn with_range(
         self,
         more: &OutcomeRows,
         from: usize,
         to: usize,
     ) -> Result<OutcomeRows, OutOfMemory>
-        requires next { from ≡ length self }
         requires order { from ≤ to }
         requires inside { to ≤ length more.now }
         ensures { IfOk result (λ o. o ≡ self ++ slice_range more.now from to) }
@@ -175,7 +187,7 @@ impl OutcomeRows {
             memories,
             mut lists,
         } = self;
-        lists.take_range(&more.lists, from, to)?;
+        lists.take_range(ends.len(), &more.lists, from, to)?;
         ends.extend_from_slice(&more.ends[from..to])?;
         let memories = memories.with_range(&more.memories, from, to)?;
         Ok(OutcomeRows {
@@ -185,7 +197,8 @@ impl OutcomeRows {
         })
     }
 
-    /// These outcomes, but for new ones of some processes, which are in ascending order. What lies between is copied in one piece.
+    /// These outcomes, but for new ones of some processes, which are in ascending order. Those of consecutive processes are copied in one piece,
+    /// and so is what lies between.
     pub(crate) fn replaced(
         &self,
         alloc: Global,
@@ -197,13 +210,14 @@ impl OutcomeRows {
         requires count { length new.now ≡ length processes.now }
         ensures { IfOk result (λ o. o ≡ replaced self.now processes.now new.now) }
     {
-        let mut all = OutcomeRows::with_room_of(alloc, self)?;
-        for i in 0..processes.len() {
+        let mut all = OutcomeRows::with_room_of(alloc, self, Share::whole())?;
+        let mut place = 0;
+        while place < processes.len() {
+            let end = end_of_run(processes, place);
             let done = all.len();
-            all = all.with_range(self, done, processes[i])?;
-            let outcome = new.get(i);
-            let memory = outcome.memory.to_memory()?;
-            all.push_over(&outcome, memory)?;
+            all = all.with_range(self, done, processes[place])?;
+            all = all.with_range(new, place, end)?;
+            place = end;
         }
         let done = all.len();
         all.with_range(self, done, self.len())

@@ -1,6 +1,6 @@
 //! What the turns of several processes leave.
 
-ghost use Rattle.std.specs.Prelude.{◌≡◌, ◌<◌, [], All, IfOk, IfSome, OnOk, length, map, nat_eq};
+ghost use Rattle.std.specs.Prelude.{◌≡◌, ◌<◌, [], All, IfOk, length, nat_eq};
 ghost use Rattle.std.specs.Bool.{OnTrue};
 ghost use Rattle.bsp_model.specs.Replaced.{replaced, IsAscending};
 ghost use Rattle.bsp_step.specs.OutcomeParts.{IsOutcome, outcome_of};
@@ -9,10 +9,11 @@ ghost use Rattle.bsp_step.specs.ListKind.{IsWithout};
 
 mod others;
 mod registers;
+mod room;
 
 use crate::{ListKind, OutcomeRef, OutcomeRows};
 use bsp_model::{
-    Get, Memories, MemoryRef, OutOfMemory, PutsRef, RowsRef, SendsRef, Shared, TryCopy, are_few,
+    Get, MemoryRef, OutOfMemory, PutsRef, RowsRef, SendsRef, Shared, TryCopy, are_few,
 };
 use others::Others;
 use std::alloc::Global;
@@ -78,54 +79,6 @@ impl Outcomes {
             rows: Some(Shared::new(alloc, rows)?),
             others: None,
         })
-    }
-
-    /// Lists in which so many outcomes are to be gathered, none of which is there yet. Where these are as many, there is room for as much as they
-    /// have, so that the lists of a superstep like the one before need not grow. Or `OutOfMemory`.
-    pub fn room_for(&self, alloc: Global, count: usize) -> Result<OutcomeRows, OutOfMemory>
-        ensures { IfOk result (λ o. o ≡ []) }
-    {
-        match &self.rows {
-            Some(rows) if rows.len() == count => OutcomeRows::with_room_of(alloc, rows),
-            _ => OutcomeRows::with_capacity(alloc, count),
-        }
-    }
-
-    /// Lists in which so many memories are to be gathered, none of which is there yet. Where these outcomes are as many, there is room for as much as
-    /// their memories have. Or `OutOfMemory`.
-    pub fn room_for_memories(&self, alloc: Global, count: usize) -> Result<Memories, OutOfMemory>
-        ensures { IfOk result (λ m. m ≡ []) }
-    {
-        match &self.rows {
-            Some(rows) if rows.len() == count => rows.room_for_memories(alloc),
-            _ => Memories::with_capacity(alloc, count),
-        }
-    }
-
-    /// The lists of all processes, where they are so many and none lies apart.
-    fn all_rows(&self, count: usize) -> Option<&OutcomeRows>
-        ensures { IfSome result (λ rows. (rows.now ≡ self.now) × (length self.now ≡ count)) }
-    {
-        match (&self.rows, &self.others) {
-            (Some(rows), None) if rows.len() == count => Some(rows),
-            _ => None,
-        }
-    }
-
-    /// Copies of the memories of some processes, which are in ascending order; those of all are copied in one piece. Or `OutOfMemory`.
-    pub fn memories_of(&self, alloc: Global, processes: &[usize]) -> Result<Memories, OutOfMemory>
-        requires known { All (λ p. p < length self.now) processes.now }
-        requires ascending { IsAscending processes.now }
-        ensures { IfOk result (λ m. m ≡ map (λ p. (outcome_of self.now p).memory) processes.now) }
-    {
-        if let Some(rows) = self.all_rows(processes.len()) {
-            return Ok(rows.memories()?);
-        }
-        let mut memories = Memories::with_capacity(alloc, processes.len())?;
-        for process in processes {
-            memories.push_copy(&self.memory(*process))?;
-        }
-        Ok(memories)
     }
 
     /// The number of processes.

@@ -3,8 +3,8 @@
 ghost use Rattle.std.specs.Prelude.{◌≡◌, [], OnOk};
 ghost use Rattle.bsp_step.specs.Inside.TurnLists.{no_lists};
 
-use bsp_model::{Get, Memory, MemoryRef, OutOfMemory, Puts, Rows, Sends, Seq, Stores};
-use bsp_table::Area;
+use crate::RareLists;
+use bsp_model::{Memory, MemoryRef, OutOfMemory, Puts, Stores};
 use std::alloc::Global;
 
 /// The lists that a turn leaves, its memory first. They lie in a box, so that an outcome and a context that move take few words with them.
@@ -16,16 +16,8 @@ pub struct TurnLists {
     pub stores: Stores,
     /// The puts, in issue order, resolved to process and start word.
     pub puts: Puts,
-    /// The gets, in issue order, resolved to process and start word.
-    pub gets: Seq<Get>,
-    /// The sends, in issue order.
-    pub sends: Sends,
-    /// The popped slots, in issue order.
-    pub pops: Seq<usize>,
-    /// The pushed areas, in issue order.
-    pub pushes: Seq<Area>,
-    /// The printed lines, in order.
-    pub lines: Rows<u64>,
+    /// The other requests and the printed lines.
+    pub rare: RareLists,
 }
 
 impl TurnLists {
@@ -37,11 +29,7 @@ impl TurnLists {
             memory: Memory::new(alloc),
             stores: Stores::new(alloc),
             puts: Puts::new(alloc),
-            gets: Seq::new(alloc),
-            sends: Sends::new(alloc),
-            pops: Seq::new(alloc),
-            pushes: Seq::new(alloc),
-            lines: Rows::new(alloc),
+            rare: RareLists::new(alloc),
         }
     }
 
@@ -53,11 +41,7 @@ impl TurnLists {
     {
         self.stores.clear();
         self.puts.clear();
-        self.gets.clear();
-        self.sends.clear();
-        self.pops.clear();
-        self.pushes.clear();
-        self.lines.clear();
+        self.rare.clear();
         self.memory.load_from(memory)
     }
 }

@@ -17,12 +17,13 @@ fn leave(cells: &Cells, first: &[u64], second: &[u64]) -> bool {
         && leaves(&cells.memory(1), cells.queue(1), second)
 }
 
-/// Whether one pass brings each of two processes the other's put, which wins over a get.
+/// Whether one pass brings each of two processes the other's put, which wins over a get, in the room of what one of them got.
 fn are_gathered(alloc: Global, outcomes: &Outcomes) -> Result<bool, OutOfMemory>
     requires deliverable { AreDeliverable outcomes.now }
     requires two { length outcomes.now ≡ 2 }
 {
-    let cells = deliver_some(alloc, outcomes, &[0, 1])?;
+    let room = deliver_some(alloc, outcomes, &[1], Cells::new(alloc))?;
+    let cells = deliver_some(alloc, outcomes, &[0, 1], room)?;
     let are_left = leave(&cells, &[77, 21], &[88, 89]);
     drop(cells);
     Ok(are_left)

@@ -1,15 +1,14 @@
--- Stores that are kept beside the memory that their turn left. Where they are one range, whose words stand in that memory in one piece, the range is
--- kept alone, and its words are those of the memory.
-use Rattle.std.specs.Prelude.{ℕ, List, [], ◌∷◌, take}
+-- Stores that are kept beside the memory that their turn left. Where they are one range, whose words stand in that memory, the range is kept
+-- alone, and its words are those of the memory.
+use Rattle.std.specs.Prelude.{ℕ, List, [], ◌∷◌, take, drop}
 use Rattle.bsp_model.specs.declared.request.Store.{Store}
 use Rattle.bsp_model.specs.declared.stores.range.Range.{Range}
 use Rattle.bsp_model.specs.Columns.{row_at}
-use Rattle.bsp_model.specs.Memory.{rest_of_page}
 use Rattle.bsp_model.specs.Inside.Ranges.{stores_of, AreRanges}
 
 -- the words of ranges: those that are kept, but for a range without any those that the memory has there
 abbrev pub words_beside : List Range → List ℕ → List ℕ → List ℕ
-words_beside (r ∷ []) [] memory = take r.len (rest_of_page memory r.start)
+words_beside (r ∷ []) [] memory = take r.len (drop r.start memory)
 words_beside ranges values memory = values
 
 -- the stores of a process beside its memory, from the ranges of all and the words that are kept

@@ -20,3 +20,7 @@ pub record HasPages (full : List (List ℕ)) (last : List ℕ) (len : ℕ) : Typ
 -- The word at an address after such a write.
 abbrev pub word_after : (ℕ → ℕ) → ℕ → List ℕ → ℕ → ℕ
 word_after word start words address = if nat_le start address && nat_lt address (start + length words) then get_or words (address - start) 0 else word address
+
+-- In these pages the words from an address on are replaced, and no others.
+abbrev pub AreWritten : List (List ℕ) → ℕ → List ℕ → List (List ℕ) → Type 0
+AreWritten old start words new = (i : ℕ) → paged_word new i ≡ word_after (paged_word old) start words i

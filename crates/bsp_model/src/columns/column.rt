@@ -3,7 +3,7 @@
 ghost use Rattle.std.specs.Prelude.{◌≡◌, [], IfOk, OnErr, OnOk, length, nat_eq};
 ghost use Rattle.bsp_model.specs.Columns.{row_at, AreCut, AreTaken, IsPut};
 
-use crate::{OutOfMemory, Rows};
+use crate::{OutOfMemory, Rows, Share};
 use std::alloc::Global;
 use std::marker::Model;
 
@@ -50,17 +50,29 @@ impl<T> Column<T> {
 }
 
 impl<T: Copy> Column<T> {
-    /// Empty rows alone, with the room that these take, or `OutOfMemory`.
-    pub fn with_room_of(alloc: Global, like: &Column<T>) -> Result<Column<T>, OutOfMemory>
+    /// Empty rows alone, with a share of the room that these take, or `OutOfMemory`.
+    pub fn with_room_of(
+        alloc: Global,
+        like: &Column<T>,
+        share: Share,
+    ) -> Result<Column<T>, OutOfMemory>
         ensures { IfOk result (λ c. c ≡ []) }
     {
         Ok(Column {
-            rows: Rows::with_room_of(alloc, &like.rows)?,
+            rows: Rows::with_room_of(alloc, &like.rows, share)?,
         })
     }
 
+    /// Takes all rows away. Their room stays.
+    pub fn clear(&mut self)
+        ensures { self.new ≡ [] }
+    {
+        self.rows.clear();
+    }
+
     /// Leaves the rows from a process on out.
-    pub(crate) fn cut(&mut self, place: usize)
+    #[inline(always)]
+    pub fn cut(&mut self, place: usize)
         ensures { AreCut [] (row_at self.old) place (row_at self.new) }
     {
         self.rows.truncate(place);
@@ -79,6 +91,7 @@ impl<T: Copy> Column<T> {
     }
 
     /// The same, where the column may change.
+    #[inline(never)]
     fn put_there(&mut self, place: usize, row: &[T]) -> Result<(), OutOfMemory>
         ensures ok { OnOk result (IsPut [] (row_at self.old) place row.now (row_at self.new)) }
         ensures err { OnErr result (AreCut [] (row_at self.old) place (row_at self.new)) }
@@ -92,23 +105,24 @@ impl<T: Copy> Column<T> {
         Ok(())
     }
 
-    /// Makes the rows of another column, from `from` on and before `to`, those of the same processes, and leaves those behind them out.
-    /// After `OutOfMemory` the rows from `from` on are left out.
+    /// Makes the rows that another column has from `from` on, and before `to`, those of the processes from `place` on, and leaves those behind
+    /// them out. After `OutOfMemory` the rows from `place` on are left out.
     pub fn take_range(
         &mut self,
+        place: usize,
         more: &Column<T>,
         from: usize,
         to: usize,
     ) -> Result<(), OutOfMemory>
-        ensures ok { OnOk result (AreTaken [] (row_at self.old) (row_at more.now) from to (row_at self.new)) }
-        ensures err { OnErr result (AreCut [] (row_at self.old) from (row_at self.new)) }
+        ensures ok { OnOk result (AreTaken [] (row_at self.old) place (row_at more.now) from to (row_at self.new)) }
+        ensures err { OnErr result (AreCut [] (row_at self.old) place (row_at self.new)) }
     {
-        self.rows.truncate(from);
+        self.rows.truncate(place);
         let to = to.min(more.rows.len());
         if to <= from {
             return Ok(());
         }
-        self.rows.fill(from)?;
+        self.rows.fill(place)?;
         self.rows.append_range(&more.rows.as_ref(), from, to)?;
         Ok(())
     }

@@ -4,7 +4,7 @@ ghost use Rattle.std.specs.Prelude.{◌≡◌, [], IfOk, OnErr, OnOk, length, na
 ghost use Rattle.bsp_model.specs.Columns.{row_at, AreCut, AreTaken, IsPut};
 
 use super::pairs::Pairs;
-use crate::{OutOfMemory, RowsRef};
+use crate::{OutOfMemory, RowsRef, Share};
 use std::alloc::Global;
 use std::marker::Model;
 
@@ -35,13 +35,32 @@ impl LineColumn {
         }
     }
 
-    /// None for any process, with the room that these take, or `OutOfMemory`.
-    pub fn with_room_of(alloc: Global, like: &LineColumn) -> Result<LineColumn, OutOfMemory>
+    /// None for any process, with a share of the room that these take, or `OutOfMemory`.
+    pub fn with_room_of(
+        alloc: Global,
+        like: &LineColumn,
+        share: Share,
+    ) -> Result<LineColumn, OutOfMemory>
         ensures { IfOk result (λ c. c ≡ []) }
     {
         Ok(LineColumn {
-            pairs: Pairs::with_room_of(alloc, &like.pairs)?,
+            pairs: Pairs::with_room_of(alloc, &like.pairs, share)?,
         })
+    }
+
+    /// Leaves none for any process. Their room stays.
+    pub fn clear(&mut self)
+        ensures { self.new ≡ [] }
+    {
+        self.pairs.clear();
+    }
+
+    /// Leaves those of the processes from `place` on out.
+    #[inline(always)]
+    pub fn cut(&mut self, place: usize)
+        ensures { AreCut [] (row_at self.old) place (row_at self.new) }
+    {
+        self.pairs.cut(place);
     }
 
     /// Whether none stand. Then no process has any.
@@ -71,18 +90,19 @@ impl LineColumn {
         Ok(())
     }
 
-    /// Makes those of another column, from the process `from` on and before `to`, those of the same processes, and leaves those behind them
-    /// out. After `OutOfMemory` those from `from` on are left out.
+    /// Makes those that another column has from the process `from` on, and before `to`, those of the processes from `place` on, and leaves those
+    /// behind them out. After `OutOfMemory` those from `place` on are left out.
     pub fn take_range(
         &mut self,
+        place: usize,
         more: &LineColumn,
         from: usize,
         to: usize,
     ) -> Result<(), OutOfMemory>
-        ensures ok { OnOk result (AreTaken [] (row_at self.old) (row_at more.now) from to (row_at self.new)) }
-        ensures err { OnErr result (AreCut [] (row_at self.old) from (row_at self.new)) }
+        ensures ok { OnOk result (AreTaken [] (row_at self.old) place (row_at more.now) from to (row_at self.new)) }
+        ensures err { OnErr result (AreCut [] (row_at self.old) place (row_at self.new)) }
     {
-        self.pairs.take_range(&more.pairs, from, to)?;
+        self.pairs.take_range(place, &more.pairs, from, to)?;
         Ok(())
     }
 }

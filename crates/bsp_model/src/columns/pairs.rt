@@ -5,7 +5,7 @@ ghost use Rattle.bsp_model.specs.Columns.{AreCut, AreTaken, IsPut};
 ghost use Rattle.bsp_model.specs.Inside.Columns.{pair_at};
 
 use super::Column;
-use crate::OutOfMemory;
+use crate::{OutOfMemory, Share};
 use std::alloc::Global;
 use std::marker::Model;
 
@@ -53,14 +53,35 @@ impl<A, B> Pairs<A, B> {
 }
 
 impl<A: Copy, B: Copy> Pairs<A, B> {
-    /// Empty rows alone, with the room that these take, or `OutOfMemory`.
-    pub fn with_room_of(alloc: Global, like: &Pairs<A, B>) -> Result<Pairs<A, B>, OutOfMemory>
+    /// Empty rows alone, with a share of the room that these take, or `OutOfMemory`.
+    pub fn with_room_of(
+        alloc: Global,
+        like: &Pairs<A, B>,
+        share: Share,
+    ) -> Result<Pairs<A, B>, OutOfMemory>
         ensures { IfOk result (λ c. c ≡ ([], [])) }
     {
         Ok(Pairs {
-            firsts: Column::with_room_of(alloc, &like.firsts)?,
-            seconds: Column::with_room_of(alloc, &like.seconds)?,
+            firsts: Column::with_room_of(alloc, &like.firsts, share)?,
+            seconds: Column::with_room_of(alloc, &like.seconds, share)?,
         })
+    }
+
+    /// Leaves the rows from a process on out.
+    #[inline(always)]
+    pub fn cut(&mut self, place: usize)
+        ensures { AreCut ([], []) (pair_at self.old) place (pair_at self.new) }
+    {
+        self.firsts.cut(place);
+        self.seconds.cut(place);
+    }
+
+    /// Takes all rows away. Their room stays.
+    pub fn clear(&mut self)
+        ensures { self.new ≡ ([], []) }
+    {
+        self.firsts.clear();
+        self.seconds.clear();
     }
 
     /// Makes these the rows of a process, and leaves those behind it out. After `OutOfMemory` its own are left out too.
@@ -78,21 +99,23 @@ impl<A: Copy, B: Copy> Pairs<A, B> {
         Ok(())
     }
 
-    /// Makes the rows of others, from `from` on and before `to`, those of the same processes, and leaves those behind them out. After
-    /// `OutOfMemory` the rows from `from` on are left out.
+    /// Makes the rows that others have from `from` on, and before `to`, those of the processes from `place` on, and leaves those behind them
+    /// out. After `OutOfMemory` the rows from `place` on are left out.
     pub fn take_range(
         &mut self,
+        place: usize,
         more: &Pairs<A, B>,
         from: usize,
         to: usize,
     ) -> Result<(), OutOfMemory>
-        ensures ok { OnOk result (AreTaken ([], []) (pair_at self.old) (pair_at more.now) from to (pair_at self.new)) }
-        ensures err { OnErr result (AreCut ([], []) (pair_at self.old) from (pair_at self.new)) }
+        ensures ok { OnOk result
+            (AreTaken ([], []) (pair_at self.old) place (pair_at more.now) from to (pair_at self.new)) }
+        ensures err { OnErr result (AreCut ([], []) (pair_at self.old) place (pair_at self.new)) }
     {
-        self.seconds.cut(from);
-        self.firsts.take_range(&more.firsts, from, to)?;
-        if let Err(error) = self.seconds.take_range(&more.seconds, from, to) {
-            self.firsts.cut(from);
+        self.seconds.cut(place);
+        self.firsts.take_range(place, &more.firsts, from, to)?;
+        if let Err(error) = self.seconds.take_range(place, &more.seconds, from, to) {
+            self.firsts.cut(place);
             return Err(error);
         }
         Ok(())

@@ -6,7 +6,7 @@ ghost use Rattle.bsp_model.specs.Columns.{row_at, AreCut, AreTaken, IsPut};
 use super::pairs::Pairs;
 use crate::headed_rows::HeadedRowsRef;
 use crate::sends::SendHead;
-use crate::{OutOfMemory, SendsRef};
+use crate::{OutOfMemory, SendsRef, Share};
 use std::alloc::Global;
 use std::marker::Model;
 
@@ -38,13 +38,32 @@ impl SendColumn {
         }
     }
 
-    /// None for any process, with the room that these take, or `OutOfMemory`.
-    pub fn with_room_of(alloc: Global, like: &SendColumn) -> Result<SendColumn, OutOfMemory>
+    /// None for any process, with a share of the room that these take, or `OutOfMemory`.
+    pub fn with_room_of(
+        alloc: Global,
+        like: &SendColumn,
+        share: Share,
+    ) -> Result<SendColumn, OutOfMemory>
         ensures { IfOk result (λ c. c ≡ []) }
     {
         Ok(SendColumn {
-            pairs: Pairs::with_room_of(alloc, &like.pairs)?,
+            pairs: Pairs::with_room_of(alloc, &like.pairs, share)?,
         })
+    }
+
+    /// Leaves none for any process. Their room stays.
+    pub fn clear(&mut self)
+        ensures { self.new ≡ [] }
+    {
+        self.pairs.clear();
+    }
+
+    /// Leaves those of the processes from `place` on out.
+    #[inline(always)]
+    pub fn cut(&mut self, place: usize)
+        ensures { AreCut [] (row_at self.old) place (row_at self.new) }
+    {
+        self.pairs.cut(place);
     }
 
     /// Whether none stand. Then no process has any.
@@ -76,18 +95,19 @@ impl SendColumn {
         Ok(())
     }
 
-    /// Makes those of another column, from the process `from` on and before `to`, those of the same processes, and leaves those behind them
-    /// out. After `OutOfMemory` those from `from` on are left out.
+    /// Makes those that another column has from the process `from` on, and before `to`, those of the processes from `place` on, and leaves those
+    /// behind them out. After `OutOfMemory` those from `place` on are left out.
     pub fn take_range(
         &mut self,
+        place: usize,
         more: &SendColumn,
         from: usize,
         to: usize,
     ) -> Result<(), OutOfMemory>
-        ensures ok { OnOk result (AreTaken [] (row_at self.old) (row_at more.now) from to (row_at self.new)) }
-        ensures err { OnErr result (AreCut [] (row_at self.old) from (row_at self.new)) }
+        ensures ok { OnOk result (AreTaken [] (row_at self.old) place (row_at more.now) from to (row_at self.new)) }
+        ensures err { OnErr result (AreCut [] (row_at self.old) place (row_at self.new)) }
     {
-        self.pairs.take_range(&more.pairs, from, to)?;
+        self.pairs.take_range(place, &more.pairs, from, to)?;
         Ok(())
     }
 }

@@ -1,9 +1,9 @@
 //! For each process a list that its copies share.
 
-ghost use Rattle.std.specs.Prelude.{◌≡◌, ◌≤◌, ◌+◌, ◌-◌, ◌++◌, ℕ, [], length, IfOk, OnErr, OnOk};
+ghost use Rattle.std.specs.Prelude.{◌≡◌, ◌≤◌, ◌++◌, ℕ, [], length, IfOk, OnErr, OnOk};
 ghost use Rattle.bsp_model.specs.Columns.{row_at, AreCut, AreTaken, IsPut};
 
-use crate::{OutOfMemory, SharedSeq, TryCopy};
+use crate::{OutOfMemory, Share, SharedSeq, TryCopy};
 use std::alloc::Global;
 use std::marker::Model;
 
@@ -89,6 +89,25 @@ impl<T: Drop> SharedColumn<T> {
         })
     }
 
+    /// Leaves empty lists alone. The room stays.
+    pub fn clear(&mut self)
+        ensures { self.new ≡ [] }
+    {
+        self.rows.clear();
+    }
+
+    /// Leaves empty lists alone, and makes a share of the room that others take.
+    pub(crate) fn make_room_like(
+        &mut self,
+        like: &SharedColumn<T>,
+        share: Share,
+    ) -> Result<(), OutOfMemory>
+        ensures { self.new ≡ [] }
+    {
+        self.rows.clear();
+        self.rows.reserve(share.part(like.rows.len()))
+    }
+
     /// Makes `row` the list of a process, and leaves those behind it out. After `OutOfMemory` its own is left out too.
     #[inline(always)]
     pub fn put(&mut self, place: usize, row: SharedSeq<T>) -> Result<(), OutOfMemory>
@@ -125,7 +144,7 @@ impl<T: Drop> SharedColumn<T> {
         from: usize,
         to: usize,
     ) -> Result<SharedColumn<T>, OutOfMemory>
-        ensures { IfOk result (λ c. AreTaken [] (row_at self) (λ k. row_at more.now (from + (k - place))) place (place + (to - from)) (row_at c)) }
+        ensures { IfOk result (λ c. AreTaken [] (row_at self) place (row_at more.now) from to (row_at c)) }
     {
         let SharedColumn { mut rows } = self;
         rows.truncate(place);

@@ -1,24 +1,22 @@
 //! For each process stores.
 
-ghost use Rattle.std.specs.Prelude.{◌≡◌, ◌<◌, ◌++◌, ◌∷◌, ℕ, [], IfOk, OnErr, OnOk};
+ghost use Rattle.std.specs.Prelude.{◌≡◌, ◌<◌, ℕ, [], IfOk, OnErr, OnOk};
 ghost use Rattle.bsp_model.specs.Columns.{AreCut, AreTaken};
-ghost use Rattle.bsp_model.specs.Inside.Beside.{stores_beside, words_beside, AreBeside};
+ghost use Rattle.bsp_model.specs.Inside.Beside.{stores_beside, AreBeside};
 ghost use Rattle.bsp_model.specs.Inside.Columns.{pair_at};
-ghost use Rattle.bsp_model.specs.Inside.Pages.{words_of, HasPages};
-ghost use Rattle.bsp_model.specs.Inside.Ranges.{AreRanges};
 
 #[cfg(test)]
 mod tests;
 
 use super::pairs::Pairs;
-use crate::page::Page;
 use crate::stores::range::Range;
-use crate::{MemoryRef, OutOfMemory, StoresRef, are_same_words};
+use crate::stores_ref::range_beside;
+use crate::{MemoryRef, OutOfMemory, Share, StoresRef};
 use std::alloc::Global;
 use std::marker::Model;
 
 /// For each process, by its number, stores in the order in which they were made, in few lists. They are kept beside the memory that its turn left:
-/// where they are one range, whose words stand there in one piece, no words are kept.
+/// where they are one range, whose words stand there, no words are kept.
 #[derive(Debug, Drop)]
 pub struct StoreColumn {
     pairs: Pairs<Range, u64>,
@@ -33,50 +31,6 @@ impl Model for StoreColumn {
     ghost view = { λ c. c.pairs };
 }
 
-/// The words of ranges, of which these are kept, beside the memory of these pages. It only reads, and isn't inlined, so that nothing of it is left
-/// where the stores aren't asked for.
-#[inline(never)]
-fn values_beside<'a>(
-    ranges: &[Range],
-    values: &'a [u64],
-    alloc: Global,
-    pages: &'a [Page],
-    last: &'a [u64],
-    len: usize,
-) -> &'a [u64]
-    requires paged { HasPages pages.now last.now len }
-    requires ranges { AreRanges ranges.now (words_beside ranges.now values.now (words_of (pages.now ++ last.now ∷ []) len)) }
-    ensures { result.now ≡ words_beside ranges.now values.now (words_of (pages.now ++ last.now ∷ []) len) }
-{
-    if ranges.len() != 1 || !values.is_empty() {
-        return values;
-    }
-    let range = ranges[0];
-    let memory = MemoryRef {
-        alloc,
-        pages,
-        last,
-        len,
-    };
-    &memory.words_from(range.start)[..range.len]
-}
-
-/// The words of ranges that are to be kept beside a memory.
-#[inline(always)]
-fn values_to_keep<'a>(ranges: &[Range], values: &'a [u64], memory: &MemoryRef<'_>) -> &'a [u64]
-    requires { AreRanges ranges.now values.now }
-    ensures { words_beside ranges.now result.now memory.now ≡ values.now }
-{
-    if ranges.len() != 1 {
-        return values;
-    }
-    let words = memory.words_from(ranges[0].start);
-    if values.len() <= words.len() && are_same_words(values, &words[..values.len()]) {
-        return &[];
-    }
-    values
-}
-
 impl StoreColumn {
     /// None for any process, which takes no memory.
     pub fn new(alloc: Global) -> StoreColumn
@@ -87,13 +41,24 @@ impl StoreColumn {
         }
     }
 
-    /// None for any process, with the room that these take, or `OutOfMemory`.
-    pub fn with_room_of(alloc: Global, like: &StoreColumn) -> Result<StoreColumn, OutOfMemory>
+    /// None for any process, with a share of the room that these take, or `OutOfMemory`.
+    pub fn with_room_of(
+        alloc: Global,
+        like: &StoreColumn,
+        share: Share,
+    ) -> Result<StoreColumn, OutOfMemory>
         ensures { IfOk result (λ c. c ≡ ([], [])) }
     {
         Ok(StoreColumn {
-            pairs: Pairs::with_room_of(alloc, &like.pairs)?,
+            pairs: Pairs::with_room_of(alloc, &like.pairs, share)?,
         })
+    }
+
+    /// Leaves none for any process. Their room stays.
+    pub fn clear(&mut self)
+        ensures { self.new ≡ ([], []) }
+    {
+        self.pairs.clear();
     }
 
     /// Those of a process beside the memory that its turn left, to be read where they lie.
@@ -105,14 +70,8 @@ impl StoreColumn {
         let (ranges, values) = self.pairs.get(place);
         StoresRef {
             ranges,
-            values: values_beside(
-                ranges,
-                values,
-                memory.alloc,
-                memory.pages,
-                memory.last,
-                memory.len,
-            ),
+            values,
+            memory: memory.again(),
         }
     }
 
@@ -131,23 +90,59 @@ impl StoreColumn {
         ensures there { OnOk result (stores_beside self.new place memory.now ≡ stores.now) }
         ensures err { OnErr result (pair_at self.new place ≡ ([], [])) }
     {
-        let values = values_to_keep(stores.ranges, stores.values, memory);
-        self.pairs.put(place, stores.ranges, values)?;
+        if stores.ranges.len() == 1 {
+            if stores.stand_in_piece(stores.ranges[0], memory) {
+                self.pairs.put(place, stores.ranges, &[])?;
+                return Ok(());
+            }
+            return Ok(self.put_range(place, stores, memory)?);
+        }
+        self.pairs.put(place, stores.ranges, stores.values)?;
         Ok(())
     }
 
-    /// Makes those of another column, from the process `from` on and before `to`, those of the same processes, and leaves those behind them
-    /// out. After `OutOfMemory` those from `from` on are left out.
+    /// The same, where they may be one range.
+    #[inline(never)]
+    fn put_range(
+        &mut self,
+        place: usize,
+        stores: &StoresRef<'_>,
+        memory: &MemoryRef<'_>,
+    ) -> Result<(), OutOfMemory>
+        ensures before { (k : ℕ) → k < place → pair_at self.new k ≡ pair_at self.old k }
+        ensures behind { (k : ℕ) → place < k → pair_at self.new k ≡ ([], []) }
+        ensures beside { OnOk result (AreBeside self.new place memory.now) }
+        ensures there { OnOk result (stores_beside self.new place memory.now ≡ stores.now) }
+        ensures err { OnErr result (pair_at self.new place ≡ ([], [])) }
+    {
+        if stores.ranges.len() == 1 && stores.stand_in(stores.ranges[0], memory) {
+            self.pairs.put(place, stores.ranges, &[])?;
+            return Ok(());
+        }
+        let Some(_) = range_beside(stores.ranges, stores.values) else {
+            self.pairs.put(place, stores.ranges, stores.values)?;
+            return Ok(());
+        };
+        self.pairs.cut(place);
+        let words = stores.to_words(memory.alloc)?;
+        self.pairs.put(place, stores.ranges, words.as_slice())?;
+        Ok(())
+    }
+
+    /// Makes those that another column has from the process `from` on, and before `to`, those of the processes from `place` on, and leaves those
+    /// behind them out. After `OutOfMemory` those from `place` on are left out.
     pub fn take_range(
         &mut self,
+        place: usize,
         more: &StoreColumn,
         from: usize,
         to: usize,
     ) -> Result<(), OutOfMemory>
-        ensures ok { OnOk result (AreTaken ([], []) (pair_at self.old) (pair_at more.now) from to (pair_at self.new)) }
-        ensures err { OnErr result (AreCut ([], []) (pair_at self.old) from (pair_at self.new)) }
+        ensures ok { OnOk result
+            (AreTaken ([], []) (pair_at self.old) place (pair_at more.now) from to (pair_at self.new)) }
+        ensures err { OnErr result (AreCut ([], []) (pair_at self.old) place (pair_at self.new)) }
     {
-        self.pairs.take_range(&more.pairs, from, to)?;
+        self.pairs.take_range(place, &more.pairs, from, to)?;
         Ok(())
     }
 }

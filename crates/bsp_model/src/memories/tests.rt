@@ -60,7 +60,9 @@ fn find_between(rt: &impl Abort, memories: &Memories) {
 fn find_taken(rt: &impl Abort, alloc: Global, memories: &Memories) -> Result<(), OutOfMemory> {
     let new = new_memories(alloc)?;
     assert!(rt; memories.len() == 4 && new.len() == 2);
-    let taken = Memories::with_room_of(alloc, memories)?.with_range(&new, 0, 1)?;
+    let taken = new_memories(alloc)?
+        .into_room(memories.len())?
+        .with_range(&new, 0, 1)?;
     let taken = taken.with_range(memories, 1, 3)?.with_range(&new, 1, 2)?;
     drop(new);
     find_memory(rt, &taken, 0, 7, 0);
@@ -98,13 +100,9 @@ fn find_written(rt: &impl Abort, memories: &mut Memories) -> Result<(), OutOfMem
     Ok(())
 }
 
-/// Memories that share the pages of others are written to; the others stay as they are.
+/// Memories that share the pages of others, in the room of third ones, are written to; the others stay as they are.
 fn find_shared(rt: &impl Abort, alloc: Global, memories: &Memories) -> Result<(), OutOfMemory> {
-    let mut others = Memories::with_room_of(alloc, memories)?.with_range(
-        memories,
-        0,
-        memories.len(),
-    )?;
+    let mut others = memories.copy_into(new_memories(alloc)?)?;
     find_written(rt, &mut others)?;
     find_between(rt, &others);
     Ok(())

@@ -6,10 +6,11 @@ use Rattle.bsp_model.specs.Inside.Beside.{stores_beside, AreBeside}
 use Rattle.bsp_model.specs.Inside.Columns.{pair_at}
 use Rattle.bsp_step.specs.declared.outcome.Ended.TheVariants.{Halt}
 use Rattle.bsp_step.specs.declared.list_kind.ListKind.{ListKind}
-use Rattle.bsp_step.specs.declared.list_kind.ListKind.TheVariants.{Gets, Sends, Pops, Pushes, Lines}
+use Rattle.bsp_step.specs.declared.list_kind.ListKind.TheVariants.{Faults, Gets, Sends, Pops, Pushes, Tags, Lines}
 use Rattle.bsp_step.specs.declared.lists.Lists.{Lists}
 use Rattle.bsp_step.specs.declared.lists.TurnEnd.{TurnEnd}
 use Rattle.bsp_step.specs.OutcomeParts.{OutcomeParts, IsOutcome}
+use Rattle.bsp_step.specs.Inside.RareLists.{RareParts}
 
 -- how the turn of a process that there is not ended
 abbrev pub no_end : TurnEnd
@@ -65,22 +66,39 @@ pub record HasLists (lists : Lists) (k : ℕ) (memory : List ℕ) (o : OutcomePa
   pub tags : first_at lists.tags k ≡ o.tag
   pub lines : row_at lists.lines k ≡ o.lines
 
--- A process has the same rows in two of them.
-pub record AreSameLists (old new : Lists) (k : ℕ) : Type 0 where
-  pub faults : row_at new.faults k ≡ row_at old.faults k
-  pub stores : pair_at new.stores k ≡ pair_at old.stores k
-  pub puts : row_at new.puts k ≡ row_at old.puts k
-  pub gets : row_at new.gets k ≡ row_at old.gets k
-  pub sends : row_at new.sends k ≡ row_at old.sends k
-  pub pops : row_at new.pops k ≡ row_at old.pops k
-  pub pushes : row_at new.pushes k ≡ row_at old.pushes k
-  pub tags : row_at new.tags k ≡ row_at old.tags k
-  pub lines : row_at new.lines k ≡ row_at old.lines k
+-- The lists have these, which few turns leave, as the rows of a process.
+pub record HasRare (lists : Lists) (k : ℕ) (rare : RareParts) : Type 0 where
+  pub gets : row_at lists.gets k ≡ rare.gets
+  pub sends : row_at lists.sends k ≡ rare.sends
+  pub pops : row_at lists.pops k ≡ rare.pops
+  pub pushes : row_at lists.pushes k ≡ rare.pushes
+  pub lines : row_at lists.lines k ≡ rare.lines
+
+-- The others than these are the same in two of them.
+pub record KeepsRest (old new : Lists) : Type 0 where
+  pub faults : new.faults ≡ old.faults
+  pub stores : new.stores ≡ old.stores
+  pub puts : new.puts ≡ old.puts
+  pub tags : new.tags ≡ old.tags
+
+-- A process has the rows that another one has in other lists.
+pub record AreSameLists (old : Lists) (j : ℕ) (new : Lists) (k : ℕ) : Type 0 where
+  pub faults : row_at new.faults k ≡ row_at old.faults j
+  pub stores : pair_at new.stores k ≡ pair_at old.stores j
+  pub puts : row_at new.puts k ≡ row_at old.puts j
+  pub gets : row_at new.gets k ≡ row_at old.gets j
+  pub sends : row_at new.sends k ≡ row_at old.sends j
+  pub pops : row_at new.pops k ≡ row_at old.pops j
+  pub pushes : row_at new.pushes k ≡ row_at old.pushes j
+  pub tags : row_at new.tags k ≡ row_at old.tags j
+  pub lines : row_at new.lines k ≡ row_at old.lines j
 
 -- The column of a kind of list has no row.
 abbrev pub IsWithoutColumn : ListKind → Lists → Type 0
+IsWithoutColumn Faults lists = lists.faults ≡ []
 IsWithoutColumn Gets lists = lists.gets ≡ []
 IsWithoutColumn Sends lists = lists.sends ≡ []
 IsWithoutColumn Pops lists = lists.pops ≡ []
 IsWithoutColumn Pushes lists = lists.pushes ≡ []
+IsWithoutColumn Tags lists = lists.tags ≡ []
 IsWithoutColumn Lines lists = lists.lines ≡ []

@@ -73,7 +73,7 @@ impl<'v> Ctx<'v> {
         if into > own || len > own - into {
             return self.refuse(Fault::BadLocal);
         }
-        self.lists.gets.push(Get {
+        self.lists.rare.push_get(Get {
             owner: pid,
             start,
             len,

@@ -1,7 +1,7 @@
 //! Runs, and what they have to give.
 
 use super::known::{Known, row};
-use bsp_model::{CostRow, Fault, Input, Memory, MemoryRef, OutOfMemory, Seq, Words};
+use bsp_model::{CostRow, Fault, Input, Memories, Memory, MemoryRef, OutOfMemory, Seq, Words};
 use bsp_run::{History, Lines, ProcessFault, RunError, RunResult, Status, run_plain, run_result};
 use bsp_step::Program;
 use std::alloc::Global;
@@ -82,6 +82,18 @@ fn are_memories(memories: &[Memory], want: &[&[u64]]) -> bool {
     }
     for pid in 0..want.len() {
         if !is_memory(&memories[pid].as_ref(), want[pid]) {
+            return false;
+        }
+    }
+    true
+}
+
+fn are_memories_left(memories: &Memories, want: &[&[u64]]) -> bool {
+    if memories.len() != want.len() {
+        return false;
+    }
+    for pid in 0..want.len() {
+        if !is_memory(&memories.get(pid), want[pid]) {
             return false;
         }
     }
@@ -194,7 +206,7 @@ fn gives_lines(given: &RunResult, want: &[&[&[u64]]]) -> bool {
 /// Whether it is what the run of the row gives.
 pub fn is_result(given: &RunResult, row: &Row) -> bool {
     is_finish(&given.status, row.finish)
-        && are_memories(given.memories.as_slice(), row.memories)
+        && are_memories_left(&given.memories, row.memories)
         && gives_lines(given, row.lines)
         && are_costs(given.costs.as_slice(), given.total, row.costs)
 }

@@ -1,6 +1,7 @@
-use Rattle.std.proofs.Common.{List, map, sym, ap, ◌∙◌, arith, subst, All}
-use Rattle.std.proofs.lemmas.Bool.{false≢true}
+use Rattle.std.proofs.Common.{◌≡◌, List, [], map, refl, sym, ap, ◌∙◌, arith, subst, All}
+use Rattle.std.proofs.lemmas.Bool.{false≢true, OnTrue_at}
 use Rattle.bsp_model.specs.declared.request.Get.{Get}
+use Rattle.bsp_step.specs.OutcomeParts.{no_outcome, outcome_of}
 use Rattle.bsp_deliver.specs.Requests.{words_read}
 use Rattle.bsp_deliver.specs.Inside.Comparison.{IsReadable}
 use Rattle.bsp_deliver.proofs.SameParts.{same_own, readable_of}
@@ -11,6 +12,14 @@ returns-then-not-has_same_own c = (
   λ t. absurd (false≢true t),
   λ h. sym c.if-not-has_same_own.true ∙ c.has_same_own.ensures.1 ((same_own c.args.old.now c.args.new.now c.args.p).0 h).0,
 )
+
+pub returns-then-nobody_gets : goal.returns-then-nobody_gets
+returns-then-nobody_gets c =
+    let os = c.args.old.now in
+    let us = c.args.new.now in
+    let own = c.has_same_own.ensures.0 c.if-not-has_same_own.false in
+    let none : (outcome_of us c.args.p).gets ≡ [] = OnTrue_at c.if-nobody_gets.true c.requires.nobody c.args.p no_outcome c.requires.known in
+    (λ t. (same_own os us c.args.p).1 (own, ap (map (words_read os)) none ∙ sym (ap (map (words_read us)) none)), λ h. refl)
 
 pub read_same_words-requires-clause-before : goal.read_same_words-requires-clause-before
 read_same_words-requires-clause-before c =

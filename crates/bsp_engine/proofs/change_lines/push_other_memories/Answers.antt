@@ -1,5 +1,5 @@
-use Rattle.std.proofs.Common.{◌∙◌, ◌++◌, ℕ, List, Option, ap}
-use Rattle.std.specs.Prelude.{slice_get}
+use Rattle.std.proofs.Common.{◌<◌, ◌∙◌, ◌++◌, ℕ, List, [], Option, ap, length, arith}
+use Rattle.std.proofs.lemmas.List.{get_or_default}
 use Rattle.bsp_engine.specs.Changes.{other, piece_if, same_words}
 use Rattle.bsp_engine.specs.Text.{memory_line}
 use Rattle.bsp_engine.proofs.Changed.{others_told}
@@ -7,6 +7,8 @@ use Rattle.bsp_engine.proofs.change_lines.push_other_memories.Goals as goal
 
 pub loop-pid-preserved : goal.loop-pid-preserved
 loop-pid-preserved c =
-    others_told memory_line same_words c.args.text.now.items _ _ c.args.olds.now c.args.news.now c.loop-pid.pid c.index-news-pid.result c.loop-pid-test.true c.index-news-pid.is c.loop-pid.invariant
-    (c.in_ok-push_other_memory.ensures.text ∙ ap (λ (o : Option (List ℕ)). c.loop-pid.text.items ++ piece_if memory_line c.loop-pid.pid (other same_words o c.as_ref.result)) c.item_at.ensures
-    ∙ ap (λ (memory : List ℕ). c.loop-pid.text.items ++ piece_if memory_line c.loop-pid.pid (other same_words (slice_get c.args.olds.now c.loop-pid.pid) memory)) c.as_ref.ensures)
+    let news = c.args.news.now in
+    let pid = c.loop-pid.pid in
+    let within : pid < length news = omega arith in
+    others_told memory_line same_words c.args.text.now.items _ _ c.args.olds.now news pid c.get.result within (c.get.ensures ∙ get_or_default news pid [] c.get.result within) c.loop-pid.invariant
+    (c.in_ok-push_other_memory.ensures.text ∙ ap (λ (o : Option (List ℕ)). c.loop-pid.text.items ++ piece_if memory_line pid (other same_words o c.get.result)) c.memory_at.ensures)

@@ -15,4 +15,4 @@ returns-then-not-flag-clause-olds c = unput c.args.olds.now (memories_of c.args.
 pub returns-else-branch-clause-olds : goal.returns-else-branch-clause-olds
 returns-else-branch-clause-olds c =
     unput c.args.olds.now (memories_of c.args.history.now) c.args.pid
-    (ap (λ (xs : List (List ℕ)). slice_get xs c.args.pid) (sym c.as_slice.ensures) ∙ sym c.item_at.ensures ∙ c.in_ok-push_other_memory.ensures.same c.if-branch.false ∙ c.in-Some.ensures)
+    (ap (λ (xs : List (List ℕ)). slice_get xs c.args.pid) (sym c.as_slice.ensures) ∙ sym c.old_memory.ensures ∙ c.in_ok-push_other_memory.ensures.same c.if-branch.false ∙ c.in-Some.ensures)

@@ -1,5 +1,4 @@
-use Rattle.std.proofs.Common.{◌≤◌, ◌-◌, get_or, length, arith}
-use Rattle.std.proofs.lemmas.List.{length-set}
+use Rattle.std.proofs.Common.{◌≤◌, ◌-◌, drop, get_or, length, arith}
 use Rattle.bsp_engine.proofs.Numbering.{few_digits, field_before}
 use Rattle.bsp_engine.proofs.lines.write_fields.Goals as goal
 
@@ -8,7 +7,7 @@ write_digits-at-requires c =
     let h = c.loop-left.invariant in
     let n = get_or c.args.numbers.now (c.loop-left.left - 1) 0 in
     let short = few_digits n (omega (arith, c.type_inv.numbers (c.loop-left.left - 1))) in
-    (omega (arith, short, h.fits), h.within)
+    (omega (arith, short, h.fits), omega (arith, h.before, c.requires.inside))
 
 pub overflow_sub-at : goal.overflow_sub-at
 overflow_sub-at c =
@@ -26,10 +25,11 @@ loop-left-preserved c =
     let short = few_digits n (omega (arith, c.type_inv.numbers (c.loop-left.left - 1))) in
     let written = c.write_digits-at.ensures in
     let long = c.write_digits-at.auto.buf in
-    let high : start ≤ length buf = omega (arith, written.start, h.within, long) in
+    let high : start ≤ length buf = omega (arith, written.start, h.before, c.requires.inside, long) in
     record {
       few = omega (arith, h.few);
-      within = omega (arith, high, length-set buf (start - 1) 32);
+      before = omega (arith, h.before, written.start);
+      short = omega (arith, short, h.short, written.start);
       fits = omega (arith, short, h.fits, written.start);
-      written = field_before c.args.numbers.now c.loop-left.room buf c.loop-left.left c.loop-left.at start (omega arith) h.few (omega (arith, short, h.fits, written.start)) high written.written h.written;
+      written = field_before c.args.numbers.now c.loop-left.room buf (drop c.args.end c.args.room.now) c.loop-left.left c.loop-left.at start (omega arith) h.few (omega (arith, short, h.fits, written.start)) high written.written h.written;
     }

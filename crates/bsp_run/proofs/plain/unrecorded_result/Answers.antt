@@ -6,7 +6,7 @@ use Rattle.bsp_step.specs.OutcomeParts.{OutcomeParts}
 use Rattle.bsp_step.specs.Turn.{turn_of}
 use Rattle.bsp_run.specs.RunErrors.{input_fault_of}
 use Rattle.bsp_run.proofs.RunErrors.{lawful_input_refused}
-use Rattle.bsp_run.proofs.UnrecordedRuns.{IsUnderway, underway_start, turns_are, some_turns, slots_are, goes_on, unrecorded_delivered, step_is, underway_next, result_ended, result_at_limit, few_rows, rows_at_limit, end_is}
+use Rattle.bsp_run.proofs.UnrecordedRuns.{IsUnderway, underway_start, turns_are, processes_are, some_turns, slots_are, goes_on, unrecorded_delivered, step_is, underway_next, result_ended, result_at_limit, few_rows, rows_at_limit, end_is}
 use Rattle.bsp_run.proofs.plain.unrecorded_result.Goals as goal
 
 pub loop-step-init : goal.loop-step-init
@@ -53,6 +53,14 @@ returns-in-Some-clause-result g c =
     let ends = end_is input c.loop-step.kept u.so_far os c.loop-step.step (Some c.in-Some.status) u.same at (sym c.in-Some.is ∙ c.in_ok-status.ensures) in
     let left : input.limit - c.loop-step.step ≡ suc (input.limit - (c.loop-step.step + 1)) = omega (arith, c.loop-step-test.true) in
     c.in_ok-ended.ensures ∙ result_ended (turn_of (g.P.Program.acts c.args.program.now) (g.P.Program.ending c.args.program.now)) input (input.limit - c.loop-step.step) (input.limit - (c.loop-step.step + 1)) c.loop-step.kept os c.in-Some.status u left made.0 ends
+
+pub go_on-requires-clause-processes : goal.go_on-requires-clause-processes
+go_on-requires-clause-processes g c =
+    let input : Input = c.args.input.now in
+    let u : IsUnderway (turn_of (g.P.Program.acts c.args.program.now) (g.P.Program.ending c.args.program.now)) c.args.input.now (c.args.input.now.limit - c.loop-step.step) c.loop-step.kept = c.loop-step.invariant in
+    let os : List OutcomeParts = c.in_ok-outcomes.outcomes in
+    let made = turns_are (g.P.Program.acts c.args.program.now) (g.P.Program.ending c.args.program.now) input c.loop-step.kept u.so_far c.loop-step.kept.views os u.same refl c.in_ok-outcomes.ensures in
+    processes_are input c.loop-step.kept u.so_far os u.same made.1
 
 pub go_on-requires-clause-sync : goal.go_on-requires-clause-sync
 go_on-requires-clause-sync g c =
@@ -106,8 +114,8 @@ loop-step-preserved g c =
     let none = end_is input c.loop-step.kept u.so_far os c.loop-step.step None u.same at (sym c.in_default.is ∙ c.in_ok-status.ensures) in
     let left : input.limit - c.loop-step.step ≡ suc (input.limit - (c.loop-step.step + 1)) = omega (arith, c.loop-step-test.true) in
     let on = goes_on input c.loop-step.kept u.so_far os u.same (u.opened (omega (arith, left))) made.1 none in
-    let next = unrecorded_delivered input u.so_far os c.loop-step.kept c.go_on.new.kept (c.loop-step.step + 1) u.same made.1 on.next (ap (λ n. n + 1) at) c.in_ok-go_on.ensures.args c.in_ok-go_on.ensures.views c.in_ok-go_on.ensures.table c.in_ok-go_on.ensures.tag_size c.in_ok-go_on.ensures.lines c.in_ok-go_on.ensures.costs c.in_ok-go_on.ensures.small in
-    underway_next (turn_of (g.P.Program.acts c.args.program.now) (g.P.Program.ending c.args.program.now)) input (input.limit - c.loop-step.step) (input.limit - (c.loop-step.step + 1)) c.loop-step.kept c.go_on.new.kept os u left made.0 none next
+    let next = unrecorded_delivered input u.so_far os c.loop-step.kept c.in_ok-kept-2.kept (c.loop-step.step + 1) u.same made.1 on.next (ap (λ n. n + 1) at) c.in_ok-kept-2.ensures.args c.in_ok-kept-2.ensures.processes c.in_ok-kept-2.ensures.views c.in_ok-kept-2.ensures.table c.in_ok-kept-2.ensures.tag_size c.in_ok-kept-2.ensures.lines c.in_ok-kept-2.ensures.costs c.in_ok-kept-2.ensures.small in
+    underway_next (turn_of (g.P.Program.acts c.args.program.now) (g.P.Program.ending c.args.program.now)) input (input.limit - c.loop-step.step) (input.limit - (c.loop-step.step + 1)) c.loop-step.kept c.in_ok-kept-2.kept os u left made.0 none next
 
 pub ended_at_limit-requires-clause-few : goal.ended_at_limit-requires-clause-few
 ended_at_limit-requires-clause-few g c =
@@ -129,6 +137,6 @@ returns-clause-result g c =
     let full : input.limit - c.loop-step.step ≡ 0 = omega (arith, c.loop-step-test.false) in
     c.in_ok-ended_at_limit.ensures ∙ result_at_limit (turn_of (g.P.Program.acts c.args.program.now) (g.P.Program.ending c.args.program.now)) input (input.limit - c.loop-step.step) c.loop-step.kept u full
 
-pub returns-in_err-go_on-clause-input : goal.returns-in_err-go_on-clause-input
-returns-in_err-go_on-clause-input g c =
-    lawful_input_refused _ c.from_residual-in_err-go_on.result (input_fault c.args.input.now) c.in_ok-kept.ensures.lawful (λ e out. ap input_fault_of out) c.from_residual-in_err-go_on.ensures.1
+pub returns-in_err-status-clause-input : goal.returns-in_err-status-clause-input
+returns-in_err-status-clause-input g c =
+    lawful_input_refused _ c.from_residual-in_err-status.result (input_fault c.args.input.now) c.in_ok-kept.ensures.lawful (λ e out. ap input_fault_of out) c.from_residual-in_err-status.ensures.1

@@ -1,5 +1,4 @@
-use Rattle.std.proofs.Common.{◌<◌, ◌∙◌, All, length, ap, sym, subst}
-use Rattle.std.specs.List.{range_with_len}
+use Rattle.std.proofs.Common.{◌<◌, All, length, sym, subst}
 use Rattle.bsp_deliver.specs.Condition.{IsAscending}
 use Rattle.bsp_run.proofs.Lists.{range_ascending, range_below}
 use Rattle.bsp_run.proofs.unrecorded.all_deliveries.Goals as goal
@@ -7,8 +6,7 @@ use Rattle.bsp_run.proofs.unrecorded.all_deliveries.Goals as goal
 pub deliver_some-requires-clause-known : goal.deliver_some-requires-clause-known
 deliver_some-requires-clause-known c =
     let n = length c.args.outcomes.now in
-    subst (All (λ d. d < n)) (sym (c.as_slice.ensures.value ∙ c.in_ok-processes.ensures ∙ ap (range_with_len 0) c.len.ensures)) (range_below n)
+    subst (All (λ d. d < n)) (sym c.requires.processes) (range_below n)
 
 pub deliver_some-requires-clause-ascending : goal.deliver_some-requires-clause-ascending
-deliver_some-requires-clause-ascending c =
-    subst IsAscending (sym (c.as_slice.ensures.value ∙ c.in_ok-processes.ensures ∙ ap (range_with_len 0) c.len.ensures)) (range_ascending (length c.args.outcomes.now))
+deliver_some-requires-clause-ascending c = subst IsAscending (sym c.requires.processes) (range_ascending (length c.args.outcomes.now))

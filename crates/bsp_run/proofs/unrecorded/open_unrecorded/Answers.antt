@@ -1,9 +1,8 @@
 use Rattle.std.proofs.Common.{◌≡◌, ◌∙◌, [], ap, map, length, arith, refl}
+use Rattle.std.specs.List.{range_with_len}
 use Rattle.std.proofs.lemmas.List.{length-map}
 use Rattle.bsp_model.proofs.Inputs.{lawful_input}
-use Rattle.bsp_deliver.specs.Requests.{each_below}
 use Rattle.bsp_run.specs.State.{no_messages}
-use Rattle.bsp_run.specs.Result.{lines_of_process}
 use Rattle.bsp_run.proofs.Opens.{opens_first, views_first}
 use Rattle.bsp_run.proofs.UnrecordedRuns.{unrecorded_start}
 use Rattle.bsp_run.proofs.unrecorded.open_unrecorded.Goals as goal
@@ -24,5 +23,5 @@ returns-clause-kept c =
     let setting = c.in_ok-setting.ensures ∙ (λ i. record { step = 0; args = c.in_ok-args.ensures i; table = []; tag_size = 0 }) in
     let views = c.in_ok-views.ensures ∙ views_first input c.in_ok-setting.setting c.in_ok-cells.cells setting cells in
     let many : length c.in_ok-cells.cells ≡ length input.mems = ap length cells ∙ length-map input.mems (λ m. (m, no_messages m)) in
-    let count : c.len.result ≡ length input.mems = omega (arith, c.len.ensures, many) in
-    unrecorded_start input _ h c.in_ok-args.ensures views c.in_ok-table.ensures refl (c.in_ok-lines.ensures ∙ ap (λ n. each_below n (lines_of_process [])) count) c.new-2.ensures
+    let processes : c.len.result ≡ length input.mems = omega (arith, c.len.ensures, many) in
+    unrecorded_start input _ h c.in_ok-args.ensures (c.in_ok-processes.ensures ∙ ap (range_with_len 0) processes) views c.in_ok-table.ensures refl c.new-2.ensures.items c.new-3.ensures

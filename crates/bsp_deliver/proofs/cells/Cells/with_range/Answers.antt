@@ -1,4 +1,4 @@
-use Rattle.std.proofs.Common.{◌≤◌, ◌+◌, ◌-◌, [], length, ap, arith}
+use Rattle.std.proofs.Common.{◌≤◌, [], length, ap, arith}
 use Rattle.bsp_model.specs.Columns.{row_at, AreTaken}
 use Rattle.bsp_deliver.proofs.CellsOf.{length-cells_of, cells_of-more}
 use Rattle.bsp_deliver.proofs.cells.Cells.with_range.Goals as goal
@@ -9,7 +9,7 @@ with_range-requires-2-clause-inside c = omega (arith, c.requires.inside, length-
 pub returns : goal.returns
 returns c =
     let within : c.args.to ≤ length c.more.inside.memories = omega (arith, c.requires.inside, length-cells_of c.more.inside.memories c.more.inside.queues, ap length c.more.view_is) in
-    let taken : AreTaken [] (row_at c.self.inside.queues) (λ k. row_at c.more.inside.queues (c.args.from + (k - length c.self.inside.memories))) (length c.self.inside.memories) (length c.self.inside.memories + (c.args.to - c.args.from)) (row_at c.in_ok-queues.queues) =
+    let taken : AreTaken [] (row_at c.self.inside.queues) (length c.self.inside.memories) (row_at c.more.inside.queues) c.args.from c.args.to (row_at c.in_ok-queues.queues) =
     rw c.len.ensures at c.in_ok-queues.ensures in
     rw c.in_ok-memories.ensures
     (cells_of-more c.self.inside.memories c.more.inside.memories c.self.inside.queues c.more.inside.queues c.in_ok-queues.queues c.args.self c.args.more.now c.args.from c.args.to within c.self.view_is c.more.view_is taken)

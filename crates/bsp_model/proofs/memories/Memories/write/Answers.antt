@@ -1,13 +1,13 @@
-use Rattle.std.proofs.Common.{◌≡◌, ◌<◌, ◌≤◌, ◌+◌, ◌*◌, [], ℕ, length, get_or, set, refl, ◌∙◌, ap, sym, arith}
+use Rattle.std.proofs.Common.{◌≡◌, ◌<◌, ◌≤◌, ◌+◌, [], length, get_or, set, nat_le, ap, sym, ◌∙◌, arith}
 use Rattle.std.proofs.lemmas.List.{set-get_or}
 use Rattle.std.proofs.lemmas.Bool.Decides.{nat_tests}
 use Rattle.bsp_model.specs.Columns.{row_at}
 use Rattle.bsp_model.specs.Memory.{memory_written}
-use Rattle.bsp_model.specs.Inside.Memories.{count_of, memories_of, ArePaged}
+use Rattle.bsp_model.specs.Inside.Memories.{memories_of, ArePaged}
 use Rattle.bsp_model.proofs.RowReplaced.{with_part}
 use Rattle.bsp_model.proofs.PagedMemories.{memory_of_process}
 use Rattle.bsp_model.proofs.Writes.{not_written}
-use Rattle.bsp_model.proofs.WrittenMemories.{cut_fits, memory_replaced}
+use Rattle.bsp_model.proofs.WrittenMemories.{last_replaced}
 use Rattle.bsp_model.proofs.memories.Memories.write.Goals as goal
 
 pub row-requires-2 : goal.row-requires-2
@@ -16,56 +16,49 @@ row-requires-2 c = (memory_of_process c.self.inside.pages c.self.inside.lasts c.
 pub replace-requires-clause-known : goal.replace-requires-clause-known
 replace-requires-clause-known c = (memory_of_process c.self.inside.pages c.self.inside.lasts c.args.self.now c.args.pid c.self.invariant c.self.view_is c.requires).within
 
-pub overflow_mul-full : goal.overflow_mul-full
-overflow_mul-full c =
-    let m = memory_of_process c.self.inside.pages c.self.inside.lasts c.args.self.now c.args.pid c.self.invariant c.self.view_is c.requires in
-    let small = m.has.fits in
-    omega (arith, small, ap length c.row.ensures)
+-- where a process has no full page, its last words are its memory
 
-pub overflow_add-len : goal.overflow_add-len
-overflow_add-len c =
-    let m = memory_of_process c.self.inside.pages c.self.inside.lasts c.args.self.now c.args.pid c.self.invariant c.self.view_is c.requires in
-    let small = m.has.fits in
-    omega (arith, small, ap length c.row.ensures, ap length c.row-2.ensures)
+none_full : (c : goal.Then-not-is_within) → length (row_at c.self.inside.pages c.args.pid) ≡ 0
+none_full c = let same = ap length c.row.ensures in grind (arith, nat_tests, same, c.is_empty.ensures, c.if-not-is_empty.false)
 
-pub returns-in_default-clause-within : goal.returns-in_default-clause-within
-returns-in_default-clause-within c =
+as_long : (c : goal.Then-not-is_within) → length c.row-2.result.now ≡ length (get_or c.args.self.now c.args.pid [])
+as_long c =
     let m = memory_of_process c.self.inside.pages c.self.inside.lasts c.args.self.now c.args.pid c.self.invariant c.self.view_is c.requires in
-    let past : length (get_or c.args.self.now c.args.pid []) < c.args.start + length c.args.words.now =
-    omega (arith, m.long, c.in_default.ensures, ap length c.row.ensures, ap length c.row-2.ensures) in
-    grind (arith, nat_tests, past)
+    omega (arith, m.long, none_full c, ap length c.row-2.ensures)
 
-pub returns-in_default-clause-written : goal.returns-in_default-clause-written
-returns-in_default-clause-written c =
+pub returns-then-not-is_within-clause-within : goal.returns-then-not-is_within-clause-within
+returns-then-not-is_within-clause-within c = sym c.if-not-is_within.true ∙ c.is_within.ensures ∙ ap (nat_le (c.args.start + length c.args.words.now)) (as_long c)
+
+pub returns-then-not-is_within-clause-written : goal.returns-then-not-is_within-clause-written
+returns-then-not-is_within-clause-written c =
     let m = memory_of_process c.self.inside.pages c.self.inside.lasts c.args.self.now c.args.pid c.self.invariant c.self.view_is c.requires in
-    let past : count_of (row_at c.self.inside.pages c.args.pid) (row_at c.self.inside.lasts c.args.pid) < c.args.start + length c.args.words.now =
-    omega (arith, c.in_default.ensures, ap length c.row.ensures, ap length c.row-2.ensures) in
-    sym (set-get_or c.args.self.now c.args.pid []) ∙ ap (set c.args.self.now c.args.pid) (not_written _ _ _ _ _ m.is past)
+    let over : length c.row-2.result.now < c.args.start + length c.args.words.now = grind (arith, nat_tests, c.is_within.ensures, c.if-not-is_within.true) in
+    sym (set-get_or c.args.self.now c.args.pid []) ∙ ap (set c.args.self.now c.args.pid) (not_written _ _ _ _ _ m.is (omega (arith, over, as_long c, m.long)))
 
-pub write_row-requires : goal.write_row-requires
-write_row-requires c =
-    let fits = cut_fits _ (length c.row-2.result.now) _ c.args.start c.args.words.now c.in-Some.cut c.in-Some.ensures refl in
-    omega (arith, fits.0, ap length c.row.ensures)
+-- no page is full, and the words are within the last words
+fits : (c : goal.After-replace) → (length (row_at c.self.inside.pages c.args.pid) ≡ 0) × (c.args.start + length c.args.words.now ≤ length (row_at c.self.inside.lasts c.args.pid))
+fits c =
+    let same = ap length c.row.ensures in
+    let last = ap length c.row-2.ensures in (
+      grind (arith, nat_tests, same, c.is_empty.ensures, c.if-not-is_empty.false),
+      grind (arith, nat_tests, last, c.is_within.ensures, c.if-not-is_within.false),
+    )
 
 -- the memories once the words are written
 written_now : (c : goal.After-replace)
-    → ArePaged c.write_row.new.column (set c.self.inside.lasts c.args.pid (with_part (row_at c.self.inside.lasts c.args.pid) c.in-Some.cut.place c.in-Some.cut.behind.now))
-    × (memories_of c.write_row.new.column (set c.self.inside.lasts c.args.pid (with_part (row_at c.self.inside.lasts c.args.pid) c.in-Some.cut.place c.in-Some.cut.behind.now))
+    → ArePaged c.self.inside.pages (set c.self.inside.lasts c.args.pid (with_part (row_at c.self.inside.lasts c.args.pid) c.args.start c.args.words.now))
+    × (memories_of c.self.inside.pages (set c.self.inside.lasts c.args.pid (with_part (row_at c.self.inside.lasts c.args.pid) c.args.start c.args.words.now))
     ≡ set c.args.self.now c.args.pid (memory_written (get_or c.args.self.now c.args.pid []) c.args.start c.args.words.now))
 written_now c =
-    let full : length c.row.result.now ≡ length (row_at c.self.inside.pages c.args.pid) = ap length c.row.ensures in
-    let len : 64 * length c.row.result.now + length c.row-2.result.now ≡ count_of (row_at c.self.inside.pages c.args.pid) (row_at c.self.inside.lasts c.args.pid) = omega (arith, full, ap length c.row-2.ensures) in
-    memory_replaced c.self.inside.pages c.write_row.new.column c.self.inside.lasts c.args.self.now c.args.pid c.args.words.now (64 * length c.row.result.now) _ c.args.start c.in-Some.cut c.self.invariant c.self.view_is c.requires
-    (ap (λ (n : ℕ). 64 * n) full) len c.in-Some.ensures c.in_ok-write_row.ensures.others c.in_ok-write_row.ensures.count c.in_ok-write_row.ensures.ok
+    last_replaced c.self.inside.pages c.self.inside.lasts c.args.self.now c.args.pid c.args.words.now c.args.start c.self.invariant c.self.view_is c.requires (fits c).0 (fits c).1
 
-pub invariant_of-self-2 : goal.invariant_of-self-2
-invariant_of-self-2 c = rw c.replace.ensures (written_now c).0
+pub invariant_of-self : goal.invariant_of-self
+invariant_of-self c = rw c.replace.ensures (written_now c).0
 
 pub returns-clause-within : goal.returns-clause-within
 returns-clause-within c =
     let m = memory_of_process c.self.inside.pages c.self.inside.lasts c.args.self.now c.args.pid c.self.invariant c.self.view_is c.requires in
-    let inside : c.args.start + length c.args.words.now ≤ length (get_or c.args.self.now c.args.pid []) =
-    omega (arith, m.long, c.in-Some.ensures.inside, ap length c.row.ensures, ap length c.row-2.ensures) in
+    let inside : c.args.start + length c.args.words.now ≤ length (get_or c.args.self.now c.args.pid []) = omega (arith, m.long, fits c) in
     grind (arith, nat_tests, inside)
 
 pub returns-clause-written : goal.returns-clause-written

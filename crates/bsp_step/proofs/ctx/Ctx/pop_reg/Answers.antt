@@ -1,9 +1,10 @@
 use Rattle.std.proofs.Common.{◌≡◌, ◌++◌, ◌∷◌, [], Some, sym, subst, arith}
 use Rattle.std.proofs.lemmas.Grind.{common_steps}
 use Rattle.bsp_table.specs.Table.{newest_under}
-use Rattle.bsp_step.specs.Context.{Context}
 use Rattle.bsp_step.specs.CtxInside.{context_of, IsContext}
-use Rattle.bsp_step.proofs.Boxed.{same-lists}
+use Rattle.bsp_step.specs.declared.turn_lists.TurnLists.{TurnLists}
+use Rattle.bsp_step.specs.Inside.RareLists.{RareParts}
+use Rattle.bsp_step.proofs.Boxed.{with_rare}
 use Rattle.bsp_step.proofs.Finding.{AreSlots-push}
 use Rattle.bsp_step.proofs.ctx.Ctx.pop_reg.Goals as goal
 
@@ -11,8 +12,8 @@ pub invariant_of-self-2 : goal.invariant_of-self-2
 invariant_of-self-2 c =
     let old = c.self.invariant in
     let v = c.self.inside.view.now in
-    let found : newest_under v.table v.pid c.args.start c.self.inside.lists.value.pops ≡ Some c.in-Some.slot = grind arith in
-    let kept : IsContext (record (context_of c.self.inside) { pops = c.self.inside.lists.value.pops ++ c.in-Some.slot ∷ [] }) =
+    let found : newest_under v.table v.pid c.args.start c.self.inside.lists.value.rare.pops ≡ Some c.in-Some.slot = grind arith in
+    let kept : IsContext (record (context_of c.self.inside) { pops = c.self.inside.lists.value.rare.pops ++ c.in-Some.slot ∷ [] }) =
     record {
       view = old.view;
       memory = old.memory;
@@ -21,11 +22,13 @@ invariant_of-self-2 c =
       placed = old.placed;
       asked = old.asked;
       addressed = old.addressed;
-      popped = AreSlots-push v.table v.pid c.self.inside.lists.value.pops c.args.start c.in-Some.slot old.popped found;
+      popped = AreSlots-push v.table v.pid c.self.inside.lists.value.rare.pops c.args.start c.in-Some.slot old.popped found;
       pushed = old.pushed;
       tag = old.tag;
       lines = old.lines;
       little_work = old.little_work;
     } in
-    let pushed : c.push.new.self ≡ c.self.inside.lists.value.pops ++ c.in-Some.slot ∷ [] = rw c.deref_mut.ensures.value at c.in_ok-push.ensures.ok in
-    subst (λ (x : Context). IsContext (record x { pops = c.push.new.self })) (sym (same-lists (context_of c.self.inside) c.deref_mut.result.now c.deref_mut.ensures.value)) (rw pushed kept)
+    let slot = c.in-Some.slot in
+    let now = context_of c.self.inside in
+    subst (λ (r : RareParts). IsContext (with_rare now c.deref_mut.result.now r)) (sym c.in_ok-push_pop.ensures.ok)
+    (subst (λ (m : TurnLists). IsContext (with_rare now m (record m.rare { pops = m.rare.pops ++ slot ∷ [] }))) (sym c.deref_mut.ensures.value) kept)

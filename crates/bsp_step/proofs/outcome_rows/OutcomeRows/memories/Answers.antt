@@ -6,5 +6,5 @@ use Rattle.bsp_step.proofs.outcome_rows.OutcomeRows.memories.Goals as goal
 pub returns : goal.returns
 returns c =
     let r = c.self.inside in
-    c.in_ok-copy.ensures ∙ sym (memories-outcomes_of r.ends.items r.memories r.lists.value c.self.invariant.count)
+    c.in_ok-copy_into.ensures ∙ sym (memories-outcomes_of r.ends.items r.memories r.lists.value c.self.invariant.count)
     ∙ ap (λ (os : List OutcomeParts). map (λ (o : OutcomeParts). o.memory) os) c.self.view_is

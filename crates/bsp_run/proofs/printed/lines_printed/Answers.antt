@@ -1,0 +1,15 @@
+use Rattle.std.proofs.Common.{◌∙◌, ℕ, List, [], ap}
+use Rattle.bsp_model.specs.Columns.{row_at}
+use Rattle.bsp_deliver.specs.Requests.{each_below}
+use Rattle.bsp_run.specs.Inside.Lines.{lines_from}
+use Rattle.bsp_run.specs.Inside.Unrecorded.{lines_in}
+use Rattle.bsp_run.proofs.Lists.{each_below-agree}
+use Rattle.bsp_run.proofs.Gathered.{lines_from_none}
+use Rattle.bsp_run.proofs.printed.lines_printed.Goals as goal
+
+pub returns : goal.returns
+returns c =
+    let n = c.args.nprocs in
+    let all : List (List (List ℕ)) = c.in_ok-all.all in
+    c.in_ok-each_lines.ensures ∙ ap (λ (column : List (List (List ℕ))). each_below n (lines_from [] [] column)) c.in_ok-all-2.ensures
+    ∙ lines_from_none all n ∙ each_below-agree n (row_at all) (lines_in c.args.printed.items) c.in_ok-all.ensures

@@ -1,0 +1,90 @@
+//! Room for the outcomes and the memories of another superstep.
+
+ghost use Rattle.std.specs.Prelude.{◌≡◌, ◌<◌, [], All, IfOk, IfSome, length, map};
+ghost use Rattle.bsp_model.specs.Replaced.{IsAscending};
+ghost use Rattle.bsp_step.specs.OutcomeParts.{outcome_of};
+
+use crate::{OutcomeRows, Outcomes};
+use bsp_model::{Memories, OutOfMemory, Share};
+use std::alloc::Global;
+
+/// Whether lists for so many of all processes begin with their share of room. For very few it is cheaper that the lists that are used grow.
+fn is_worth_room(count: usize, all: usize) -> bool {
+    count <= all && all < count.saturating_mul(16)
+}
+
+impl Outcomes {
+    /// Lists in which so many outcomes are to be gathered, none of which is there yet. Where these are as many, or more but not very many more,
+    /// there is room for the share that so many of them have, so that the lists of a superstep like the one before hardly grow. Or `OutOfMemory`.
+    pub fn room_for(&self, alloc: Global, count: usize) -> Result<OutcomeRows, OutOfMemory>
+        ensures { IfOk result (λ o. o ≡ []) }
+    {
+        match &self.rows {
+            Some(rows) if is_worth_room(count, rows.len()) => {
+                OutcomeRows::with_room_of(alloc, rows, Share::of(count, rows.len()))
+            }
+            _ => OutcomeRows::with_capacity(alloc, count),
+        }
+    }
+
+    /// The same, where these outcomes are no longer needed: their own lists, unless copies share them.
+    pub fn into_room(self, alloc: Global, count: usize) -> Result<OutcomeRows, OutOfMemory>
+        ensures { IfOk result (λ o. o ≡ []) }
+    {
+        let Outcomes { rows, others: _ } = self;
+        let Some(rows) = rows else {
+            return OutcomeRows::with_capacity(alloc, count);
+        };
+        match rows.try_unwrap() {
+            Ok(mut rows) => {
+                rows.clear();
+                Ok(rows)
+            }
+            Err(rows) => Outcomes {
+                rows: Some(rows),
+                others: None,
+            }
+            .room_for(alloc, count),
+        }
+    }
+
+    /// Lists in which so many memories are to be gathered, none of which is there yet, in the room of others. Where these outcomes are as many,
+    /// or more but not very many more, there is room for the share that so many of their memories have. Or `OutOfMemory`.
+    pub fn room_for_memories(&self, count: usize, room: Memories) -> Result<Memories, OutOfMemory>
+        ensures { IfOk result (λ m. m ≡ []) }
+    {
+        match &self.rows {
+            Some(rows) if is_worth_room(count, rows.len()) => {
+                rows.room_for_memories(room, Share::of(count, rows.len()))
+            }
+            _ => room.into_room(count),
+        }
+    }
+
+    /// The lists of all processes, where they are so many and none lies apart.
+    fn all_rows(&self, count: usize) -> Option<&OutcomeRows>
+        ensures { IfSome result (λ rows. (rows.now ≡ self.now) × (length self.now ≡ count)) }
+    {
+        match (&self.rows, &self.others) {
+            (Some(rows), None) if rows.len() == count => Some(rows),
+            _ => None,
+        }
+    }
+
+    /// Copies of the memories of some processes, which are in ascending order, in the room of others; those of all are copied in one piece. Or
+    /// `OutOfMemory`.
+    pub fn memories_of(&self, processes: &[usize], room: Memories) -> Result<Memories, OutOfMemory>
+        requires known { All (λ p. p < length self.now) processes.now }
+        requires ascending { IsAscending processes.now }
+        ensures { IfOk result (λ m. m ≡ map (λ p. (outcome_of self.now p).memory) processes.now) }
+    {
+        if let Some(rows) = self.all_rows(processes.len()) {
+            return Ok(rows.memories(room)?);
+        }
+        let mut memories = room.into_room(processes.len())?;
+        for process in processes {
+            memories.push_copy(&self.memory(*process))?;
+        }
+        Ok(memories)
+    }
+}
