@@ -1,6 +1,6 @@
-use Rattle.std.proofs.Common.{◌≡◌, ◌≢◌, ◌≤◌, ◌<◌, ◌+◌, ◌*◌, ◌/◌, ◌%◌, ◌^◌, ℕ, w64, false, List, get_or, refl, arith}
+use Rattle.std.proofs.Common.{◌≢◌, ◌<◌, ◌+◌, ◌*◌, ◌/◌, ◌%◌, ◌^◌, ℕ, w64, List, get_or, refl, arith}
 use Rattle.std.specs.Int.{trailing_zeros}
-use Rattle.bsp_model.specs.Inside.Bits.{has_bit, IsFirstBitFrom}
+use Rattle.bsp_model.specs.Inside.Bits.{IsFirstBitFrom}
 use Rattle.bsp_model.proofs.FirstBits.{first_here, none_here, found_behind, bit_within}
 use Rattle.bsp_model.proofs.process_set.first_from.Goals as goal
 

@@ -1,8 +1,7 @@
-use Rattle.std.proofs.Common.{◌≡◌, ◌≢◌, ◌≤◌, ◌<◌, ◌+◌, ◌*◌, ◌/◌, ℕ, false, get_or, inl, inr, arith}
+use Rattle.std.proofs.Common.{◌+◌, ◌*◌, ◌/◌, ℕ, get_or, inl, inr, arith}
 use Rattle.std.specs.Int.{trailing_zeros}
 use Rattle.std.proofs.Common.{w64}
 use Rattle.std.proofs.lemmas.Bool.{cases_lt}
-use Rattle.bsp_model.specs.Inside.Bits.{has_bit}
 use Rattle.bsp_model.proofs.FirstBits.{first_here, first_behind, none_here, none_behind, none_past, whole_word}
 use Rattle.bsp_model.proofs.process_set.first_from_word.Goals as goal
 

@@ -1,5 +1,4 @@
-use Rattle.std.proofs.Common.{◌≡◌, ◌+◌, ◌∷◌, ℕ, List, length, sym, ap, ◌∙◌, arith}
-use Rattle.bsp_model.specs.ProcessSet.{processes_from}
+use Rattle.std.proofs.Common.{ℕ, List, length, sym, ap, ◌∙◌, arith}
 use Rattle.bsp_model.proofs.ProcessSets.{processes_from_head}
 use Rattle.bsp_model.proofs.process_set.MembersIterator.next.Goals as goal
 

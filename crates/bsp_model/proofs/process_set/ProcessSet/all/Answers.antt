@@ -1,4 +1,4 @@
-use Rattle.std.proofs.Common.{◌≡◌, ◌<◌, ◌≤◌, ◌*◌, ◌+◌, ◌-◌, ◌/◌, ◌%◌, ◌^◌, ℕ, List, true, replicate, arith, ap, ◌∙◌}
+use Rattle.std.proofs.Common.{◌≡◌, ◌<◌, ◌≤◌, ◌*◌, ◌+◌, ◌-◌, ◌^◌, ℕ, true, replicate, arith, ap, ◌∙◌}
 use Rattle.bsp_model.proofs.SetBits.{AreFull, full_words, full_words_and_rest, full_bits, words_of_all, set_of_same}
 use Rattle.bsp_model.proofs.process_set.ProcessSet.all.Goals as goal
 use Rattle.bsp_model.proofs.process_set.ProcessSet.all.Goals.{then-count-ne0, else-count-ne0, Joined-count-ne0}

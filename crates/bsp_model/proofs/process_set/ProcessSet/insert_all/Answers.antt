@@ -1,9 +1,9 @@
-use Rattle.std.proofs.Common.{◌≡◌, ◌<◌, ◌*◌, ◌+◌, ℕ, Bool, List, length, get_or, set, ap, sym, refl, ◌∙◌, subst, arith}
+use Rattle.std.proofs.Common.{◌≡◌, ◌<◌, ℕ, Bool, List, length, get_or, set, ap, sym, refl, ◌∙◌, subst, arith}
 use Rattle.std.specs.Int.RustNames.{bit_or}
 use Rattle.std.proofs.lemmas.List.{get_or_default}
 use Rattle.bsp_model.specs.ProcessSet.{union}
 use Rattle.bsp_model.specs.Inside.Bits.{set_of, AreWordsOf}
-use Rattle.bsp_model.proofs.SetBits.{AreUnited, none_united, united_more, words_united, set_of-united, length-set_of}
+use Rattle.bsp_model.proofs.SetBits.{none_united, united_more, words_united, set_of-united, length-set_of}
 use Rattle.bsp_model.proofs.process_set.ProcessSet.insert_all.Goals as goal
 
 -- two sets of as many processes have as many words

@@ -1,8 +1,8 @@
-use Rattle.std.proofs.Common.{◌≡◌, ◌≤◌, ◌<◌, ℕ, Bool, false, List, [], length, get_or, sym, ap, ◌∙◌, arith, subst}
-use Rattle.std.specs.Prelude.{Option, slice_get, MatchOption}
+use Rattle.std.proofs.Common.{ℕ, Bool, false, List, length, sym, ap, ◌∙◌, arith, subst}
+use Rattle.std.specs.Prelude.{slice_get, MatchOption}
 use Rattle.std.proofs.lemmas.List.{get_or_past}
 use Rattle.bsp_model.specs.ProcessSet.{processes_from}
-use Rattle.bsp_model.specs.Inside.Bits.{set_of, HasNoBitFrom, IsFirstBitFrom}
+use Rattle.bsp_model.specs.Inside.Bits.{HasNoBitFrom, IsFirstBitFrom}
 use Rattle.bsp_model.proofs.SetBits.{length-set_of}
 use Rattle.bsp_model.proofs.FirstBits.{first_is}
 use Rattle.bsp_model.proofs.ProcessSets.{processes_from_none}
