@@ -75,7 +75,7 @@ fn mark_changes_of<'a>(marks: &mut ProcessSet, old: &'a Outcomes, new: &'a Outco
     ensures { AreMarkedUnless (BringsSame old.now new.now p) marks.old marks.new }
 {
     mark_parcels_of(marks, old, new, p);
-    if !marks.contains(p) && !have_same_own(old, new, p) {
+    if !have_same_own(old, new, p) {
         marks.insert(p);
     }
 }

@@ -8,7 +8,6 @@ use Rattle.bsp_deliver.specs.Inside.Marks.{AreMarkedUnless}
 use Rattle.bsp_deliver.proofs.Unmarked.{unmarked_within}
 use Rattle.bsp_deliver.proofs.SameParts.{brought_and_read, brought_alone}
 use Rattle.bsp_deliver.proofs.touched.mark_touched.Goals as goal
-use Rattle.bsp_deliver.proofs.touched.mark_touched.Goals.{then-not-is_without, else-not-is_without}
 
 pub mark_readers-requires-clause-kept : goal.mark_readers-requires-clause-kept
 mark_readers-requires-clause-kept c =
@@ -20,21 +19,15 @@ mark_readers-requires-clause-kept c =
     let own = same.own refl in
     own.1
 
-pub returns : goal.returns
-returns c =
+pub returns-then-not-is_without : goal.returns-then-not-is_without
+returns-then-not-is_without c =
+    brought_and_read c.args.old.now c.args.new.now c.args.marks.now c.mark_changes.new.marks c.mark_readers.new.marks c.requires.count c.requires.as_many c.mark_changes.ensures c.mark_readers.ensures
+
+pub returns-else-not-is_without : goal.returns-else-not-is_without
+returns-else-not-is_without c =
     let os = c.args.old.now in
     let us = c.args.new.now in
-    let before : List Bool = c.args.marks.now in
-    let brought : List Bool = c.mark_changes.new.marks in
-    let P : ℕ → Type 0 = λ d. delivery_parts os d ≡ delivery_parts us d in
-    elim c.if-not-is_without.branch [
-      | then-not-is_without w ↦
-          subst (λ (ms : List Bool). AreMarkedUnless P before ms) (sym w.marks-is)
-          (brought_and_read os us before brought w.mark_readers.new.marks c.requires.count c.requires.as_many c.mark_changes.ensures w.mark_readers.ensures)
-      | else-not-is_without w ↦
-          let nobody : (d : ℕ) → d < length us → ReadsSame os us d =
-          λ d l. let none : (outcome_of us d).gets ≡ [] = OnTrue_at w.if-not-is_without.false c.is_without.ensures d no_outcome l in
-          ap (map (words_read os)) none ∙ sym (ap (map (words_read us)) none) in
-          subst (λ (ms : List Bool). AreMarkedUnless P before ms) (sym w.marks-is)
-          (brought_alone os us before brought c.requires.count c.requires.as_many c.mark_changes.ensures nobody)
-    ]
+    let nobody : (d : ℕ) → d < length us → ReadsSame os us d =
+    λ d l. let none : (outcome_of us d).gets ≡ [] = OnTrue_at c.if-not-is_without.false c.is_without.ensures d no_outcome l in
+    ap (map (words_read os)) none ∙ sym (ap (map (words_read us)) none) in
+    brought_alone os us c.args.marks.now c.mark_changes.new.marks c.requires.count c.requires.as_many c.mark_changes.ensures nobody

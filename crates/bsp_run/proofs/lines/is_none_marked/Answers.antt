@@ -14,4 +14,3 @@ none_in s n long none p below =
       | inl t ↦ let there : Contains [] p = subst (λ (ps : List ℕ). Contains ps p) none ((processes_are s p).1 t) in absurd (omega (arith, there.1))
       | inr t ↦ t
     ]
-
