@@ -9,7 +9,7 @@ mod tests;
 
 use crate::page::{Page, WORDS_OF_A_PAGE};
 use crate::paging::{cut_write, full_pages, is_within, load_pages, write_pages};
-use crate::seq::replace_items;
+use crate::seq::{append_items, replace_items};
 use crate::{MemoryRef, OutOfMemory, Same, TryCopy};
 use std::alloc::Global;
 use std::marker::Model;
@@ -71,7 +71,7 @@ impl Memory {
         self.len = 0;
         load_pages(&mut self.pages, source.pages)?;
         self.len = WORDS_OF_A_PAGE * source.pages.len();
-        self.last.extend_from_slice(source.last)?;
+        append_items(&mut self.last, source.last)?;
         self.len = source.len;
         Ok(())
     }

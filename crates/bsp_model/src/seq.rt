@@ -176,7 +176,7 @@ pub(crate) fn replace_items<T: Copy>(items: &mut [T], start: usize, new: &[T])
     items[start..start + new.len()].copy_from_slice(new);
 }
 
-/// Puts items at the end of a list. After `OutOfMemory` it has not changed.
+/// Puts items at the end of a list; one or two without a call. After `OutOfMemory` it has not changed.
 #[inline(always)]
 pub(crate) fn append_items<T: Copy>(items: &mut Vec<T>, more: &[T]) -> Result<(), OutOfMemory>
     ensures ok { OnOk result (items.new.items ≡ items.old.items ++ more.now) }
@@ -185,6 +185,11 @@ pub(crate) fn append_items<T: Copy>(items: &mut Vec<T>, more: &[T]) -> Result<()
     match more {
         [] => {}
         [item] => items.push(*item)?,
+        [first, second] => {
+            items.reserve(2)?;
+            items.push_reserved(*first);
+            items.push_reserved(*second);
+        }
         _ => items.extend_from_slice(more)?,
     }
     Ok(())

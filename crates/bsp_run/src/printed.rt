@@ -16,7 +16,7 @@ use std::alloc::Global;
 fn printed_in(alloc: Global, outcomes: &Outcomes) -> Result<LineColumn, OutOfMemory>
     ensures { IfOk result (λ printed. (p : ℕ) → row_at printed p ≡ (outcome_of outcomes.now p).lines) }
 {
-    let mut printed = LineColumn::new(alloc);
+    let mut printed = LineColumn::with_room(alloc, outcomes.len())?;
     for pid in 0..outcomes.len() {
         printed.put(pid, &outcomes.lines(pid))?;
     }

@@ -74,6 +74,16 @@ impl Lists {
         }
     }
 
+    /// No lists for any process, with room for what each of so many may leave, but for what few turns leave. Or `OutOfMemory`.
+    pub(crate) fn with_room(alloc: Global, count: usize) -> Result<Lists, OutOfMemory> {
+        let mut lists = Lists::new(alloc);
+        lists.stores = StoreColumn::with_room(alloc, count)?;
+        lists.puts = PutColumn::with_room(alloc, count)?;
+        lists.pushes = Column::with_room(alloc, count)?;
+        lists.lines = LineColumn::with_room(alloc, count)?;
+        Ok(lists)
+    }
+
     /// No lists for any process, with a share of the room that these take, or `OutOfMemory`.
     pub(crate) fn with_room_of(
         alloc: Global,

@@ -45,6 +45,17 @@ impl OutcomeRows {
         })
     }
 
+    /// The same, with room in most lists too: for outcomes of all processes, superstep after superstep in the same lists.
+    pub(crate) fn with_room(alloc: Global, count: usize) -> Result<OutcomeRows, OutOfMemory>
+        ensures { IfOk result (λ o. o ≡ []) }
+    {
+        Ok(OutcomeRows {
+            ends: Vec::with_capacity(alloc, count)?,
+            memories: Memories::with_capacity(alloc, count)?,
+            lists: Box::new(alloc, Lists::with_room(alloc, count)?)?,
+        })
+    }
+
     /// No outcomes, with a share of the room that these take, or `OutOfMemory`.
     pub(crate) fn with_room_of(
         alloc: Global,

@@ -50,6 +50,15 @@ impl<T> Column<T> {
 }
 
 impl<T: Copy> Column<T> {
+    /// Empty rows alone, with room for so many rows of one item, or `OutOfMemory`.
+    pub fn with_room(alloc: Global, count: usize) -> Result<Column<T>, OutOfMemory>
+        ensures { IfOk result (λ c. c ≡ []) }
+    {
+        let mut rows = Rows::new(alloc);
+        rows.make_room(count, count)?;
+        Ok(Column { rows })
+    }
+
     /// Empty rows alone, with a share of the room that these take, or `OutOfMemory`.
     pub fn with_room_of(
         alloc: Global,
@@ -84,13 +93,18 @@ impl<T: Copy> Column<T> {
         ensures ok { OnOk result (IsPut [] (row_at self.old) place row.now (row_at self.new)) }
         ensures err { OnErr result (AreCut [] (row_at self.old) place (row_at self.new)) }
     {
-        if row.is_empty() && self.rows.len() <= place {
+        let count = self.rows.len();
+        if row.is_empty() && count <= place {
+            return Ok(());
+        }
+        if count == place {
+            self.rows.push(row)?;
             return Ok(());
         }
         self.put_there(place, row)
     }
 
-    /// The same, where the column may change.
+    /// The same, where the row does not go on behind the last that stands.
     #[inline(never)]
     fn put_there(&mut self, place: usize, row: &[T]) -> Result<(), OutOfMemory>
         ensures ok { OnOk result (IsPut [] (row_at self.old) place row.now (row_at self.new)) }

@@ -35,6 +35,15 @@ impl LineColumn {
         }
     }
 
+    /// None for any process, with room for one, of one word, of each of so many. Or `OutOfMemory`.
+    pub fn with_room(alloc: Global, count: usize) -> Result<LineColumn, OutOfMemory>
+        ensures { IfOk result (λ c. c ≡ []) }
+    {
+        Ok(LineColumn {
+            pairs: Pairs::with_room(alloc, count)?,
+        })
+    }
+
     /// None for any process, with a share of the room that these take, or `OutOfMemory`.
     pub fn with_room_of(
         alloc: Global,

@@ -53,6 +53,16 @@ impl<A, B> Pairs<A, B> {
 }
 
 impl<A: Copy, B: Copy> Pairs<A, B> {
+    /// Empty rows alone, with room for so many rows of one item, or `OutOfMemory`.
+    pub fn with_room(alloc: Global, count: usize) -> Result<Pairs<A, B>, OutOfMemory>
+        ensures { IfOk result (λ c. c ≡ ([], [])) }
+    {
+        Ok(Pairs {
+            firsts: Column::with_room(alloc, count)?,
+            seconds: Column::with_room(alloc, count)?,
+        })
+    }
+
     /// Empty rows alone, with a share of the room that these take, or `OutOfMemory`.
     pub fn with_room_of(
         alloc: Global,

@@ -38,6 +38,15 @@ impl PutColumn {
         }
     }
 
+    /// None for any process, with room for one, of one word, of each of so many. Or `OutOfMemory`.
+    pub fn with_room(alloc: Global, count: usize) -> Result<PutColumn, OutOfMemory>
+        ensures { IfOk result (λ c. c ≡ []) }
+    {
+        Ok(PutColumn {
+            pairs: Pairs::with_room(alloc, count)?,
+        })
+    }
+
     /// None for any process, with a share of the room that these take, or `OutOfMemory`.
     pub fn with_room_of(
         alloc: Global,

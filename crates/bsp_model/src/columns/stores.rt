@@ -41,6 +41,15 @@ impl StoreColumn {
         }
     }
 
+    /// None for any process, with room for one of each of so many, or `OutOfMemory`.
+    pub fn with_room(alloc: Global, count: usize) -> Result<StoreColumn, OutOfMemory>
+        ensures { IfOk result (λ c. c ≡ ([], [])) }
+    {
+        Ok(StoreColumn {
+            pairs: Pairs::with_room(alloc, count)?,
+        })
+    }
+
     /// None for any process, with a share of the room that these take, or `OutOfMemory`.
     pub fn with_room_of(
         alloc: Global,

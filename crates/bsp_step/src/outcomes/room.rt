@@ -27,13 +27,14 @@ impl Outcomes {
         }
     }
 
-    /// The same, where these outcomes are no longer needed: their own lists, unless copies share them.
+    /// The same, where these outcomes are no longer needed: their own lists, unless copies share them. Where there are none, there is room for what as
+    /// many turns mostly leave.
     pub fn into_room(self, alloc: Global, count: usize) -> Result<OutcomeRows, OutOfMemory>
         ensures { IfOk result (λ o. o ≡ []) }
     {
         let Outcomes { rows, others: _ } = self;
         let Some(rows) = rows else {
-            return OutcomeRows::with_capacity(alloc, count);
+            return OutcomeRows::with_room(alloc, count);
         };
         match rows.try_unwrap() {
             Ok(mut rows) => {
