@@ -14,3 +14,6 @@ none_in s n long none p below =
       | inl t ↦ let there : Contains [] p = subst (λ (ps : List ℕ). Contains ps p) none ((processes_are s p).1 t) in absurd (omega (arith, there.1))
       | inr t ↦ t
     ]
+
+pub returns-then-nprocs-count : goal.returns-then-nprocs-count
+returns-then-nprocs-count c t p below = none_in c.args.marks.now c.args.nprocs (omega arith) (c.is_empty.ensures.0 t) p below
