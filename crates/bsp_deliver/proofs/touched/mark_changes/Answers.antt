@@ -1,11 +1,10 @@
-use Rattle.std.proofs.Common.{◌≡◌, ℕ, ◌<◌, ◌∷◌, ◌++◌, [], Bool, List, length, map, sym, refl, ap, ◌∙◌, arith, rules, subst, append_assoc}
+use Rattle.std.proofs.Common.{◌≡◌, ℕ, ◌∷◌, ◌++◌, [], Bool, List, sym, refl, ap, ◌∙◌, arith, rules, subst, append_assoc}
 use Rattle.std.proofs.lemmas.List.{append-nil}
 use Rattle.std.proofs.lemmas.Map.Iter.{rest_more, rest_all}
 use Rattle.std.specs.List.{Contains}
 use Rattle.std.proofs.lemmas.List.Elements.{Contains-append_right}
 use Rattle.bsp_model.specs.ProcessSet.{processes_in}
 use Rattle.bsp_model.proofs.ProcessSets.{member_within, processes_are}
-use Rattle.bsp_deliver.specs.Inside.Comparison.{AllBringSame, BringsSame}
 use Rattle.bsp_deliver.specs.Inside.Marks.{AreMarkedUnless}
 use Rattle.bsp_deliver.proofs.SameParts.{BringSame, none_brings, brought_more, all_brought}
 use Rattle.bsp_deliver.proofs.touched.mark_changes.Goals as goal

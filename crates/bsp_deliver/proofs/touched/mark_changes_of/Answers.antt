@@ -1,4 +1,4 @@
-use Rattle.std.proofs.Common.{◌≡◌, ℕ, ◌<◌, Bool, true, List, set, length, sym, ◌∙◌, arith, subst}
+use Rattle.std.proofs.Common.{ℕ, ◌<◌, Bool, true, List, set, length, sym, ◌∙◌, arith, subst}
 use Rattle.std.proofs.lemmas.Bool.{false≢true}
 use Rattle.bsp_deliver.specs.Inside.Comparison.{BringsSame, KeepsOwn}
 use Rattle.bsp_deliver.specs.Inside.Marks.{AreMarkedUnless}

@@ -2,7 +2,6 @@ use Rattle.std.proofs.Common.{◌≡◌, ℕ, ◌<◌, Bool, true, false, List, 
 use Rattle.std.proofs.lemmas.Bool.{false≢true}
 use Rattle.std.proofs.lemmas.List.{get_or_default}
 use Rattle.bsp_model.specs.declared.request.Get.{Get}
-use Rattle.bsp_step.specs.OutcomeParts.{outcome_of}
 use Rattle.bsp_deliver.specs.Requests.{words_read}
 use Rattle.bsp_deliver.specs.Inside.Comparison.{IsReadable, ReadsSame}
 use Rattle.bsp_deliver.specs.Inside.Marks.{AreMarkedUnless}

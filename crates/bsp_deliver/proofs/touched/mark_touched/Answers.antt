@@ -1,10 +1,8 @@
-use Rattle.std.proofs.Common.{◌≡◌, ℕ, ◌<◌, [], Bool, true, false, List, map, get_or, length, refl, sym, ap, ◌∙◌, arith, subst}
+use Rattle.std.proofs.Common.{◌≡◌, ℕ, ◌<◌, [], Bool, false, List, map, length, refl, sym, ap, ◌∙◌, arith}
 use Rattle.std.proofs.lemmas.Bool.{OnTrue_at}
-use Rattle.bsp_step.specs.OutcomeParts.{OutcomeParts, no_outcome, outcome_of}
+use Rattle.bsp_step.specs.OutcomeParts.{no_outcome, outcome_of}
 use Rattle.bsp_deliver.specs.Requests.{words_read}
-use Rattle.bsp_deliver.specs.Delivery.{delivery_parts}
-use Rattle.bsp_deliver.specs.Inside.Comparison.{AllBringSame, ReadsSame}
-use Rattle.bsp_deliver.specs.Inside.Marks.{AreMarkedUnless}
+use Rattle.bsp_deliver.specs.Inside.Comparison.{ReadsSame}
 use Rattle.bsp_deliver.proofs.Unmarked.{unmarked_within}
 use Rattle.bsp_deliver.proofs.SameParts.{brought_and_read, brought_alone}
 use Rattle.bsp_deliver.proofs.touched.mark_touched.Goals as goal
