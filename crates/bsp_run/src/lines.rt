@@ -128,8 +128,7 @@ fn is_taken(before: &[Lines], marks: &ProcessSet, pid: usize) -> bool
 /// Whether a process of a run before has other lines now. They are not looked at where it is not marked.
 fn has_other_lines(before: &[Lines], marks: &ProcessSet, turns: &[&Outcomes], pid: usize) -> bool
     requires known { pid < length before.now }
-    requires same { AreLinesUnlessMarked before.now marks.now
-        (map (λ o. o.now) turns.now) }
+    requires same { AreLinesUnlessMarked before.now marks.now (map (λ o. o.now) turns.now) }
     ensures { result ≡ false → slice_index_or before.now pid [] ≡ lines_of_process (map (λ o. o.now) turns.now) pid }
 {
     is_marked(marks, pid) && !are_lines_of(&before[pid].as_ref(), turns, pid)
@@ -142,8 +141,7 @@ fn mark_others(
     marks: &ProcessSet,
     turns: &[&Outcomes],
 ) -> Result<ProcessSet, OutOfMemory>
-    requires { AreLinesUnlessMarked before.now marks.now
-        (map (λ o. o.now) turns.now) }
+    requires { AreLinesUnlessMarked before.now marks.now (map (λ o. o.now) turns.now) }
     ensures { IfOk result (λ others. AreLinesUnlessMarked before.now others
         (map (λ o. o.now) turns.now)) }
 {
@@ -219,8 +217,7 @@ fn lines_taken(
     turns: &[&Outcomes],
     nprocs: usize,
 ) -> Result<SharedSeq<Lines>, OutOfMemory>
-    requires { AreLinesUnlessMarked before.now marks.now
-        (map (λ o. o.now) turns.now) }
+    requires { AreLinesUnlessMarked before.now marks.now (map (λ o. o.now) turns.now) }
     ensures { IfOk result (λ each. each ≡ each_below nprocs (lines_of_process (map (λ o. o.now) turns.now))) }
 {
     if are_all_taken(before.as_slice(), marks, nprocs) {
