@@ -1,6 +1,6 @@
 //! The lines of a run.
 
-ghost use Rattle.std.specs.Prelude.{◌≡◌, ℕ, [], ◌+◌, ◌≤◌, ◌<◌, ◌++◌, length, option_map, option_to_list, slice_index_or, take, true, false, IfOk, IfSome, OnOk};
+ghost use Rattle.std.specs.Prelude.{◌≡◌, ℕ, [], ◌+◌, ◌≤◌, ◌<◌, ◌++◌, length, map, option_map, option_to_list, slice_index_or, take, true, false, IfOk, IfSome, OnOk};
 ghost use Rattle.std.specs.Bool.{OnFalse, OnTrue};
 ghost use Rattle.bsp_deliver.specs.Requests.{each_below};
 ghost use Rattle.bsp_step.specs.OutcomeParts.{outcome_of};
@@ -34,20 +34,12 @@ fn add_lines(lines: &mut Rows<u64>, outcomes: &Outcomes, pid: usize) -> Result<(
     lines.append(&own)
 }
 
-/// Makes these the lines of a process in these supersteps, and then in the one that ended the run, if there is one.
-fn take_lines(
-    lines: &mut Rows<u64>,
-    past: &[Superstep],
-    last: Option<&Outcomes>,
-    pid: usize,
-) -> Result<(), OutOfMemory>
-    ensures { OnOk result (lines.new ≡ lines_of_process (outcomes_of past.now ++ option_to_list (option_map (λ o. o.now) last.entry)) pid) }
+/// Makes these the lines of a process in these supersteps.
+fn take_lines(lines: &mut Rows<u64>, turns: &[&Outcomes], pid: usize) -> Result<(), OutOfMemory>
+    ensures { OnOk result (lines.new ≡ lines_of_process (map (λ o. o.now) turns.now) pid) }
 {
     lines.clear();
-    for superstep in past {
-        add_lines(lines, &superstep.outcomes, pid)?;
-    }
-    if let Some(outcomes) = last {
+    for outcomes in turns {
         add_lines(lines, outcomes, pid)?;
     }
     Ok(())
@@ -90,25 +82,17 @@ fn place_behind_printed(
 }
 
 /// Whether these are the lines of a process. It takes no memory.
-fn are_lines_of(
-    lines: &RowsRef<'_, u64>,
-    past: &[Superstep],
-    last: Option<&Outcomes>,
-    pid: usize,
-) -> bool
-    ensures { result ≡ true → lines.now ≡ lines_of_process (outcomes_of past.now ++ option_to_list (option_map (λ o. o.now) last.entry)) pid }
+fn are_lines_of(lines: &RowsRef<'_, u64>, turns: &[&Outcomes], pid: usize) -> bool
+    ensures { result ≡ true → lines.now ≡ lines_of_process (map (λ o. o.now) turns.now) pid }
 {
     let mut at = 0;
-    for superstep in past {
-        match place_behind_printed(lines, at, &superstep.outcomes, pid) {
+    for outcomes in turns {
+        match place_behind_printed(lines, at, outcomes, pid) {
             Some(behind) => at = behind,
             None => return false,
         }
     }
-    match last {
-        Some(outcomes) => place_behind_printed(lines, at, outcomes, pid) == Some(lines.len()),
-        None => at == lines.len(),
-    }
+    at == lines.len()
 }
 
 /// Whether a process is marked; one that the set doesn't tell of is.
@@ -142,19 +126,12 @@ fn is_taken(before: &[Lines], marks: &ProcessSet, pid: usize) -> bool
 }
 
 /// Whether a process of a run before has other lines now. They are not looked at where it is not marked.
-fn has_other_lines(
-    before: &[Lines],
-    marks: &ProcessSet,
-    past: &[Superstep],
-    last: Option<&Outcomes>,
-    pid: usize,
-) -> bool
+fn has_other_lines(before: &[Lines], marks: &ProcessSet, turns: &[&Outcomes], pid: usize) -> bool
     requires known { pid < length before.now }
-    requires same { AreLinesUnlessMarked before.now marks.now
-        (outcomes_of past.now ++ option_to_list (option_map (λ o. o.now) last)) }
-    ensures { result ≡ false → slice_index_or before.now pid [] ≡ lines_of_process (outcomes_of past.now ++ option_to_list (option_map (λ o. o.now) last.entry)) pid }
+    requires same { AreLinesUnlessMarked before.now marks.now (map (λ o. o.now) turns.now) }
+    ensures { result ≡ false → slice_index_or before.now pid [] ≡ lines_of_process (map (λ o. o.now) turns.now) pid }
 {
-    is_marked(marks, pid) && !are_lines_of(&before[pid].as_ref(), past, last, pid)
+    is_marked(marks, pid) && !are_lines_of(&before[pid].as_ref(), turns, pid)
 }
 
 /// Marks the processes of a run before that have other lines now, of those that are marked.
@@ -162,17 +139,15 @@ fn mark_others(
     alloc: Global,
     before: &[Lines],
     marks: &ProcessSet,
-    past: &[Superstep],
-    last: Option<&Outcomes>,
+    turns: &[&Outcomes],
 ) -> Result<ProcessSet, OutOfMemory>
-    requires { AreLinesUnlessMarked before.now marks.now
-        (outcomes_of past.now ++ option_to_list (option_map (λ o. o.now) last)) }
+    requires { AreLinesUnlessMarked before.now marks.now (map (λ o. o.now) turns.now) }
     ensures { IfOk result (λ others. AreLinesUnlessMarked before.now others
-        (outcomes_of past.now ++ option_to_list (option_map (λ o. o.now) last.entry))) }
+        (map (λ o. o.now) turns.now)) }
 {
     let mut others = ProcessSet::none(alloc, before.len())?;
     for pid in 0..before.len() {
-        if has_other_lines(before, marks, past, last, pid) {
+        if has_other_lines(before, marks, turns, pid) {
             others.insert(pid);
         }
     }
@@ -184,18 +159,17 @@ fn gathered(
     alloc: Global,
     before: &[Lines],
     marks: &ProcessSet,
-    past: &[Superstep],
-    last: Option<&Outcomes>,
+    turns: &[&Outcomes],
     nprocs: usize,
 ) -> Result<LineColumn, OutOfMemory>
     ensures { IfOk result (λ all. AreGathered before.now marks.now
-        (outcomes_of past.now ++ option_to_list (option_map (λ o. o.now) last.entry)) nprocs all) }
+        (map (λ o. o.now) turns.now) nprocs all) }
 {
     let mut all = LineColumn::new(alloc);
     let mut lines = Rows::new(alloc);
     for pid in 0..nprocs {
         if !is_taken(before, marks, pid) {
-            take_lines(&mut lines, past, last, pid)?;
+            take_lines(&mut lines, turns, pid)?;
             all.put(pid, &lines.as_ref())?;
         }
     }
@@ -240,21 +214,40 @@ fn lines_taken(
     alloc: Global,
     before: &SharedSeq<Lines>,
     marks: &ProcessSet,
-    past: &[Superstep],
-    last: Option<&Outcomes>,
+    turns: &[&Outcomes],
     nprocs: usize,
 ) -> Result<SharedSeq<Lines>, OutOfMemory>
-    requires { AreLinesUnlessMarked before.now marks.now
-        (outcomes_of past.now ++ option_to_list (option_map (λ o. o.now) last)) }
-    ensures { IfOk result (λ each. each ≡ each_below nprocs (lines_of_process (outcomes_of past.now ++ option_to_list (option_map (λ o. o.now) last.entry)))) }
+    requires { AreLinesUnlessMarked before.now marks.now (map (λ o. o.now) turns.now) }
+    ensures { IfOk result (λ each. each ≡ each_below nprocs (lines_of_process (map (λ o. o.now) turns.now))) }
 {
     if are_all_taken(before.as_slice(), marks, nprocs) {
         return before.copy();
     }
     let before = before.as_slice();
-    let all = gathered(alloc, before, marks, past, last, nprocs)?;
+    let all = gathered(alloc, before, marks, turns, nprocs)?;
     let all = Shared::new(alloc, all)?;
     Ok(each_lines(alloc, before, marks, &all, nprocs)?)
+}
+
+/// The supersteps of a run in which lines may stand, the one that ended it among them. In the others nobody's lines are looked for.
+fn printing<'a>(
+    alloc: Global,
+    past: &'a [Superstep],
+    last: Option<&'a Outcomes>,
+) -> Result<Vec<&'a Outcomes>, OutOfMemory>
+    ensures { IfOk result (λ turns. (p : ℕ) → lines_of_process (map (λ o. o.now) turns.items) p
+        ≡ lines_of_process (outcomes_of past.now ++ option_to_list (option_map (λ o. o.now) last.entry)) p) }
+{
+    let mut turns = Vec::new(alloc);
+    for superstep in past {
+        if !superstep.outcomes.is_without(ListKind::Lines) {
+            turns.push(&superstep.outcomes)?;
+        }
+    }
+    if let Some(outcomes) = last {
+        turns.push(outcomes)?;
+    }
+    Ok(turns)
 }
 
 /// The lines of each process. Those that are the same as in `before` are shared, as those of a process that is not marked are.
@@ -273,6 +266,7 @@ pub fn all_lines(
     if are_all_taken(before.as_slice(), marks, nprocs) {
         return before.copy();
     }
-    let others = mark_others(alloc, before.as_slice(), marks, past, last)?;
-    Ok(lines_taken(alloc, before, &others, past, last, nprocs)?)
+    let turns = printing(alloc, past, last)?;
+    let others = mark_others(alloc, before.as_slice(), marks, turns.as_slice())?;
+    Ok(lines_taken(alloc, before, &others, turns.as_slice(), nprocs)?)
 }

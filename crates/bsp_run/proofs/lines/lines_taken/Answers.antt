@@ -1,9 +1,7 @@
-use Rattle.std.proofs.Common.{◌≡◌, ◌∙◌, ◌++◌, ℕ, List, length, ap, sym, subst}
-use Rattle.std.specs.Prelude.{option_map, option_to_list}
+use Rattle.std.proofs.Common.{◌≡◌, ◌∙◌, ℕ, List, length, map, ap, sym, subst}
 use Rattle.std.proofs.lemmas.Result.{IfOk-weaker}
 use Rattle.bsp_step.specs.OutcomeParts.{OutcomeParts}
 use Rattle.bsp_deliver.specs.Requests.{each_below}
-use Rattle.bsp_run.specs.Supersteps.{outcomes_of}
 use Rattle.bsp_run.specs.Result.{lines_of_process}
 use Rattle.bsp_run.specs.Inside.Lines.{lines_from, AreGathered}
 use Rattle.bsp_run.proofs.Gathered.{all_taken, lines_from_all}
@@ -12,7 +10,7 @@ use Rattle.bsp_run.proofs.lines.lines_taken.Goals as goal
 pub returns-then-are_all_taken : goal.returns-then-are_all_taken
 returns-then-are_all_taken c =
     let before : List (List (List ℕ)) = c.args.before.now in
-    let turns : List (List OutcomeParts) = outcomes_of c.args.past.now ++ option_to_list (option_map (λ o. o.now) c.args.last) in
+    let turns : List (List OutcomeParts) = map (λ o. o.now) c.args.turns.now in
     let count = ap (λ (ls : List (List (List ℕ))). length ls) (sym c.as_slice.ensures) ∙ c.are_all_taken.ensures.count c.if-are_all_taken.true in
     let all = all_taken before c.args.marks.now turns c.args.nprocs c.requires count (c.are_all_taken.ensures.unmarked c.if-are_all_taken.true) in
     IfOk-weaker c.copy.result (λ each. each ≡ before) (λ each. each ≡ each_below c.args.nprocs (lines_of_process turns)) (λ each e. e ∙ all) c.copy.ensures
@@ -22,7 +20,7 @@ returns c =
     let n = c.args.nprocs in
     let before : List (List (List ℕ)) = c.args.before.now in
     let marks = c.args.marks.now in
-    let turns : List (List OutcomeParts) = outcomes_of c.args.past.now ++ option_to_list (option_map (λ o. o.now) c.args.last) in
+    let turns : List (List OutcomeParts) = map (λ o. o.now) c.args.turns.now in
     let all : List (List (List ℕ)) = c.in_ok-all.all in
     c.in_ok-each_lines.ensures ∙ ap (λ (old : List (List (List ℕ))). each_below n (lines_from old marks c.in_ok-all-2.all)) c.as_slice-before.ensures
     ∙ ap (λ (column : List (List (List ℕ))). each_below n (lines_from before marks column)) c.in_ok-all-2.ensures

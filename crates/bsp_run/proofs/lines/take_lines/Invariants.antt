@@ -1,7 +1,6 @@
-use Rattle.std.proofs.Common.{◌≡◌, take}
-use Rattle.bsp_run.specs.Supersteps.{outcomes_of}
+use Rattle.std.proofs.Common.{◌≡◌, map, take}
 use Rattle.bsp_run.specs.Result.{lines_of_process}
 use Rattle.bsp_run.proofs.lines.take_lines.Given as goal
 
-abbrev pub invariant-loop-superstep : goal.invariant-loop-superstep
-invariant-loop-superstep l = l.lines ≡ lines_of_process (outcomes_of (take l.superstep-index l.past)) l.pid
+abbrev pub invariant-loop-outcomes : goal.invariant-loop-outcomes
+invariant-loop-outcomes l = l.lines ≡ lines_of_process (map (λ o. o.now) (take l.outcomes-index l.turns)) l.pid
