@@ -101,17 +101,16 @@ under_way_turned turn looks old input r q marks u v o h is k l =
     let us = map turn (open_views r) in
     subst (λ (x : Run). IsUnderWay turn looks old input x marks v) (sym is)
     record {
-      before = h.before;
       made = IsRecord-turned turn input r h.made e;
       marked = λ t. absurd (false≢true (sym (turns_closed r us) ∙ t));
       updated = updated_turned looks old r us u v e h.updated k l;
     }
 
 -- So does one that ends by delivery.
-pub under_way_delivered : (turn : ViewParts → OutcomeParts) (looks : ViewParts → ℕ → Bool) (old : Option Run) (input : Input) (always : List Bool) (r q : Run) (m marks : List Bool) (u v : Update) → is_open r.phase ≡ true → is_turned (after_turns r (map turn (open_views r))).phase ≡ true → AreArgsMarked old input always → IsUnderWay turn looks old input r m u → q ≡ after_delivery (after_turns r (map turn (open_views r)))
+pub under_way_delivered : (turn : ViewParts → OutcomeParts) (looks : ViewParts → ℕ → Bool) (old : Option Run) (input : Input) (always : List Bool) (r q : Run) (m marks : List Bool) (u v : Update) → is_open r.phase ≡ true → is_turned (after_turns r (map turn (open_views r))).phase ≡ true → IsBefore turn input old → AreArgsMarked old input always → IsUnderWay turn looks old input r m u → q ≡ after_delivery (after_turns r (map turn (open_views r)))
     → marks ≡ each_below (length (map turn (open_views r))) (λ d. is_touched (delivered_outcomes old (length r.past)) (map turn (open_views r)) d || get_or always d true)
     → v.executed ≡ u.executed ++ differ_in looks (length r.past) (taken_before old (length r.past)) (open_views r) → v.redelivered ≡ u.redelivered ++ touched_in (length r.past) (delivered_outcomes old (length r.past)) (map turn (open_views r)) → IsUnderWay turn looks old input q marks v
-under_way_delivered turn looks old input always r q m marks u v o t a h is n k l =
+under_way_delivered turn looks old input always r q m marks u v o t b a h is n k l =
     let e = open_phase r.phase o in
     let us = map turn (open_views r) in
     let s = length r.past in
@@ -120,10 +119,9 @@ under_way_delivered turn looks old input always r q m marks u v o t a h is n k l
     let long : length next.past ≡ s + 1 = ap (λ (xs : List Superstep). length xs) (past-delivered r us) ∙ length-append r.past (superstep (open_views r) us ∷ []) in
     let views : open_views next ≡ views_in turn input (s + 1) = open_views-in turn input next made ∙ ap (views_in turn input) long in
     let all : List OutcomeParts → List Bool = λ os. each_below (length os) (λ d. is_touched (delivered_outcomes old s) os d || get_or always d true) in
-    let marked = marked_next turn input old s always marks h.before a (n ∙ ap all (turns-in turn input r h.made)) in
+    let marked = marked_next turn input old s always marks b a (n ∙ ap all (turns-in turn input r h.made)) in
     subst (λ (x : Run). IsUnderWay turn looks old input x marks v) (sym is)
     record {
-      before = h.before;
       made = made;
       marked = λ _. subst (λ i. AreMarked (taken_before old i) (open_views next) marks) (sym long) (subst (λ (vs : List ViewParts). AreMarked (taken_before old (s + 1)) vs marks) (sym views) marked);
       updated = updated_delivered looks old r us u v e h.updated k l;
@@ -162,7 +160,6 @@ under_way_start turn looks old input r marks u is some h m e d =
     } in
     subst (λ (x : Run). IsUnderWay turn looks old input x marks u) (sym is)
     record {
-      before = h;
       made = made;
       marked = λ o. subst (λ n. AreMarked (taken_before old n) (open_views (start input)) marks) (sym (no_past input)) marked;
       updated = same_update u (update_of looks old (start input)) (e ∙ sym (nothing_executed looks old input)) (d ∙ sym (nothing_redelivered old input));

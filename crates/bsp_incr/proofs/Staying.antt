@@ -184,7 +184,6 @@ under_way_taken turn looks j old r q marks u k h under is =
     sym (append-nil u.redelivered) ∙ ap (λ (xs : List Place). u.redelivered ++ xs) (sym (ap (λ (os : List OutcomeParts). touched_in s os us) delivered ∙ nothing-touched s us)) in
     subst (λ (x : Run). IsUnderWay turn looks (Some old) j x marks u) (sym is)
     record {
-      before = under.before;
       made = made;
       marked = λ _. subst (λ n. AreMarked (taken_before (Some old) n) (open_views next) marks) (sym long) marked;
       updated = updated_delivered looks (Some old) r us u u phase under.updated executed redelivered;

@@ -11,7 +11,7 @@ mod moving;
 mod places;
 
 pub use alike::{all_cost_alike, ends_as_before};
-pub use before::{delivered_outcomes, first_views_before, views_after};
+pub use before::{delivered_outcomes, views_after, with_first_views};
 pub use beside::{OpenSuperstep, open_superstep};
 pub use doubtful::Doubtful;
 pub use known_table::KnownTable;

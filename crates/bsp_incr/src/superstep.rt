@@ -5,7 +5,7 @@ ghost use Rattle.bsp_run.specs.Run.{after_turns, open_views, advance};
 ghost use Rattle.bsp_run.specs.Condition.{AreOutcomesOf, is_open, is_turned};
 ghost use Rattle.bsp_run.specs.Inside.Record.{IsRecord};
 ghost use Rattle.bsp_incr.specs.Inside.Changes.{differ_in};
-ghost use Rattle.bsp_incr.specs.Inside.Given.{run_before, turn_given, looks_given, taken_beside, IsGivenBefore, IsMidway};
+ghost use Rattle.bsp_incr.specs.Inside.Given.{turn_by, taken_beside, IsMidway};
 ghost use Rattle.bsp_incr.specs.Inside.Known.{AreDoubtful, KnowsTable, KnowsNextTable};
 
 mod deliveries;
@@ -33,14 +33,13 @@ fn end_turns<P: Program, G: Gate, R: Threads + Sync>(
     outcomes: Outcomes,
 ) -> Result<Option<KnownTable>, OutOfMemory>
     requires open { is_open tape.old.phase ≡ true }
-    requires before { IsGivenBefore given.now }
-    requires made { IsRecord (turn_given given.now) given.now.input.now tape.old }
+    requires made { IsRecord (turn_by P.Program given.now.program) given.now.input tape.old }
     requires doubtful { AreDoubtful (taken_beside given.now tape.old) (open_views tape.old) doubtful.now }
-    requires turns { outcomes ≡ map (turn_given given.now) (open_views tape.old) }
+    requires turns { outcomes ≡ map (turn_by P.Program given.now.program) (open_views tape.old) }
     requires within { AreOutcomesOf (open_views tape.old) outcomes }
     ensures turned { OnOk result (tape.new ≡ after_turns tape.old outcomes) }
     ensures answer { IfOk result (λ next. is_some next ≡ is_turned tape.new.phase) }
-    ensures known { IfOk result (λ next. IfSome next (KnowsNextTable (run_before given.now) tape.new)) }
+    ensures known { IfOk result (λ next. IfSome next (KnowsNextTable given.now.before tape.new)) }
 {
     let before = delivered_outcomes(given.old, tape.step());
     if ends_as_before(before, &outcomes, doubtful) {
@@ -63,14 +62,14 @@ fn take_turns<P: Program, G: Gate, R: Threads + Sync>(
     counts: &mut Counts,
 ) -> Result<Option<KnownTable>, OutOfMemory>
     requires open { is_open tape.old.phase ≡ true }
-    requires before { IsGivenBefore given.now }
-    requires made { IsRecord (turn_given given.now) given.now.input.now tape.old }
+    requires made { IsRecord (turn_by P.Program given.now.program) given.now.input tape.old }
     requires doubtful { AreDoubtful (taken_beside given.now tape.old) (open_views tape.old) doubtful.now }
-    ensures turned { OnOk result (tape.new ≡ after_turns tape.old (map (turn_given given.now) (open_views tape.old))) }
+    ensures turned { OnOk result (tape.new
+        ≡ after_turns tape.old (map (turn_by P.Program given.now.program) (open_views tape.old))) }
     ensures answer { IfOk result (λ next. is_some next ≡ is_turned tape.new.phase) }
-    ensures known { IfOk result (λ next. IfSome next (KnowsNextTable (run_before given.now) tape.new)) }
+    ensures known { IfOk result (λ next. IfSome next (KnowsNextTable given.now.before tape.new)) }
     ensures executed { OnOk result (executed.new ≡ executed.old
-        ++ differ_in (looks_given given.now) (length tape.old.past) (taken_beside given.now tape.old)
+        ++ differ_in (P.looks given.now.program) (length tape.old.past) (taken_beside given.now tape.old)
         (open_views tape.old)) }
 {
     let superstep = open_superstep(given, tape);
@@ -87,11 +86,13 @@ fn make_again<P: Program, G: Gate, R: Threads + Sync>(
 ) -> Result<(), OutOfMemory>
     requires open { is_open tape.old.phase ≡ true }
     requires doubtful { AreDoubtful (taken_beside given.now tape.old) (open_views tape.old) doubtful.now }
-    requires under_way { IsMidway given.now tape.old under_way.old }
-    ensures tape { OnOk result (tape.new ≡ advance (turn_given given.now) tape.old) }
-    ensures under_way { OnOk result (IsMidway given.now tape.new under_way.new) }
-    ensures table { OnOk result (KnowsTable (run_before given.now) tape.new under_way.new.table) }
+    requires under_way { IsMidway P.Program given.now tape.old under_way.old }
+    ensures tape { OnOk result (tape.new ≡ advance (turn_by P.Program given.now.program) tape.old) }
+    ensures under_way { OnOk result (IsMidway P.Program given.now tape.new under_way.new) }
+    ensures table { OnOk result (KnowsTable given.now.before tape.new under_way.new.table) }
 {
+    // What stands of the run before is known where it is read.
+    let _before = given.old;
     let executed = &mut under_way.update.executed;
     let Some(known) = take_turns(given, tape, doubtful, executed, &mut under_way.counts)? else {
         return Ok(());
@@ -119,11 +120,11 @@ pub fn advance<P: Program, G: Gate, R: Threads + Sync>(
     under_way: &mut UnderWay,
 ) -> Result<(), OutOfMemory>
     requires between { is_turned tape.old.phase ≡ false }
-    requires under_way { IsMidway given.now tape.old under_way.old }
-    requires table { KnowsTable (run_before given.now) tape.old under_way.old.table }
-    ensures tape { OnOk result (tape.new ≡ advance (turn_given given.now) tape.old) }
-    ensures under_way { OnOk result (IsMidway given.now tape.new under_way.new) }
-    ensures table { OnOk result (KnowsTable (run_before given.now) tape.new under_way.new.table) }
+    requires under_way { IsMidway P.Program given.now tape.old under_way.old }
+    requires table { KnowsTable given.now.before tape.old under_way.old.table }
+    ensures tape { OnOk result (tape.new ≡ advance (turn_by P.Program given.now.program) tape.old) }
+    ensures under_way { OnOk result (IsMidway P.Program given.now tape.new under_way.new) }
+    ensures table { OnOk result (KnowsTable given.now.before tape.new under_way.new.table) }
 {
     if !tape.is_open() {
         return Ok(());

@@ -1,12 +1,11 @@
 //! The opening of a run, which shares what it can with the run before.
 
-ghost use Rattle.std.specs.Prelude.{◌≡◌, ◌<◌, All, IfOk, length, map, option_map, slice_index_or, []};
+ghost use Rattle.std.specs.Prelude.{◌≡◌, ◌<◌, All, IfOk, length, map, slice_index_or, []};
 ghost use Rattle.bsp_model.specs.Replaced.{replaced};
 ghost use Rattle.bsp_run.specs.Run.{start};
-ghost use Rattle.bsp_incr.specs.Inside.Before.{AreFirstMarked, IsBefore};
-ghost use Rattle.bsp_incr.specs.Inside.Given.{run_before};
+ghost use Rattle.bsp_incr.specs.Inside.Before.{AreFirstMarked};
 
-use crate::compare::{first_views_before, processes_where};
+use crate::compare::{processes_where, with_first_views};
 use crate::rerun::given::Given;
 use bsp_model::{OutOfMemory, Seq, SharedSeq, TryCopy, Words};
 use bsp_run::{Arguments, Tape, copied};
@@ -42,16 +41,14 @@ pub fn opened<P: Program, R, G>(
     given: &Given<'_, P, R, G>,
     marks: &[bool],
 ) -> Result<Tape, OutOfMemory>
-    requires before { (turn : _) × IsBefore turn given.now.input.now (run_before given.now) }
-    requires marks { AreFirstMarked (run_before given.now) given.now.input.now marks.now }
-    ensures { IfOk result (λ tape. tape ≡ start given.now.input.now) }
+    requires { AreFirstMarked given.now.before given.now.input marks.now }
+    ensures { IfOk result (λ tape. tape ≡ start given.now.input) }
 {
     let input = given.input;
-    let Some(history) = given.old else {
+    let Some((history, like)) = with_first_views(given.old) else {
         return Ok(Tape::open_lawful(given.alloc, input)?);
     };
     let marked = processes_where(given.alloc, marks)?;
     let args = args_again(given.alloc, history.args(), &input.args, given.other_args)?;
-    let like = first_views_before(history);
     Ok(Tape::open_like(given.alloc, input, args, like, marked.as_slice())?)
 }

@@ -7,8 +7,8 @@ ghost use Rattle.bsp_run.specs.Setting.{next_setting};
 ghost use Rattle.bsp_run.specs.Shares.{deliveries_to};
 ghost use Rattle.bsp_run.specs.Result.{cost_of_delivery, IsSmall};
 ghost use Rattle.bsp_incr.specs.Inside.Changes.{touched_in, is_touched, processes_where};
-ghost use Rattle.bsp_incr.specs.Inside.Marks.{AreDelivered, AreComparable, OutcomesDifferAtMost};
-ghost use Rattle.bsp_incr.specs.Inside.Given.{run_before, delivered_beside, views_after_beside};
+ghost use Rattle.bsp_incr.specs.Inside.Marks.{AreComparable, OutcomesDifferAtMost};
+ghost use Rattle.bsp_incr.specs.Inside.Given.{delivered_beside};
 ghost use Rattle.bsp_incr.specs.Inside.Known.{IsKnown, KnowsNextTable};
 
 use crate::compare::{
@@ -87,14 +87,13 @@ fn open_next<P: Program, G: Gate, R: Threads + Sync>(
 ) -> Result<KnownTable, OutOfMemory>
     requires turned { tape.old.phase ≡ Phase.Turned }
     requires comparable { AreComparable (delivered_beside given.now tape.old) tape.old.outcomes }
-    requires next { AreDelivered (delivered_beside given.now tape.old) (views_after_beside given.now tape.old) }
     requires processes { made.processes.now ≡ processes_where (length tape.old.outcomes)
         (is_touched (delivered_beside given.now tape.old) tape.old.outcomes) }
     requires cells { made.cells ≡ deliveries_to tape.old.outcomes made.processes.now }
     requires doubtful { OutcomesDifferAtMost (delivered_beside given.now tape.old) tape.old.outcomes doubtful.now }
-    requires known { KnowsNextTable (run_before given.now) tape.old known }
+    requires known { KnowsNextTable given.now.before tape.old known }
     ensures tape { OnOk result (tape.new ≡ after_delivery tape.old) }
-    ensures known { IfOk result (KnowsNextTable (run_before given.now) tape.old) }
+    ensures known { IfOk result (KnowsNextTable given.now.before tape.old) }
 {
     let Some(old_next) = views_after(given.old, tape.step()) else {
         let _ = tape.delivered(made.cells)?;
@@ -116,17 +115,14 @@ pub fn make_deliveries<P: Program, G: Gate, R: Threads + Sync>(
     under_way: &mut UnderWay,
 ) -> Result<(), OutOfMemory>
     requires turned { tape.old.phase ≡ Phase.Turned }
-    requires count { 0 < length (delivered_beside given.now tape.old)
-        → length (delivered_beside given.now tape.old) ≡ length tape.old.outcomes }
-    requires next { AreDelivered (delivered_beside given.now tape.old) (views_after_beside given.now tape.old) }
+    requires many { length tape.old.outcomes ≡ length given.now.input.mems }
     requires doubtful { OutcomesDifferAtMost (delivered_beside given.now tape.old) tape.old.outcomes doubtful.now }
-    requires always { length given.now.always.now ≡ length tape.old.outcomes }
-    requires known { KnowsNextTable (run_before given.now) tape.old known }
+    requires known { KnowsNextTable given.now.before tape.old known }
     ensures tape { OnOk result (tape.new ≡ after_delivery tape.old) }
-    ensures known { OnOk result (KnowsNextTable (run_before given.now) tape.old under_way.new.table) }
+    ensures known { OnOk result (KnowsNextTable given.now.before tape.old under_way.new.table) }
     ensures marks { OnOk result (under_way.new.marks.items ≡ each_below (length tape.old.outcomes)
         (λ d. is_touched (delivered_beside given.now tape.old) tape.old.outcomes d
-        || slice_index_or given.now.always.now d true)) }
+        || slice_index_or given.now.others d true)) }
     ensures executed { OnOk result (under_way.new.update.executed ≡ under_way.old.update.executed) }
     ensures redelivered { OnOk result (under_way.new.update.redelivered ≡ under_way.old.update.redelivered
         ++ touched_in (length tape.old.past) (delivered_beside given.now tape.old) tape.old.outcomes) }

@@ -6,7 +6,7 @@ ghost use Rattle.bsp_run.specs.Condition.{no_view};
 ghost use Rattle.bsp_run.specs.Shares.{turns_of};
 ghost use Rattle.bsp_incr.specs.Inside.Before.{outcomes_if_any};
 ghost use Rattle.bsp_incr.specs.Inside.Changes.{differ_in};
-ghost use Rattle.bsp_incr.specs.Inside.Given.{turn_by, turn_given, looks_given};
+ghost use Rattle.bsp_incr.specs.Inside.Given.{turn_by};
 ghost use Rattle.bsp_incr.specs.Inside.Known.{AreDoubtful};
 ghost use Rattle.bsp_incr.specs.Inside.OpenSuperstep.{differs_now};
 
@@ -52,9 +52,9 @@ fn needed_turns<P: Program, R, G>(
 ) -> Result<(Vec<usize>, Vec<usize>), OutOfMemory>
     requires doubtful { AreDoubtful superstep.now.old_views superstep.now.views.now doubtful.now }
     ensures needed { IfOk result (λ r. r.0.items
-        ≡ filter (differs_now (looks_given given.now) superstep.now) doubtful.now.processes.items) }
+        ≡ filter (differs_now (P.looks given.now.program) superstep.now) doubtful.now.processes.items) }
     ensures served { IfOk result (λ r. r.1.items
-        ≡ filter (λ p. not (differs_now (looks_given given.now) superstep.now p)) doubtful.now.processes.items) }
+        ≡ filter (λ p. not (differs_now (P.looks given.now.program) superstep.now p)) doubtful.now.processes.items) }
 {
     let processes = doubtful.processes.as_slice();
     let mut needed = Vec::with_capacity(given.alloc, processes.len())?;
@@ -99,9 +99,10 @@ fn served_turns<P: Program, R, G>(
     processes: &[usize],
 ) -> Result<OutcomeRows, OutOfMemory>
     requires known { All (λ p. p < length superstep.now.views.now) processes.now }
-    requires recorded { old_outcomes.now ≡ map (turn_given given.now) superstep.now.old_views }
-    requires serve { All (λ p. differs_now (looks_given given.now) superstep.now p ≡ false) processes.now }
-    ensures { IfOk result (λ all. all ≡ turns_of (turn_given given.now) superstep.now.views.now processes.now) }
+    requires recorded { old_outcomes.now ≡ map (turn_by P.Program given.now.program) superstep.now.old_views }
+    requires serve { All (λ p. differs_now (P.looks given.now.program) superstep.now p ≡ false) processes.now }
+    ensures { IfOk result (λ all. all
+        ≡ turns_of (turn_by P.Program given.now.program) superstep.now.views.now processes.now) }
 {
     let mut served = OutcomeRows::with_capacity(given.alloc, processes.len())?;
     for process in processes {
@@ -126,10 +127,10 @@ fn with_served_turns<P: Program, R, G>(
     requires known { All (λ p. p < length superstep.now.views.now) processes.now }
     requires within { All (λ p. p < length old_outcomes.now) processes.now }
     requires ascending { IsAscending processes.now }
-    requires recorded { old_outcomes.now ≡ map (turn_given given.now) superstep.now.old_views }
-    requires serve { All (λ p. differs_now (looks_given given.now) superstep.now p ≡ false) processes.now }
+    requires recorded { old_outcomes.now ≡ map (turn_by P.Program given.now.program) superstep.now.old_views }
+    requires serve { All (λ p. differs_now (P.looks given.now.program) superstep.now p ≡ false) processes.now }
     ensures { IfOk result (λ all. all ≡ replaced old_outcomes.now processes.now
-        (turns_of (turn_given given.now) superstep.now.views.now processes.now)) }
+        (turns_of (turn_by P.Program given.now.program) superstep.now.views.now processes.now)) }
 {
     if processes.is_empty() {
         return Ok(old_outcomes.copy()?);
@@ -147,11 +148,11 @@ pub fn turns_again<P: Program, G: Gate, R: Threads + Sync>(
     counts: &mut Counts,
 ) -> Result<Outcomes, OutOfMemory>
     requires recorded { outcomes_if_any (option_map (λ o. o.now) superstep.now.old_outcomes)
-        ≡ map (turn_given given.now) superstep.now.old_views }
+        ≡ map (turn_by P.Program given.now.program) superstep.now.old_views }
     requires doubtful { AreDoubtful superstep.now.old_views superstep.now.views.now doubtful.now }
-    ensures turns { IfOk result (λ all. all ≡ map (turn_given given.now) superstep.now.views.now) }
+    ensures turns { IfOk result (λ all. all ≡ map (turn_by P.Program given.now.program) superstep.now.views.now) }
     ensures executed { OnOk result (executed.new ≡ executed.old
-        ++ differ_in (looks_given given.now) superstep.now.step superstep.now.old_views superstep.now.views.now) }
+        ++ differ_in (P.looks given.now.program) superstep.now.step superstep.now.old_views superstep.now.views.now) }
 {
     let (needed, served) = needed_turns(given, superstep, doubtful, counts)?;
     add_places(executed, superstep.step, needed.as_slice())?;

@@ -85,13 +85,5 @@ pub returns-clause-update : goal.returns-clause-update
 returns-clause-update g c =
     subst (λ (r : Run). c.loop-given.under_way.update ≡ update_of (g.P.Program.looks c.args.executor.now.program.now) (option_map (λ k. k.now) c.args.old) r) (sym c.in_ok-history.ensures) c.loop-given.invariant.under_way.updated
 
-pub opened-requires-clause-before : goal.opened-requires-clause-before
-opened-requires-clause-before g c κs within = (turn_of (g.P.Program.acts c.args.executor.now.program.now) (g.P.Program.ending c.args.executor.now.program.now), c.requires.before)
-
 pub invariant_of-given : goal.invariant_of-given
-invariant_of-given g c =
-    record {
-      marked = subst (AreArgsMarked (option_map (λ k. k.now) c.args.old) c.args.input.now) (sym c.as_slice-2.ensures.value) c.requires.args;
-      lawful = c.requires.lawful;
-      listed = c.as_slice-3.ensures.value ∙ c.in_ok-other_args.ensures ∙ ap (λ (bs : List Bool). processes_where (length bs) (λ p. get_or bs p false)) (c.as_slice.ensures.value ∙ sym c.as_slice-2.ensures.value);
-    }
+invariant_of-given g c = ?

@@ -14,13 +14,13 @@ needs_turn-requires-clause-place g c κs within =
 pub returns-clause-needed : goal.returns-clause-needed
 returns-clause-needed g c =
     let ps = c.as_slice-processes.result.now in
-    let goes : List ℕ → List ℕ = filter (differs (g.P.Program.looks c.args.given.now.program.now) c.args.superstep.now.old_views c.args.superstep.now.views.now) in
+    let goes : List ℕ → List ℕ = filter (differs (g.P.Program.looks c.args.given.now.program) c.args.superstep.now.old_views c.args.superstep.now.views.now) in
     let end : c.loop-process.process-index ≡ length ps = omega (arith, c.loop-process-test.false, c.loop-process.auto.process-index-end) in
     c.loop-process.invariant.needed ∙ ap (λ n. goes (take n ps)) end ∙ ap goes (take-length ps ∙ c.as_slice-processes.ensures.value)
 
 pub returns-clause-served : goal.returns-clause-served
 returns-clause-served g c =
     let ps = c.as_slice-processes.result.now in
-    let stays : List ℕ → List ℕ = filter (λ p. not (differs (g.P.Program.looks c.args.given.now.program.now) c.args.superstep.now.old_views c.args.superstep.now.views.now p)) in
+    let stays : List ℕ → List ℕ = filter (λ p. not (differs (g.P.Program.looks c.args.given.now.program) c.args.superstep.now.old_views c.args.superstep.now.views.now p)) in
     let end : c.loop-process.process-index ≡ length ps = omega (arith, c.loop-process-test.false, c.loop-process.auto.process-index-end) in
     c.loop-process.invariant.served ∙ ap (λ n. stays (take n ps)) end ∙ ap stays (take-length ps ∙ c.as_slice-processes.ensures.value)

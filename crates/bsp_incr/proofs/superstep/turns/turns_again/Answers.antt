@@ -4,9 +4,9 @@ use Rattle.std.proofs.lemmas.Bool.{eqb-true}
 use Rattle.std.proofs.lemmas.List.{length-map}
 use Rattle.std.proofs.lemmas.List.Elements.{All-filter, filter_passes}
 use Rattle.bsp_step.specs.OutcomeParts.{OutcomeParts}
-use Rattle.bsp_step.specs.Turn.{turn_of}
 use Rattle.bsp_run.specs.Shares.{turns_of}
 use Rattle.bsp_incr.specs.Inside.Before.{outcomes_if_any}
+use Rattle.bsp_incr.specs.Inside.Given.{turn_by}
 use Rattle.bsp_incr.specs.Inside.Changes.{differs, places_of}
 use Rattle.bsp_model.specs.Replaced.{replaced, IsAscending}
 use Rattle.bsp_incr.proofs.Gathering.{not_empty, processes_where-ascending}
@@ -22,12 +22,12 @@ pub wide_turns-requires-clause-processes : goal.wide_turns-requires-clause-proce
 wide_turns-requires-clause-processes g c κs within =
     let n = length c.args.superstep.now.views.now in
     subst (All (λ p. p < n)) (sym (c.as_slice-2.ensures.value ∙ c.in_ok-needed.ensures.needed))
-    (All-filter (differs (g.P.Program.looks c.args.given.now.program.now) c.args.superstep.now.old_views c.args.superstep.now.views.now) (λ p. p < n) c.args.doubtful.now.processes.items (differ_below c.args.superstep.now.old_views c.args.superstep.now.views.now c.args.doubtful.now.processes.items c.requires.doubtful.processes))
+    (All-filter (differs (g.P.Program.looks c.args.given.now.program) c.args.superstep.now.old_views c.args.superstep.now.views.now) (λ p. p < n) c.args.doubtful.now.processes.items (differ_below c.args.superstep.now.old_views c.args.superstep.now.views.now c.args.doubtful.now.processes.items c.requires.doubtful.processes))
 
 pub returns-then-is_empty-clause-turns : goal.returns-then-is_empty-clause-turns
 returns-then-is_empty-clause-turns g c =
-    let turn = turn_of (g.P.Program.acts c.args.given.now.program.now) (g.P.Program.ending c.args.given.now.program.now) in
-    let looks = g.P.Program.looks c.args.given.now.program.now in
+    let turn = turn_by g.P.Program c.args.given.now.program in
+    let looks = g.P.Program.looks c.args.given.now.program in
     let old = c.args.superstep.now.old_views in let new = c.args.superstep.now.views.now in
     let none : length old ≡ 0 = eqb-true (length old) 0 (sym c.is_empty.ensures ∙ c.if-is_empty.true) in
     c.in_ok-share.ensures ∙ turns_of_none turn looks old new c.as_slice-2.result.now c.in_ok-taken.taken none
@@ -35,7 +35,7 @@ returns-then-is_empty-clause-turns g c =
 
 pub returns-then-is_empty-clause-executed : goal.returns-then-is_empty-clause-executed
 returns-then-is_empty-clause-executed g c =
-    let looks = g.P.Program.looks c.args.given.now.program.now in
+    let looks = g.P.Program.looks c.args.given.now.program in
     let needed = c.as_slice.ensures.value ∙ c.in_ok-needed.ensures.needed ∙ needed_among looks c.args.superstep.now.old_views c.args.superstep.now.views.now c.args.doubtful.now.processes.items c.requires.doubtful.processes in
     c.in_ok-add_places.ensures ∙ ap (λ (ks : List ℕ). c.args.executed.now ++ places_of c.args.superstep.now.step ks) needed
 
@@ -43,28 +43,28 @@ pub with_served_turns-requires-clause-known : goal.with_served_turns-requires-cl
 with_served_turns-requires-clause-known g c κs within =
     let n = length c.args.superstep.now.views.now in
     subst (All (λ p. p < n)) (sym (c.as_slice-3.ensures.value ∙ c.in_ok-needed.ensures.served))
-    (All-filter (λ p. not (differs (g.P.Program.looks c.args.given.now.program.now) c.args.superstep.now.old_views c.args.superstep.now.views.now p)) (λ p. p < n) c.args.doubtful.now.processes.items (differ_below c.args.superstep.now.old_views c.args.superstep.now.views.now c.args.doubtful.now.processes.items c.requires.doubtful.processes))
+    (All-filter (λ p. not (differs (g.P.Program.looks c.args.given.now.program) c.args.superstep.now.old_views c.args.superstep.now.views.now p)) (λ p. p < n) c.args.doubtful.now.processes.items (differ_below c.args.superstep.now.old_views c.args.superstep.now.views.now c.args.doubtful.now.processes.items c.requires.doubtful.processes))
 
 pub with_served_turns-requires-clause-serve : goal.with_served_turns-requires-clause-serve
 with_served_turns-requires-clause-serve g c κs within =
-    let test : ℕ → Bool = differs (g.P.Program.looks c.args.given.now.program.now) c.args.superstep.now.old_views c.args.superstep.now.views.now in
+    let test : ℕ → Bool = differs (g.P.Program.looks c.args.given.now.program) c.args.superstep.now.old_views c.args.superstep.now.views.now in
     subst (All (λ p. test p ≡ false)) (sym (c.as_slice-3.ensures.value ∙ c.in_ok-needed.ensures.served))
     (λ k d l. not_true (test (get_or (filter (λ p. not (test p)) c.args.doubtful.now.processes.items) k d)) (filter_passes (λ p. not (test p)) c.args.doubtful.now.processes.items k d l))
 
 pub with_served_turns-requires-clause-within : goal.with_served_turns-requires-clause-within
 with_served_turns-requires-clause-within g c κs within =
     let n = length c.args.superstep.now.views.now in
-    let turn = turn_of (g.P.Program.acts c.args.given.now.program.now) (g.P.Program.ending c.args.given.now.program.now) in
+    let turn = turn_by g.P.Program c.args.given.now.program in
     let some : 0 < length c.args.superstep.now.old_views = not_empty c.args.superstep.now.old_views (sym c.is_empty.ensures ∙ c.if-is_empty.false) in
     let recorded = recorded_in c.args.superstep.now.old_outcomes c.in-Some.old_outcomes (map turn c.args.superstep.now.old_views) c.in-Some.is c.requires.recorded in
     let long : length c.in-Some.old_outcomes.now ≡ n = ap (λ (os : List OutcomeParts). length os) recorded ∙ length-map c.args.superstep.now.old_views turn ∙ c.args.superstep.now.count some in
     subst (λ m. All (λ p. p < m) c.as_slice-3.result.now) (sym long)
     (subst (All (λ p. p < n)) (sym (c.as_slice-3.ensures.value ∙ c.in_ok-needed.ensures.served))
-    (All-filter (λ p. not (differs (g.P.Program.looks c.args.given.now.program.now) c.args.superstep.now.old_views c.args.superstep.now.views.now p)) (λ p. p < n) c.args.doubtful.now.processes.items (differ_below c.args.superstep.now.old_views c.args.superstep.now.views.now c.args.doubtful.now.processes.items c.requires.doubtful.processes)))
+    (All-filter (λ p. not (differs (g.P.Program.looks c.args.given.now.program) c.args.superstep.now.old_views c.args.superstep.now.views.now p)) (λ p. p < n) c.args.doubtful.now.processes.items (differ_below c.args.superstep.now.old_views c.args.superstep.now.views.now c.args.doubtful.now.processes.items c.requires.doubtful.processes)))
 
 pub with_served_turns-requires-clause-ascending : goal.with_served_turns-requires-clause-ascending
 with_served_turns-requires-clause-ascending g c κs within =
-    let looks = g.P.Program.looks c.args.given.now.program.now in
+    let looks = g.P.Program.looks c.args.given.now.program in
     subst IsAscending
     (sym (c.as_slice-3.ensures.value ∙ c.in_ok-needed.ensures.served ∙ served_among looks c.args.superstep.now.old_views c.args.superstep.now.views.now c.args.doubtful.now.processes.items c.requires.doubtful.processes))
     (processes_where-ascending (length c.args.superstep.now.views.now) (λ p. c.requires.doubtful.processes.test p && not (differs looks c.args.superstep.now.old_views c.args.superstep.now.views.now p)))
@@ -72,26 +72,26 @@ with_served_turns-requires-clause-ascending g c κs within =
 pub replaced-requires-clause-known : goal.replaced-requires-clause-known
 replaced-requires-clause-known g c =
     let n = length c.args.superstep.now.views.now in
-    let turn = turn_of (g.P.Program.acts c.args.given.now.program.now) (g.P.Program.ending c.args.given.now.program.now) in
+    let turn = turn_by g.P.Program c.args.given.now.program in
     let some : 0 < length c.args.superstep.now.old_views = not_empty c.args.superstep.now.old_views (sym c.is_empty.ensures ∙ c.if-is_empty.false) in
     let recorded = recorded_in c.args.superstep.now.old_outcomes c.in-Some.old_outcomes (map turn c.args.superstep.now.old_views) c.in-Some.is c.requires.recorded in
     let long : length c.in-Some.old_outcomes.now ≡ n = ap (λ (os : List OutcomeParts). length os) recorded ∙ length-map c.args.superstep.now.old_views turn ∙ c.args.superstep.now.count some in
     let after : length c.in_ok-renewed.renewed ≡ n = ap (λ (os : List OutcomeParts). length os) c.in_ok-renewed.ensures ∙ length-replaced c.in-Some.old_outcomes.now c.as_slice-3.result.now (turns_of turn c.args.superstep.now.views.now c.as_slice-3.result.now) ∙ long in
     subst (λ m. All (λ p. p < m) c.as_slice-4.result.now) (sym after)
     (subst (All (λ p. p < n)) (sym (c.as_slice-4.ensures.value ∙ c.in_ok-needed.ensures.needed))
-    (All-filter (differs (g.P.Program.looks c.args.given.now.program.now) c.args.superstep.now.old_views c.args.superstep.now.views.now) (λ p. p < n) c.args.doubtful.now.processes.items (differ_below c.args.superstep.now.old_views c.args.superstep.now.views.now c.args.doubtful.now.processes.items c.requires.doubtful.processes)))
+    (All-filter (differs (g.P.Program.looks c.args.given.now.program) c.args.superstep.now.old_views c.args.superstep.now.views.now) (λ p. p < n) c.args.doubtful.now.processes.items (differ_below c.args.superstep.now.old_views c.args.superstep.now.views.now c.args.doubtful.now.processes.items c.requires.doubtful.processes)))
 
 pub replaced-requires-clause-ascending : goal.replaced-requires-clause-ascending
 replaced-requires-clause-ascending g c =
-    let looks = g.P.Program.looks c.args.given.now.program.now in
+    let looks = g.P.Program.looks c.args.given.now.program in
     subst IsAscending
     (sym (c.as_slice-4.ensures.value ∙ c.in_ok-needed.ensures.needed ∙ needed_among looks c.args.superstep.now.old_views c.args.superstep.now.views.now c.args.doubtful.now.processes.items c.requires.doubtful.processes))
     (processes_where-ascending (length c.args.superstep.now.views.now) (differs looks c.args.superstep.now.old_views c.args.superstep.now.views.now))
 
 pub returns-clause-turns : goal.returns-clause-turns
 returns-clause-turns g c =
-    let turn = turn_of (g.P.Program.acts c.args.given.now.program.now) (g.P.Program.ending c.args.given.now.program.now) in
-    let looks = g.P.Program.looks c.args.given.now.program.now in
+    let turn = turn_by g.P.Program c.args.given.now.program in
+    let looks = g.P.Program.looks c.args.given.now.program in
     let some : 0 < length c.args.superstep.now.old_views = not_empty c.args.superstep.now.old_views (sym c.is_empty.ensures ∙ c.if-is_empty.false) in
     let served = c.as_slice-3.result.now in
     let needed = c.as_slice-4.result.now in
@@ -103,6 +103,6 @@ returns-clause-turns g c =
 
 pub returns-clause-executed : goal.returns-clause-executed
 returns-clause-executed g c =
-    let looks = g.P.Program.looks c.args.given.now.program.now in
+    let looks = g.P.Program.looks c.args.given.now.program in
     let needed = c.as_slice.ensures.value ∙ c.in_ok-needed.ensures.needed ∙ needed_among looks c.args.superstep.now.old_views c.args.superstep.now.views.now c.args.doubtful.now.processes.items c.requires.doubtful.processes in
     c.in_ok-add_places.ensures ∙ ap (λ (ks : List ℕ). c.args.executed.now ++ places_of c.args.superstep.now.step ks) needed
