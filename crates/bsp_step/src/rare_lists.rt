@@ -49,8 +49,8 @@ impl RareLists {
         }
     }
 
-    /// These lists.
-    pub(crate) fn of(
+    /// These lists, as those of an outcome that is made by hand.
+    pub fn of(
         gets: Seq<Get>,
         sends: Sends,
         pops: Seq<usize>,

@@ -4,7 +4,7 @@ ghost use Rattle.std.specs.Prelude.{IsTrue, IfOk, All, ◌<◌, ◌≤◌, ◌+�
 ghost use Rattle.bsp_deliver.specs.Condition.{AreDeliverable, AreRequestsInside, IsGetInside, IsPutInside, sizes_of};
 
 use bsp_model::{Get, Memory, MemoryRef, OutOfMemory, Puts, PutsRef, Rows, Sends, Seq, Stores};
-use bsp_step::{Ended, Outcome, OutcomeRef, OutcomeRows, Outcomes, TurnLists};
+use bsp_step::{Ended, Outcome, OutcomeRef, OutcomeRows, Outcomes, RareLists, TurnLists};
 use std::alloc::Global;
 use std::process::Abort;
 
@@ -94,11 +94,13 @@ fn outcome_of(
         memory: Memory::from_words(alloc, memory)?,
         stores: Stores::new(alloc),
         puts,
-        gets,
-        sends: Sends::new(alloc),
-        pops: Seq::new(alloc),
-        pushes: Seq::new(alloc),
-        lines: Rows::new(alloc),
+        rare: RareLists::of(
+            gets,
+            Sends::new(alloc),
+            Seq::new(alloc),
+            Seq::new(alloc),
+            Rows::new(alloc),
+        ),
     };
     Ok(Outcome {
         fault: None,
