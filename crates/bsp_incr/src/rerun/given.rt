@@ -32,16 +32,16 @@ impl<'a, P: Program, R, G> Model for Given<'a, P, R, G> {
     ghost Value = { Making P };
 
     ghost view = { λ g. record {
-        program = g.program.now;
-        input = g.input.now;
-        before = option_map (λ k. k.now) g.old;
-        others = g.always.now;
+      program = g.program.now;
+      input = g.input.now;
+      before = option_map (λ k. k.now) g.old;
+      others = g.always.now;
     } };
 
     ghost invariant = { λ g. IsMaking P.Program record {
-        program = g.program.now;
-        input = g.input.now;
-        before = option_map (λ k. k.now) g.old;
-        others = g.always.now;
+      program = g.program.now;
+      input = g.input.now;
+      before = option_map (λ k. k.now) g.old;
+      others = g.always.now;
     } };
 }

@@ -86,4 +86,9 @@ returns-clause-update g c =
     subst (λ (r : Run). c.loop-given.under_way.update ≡ update_of (g.P.Program.looks c.args.executor.now.program.now) (option_map (λ k. k.now) c.args.old) r) (sym c.in_ok-history.ensures) c.loop-given.invariant.under_way.updated
 
 pub invariant_of-given : goal.invariant_of-given
-invariant_of-given g c = ?
+invariant_of-given g c =
+    record {
+      lawful = c.requires.lawful;
+      before = c.requires.before;
+      others = subst (AreArgsMarked (option_map (λ k. k.now) c.args.old) c.args.input.now) (sym c.as_slice-2.ensures.value) c.requires.args;
+    }

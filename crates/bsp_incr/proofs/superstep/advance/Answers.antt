@@ -52,8 +52,7 @@ take_over-requires g c =
     let now = c.open_superstep-superstep.ensures.views in
     let known = subst (IsMaking g.P.Program) c.given.view_is c.given.invariant in
     let same = sym (ap (λ (m : Making _). m.before) c.given.view_is) ∙ c.in-Some.ensures.2 in
-    let whole = (c.in-Some.ensures.0, c.in-Some.ensures.1, same) in
-    let stays = staying_whole turn j c.args.given.now.before old r c.step.result c.open_superstep-superstep.result.old_views c.open_superstep-superstep.result.views.now c.in_ok-doubtful.doubtful.processes.items c.as_slice.result.now known.before whole c.requires.under_way.made started (lawful_input c.args.given.now.input known.lawful).some_process
+    let stays = staying_whole turn j c.args.given.now.before old r c.step.result c.open_superstep-superstep.result.old_views c.open_superstep-superstep.result.views.now c.in_ok-doubtful.doubtful.processes.items c.as_slice.result.now known.before (c.in-Some.ensures.0, c.in-Some.ensures.1, same) c.requires.under_way.made started (lawful_input c.args.given.now.input known.lawful).some_process
     c.step.ensures (c.open_superstep-superstep.ensures.old_views ∙ ap (taken_before c.args.given.now.before) (sym c.step.ensures)) now c.as_slice.ensures.value c.in_ok-doubtful.ensures.processes in
     let within = subst (All IsView) now c.open_superstep-superstep.ensures.limits in
     can_take_over acts ending stays.0.input_before j old r stays.1.before c.requires.under_way.made (open_phase r.phase started) (lawful_input c.args.given.now.input known.lawful).some_process stays.0.stands within stays.1.past stays.1.seen
@@ -70,8 +69,7 @@ returns-in-Some-clause-tape g c =
     let now = c.open_superstep-superstep.ensures.views in
     let known = subst (IsMaking g.P.Program) c.given.view_is c.given.invariant in
     let same = sym (ap (λ (m : Making _). m.before) c.given.view_is) ∙ c.in-Some.ensures.2 in
-    let whole = (c.in-Some.ensures.0, c.in-Some.ensures.1, same) in
-    let stays = staying_whole turn j c.args.given.now.before old r c.step.result c.open_superstep-superstep.result.old_views c.open_superstep-superstep.result.views.now c.in_ok-doubtful.doubtful.processes.items c.as_slice.result.now known.before whole c.requires.under_way.made started (lawful_input c.args.given.now.input known.lawful).some_process
+    let stays = staying_whole turn j c.args.given.now.before old r c.step.result c.open_superstep-superstep.result.old_views c.open_superstep-superstep.result.views.now c.in_ok-doubtful.doubtful.processes.items c.as_slice.result.now known.before (c.in-Some.ensures.0, c.in-Some.ensures.1, same) c.requires.under_way.made started (lawful_input c.args.given.now.input known.lawful).some_process
     c.step.ensures (c.open_superstep-superstep.ensures.old_views ∙ ap (taken_before c.args.given.now.before) (sym c.step.ensures)) now c.as_slice.ensures.value c.in_ok-doubtful.ensures.processes in
     c.in_ok-take_over.ensures.ok ∙ ap (λ (os : List OutcomeParts). after_delivery (after_turns r os)) (left turn stays.0.input_before j old r stays.1)
     ∙ sym (advance-delivers turn r (open_phase r.phase started) (goes_on turn stays.0.input_before j old r stays.1))
@@ -88,8 +86,7 @@ returns-in-Some-clause-under_way g c =
     let now = c.open_superstep-superstep.ensures.views in
     let known = subst (IsMaking g.P.Program) c.given.view_is c.given.invariant in
     let same = sym (ap (λ (m : Making _). m.before) c.given.view_is) ∙ c.in-Some.ensures.2 in
-    let whole = (c.in-Some.ensures.0, c.in-Some.ensures.1, same) in
-    let stays = staying_whole turn j c.args.given.now.before old r c.step.result c.open_superstep-superstep.result.old_views c.open_superstep-superstep.result.views.now c.in_ok-doubtful.doubtful.processes.items c.as_slice.result.now known.before whole c.requires.under_way.made started (lawful_input c.args.given.now.input known.lawful).some_process
+    let stays = staying_whole turn j c.args.given.now.before old r c.step.result c.open_superstep-superstep.result.old_views c.open_superstep-superstep.result.views.now c.in_ok-doubtful.doubtful.processes.items c.as_slice.result.now known.before (c.in-Some.ensures.0, c.in-Some.ensures.1, same) c.requires.under_way.made started (lawful_input c.args.given.now.input known.lawful).some_process
     c.step.ensures (c.open_superstep-superstep.ensures.old_views ∙ ap (taken_before c.args.given.now.before) (sym c.step.ensures)) now c.as_slice.ensures.value c.in_ok-doubtful.ensures.processes in
     let made = c.in_ok-take_over.ensures.ok ∙ ap (λ (os : List OutcomeParts). after_delivery (after_turns r os)) (left turn stays.0.input_before j old r stays.1) in
     subst (λ before. IsUnderWay turn (g.P.Program.looks c.args.given.now.program) before j c.take_over.new.self c.args.under_way.now.marks.items c.args.under_way.now.update) (sym same)
@@ -107,8 +104,7 @@ returns-in-Some-clause-table g c =
     let now = c.open_superstep-superstep.ensures.views in
     let known = subst (IsMaking g.P.Program) c.given.view_is c.given.invariant in
     let same = sym (ap (λ (m : Making _). m.before) c.given.view_is) ∙ c.in-Some.ensures.2 in
-    let whole = (c.in-Some.ensures.0, c.in-Some.ensures.1, same) in
-    let stays = staying_whole turn j c.args.given.now.before old r c.step.result c.open_superstep-superstep.result.old_views c.open_superstep-superstep.result.views.now c.in_ok-doubtful.doubtful.processes.items c.as_slice.result.now known.before whole c.requires.under_way.made started (lawful_input c.args.given.now.input known.lawful).some_process
+    let stays = staying_whole turn j c.args.given.now.before old r c.step.result c.open_superstep-superstep.result.old_views c.open_superstep-superstep.result.views.now c.in_ok-doubtful.doubtful.processes.items c.as_slice.result.now known.before (c.in-Some.ensures.0, c.in-Some.ensures.1, same) c.requires.under_way.made started (lawful_input c.args.given.now.input known.lawful).some_process
     c.step.ensures (c.open_superstep-superstep.ensures.old_views ∙ ap (taken_before c.args.given.now.before) (sym c.step.ensures)) now c.as_slice.ensures.value c.in_ok-doubtful.ensures.processes in
     let made = c.in_ok-take_over.ensures.ok ∙ ap (λ (os : List OutcomeParts). after_delivery (after_turns r os)) (left turn stays.0.input_before j old r stays.1) in
     let under = under_way_taken turn (g.P.Program.looks c.args.given.now.program) j old r c.take_over.new.self c.args.under_way.now.marks.items c.args.under_way.now.update stays.0 stays.1 (subst (λ before. IsUnderWay turn (g.P.Program.looks c.args.given.now.program) before j r c.args.under_way.now.marks.items c.args.under_way.now.update) same c.requires.under_way) made in

@@ -8,6 +8,7 @@ use Rattle.bsp_run.proofs.Runs.{outcomes_shown-turned}
 use Rattle.bsp_incr.specs.Inside.Changes.{is_touched, processes_where, places_of}
 use Rattle.bsp_incr.specs.Inside.Before.{outcomes_if_any, delivered_outcomes}
 use Rattle.bsp_incr.specs.Inside.Given.{Making, IsMaking, turn_by}
+use Rattle.bsp_incr.specs.Inside.Marks.{AreComparable}
 use Rattle.bsp_run.proofs.Records.{count-outcomes_in}
 use Rattle.bsp_incr.proofs.RunBefore.{count_before}
 use Rattle.bsp_incr.proofs.Gathering.{processes_where-ascending, processes_where-each_below, listed_below}
@@ -36,6 +37,21 @@ wide_deliveries-requires-clause-ascending g c κs within =
 deliverable_if_any : {T : Type 0} (value : T → List OutcomeParts) (o : Option T) (os : List OutcomeParts) → outcomes_if_any (option_map value o) ≡ os → IfSome o (λ x. AreDeliverable (value x)) → 0 < length os → AreDeliverable os
 deliverable_if_any value None os is each some = absurd (omega (arith, some, ap length is))
 deliverable_if_any value (Some x) os is each some = subst AreDeliverable is each
+
+pub touched-requires-clause-comparable : goal.touched-requires-clause-comparable
+touched-requires-clause-comparable g c =
+    let old : Option Run = c.args.given.now.before in
+    let r : Run = c.args.tape.now in
+    let turn = turn_by g.P.Program c.args.given.now.program in
+    let known = subst (IsMaking g.P.Program) c.given.view_is c.given.invariant in
+    let os : List OutcomeParts = outcomes_if_any (option_map (λ o. o.now) c.delivered_outcomes.result) in
+    let before = c.delivered_outcomes.ensures.outcomes ∙ ap (λ (m : Making _). delivered_outcomes m.before c.step-step.result) c.given.view_is ∙ ap (delivered_outcomes old) c.step-step.ensures in
+    let now = c.outcomes.ensures.outcomes ∙ outcomes_shown-turned r c.requires.turned in
+    subst (λ (us : List OutcomeParts). AreComparable os us) (sym now) (subst (λ (xs : List OutcomeParts). AreComparable xs r.outcomes) (sym before) record {
+      count = λ some. count_before turn c.args.given.now.input old (length r.past) known.before some ∙ count-outcomes_in turn c.args.given.now.input (length r.past) ∙ sym c.requires.many;
+      before = deliverable_if_any (λ o. o.now) c.delivered_outcomes.result (delivered_outcomes old (length r.past)) before c.delivered_outcomes.ensures.deliverable;
+      after = subst AreDeliverable now (c.outcomes.ensures.deliverable c.requires.turned);
+    })
 
 pub open_next-requires-clause-comparable : goal.open_next-requires-clause-comparable
 open_next-requires-clause-comparable g c κs within =

@@ -1,12 +1,13 @@
-use Rattle.std.proofs.Common.{refl, ◌≡◌, ◌<◌, ◌∙◌, ◌++◌, ◌&&◌, ℕ, Bool, false, get_or, List, All, not, ap, sym, subst, length, map, Option, Some, Bor}
+use Rattle.std.proofs.Common.{refl, ◌≡◌, ◌<◌, ◌∙◌, ◌++◌, ◌&&◌, ℕ, Bool, false, get_or, List, [], All, not, ap, sym, subst, length, map, Option, None, Some, Bor, arith}
 use Rattle.std.specs.Prelude.{filter, option_map}
 use Rattle.std.proofs.lemmas.Bool.{eqb-true}
 use Rattle.std.proofs.lemmas.List.{length-map}
 use Rattle.std.proofs.lemmas.List.Elements.{All-filter, filter_passes}
+use Rattle.bsp_step.specs.ViewParts.{ViewParts}
 use Rattle.bsp_step.specs.OutcomeParts.{OutcomeParts}
 use Rattle.bsp_run.specs.Shares.{turns_of}
 use Rattle.bsp_incr.specs.Inside.Before.{outcomes_if_any}
-use Rattle.bsp_incr.specs.Inside.Given.{turn_by}
+use Rattle.bsp_incr.specs.Inside.Given.{Making, turn_by}
 use Rattle.bsp_incr.specs.Inside.Changes.{differs, places_of}
 use Rattle.bsp_model.specs.Replaced.{replaced, IsAscending}
 use Rattle.bsp_incr.proofs.Gathering.{not_empty, processes_where-ascending}
@@ -17,6 +18,12 @@ use Rattle.bsp_incr.proofs.superstep.turns.turns_again.Goals as goal
 -- the outcomes of before, where there are some
 recorded_in : (old : Option (Bor (List OutcomeParts))) (os : Bor (List OutcomeParts)) (turns : (List OutcomeParts)) → old ≡ Some os → outcomes_if_any (option_map (λ o. o.now) old) ≡ turns → os.now ≡ turns
 recorded_in old os turns is recorded = ap (λ (o : Option (Bor (List OutcomeParts))). outcomes_if_any (option_map (λ x. x.now) o)) (sym is) ∙ recorded
+
+-- there are outcomes of before, where somebody was seen
+none_recorded : (old : Option (Bor (List OutcomeParts))) (turn : ViewParts → OutcomeParts) (views : List ViewParts) → old ≡ None → outcomes_if_any (option_map (λ o. o.now) old) ≡ map turn views → 0 < length views → ⊥
+none_recorded old turn views none recorded some =
+    let empty : [] ≡ map turn views = ap (λ (o : Option (Bor (List OutcomeParts))). outcomes_if_any (option_map (λ x. x.now) o)) (sym none) ∙ recorded in
+    omega (arith, some, ap (λ (os : List OutcomeParts). length os) empty, length-map views turn)
 
 pub wide_turns-requires-clause-processes : goal.wide_turns-requires-clause-processes
 wide_turns-requires-clause-processes g c κs within =
@@ -31,13 +38,26 @@ returns-then-is_empty-clause-turns g c =
     let old = c.args.superstep.now.old_views in let new = c.args.superstep.now.views.now in
     let none : length old ≡ 0 = eqb-true (length old) 0 (sym c.is_empty.ensures ∙ c.if-is_empty.true) in
     c.in_ok-share.ensures ∙ turns_of_none turn looks old new c.as_slice-2.result.now c.in_ok-taken.taken none
-    (c.as_slice-2.ensures.value ∙ c.in_ok-needed.ensures.needed ∙ needed_among looks old new c.args.doubtful.now.processes.items c.requires.doubtful.processes) c.in_ok-taken.ensures
+    (c.as_slice-2.ensures.value ∙ c.in_ok-needed.ensures.needed ∙ needed_among looks old new c.args.doubtful.now.processes.items c.requires.doubtful.processes)
+    (c.in_ok-taken.ensures ∙ ap (λ (m : Making _). turns_of (turn_by g.P.Program m.program) new c.as_slice-2.result.now) c.given.view_is)
 
 pub returns-then-is_empty-clause-executed : goal.returns-then-is_empty-clause-executed
 returns-then-is_empty-clause-executed g c =
     let looks = g.P.Program.looks c.args.given.now.program in
     let needed = c.as_slice.ensures.value ∙ c.in_ok-needed.ensures.needed ∙ needed_among looks c.args.superstep.now.old_views c.args.superstep.now.views.now c.args.doubtful.now.processes.items c.requires.doubtful.processes in
     c.in_ok-add_places.ensures ∙ ap (λ (ks : List ℕ). c.args.executed.now ++ places_of c.args.superstep.now.step ks) needed
+
+pub returns-in_default-clause-turns : goal.returns-in_default-clause-turns
+returns-in_default-clause-turns g c =
+    let old = c.args.superstep.now.old_views in
+    let some : 0 < length old = not_empty old (sym c.is_empty.ensures ∙ c.if-is_empty.false) in
+    absurd (none_recorded c.args.superstep.now.old_outcomes (turn_by g.P.Program c.args.given.now.program) old c.in_default.is c.requires.recorded some)
+
+pub returns-in_default-clause-executed : goal.returns-in_default-clause-executed
+returns-in_default-clause-executed g c =
+    let old = c.args.superstep.now.old_views in
+    let some : 0 < length old = not_empty old (sym c.is_empty.ensures ∙ c.if-is_empty.false) in
+    absurd (none_recorded c.args.superstep.now.old_outcomes (turn_by g.P.Program c.args.given.now.program) old c.in_default.is c.requires.recorded some)
 
 pub with_served_turns-requires-clause-known : goal.with_served_turns-requires-clause-known
 with_served_turns-requires-clause-known g c κs within =
@@ -95,7 +115,7 @@ returns-clause-turns g c =
     let some : 0 < length c.args.superstep.now.old_views = not_empty c.args.superstep.now.old_views (sym c.is_empty.ensures ∙ c.if-is_empty.false) in
     let served = c.as_slice-3.result.now in
     let needed = c.as_slice-4.result.now in
-    let taken : c.in_ok-taken.taken ≡ turns_of turn c.args.superstep.now.views.now needed = c.in_ok-taken.ensures ∙ ap (turns_of turn c.args.superstep.now.views.now) (c.as_slice-2.ensures.value ∙ sym c.as_slice-4.ensures.value) in
+    let taken : c.in_ok-taken.taken ≡ turns_of turn c.args.superstep.now.views.now needed = c.in_ok-taken.ensures ∙ ap (λ (m : Making _). turns_of (turn_by g.P.Program m.program) c.args.superstep.now.views.now c.as_slice-2.result.now) c.given.view_is ∙ ap (turns_of turn c.args.superstep.now.views.now) (c.as_slice-2.ensures.value ∙ sym c.as_slice-4.ensures.value) in
     c.in_ok-all.ensures
     ∙ ap (λ (os : List OutcomeParts). replaced os needed c.in_ok-taken.taken) c.in_ok-renewed.ensures
     ∙ turns_in_place turn looks c.args.superstep.now.old_views c.args.superstep.now.views.now c.args.doubtful.now.processes.items c.in-Some.old_outcomes.now (turns_of turn c.args.superstep.now.views.now served) c.in_ok-taken.taken served needed c.requires.doubtful.processes (c.args.superstep.now.count some)
