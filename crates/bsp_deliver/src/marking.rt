@@ -6,13 +6,13 @@ ghost use Rattle.bsp_deliver.specs.Inside.Marks.{AreMarkedUnless, AreToKnown};
 
 use crate::addressed::Addressed;
 use crate::same::are_same_to;
-use bsp_model::{Put, Send};
+use bsp_model::{ProcessSet, Put, Send};
 use bsp_step::OutcomeRef;
 
 /// Marks the processes to which the requests at the first places differ, as far as the requests at each place are to one process in both
 /// lists. Returns how far that is.
 fn mark_aligned<R: Addressed>(
-    marks: &mut [bool],
+    marks: &mut ProcessSet,
     old: &OutcomeRef<'_>,
     new: &OutcomeRef<'_>,
 ) -> usize
@@ -29,7 +29,7 @@ fn mark_aligned<R: Addressed>(
             return i;
         }
         if !R::same_at(old, i, new, i) {
-            marks[addressee as usize] = true;
+            marks.insert(addressee as usize);
         }
     }
     shared
@@ -37,7 +37,7 @@ fn mark_aligned<R: Addressed>(
 
 /// Marks the processes to which the requests differ from a place on.
 fn mark_unaligned<R: Addressed>(
-    marks: &mut [bool],
+    marks: &mut ProcessSet,
     old: &OutcomeRef<'_>,
     new: &OutcomeRef<'_>,
     from: usize,
@@ -49,15 +49,15 @@ fn mark_unaligned<R: Addressed>(
     if from == R::count(old) && from == R::count(new) {
         return;
     }
-    for d in 0..marks.len() {
-        if !marks[d] && !are_same_to::<R>(old, new, from, d as u64) {
-            marks[d] = true;
+    for d in 0..marks.count() {
+        if !marks.contains(d) && !are_same_to::<R>(old, new, from, d as u64) {
+            marks.insert(d);
         }
     }
 }
 
 /// Marks the processes to which a sender's requests differ.
-fn mark_changes<R: Addressed>(marks: &mut [bool], old: &OutcomeRef<'_>, new: &OutcomeRef<'_>)
+fn mark_changes<R: Addressed>(marks: &mut ProcessSet, old: &OutcomeRef<'_>, new: &OutcomeRef<'_>)
     requires { All (λ r. R.addressee r < length marks.old) (R.issued old.now) }
     ensures { AreMarkedUnless (λ d. filter (λ r. R.addressee r == d) (R.issued old.now) ≡ filter (λ r. R.addressee r == d) (R.issued new.now)) marks.old marks.new }
 {
@@ -66,7 +66,7 @@ fn mark_changes<R: Addressed>(marks: &mut [bool], old: &OutcomeRef<'_>, new: &Ou
 }
 
 /// Marks the processes to which an outcome brings other puts or messages than before.
-pub fn mark_parcels(marks: &mut [bool], old: &OutcomeRef<'_>, new: &OutcomeRef<'_>)
+pub fn mark_parcels(marks: &mut ProcessSet, old: &OutcomeRef<'_>, new: &OutcomeRef<'_>)
     requires { AreToKnown (length marks.old) old.now }
     ensures { AreMarkedUnless (λ d. HasSameParcel d old.now new.now) marks.old marks.new }
 {

@@ -1,10 +1,13 @@
+pub mod FirstBits
 pub mod Inputs
 pub mod IssuedRows
 pub mod MadeAgain
 pub mod PagedMemories
 pub mod Pages
 pub mod PairedColumns
+pub mod ProcessSets
 pub mod Ranges
+pub mod SetBits
 pub mod Replaced
 pub mod Rests
 pub mod RowReplaced

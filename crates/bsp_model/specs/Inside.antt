@@ -1,4 +1,5 @@
 pub mod Beside
+pub mod Bits
 pub mod Columns
 pub mod Cut
 pub mod HeadedRows

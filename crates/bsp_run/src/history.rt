@@ -13,7 +13,9 @@ use crate::keeping::{is_limit, last_turn};
 use crate::lines::all_lines;
 use crate::supersteps::numbers;
 use crate::{Arguments, Lines, Phase, RunResult, Status, Superstep, Tape, Views};
-use bsp_model::{CostRow, Memories, MemoryRef, OutOfMemory, Shared, SharedSeq, TryCopy};
+use bsp_model::{
+    CostRow, Memories, MemoryRef, OutOfMemory, ProcessSet, Shared, SharedSeq, TryCopy,
+};
 use bsp_step::Outcomes;
 use std::alloc::Global;
 use std::marker::Model;
@@ -54,20 +56,22 @@ impl Tape {
         requires { is_ended self.phase ≡ true }
         ensures { IfOk result (λ history. history ≡ self) }
     {
-        Ok(self.finish_sharing(&SharedSeq::new(), &[])?)
+        let none = ProcessSet::new(*self.past.allocator());
+        Ok(self.finish_sharing(&SharedSeq::new(), &none)?)
     }
 
     /// The history of a run that has ended, or `OutOfMemory`. It shares the lines of each process that are the same in another history. Those of a
     /// process that is not marked are not looked at, where both runs have as many supersteps.
-    pub fn finish_like(self, other: &History, marks: &[bool]) -> Result<History, OutOfMemory>
+    pub fn finish_like(self, other: &History, marks: &ProcessSet) -> Result<History, OutOfMemory>
         requires ended { is_ended self.phase ≡ true }
         requires marks { LinesDifferAtMost other.now self marks.now }
         ensures { IfOk result (λ history. history ≡ self) }
     {
+        let none = ProcessSet::new(*self.past.allocator());
         let marks = if have_as_many(&self, &other.run) {
             marks
         } else {
-            &[]
+            &none
         };
         Ok(self.finish_sharing(&other.lines, marks)?)
     }
@@ -76,7 +80,7 @@ impl Tape {
     fn finish_sharing(
         self,
         lines: &SharedSeq<Lines>,
-        marks: &[bool],
+        marks: &ProcessSet,
     ) -> Result<History, OutOfMemory>
         requires ended { is_ended self.phase ≡ true }
         requires marks { AreLinesUnlessMarked lines.now marks.now (outcomes_of (supersteps_of self)) }

@@ -9,7 +9,7 @@ ghost use Rattle.bsp_run.specs.Result.{lines_of_process};
 ghost use Rattle.bsp_run.specs.Inside.Lines.{is_taken, lines_from, AreGathered, AreLinesUnlessMarked};
 
 use crate::{Lines, Superstep};
-use bsp_model::{LineColumn, OutOfMemory, Rows, RowsRef, Shared, SharedSeq, TryCopy};
+use bsp_model::{LineColumn, OutOfMemory, ProcessSet, Rows, RowsRef, Shared, SharedSeq, TryCopy};
 use bsp_step::{ListKind, Outcomes};
 use std::alloc::Global;
 
@@ -111,30 +111,22 @@ fn are_lines_of(
     }
 }
 
-/// Whether a process is marked; one that has no mark is.
-fn is_marked(marks: &[bool], pid: usize) -> bool
+/// Whether a process is marked; one that the set doesn't tell of is.
+fn is_marked(marks: &ProcessSet, pid: usize) -> bool
     ensures { result ≡ slice_index_or marks.now pid true }
 {
-    match marks.get(pid) {
-        Some(mark) => *mark,
-        None => true,
-    }
+    pid >= marks.count() || marks.contains(pid)
 }
 
 /// Whether none of so many processes is marked.
-fn is_none_marked(marks: &[bool], nprocs: usize) -> bool
+fn is_none_marked(marks: &ProcessSet, nprocs: usize) -> bool
     ensures { result ≡ true → (p : ℕ) → p < nprocs → slice_index_or marks.now p true ≡ false }
 {
-    for pid in 0..nprocs {
-        if is_marked(marks, pid) {
-            return false;
-        }
-    }
-    true
+    nprocs <= marks.count() && marks.is_empty()
 }
 
 /// Whether the lines of all of so many processes are those of a run before, which had as many.
-fn are_all_taken(before: &[Lines], marks: &[bool], nprocs: usize) -> bool
+fn are_all_taken(before: &[Lines], marks: &ProcessSet, nprocs: usize) -> bool
     ensures count { result ≡ true → length before.now ≡ nprocs }
     ensures unmarked { result ≡ true → (p : ℕ) → p < nprocs → slice_index_or marks.now p true ≡ false }
 {
@@ -142,7 +134,7 @@ fn are_all_taken(before: &[Lines], marks: &[bool], nprocs: usize) -> bool
 }
 
 /// Whether the lines of a process are those of a run before: it had such a process, which is not marked.
-fn is_taken(before: &[Lines], marks: &[bool], pid: usize) -> bool
+fn is_taken(before: &[Lines], marks: &ProcessSet, pid: usize) -> bool
     ensures taken { result ≡ is_taken before.now marks.now pid }
     ensures known { result ≡ true → pid < length before.now }
 {
@@ -152,7 +144,7 @@ fn is_taken(before: &[Lines], marks: &[bool], pid: usize) -> bool
 /// Whether a process of a run before has other lines now. They are not looked at where it is not marked.
 fn has_other_lines(
     before: &[Lines],
-    marks: &[bool],
+    marks: &ProcessSet,
     past: &[Superstep],
     last: Option<&Outcomes>,
     pid: usize,
@@ -169,18 +161,20 @@ fn has_other_lines(
 fn mark_others(
     alloc: Global,
     before: &[Lines],
-    marks: &[bool],
+    marks: &ProcessSet,
     past: &[Superstep],
     last: Option<&Outcomes>,
-) -> Result<Vec<bool>, OutOfMemory>
+) -> Result<ProcessSet, OutOfMemory>
     requires { AreLinesUnlessMarked before.now marks.now
         (outcomes_of past.now ++ option_to_list (option_map (λ o. o.now) last)) }
-    ensures { IfOk result (λ others. AreLinesUnlessMarked before.now others.items
+    ensures { IfOk result (λ others. AreLinesUnlessMarked before.now others
         (outcomes_of past.now ++ option_to_list (option_map (λ o. o.now) last.entry))) }
 {
-    let mut others = Vec::with_capacity(alloc, before.len())?;
+    let mut others = ProcessSet::none(alloc, before.len())?;
     for pid in 0..before.len() {
-        others.push(has_other_lines(before, marks, past, last, pid))?;
+        if has_other_lines(before, marks, past, last, pid) {
+            others.insert(pid);
+        }
     }
     Ok(others)
 }
@@ -189,7 +183,7 @@ fn mark_others(
 fn gathered(
     alloc: Global,
     before: &[Lines],
-    marks: &[bool],
+    marks: &ProcessSet,
     past: &[Superstep],
     last: Option<&Outcomes>,
     nprocs: usize,
@@ -211,7 +205,7 @@ fn gathered(
 /// The lines of a process: those of a run before, or else those in a column.
 fn lines_from(
     before: &[Lines],
-    marks: &[bool],
+    marks: &ProcessSet,
     all: &Shared<LineColumn>,
     pid: usize,
 ) -> Result<Lines, OutOfMemory>
@@ -228,7 +222,7 @@ fn lines_from(
 pub fn each_lines(
     alloc: Global,
     before: &[Lines],
-    marks: &[bool],
+    marks: &ProcessSet,
     all: &Shared<LineColumn>,
     nprocs: usize,
 ) -> Result<SharedSeq<Lines>, OutOfMemory>
@@ -245,7 +239,7 @@ pub fn each_lines(
 fn lines_taken(
     alloc: Global,
     before: &SharedSeq<Lines>,
-    marks: &[bool],
+    marks: &ProcessSet,
     past: &[Superstep],
     last: Option<&Outcomes>,
     nprocs: usize,
@@ -267,7 +261,7 @@ fn lines_taken(
 pub fn all_lines(
     alloc: Global,
     before: &SharedSeq<Lines>,
-    marks: &[bool],
+    marks: &ProcessSet,
     past: &[Superstep],
     last: Option<&Outcomes>,
     nprocs: usize,
@@ -280,5 +274,5 @@ pub fn all_lines(
         return before.copy();
     }
     let others = mark_others(alloc, before.as_slice(), marks, past, last)?;
-    Ok(lines_taken(alloc, before, others.as_slice(), past, last, nprocs)?)
+    Ok(lines_taken(alloc, before, &others, past, last, nprocs)?)
 }

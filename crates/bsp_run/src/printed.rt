@@ -8,7 +8,7 @@ ghost use Rattle.bsp_run.specs.Inside.Unrecorded.{lines_and, lines_in, AreLinesA
 
 use crate::Lines;
 use crate::lines::each_lines;
-use bsp_model::{LineColumn, OutOfMemory, Rows, Shared, SharedSeq};
+use bsp_model::{LineColumn, OutOfMemory, ProcessSet, Rows, Shared, SharedSeq};
 use bsp_step::{ListKind, Outcomes};
 use std::alloc::Global;
 
@@ -94,7 +94,8 @@ pub fn lines_printed(
 {
     let all = in_one_column(alloc, printed, nprocs)?;
     let all = Shared::new(alloc, all)?;
-    Ok(each_lines(alloc, &[], &[], &all, nprocs)?)
+    let none = ProcessSet::new(alloc);
+    Ok(each_lines(alloc, &[], &none, &all, nprocs)?)
 }
 
 /// The same, with the lines of the superstep that ended the run.

@@ -1,8 +1,8 @@
 -- What private functions compare of two lists of outcomes: no public contract speaks of it.
-use Rattle.std.specs.Prelude.{ℕ, ◌+◌, ◌<◌, ◌≤◌, ◌≡◌, ◌==◌, List, filter, length, slice_index}
+use Rattle.std.specs.Prelude.{ℕ, ◌+◌, ◌<◌, ◌≤◌, ◌≡◌, ◌==◌, Bool, true, false, List, filter, map, length, slice_index, slice_index_or}
 use Rattle.bsp_model.specs.declared.request.Get.{Get}
-use Rattle.bsp_step.specs.OutcomeParts.{OutcomeParts}
-use Rattle.bsp_deliver.specs.Delivery.{delivery_parts}
+use Rattle.bsp_step.specs.OutcomeParts.{OutcomeParts, outcome_of}
+use Rattle.bsp_deliver.specs.Requests.{words_read}
 use Rattle.bsp_deliver.specs.Condition.{sizes_of}
 
 -- one sender puts and sends the same to d
@@ -15,7 +15,23 @@ pub record IsReadable (os : List OutcomeParts) (g : Get) : Type 0 where
   pub known : g.owner < length os
   pub inside : g.start + g.len ≤ slice_index (sizes_of os) g.owner
 
--- the memory of p after computing is the same, and so are its gets with the words that they read
-pub record HasSameOwn (os us : List OutcomeParts) (p : ℕ) : Type 0 where
-  pub memory : (delivery_parts os p).memory ≡ (delivery_parts us p).memory
-  pub gets : (delivery_parts os p).gets ≡ (delivery_parts us p).gets
+-- the memory of p after computing is the same, and so are its gets
+abbrev pub KeepsOwn : List OutcomeParts → List OutcomeParts → ℕ → Type 0
+KeepsOwn os us p = ((outcome_of os p).memory ≡ (outcome_of us p).memory) × ((outcome_of os p).gets ≡ (outcome_of us p).gets)
+
+-- p puts and sends the same to d, and where p is d, it keeps its own
+pub record BringsSame (os us : List OutcomeParts) (p d : ℕ) : Type 0 where
+  pub parcel : HasSameParcel d (outcome_of os p) (outcome_of us p)
+  pub own : d ≡ p → KeepsOwn os us p
+
+-- each process does
+abbrev pub AllBringSame : List OutcomeParts → List OutcomeParts → ℕ → Type 0
+AllBringSame os us d = (p : ℕ) → p < length us → BringsSame os us p d
+
+-- the gets of p read the same words
+abbrev pub ReadsSame : List OutcomeParts → List OutcomeParts → ℕ → Type 0
+ReadsSame os us p = map (words_read os) (outcome_of us p).gets ≡ map (words_read us) (outcome_of us p).gets
+
+-- a process that is not marked has the gets that it had
+abbrev pub HaveGetsUnlessMarked : List OutcomeParts → List OutcomeParts → List Bool → Type 0
+HaveGetsUnlessMarked os us marks = (p : ℕ) → slice_index_or marks p true ≡ false → (outcome_of os p).gets ≡ (outcome_of us p).gets

@@ -4,7 +4,7 @@ ghost use Rattle.bsp_deliver.specs.Touched.{AreSameUnlessMarked};
 
 use crate::tests::outcomes::{Process, outcomes_of};
 use crate::touched_by_changes;
-use bsp_model::{OutOfMemory, Same};
+use bsp_model::{OutOfMemory, ProcessSet, Same};
 use bsp_step::Outcomes;
 use std::alloc::Global;
 use std::test::Fail;
@@ -14,15 +14,16 @@ fn changes<'a>(
     alloc: Global,
     old: &'a Outcomes,
     new: &'a Outcomes,
-) -> Result<Vec<bool>, OutOfMemory>
+) -> Result<ProcessSet, OutOfMemory>
     requires { length old.now ≡ length new.now }
-    ensures count { IfOk result (λ changed. length changed.items ≡ length new.now) }
-    ensures unchanged { IfOk result (λ changed. AreSameUnlessMarked old.now new.now changed.items) }
+    ensures count { IfOk result (λ changed. length changed ≡ length new.now) }
+    ensures unchanged { IfOk result (λ changed. AreSameUnlessMarked old.now new.now changed) }
 {
-    let mut changed = Vec::new(alloc);
+    let mut changed = ProcessSet::none(alloc, new.len())?;
     for p in 0..new.len() {
-        let is_same = old.get(p).same(&new.get(p));
-        changed.push(!is_same)?;
+        if !old.get(p).same(&new.get(p)) {
+            changed.insert(p);
+        }
     }
     Ok(changed)
 }
@@ -32,13 +33,13 @@ fn touched<'a>(
     alloc: Global,
     old: &'a Outcomes,
     new: &'a Outcomes,
-) -> Result<Vec<bool>, OutOfMemory>
+) -> Result<ProcessSet, OutOfMemory>
     requires old { AreDeliverable old.now }
     requires new { AreDeliverable new.now }
     requires count { length old.now ≡ length new.now }
 {
     let changed = changes(alloc, old, new)?;
-    let touched = touched_by_changes(alloc, old, new, changed.as_slice());
+    let touched = touched_by_changes(alloc, old, new, &changed);
     drop(changed);
     touched
 }
@@ -52,8 +53,11 @@ fn are_touched<'a>(alloc: Global, old: &'a Outcomes, new: &'a Outcomes) -> Resul
         return Ok(false);
     }
     let touched = touched(alloc, old, new)?;
-    let is_right = touched.as_slice() == [true, false, true, true, true].as_slice();
+    let members = touched.members(alloc);
     drop(touched);
+    let members = members?;
+    let is_right = members.as_slice() == [0, 2, 3, 4].as_slice();
+    drop(members);
     Ok(is_right)
 }
 

@@ -1,5 +1,5 @@
-use Rattle.std.proofs.Common.{◌≡◌, List, Bool, false, true, length, replicate, sym, ap, ◌∙◌, subst}
-use Rattle.std.proofs.lemmas.List.{with_items_is, length-replicate, get_or-replicate}
+use Rattle.std.proofs.Common.{◌≡◌, List, Bool, true, false, length, replicate, sym, ap, ◌∙◌, subst}
+use Rattle.std.proofs.lemmas.List.{length-replicate, get_or-replicate}
 use Rattle.bsp_step.specs.OutcomeParts.{OutcomeParts}
 use Rattle.bsp_deliver.specs.Delivery.{delivery_parts}
 use Rattle.bsp_deliver.specs.Touched.{AreTouched}
@@ -8,7 +8,7 @@ use Rattle.bsp_deliver.proofs.touched.touched_by_changes.Goals as goal
 
 pub mark_touched-requires-clause-as_many : goal.mark_touched-requires-clause-as_many
 mark_touched-requires-clause-as_many c =
-    ap (λ (bs : List Bool). length bs) (c.as_mut_slice.ensures.value ∙ c.in_ok-touched.ensures.items_if_clones_equal (λ y h. h)) ∙ length-replicate c.len.result false ∙ c.len.ensures
+    ap (λ (bs : List Bool). length bs) c.in_ok-touched.ensures ∙ length-replicate c.len.result false ∙ c.len.ensures
 
 -- where no process was marked at first, those are not marked of which the rest holds
 touched_of_marks : (os us : List OutcomeParts) (marks : List Bool) → AreMarkedUnless (λ d. delivery_parts os d ≡ delivery_parts us d) (replicate (length us) false) marks → AreTouched os us marks
@@ -22,9 +22,6 @@ pub returns : goal.returns
 returns c =
     let os = c.args.old.now in
     let us = c.args.new.now in
-    let marks = c.mark_touched.new.marks in
-    let none : c.as_mut_slice.result.now ≡ replicate (length us) false =
-    c.as_mut_slice.ensures.value ∙ c.in_ok-touched.ensures.items_if_clones_equal (λ y h. h) ∙ ap (λ n. replicate n false) c.len.ensures in
-    let long = c.mark_touched.ensures.count ∙ c.as_mut_slice.ensures.len in
-    subst (AreTouched os us) (sym (with_items_is c.in_ok-touched.touched marks long))
-    (touched_of_marks os us marks (subst (λ (bs : List Bool). AreMarkedUnless (λ d. delivery_parts os d ≡ delivery_parts us d) bs marks) none c.mark_touched.ensures))
+    let marks : List Bool = c.mark_touched.new.marks in
+    let none : c.in_ok-touched.touched ≡ replicate (length us) false = c.in_ok-touched.ensures ∙ ap (λ n. replicate n false) c.len.ensures in
+    touched_of_marks os us marks (subst (λ (bs : List Bool). AreMarkedUnless (λ d. delivery_parts os d ≡ delivery_parts us d) bs marks) none c.mark_touched.ensures)

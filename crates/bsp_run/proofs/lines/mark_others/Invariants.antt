@@ -7,7 +7,7 @@ use Rattle.bsp_run.proofs.lines.mark_others.Given as goal
 -- the processes below this one that have no mark have their lines
 abbrev pub invariant-loop-pid : goal.invariant-loop-pid
 invariant-loop-pid l = record {
-  long : length l.others.items ≡ l.pid;
-  same : (p : ℕ) → p < l.pid → get_or l.others.items p true ≡ false
+  count : length l.others ≡ length l.before;
+  same : (p : ℕ) → p < l.pid → get_or l.others p true ≡ false
       → get_or l.before p [] ≡ lines_of_process (outcomes_of l.past ++ option_to_list (option_map (λ o. o.now) l.last)) p;
 }
