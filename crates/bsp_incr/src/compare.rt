@@ -16,5 +16,5 @@ pub use beside::{OpenSuperstep, open_superstep};
 pub use doubtful::Doubtful;
 pub use known_table::KnownTable;
 pub use looking::{has_table, serves};
-pub use marks::{Marks, all_marks, mark_too, marks_of_edits};
-pub use places::{add_places, processes_where};
+pub use marks::{Marks, all_marks, marks_of_edits};
+pub use places::add_places;

@@ -1,6 +1,7 @@
 //! One superstep of a run that is made again, against the record of the run before.
 
 ghost use Rattle.std.specs.Prelude.{◌≡◌, ◌<◌, ◌++◌, [], IfOk, IfSome, OnOk, Some, is_some, map, length, option_map, true, false};
+ghost use Rattle.bsp_model.specs.ProcessSet.{processes_in};
 ghost use Rattle.bsp_run.specs.Run.{after_turns, open_views, advance};
 ghost use Rattle.bsp_run.specs.Condition.{AreOutcomesOf, is_open, is_turned};
 ghost use Rattle.bsp_run.specs.Inside.Record.{IsRecord};
@@ -18,7 +19,7 @@ use crate::compare::{Doubtful, KnownTable, delivered_outcomes, ends_as_before, o
 use crate::rerun::{Counts, Given, UnderWay};
 use crate::superstep::ending::make_deliveries;
 use crate::superstep::turns::turns_again;
-use bsp_model::{OutOfMemory, Seq};
+use bsp_model::{OutOfMemory, ProcessSet, Seq};
 use bsp_pool::Gate;
 use bsp_run::{History, Tape};
 use bsp_step::{Outcomes, Program};
@@ -97,13 +98,17 @@ fn make_again<P: Program, G: Gate, R: Threads + Sync>(
     let Some(known) = take_turns(given, tape, doubtful, executed, &mut under_way.counts)? else {
         return Ok(());
     };
-    make_deliveries(given, tape, doubtful.processes.as_slice(), known, under_way)?;
+    make_deliveries(given, tape, &doubtful.processes, known, under_way)?;
     Ok(())
 }
 
 /// The run before, where its superstep ended by delivery and nobody sees something else in it.
-fn taken_whole<'a>(old: Option<&'a History>, step: usize, doubtful: &[usize]) -> Option<&'a History>
-    ensures { IfSome result (λ h. (doubtful.now ≡ []) × (step < length h.now.past)
+fn taken_whole<'a>(
+    old: Option<&'a History>,
+    step: usize,
+    doubtful: &ProcessSet,
+) -> Option<&'a History>
+    ensures { IfSome result (λ h. (processes_in doubtful.now ≡ []) × (step < length h.now.past)
         × (option_map (λ k. k.now) old.entry ≡ Some h.now)) }
 {
     match old {
@@ -130,9 +135,9 @@ pub fn advance<P: Program, G: Gate, R: Threads + Sync>(
         return Ok(());
     }
     let superstep = open_superstep(given, tape);
-    let marks = under_way.marks.as_slice();
+    let marks = &under_way.marks;
     let doubtful = Doubtful::among(given.alloc, &superstep, marks, under_way.table)?;
-    if let Some(history) = taken_whole(given.old, tape.step(), doubtful.processes.as_slice()) {
+    if let Some(history) = taken_whole(given.old, tape.step(), &doubtful.processes) {
         tape.take_over(history)?;
         under_way.table = KnownTable::AsBefore;
         return Ok(());

@@ -42,4 +42,4 @@ views_after_beside making r = views_after making.before (length r.past)
 -- the record of the run that is made again, between two supersteps, and the update so far
 abbrev pub IsMidway : {P : Type 0} → Ghosts P → Making P → Run → UnderWay → Type 0
 IsMidway laws making r u =
-    IsUnderWay (turn_by laws making.program) (laws.looks making.program) making.before making.input r u.marks.items u.update
+    IsUnderWay (turn_by laws making.program) (laws.looks making.program) making.before making.input r u.marks u.update

@@ -1,10 +1,7 @@
 //! What stays the same in all supersteps of a run that is made again.
 
-ghost use Rattle.std.specs.Prelude.{◌≡◌, length, slice_index_or, false};
-ghost use Rattle.bsp_incr.specs.Inside.Changes.{processes_where};
-
 use crate::rerun::workers::Workers;
-use bsp_model::Input;
+use bsp_model::{Input, ProcessSet};
 use bsp_run::History;
 use bsp_step::Program;
 use std::alloc::Global;
@@ -18,11 +15,8 @@ pub struct Given<'a, P: Program, R, G> {
     pub program: &'a P,
     pub input: &'a Input,
     pub old: Option<&'a History>,
-    /// Whether a process has other arguments than in the run before, by process. Then it is marked in each superstep.
-    pub always: &'a [bool],
-    /// The processes with other arguments.
-    pub other_args: &'a [usize],
-    ghost listed: { other_args.now ≡ processes_where (length always.now) (λ p. slice_index_or always.now p false) },
+    /// The processes with other arguments than in the run before. They are marked in each superstep.
+    pub other_args: &'a ProcessSet,
 }
 
 impl<'a, P: Program, R, G> Model for Given<'a, P, R, G> {
@@ -35,13 +29,13 @@ impl<'a, P: Program, R, G> Model for Given<'a, P, R, G> {
       program = g.program.now;
       input = g.input.now;
       before = option_map (λ k. k.now) g.old;
-      others = g.always.now;
+      others = g.other_args.now;
     } };
 
     ghost invariant = { λ g. IsMaking P.Program record {
       program = g.program.now;
       input = g.input.now;
       before = option_map (λ k. k.now) g.old;
-      others = g.always.now;
+      others = g.other_args.now;
     } };
 }

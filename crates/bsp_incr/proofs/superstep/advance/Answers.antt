@@ -1,8 +1,7 @@
 use Rattle.std.proofs.Common.{All, ◌∙◌, List, Option, ap, sym, subst, length}
-use Rattle.std.specs.Prelude.{option_map}
 use Rattle.bsp_step.specs.ViewParts.{ViewParts, IsView}
 use Rattle.bsp_step.specs.OutcomeParts.{OutcomeParts}
-use Rattle.bsp_run.specs.Run.{Run, after_turns, after_delivery, open_views}
+use Rattle.bsp_run.specs.Run.{Run, after_turns, after_delivery}
 use Rattle.bsp_run.proofs.Runs.{open_phase, advance-closed, advance-delivers}
 use Rattle.bsp_incr.specs.Inside.Given.{Making, IsMaking, turn_by}
 use Rattle.bsp_incr.specs.Inside.Marks.{AreMarked}
@@ -26,10 +25,9 @@ among-requires-clause-marks g c =
     let r : Run = c.args.tape.now in
     let before = c.open_superstep-superstep.ensures.old_views in
     let now = c.open_superstep-superstep.ensures.views in
-    let marks = c.as_slice-marks.ensures.value in
-    subst (λ (vs : List ViewParts). AreMarked vs c.open_superstep-superstep.result.views.now c.as_slice-marks.result.now) (sym before)
-    (subst (λ (vs : List ViewParts). AreMarked (taken_before old (length r.past)) vs c.as_slice-marks.result.now) (sym now)
-    (subst (AreMarked (taken_before old (length r.past)) (open_views r)) (sym marks) (c.requires.under_way.marked (sym c.if-not-is_open.ensures))))
+    let marks = c.args.under_way.now.marks in
+    subst (λ (vs : List ViewParts). AreMarked vs c.open_superstep-superstep.result.views.now marks) (sym before)
+    (subst (λ (vs : List ViewParts). AreMarked (taken_before old (length r.past)) vs marks) (sym now) (c.requires.under_way.marked (sym c.if-not-is_open.ensures)))
 
 pub among-requires-clause-known : goal.among-requires-clause-known
 among-requires-clause-known g c =
@@ -52,8 +50,8 @@ take_over-requires g c =
     let now = c.open_superstep-superstep.ensures.views in
     let known = subst (IsMaking g.P.Program) c.given.view_is c.given.invariant in
     let same = sym (ap (λ (m : Making _). m.before) c.given.view_is) ∙ c.in-Some.ensures.2 in
-    let stays = staying_whole turn j c.args.given.now.before old r c.step.result c.open_superstep-superstep.result.old_views c.open_superstep-superstep.result.views.now c.in_ok-doubtful.doubtful.processes.items c.as_slice.result.now known.before (c.in-Some.ensures.0, c.in-Some.ensures.1, same) c.requires.under_way.made started (lawful_input c.args.given.now.input known.lawful).some_process
-    c.step.ensures (c.open_superstep-superstep.ensures.old_views ∙ ap (taken_before c.args.given.now.before) (sym c.step.ensures)) now c.as_slice.ensures.value c.in_ok-doubtful.ensures.processes in
+    let stays = staying_whole turn j c.args.given.now.before old r c.step.result c.open_superstep-superstep.result.old_views c.open_superstep-superstep.result.views.now c.in_ok-doubtful.doubtful.processes known.before (c.in-Some.ensures.0, c.in-Some.ensures.1, same) c.requires.under_way.made started (lawful_input c.args.given.now.input known.lawful).some_process
+    c.step.ensures (c.open_superstep-superstep.ensures.old_views ∙ ap (taken_before c.args.given.now.before) (sym c.step.ensures)) now c.in_ok-doubtful.ensures.processes in
     let within = subst (All IsView) now c.open_superstep-superstep.ensures.limits in
     can_take_over acts ending stays.0.input_before j old r stays.1.before c.requires.under_way.made (open_phase r.phase started) (lawful_input c.args.given.now.input known.lawful).some_process stays.0.stands within stays.1.past stays.1.seen
 
@@ -69,8 +67,8 @@ returns-in-Some-clause-tape g c =
     let now = c.open_superstep-superstep.ensures.views in
     let known = subst (IsMaking g.P.Program) c.given.view_is c.given.invariant in
     let same = sym (ap (λ (m : Making _). m.before) c.given.view_is) ∙ c.in-Some.ensures.2 in
-    let stays = staying_whole turn j c.args.given.now.before old r c.step.result c.open_superstep-superstep.result.old_views c.open_superstep-superstep.result.views.now c.in_ok-doubtful.doubtful.processes.items c.as_slice.result.now known.before (c.in-Some.ensures.0, c.in-Some.ensures.1, same) c.requires.under_way.made started (lawful_input c.args.given.now.input known.lawful).some_process
-    c.step.ensures (c.open_superstep-superstep.ensures.old_views ∙ ap (taken_before c.args.given.now.before) (sym c.step.ensures)) now c.as_slice.ensures.value c.in_ok-doubtful.ensures.processes in
+    let stays = staying_whole turn j c.args.given.now.before old r c.step.result c.open_superstep-superstep.result.old_views c.open_superstep-superstep.result.views.now c.in_ok-doubtful.doubtful.processes known.before (c.in-Some.ensures.0, c.in-Some.ensures.1, same) c.requires.under_way.made started (lawful_input c.args.given.now.input known.lawful).some_process
+    c.step.ensures (c.open_superstep-superstep.ensures.old_views ∙ ap (taken_before c.args.given.now.before) (sym c.step.ensures)) now c.in_ok-doubtful.ensures.processes in
     c.in_ok-take_over.ensures.ok ∙ ap (λ (os : List OutcomeParts). after_delivery (after_turns r os)) (left turn stays.0.input_before j old r stays.1)
     ∙ sym (advance-delivers turn r (open_phase r.phase started) (goes_on turn stays.0.input_before j old r stays.1))
 
@@ -86,11 +84,11 @@ returns-in-Some-clause-under_way g c =
     let now = c.open_superstep-superstep.ensures.views in
     let known = subst (IsMaking g.P.Program) c.given.view_is c.given.invariant in
     let same = sym (ap (λ (m : Making _). m.before) c.given.view_is) ∙ c.in-Some.ensures.2 in
-    let stays = staying_whole turn j c.args.given.now.before old r c.step.result c.open_superstep-superstep.result.old_views c.open_superstep-superstep.result.views.now c.in_ok-doubtful.doubtful.processes.items c.as_slice.result.now known.before (c.in-Some.ensures.0, c.in-Some.ensures.1, same) c.requires.under_way.made started (lawful_input c.args.given.now.input known.lawful).some_process
-    c.step.ensures (c.open_superstep-superstep.ensures.old_views ∙ ap (taken_before c.args.given.now.before) (sym c.step.ensures)) now c.as_slice.ensures.value c.in_ok-doubtful.ensures.processes in
+    let stays = staying_whole turn j c.args.given.now.before old r c.step.result c.open_superstep-superstep.result.old_views c.open_superstep-superstep.result.views.now c.in_ok-doubtful.doubtful.processes known.before (c.in-Some.ensures.0, c.in-Some.ensures.1, same) c.requires.under_way.made started (lawful_input c.args.given.now.input known.lawful).some_process
+    c.step.ensures (c.open_superstep-superstep.ensures.old_views ∙ ap (taken_before c.args.given.now.before) (sym c.step.ensures)) now c.in_ok-doubtful.ensures.processes in
     let made = c.in_ok-take_over.ensures.ok ∙ ap (λ (os : List OutcomeParts). after_delivery (after_turns r os)) (left turn stays.0.input_before j old r stays.1) in
-    subst (λ before. IsUnderWay turn (g.P.Program.looks c.args.given.now.program) before j c.take_over.new.self c.args.under_way.now.marks.items c.args.under_way.now.update) (sym same)
-    (under_way_taken turn (g.P.Program.looks c.args.given.now.program) j old r c.take_over.new.self c.args.under_way.now.marks.items c.args.under_way.now.update stays.0 stays.1 (subst (λ before. IsUnderWay turn (g.P.Program.looks c.args.given.now.program) before j r c.args.under_way.now.marks.items c.args.under_way.now.update) same c.requires.under_way) made)
+    subst (λ before. IsUnderWay turn (g.P.Program.looks c.args.given.now.program) before j c.take_over.new.self c.args.under_way.now.marks c.args.under_way.now.update) (sym same)
+    (under_way_taken turn (g.P.Program.looks c.args.given.now.program) j old r c.take_over.new.self c.args.under_way.now.marks c.args.under_way.now.update stays.0 stays.1 (subst (λ before. IsUnderWay turn (g.P.Program.looks c.args.given.now.program) before j r c.args.under_way.now.marks c.args.under_way.now.update) same c.requires.under_way) made)
 
 pub returns-in-Some-clause-table : goal.returns-in-Some-clause-table
 returns-in-Some-clause-table g c =
@@ -104,8 +102,8 @@ returns-in-Some-clause-table g c =
     let now = c.open_superstep-superstep.ensures.views in
     let known = subst (IsMaking g.P.Program) c.given.view_is c.given.invariant in
     let same = sym (ap (λ (m : Making _). m.before) c.given.view_is) ∙ c.in-Some.ensures.2 in
-    let stays = staying_whole turn j c.args.given.now.before old r c.step.result c.open_superstep-superstep.result.old_views c.open_superstep-superstep.result.views.now c.in_ok-doubtful.doubtful.processes.items c.as_slice.result.now known.before (c.in-Some.ensures.0, c.in-Some.ensures.1, same) c.requires.under_way.made started (lawful_input c.args.given.now.input known.lawful).some_process
-    c.step.ensures (c.open_superstep-superstep.ensures.old_views ∙ ap (taken_before c.args.given.now.before) (sym c.step.ensures)) now c.as_slice.ensures.value c.in_ok-doubtful.ensures.processes in
+    let stays = staying_whole turn j c.args.given.now.before old r c.step.result c.open_superstep-superstep.result.old_views c.open_superstep-superstep.result.views.now c.in_ok-doubtful.doubtful.processes known.before (c.in-Some.ensures.0, c.in-Some.ensures.1, same) c.requires.under_way.made started (lawful_input c.args.given.now.input known.lawful).some_process
+    c.step.ensures (c.open_superstep-superstep.ensures.old_views ∙ ap (taken_before c.args.given.now.before) (sym c.step.ensures)) now c.in_ok-doubtful.ensures.processes in
     let made = c.in_ok-take_over.ensures.ok ∙ ap (λ (os : List OutcomeParts). after_delivery (after_turns r os)) (left turn stays.0.input_before j old r stays.1) in
-    let under = under_way_taken turn (g.P.Program.looks c.args.given.now.program) j old r c.take_over.new.self c.args.under_way.now.marks.items c.args.under_way.now.update stays.0 stays.1 (subst (λ before. IsUnderWay turn (g.P.Program.looks c.args.given.now.program) before j r c.args.under_way.now.marks.items c.args.under_way.now.update) same c.requires.under_way) made in
+    let under = under_way_taken turn (g.P.Program.looks c.args.given.now.program) j old r c.take_over.new.self c.args.under_way.now.marks c.args.under_way.now.update stays.0 stays.1 (subst (λ before. IsUnderWay turn (g.P.Program.looks c.args.given.now.program) before j r c.args.under_way.now.marks c.args.under_way.now.update) same c.requires.under_way) made in
     subst (λ before. KnowsTable before c.take_over.new.self AsBefore) (sym same) (knows_taken turn j old r c.take_over.new.self stays.0 stays.1 under.made made)

@@ -1,5 +1,6 @@
-use Rattle.std.proofs.Common.{◌<◌, ◌++◌, ◌∙◌, ℕ, Bool, true, List, Option, ap, sym, subst, map, length, get_or}
-use Rattle.std.specs.Prelude.{is_some, option_map, ◌||◌}
+use Rattle.std.proofs.Common.{◌++◌, ◌∙◌, ℕ, Bool, List, Option, ap, sym, subst, map, length}
+use Rattle.std.specs.Prelude.{is_some}
+use Rattle.bsp_model.specs.ProcessSet.{union}
 use Rattle.bsp_step.specs.OutcomeParts.{OutcomeParts}
 use Rattle.bsp_deliver.specs.Requests.{each_below}
 use Rattle.bsp_run.specs.declared.superstep.Superstep.{Superstep}
@@ -33,12 +34,11 @@ make_deliveries-requires-clause-doubtful g c κs within =
     let is = c.in_ok-known.ensures.turned in
     let steps = ap (λ (x : Run). length x.past) is ∙ ap (λ (xs : List Superstep). length xs) (past-turned r us) in
     let outcomes = ap (λ (x : Run). x.outcomes) is ∙ outcomes-turned r us in
-    let processes = c.args.doubtful.now.processes.items in
+    let processes = c.args.doubtful.now.processes in
     let known = subst (IsMaking g.P.Program) c.given.view_is c.given.invariant in
     let unchanged = unchanged_among turn c.args.given.now.input old (length r.past) (open_views r) processes known.before (open_views-in turn c.args.given.now.input r c.requires.under_way.made) c.requires.doubtful.processes in
-    subst (OutcomesDifferAtMost (delivered_outcomes old (length c.take_turns.new.tape.past)) c.take_turns.new.tape.outcomes) (sym c.as_slice.ensures.value)
-    (subst (λ (os : List OutcomeParts). OutcomesDifferAtMost (delivered_outcomes old (length c.take_turns.new.tape.past)) os processes) (sym outcomes)
-    (subst (λ n. OutcomesDifferAtMost (delivered_outcomes old n) us processes) (sym steps) unchanged))
+    subst (λ (os : List OutcomeParts). OutcomesDifferAtMost (delivered_outcomes old (length c.take_turns.new.tape.past)) os processes) (sym outcomes)
+    (subst (λ n. OutcomesDifferAtMost (delivered_outcomes old n) us processes) (sym steps) unchanged)
 
 pub returns-clause-tape : goal.returns-clause-tape
 returns-clause-tape g c =
@@ -60,10 +60,10 @@ returns-clause-under_way g c =
     let looks = g.P.Program.looks c.args.given.now.program in
     let always = c.args.given.now.others in
     let delivers = ap (λ (x : Run). is_turned x.phase) (sym is) ∙ sym c.in_ok-known.ensures.answer ∙ ap is_some c.in-Some.is in
-    let all : ℕ → List OutcomeParts → List Bool = λ n os. each_below (length os) (λ d. is_touched (delivered_outcomes old n) os d || get_or always d true) in
+    let all : ℕ → List OutcomeParts → List Bool = λ n os. union (each_below (length os) (is_touched (delivered_outcomes old n) os)) always in
     let places : ℕ → List OutcomeParts → List Place = λ n os. c.args.under_way.now.update.redelivered ++ touched_in n (delivered_outcomes old n) os in
     let known = subst (IsMaking g.P.Program) c.given.view_is c.given.invariant in
-    under_way_delivered turn looks old c.args.given.now.input always r c.make_deliveries.new.tape c.args.under_way.now.marks.items c.make_deliveries.new.under_way.marks.items c.args.under_way.now.update c.make_deliveries.new.under_way.update
+    under_way_delivered turn looks old c.args.given.now.input always r c.make_deliveries.new.tape c.args.under_way.now.marks c.make_deliveries.new.under_way.marks c.args.under_way.now.update c.make_deliveries.new.under_way.update
     c.requires.open delivers known.before known.others c.requires.under_way
     (c.in_ok-make_deliveries.ensures.tape ∙ ap after_delivery is)
     (c.in_ok-make_deliveries.ensures.marks ∙ ap (λ n. all n c.take_turns.new.tape.outcomes) steps ∙ ap (all (length r.past)) outcomes)
@@ -83,7 +83,7 @@ returns-in_default-clause-under_way g c =
     let turn = turn_by g.P.Program c.args.given.now.program in
     let looks = g.P.Program.looks c.args.given.now.program in
     let old : Option Run = c.args.given.now.before in
-    under_way_turned turn looks old c.args.given.now.input c.args.tape.now c.take_turns.new.tape c.args.under_way.now.marks.items c.args.under_way.now.update record { executed = c.take_turns.new.executed; redelivered = c.args.under_way.now.update.redelivered }
+    under_way_turned turn looks old c.args.given.now.input c.args.tape.now c.take_turns.new.tape c.args.under_way.now.marks c.args.under_way.now.update record { executed = c.take_turns.new.executed; redelivered = c.args.under_way.now.update.redelivered }
     c.requires.open c.requires.under_way c.in_ok-known.ensures.turned c.in_ok-known.ensures.executed (λ i. c.args.under_way.now.update.redelivered)
 
 pub returns-clause-table : goal.returns-clause-table

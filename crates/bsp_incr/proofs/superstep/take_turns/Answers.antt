@@ -1,5 +1,4 @@
 use Rattle.std.proofs.Common.{List, Option, sym, subst, length}
-use Rattle.std.specs.Prelude.{option_map}
 use Rattle.bsp_step.specs.ViewParts.{ViewParts}
 use Rattle.bsp_run.specs.Run.{Run}
 use Rattle.bsp_run.specs.Condition.{AreOutcomesOf}

@@ -1,5 +1,4 @@
 use Rattle.std.proofs.Common.{◌≡◌, ◌<◌, ◌∙◌, List, Option, ap, sym, subst, length, map}
-use Rattle.std.specs.Prelude.{option_map}
 use Rattle.bsp_step.specs.ViewParts.{ViewParts}
 use Rattle.bsp_run.specs.Run.{Run}
 use Rattle.bsp_run.proofs.Records.{open_views-in}

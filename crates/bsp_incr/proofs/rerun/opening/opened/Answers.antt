@@ -1,12 +1,13 @@
-use Rattle.std.proofs.Common.{◌≡◌, ◌∙◌, ℕ, Bool, List, Option, Some, [], ap, sym, subst, length, map, get_or, false}
+use Rattle.std.proofs.Common.{◌∙◌, ℕ, Bool, List, Option, [], ap, sym, subst, length, map, get_or, false, refl}
 use Rattle.bsp_model.specs.declared.input.Input.{Input}
+use Rattle.bsp_model.specs.ProcessSet.{processes_in}
 use Rattle.bsp_model.specs.Replaced.{replaced, IsAscending}
 use Rattle.bsp_model.proofs.Inputs.{lawful_input}
 use Rattle.bsp_step.specs.ViewParts.{ViewParts}
 use Rattle.bsp_run.specs.Run.{Run}
 use Rattle.bsp_run.specs.State.{cell_of, first_cell}
 use Rattle.bsp_incr.specs.Inside.Changes.{processes_where}
-use Rattle.bsp_incr.specs.Inside.Given.{Making, IsMaking, turn_by}
+use Rattle.bsp_incr.specs.Inside.Given.{Making, turn_by}
 use Rattle.bsp_incr.specs.Inside.Before.{AreArgsMarked, AreFirstMarked, IsBefore}
 use Rattle.bsp_incr.proofs.Gathering.{listed_below, processes_where-ascending}
 use Rattle.bsp_incr.proofs.FirstViews.{first_cells_in_place}
@@ -18,10 +19,7 @@ args_again-requires-clause-known g c =
     let given = c.given.inside in
     let known = c.given.invariant in
     let input : Input = given.input.now in
-    let always : List Bool = given.always.now in
-    let test : ℕ → Bool = λ p. get_or always p false in
-    let long : length always ≡ length input.args = known.others.count ∙ sym (lawful_input input known.lawful).same_count in
-    listed_below (length input.args) test given.other_args.now (given.listed ∙ ap (λ n. processes_where n test) long)
+    known.others.count ∙ sym (lawful_input input known.lawful).same_count
 
 pub args_again-requires-clause-count : goal.args_again-requires-clause-count
 args_again-requires-clause-count g c =
@@ -40,9 +38,9 @@ open_like-requires-clause-args g c =
     let turn = turn_by g.P.Program given.program.now in
     let there = c.in-Some.ensures.history in
     c.in_ok-args.ensures
-    ∙ ap (λ (lists : List (List ℕ)). replaced lists given.other_args.now (map (λ p. get_or input.args p []) given.other_args.now)) c.args-2.ensures
-    ∙ args_in_place turn input old given.always.now given.other_args.now (subst (IsBefore turn input) there known.before) known.lawful
-    (subst (λ (o : Option Run). AreArgsMarked o input given.always.now) there known.others) given.listed
+    ∙ ap (λ (lists : List (List ℕ)). replaced lists (processes_in given.other_args.now) (map (λ p. get_or input.args p []) (processes_in given.other_args.now))) c.args-2.ensures
+    ∙ args_in_place turn input old given.other_args.now (processes_in given.other_args.now) (subst (IsBefore turn input) there known.before) known.lawful
+    (subst (λ (o : Option Run). AreArgsMarked o input given.other_args.now) there known.others) refl
 
 pub open_like-requires-clause-known : goal.open_like-requires-clause-known
 open_like-requires-clause-known g c =

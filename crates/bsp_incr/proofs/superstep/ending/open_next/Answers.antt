@@ -1,5 +1,4 @@
 use Rattle.std.proofs.Common.{◌≡◌, ◌<◌, ◌∙◌, ℕ, Option, List, All, ap, sym, subst, length, arith}
-use Rattle.std.specs.Prelude.{option_map}
 use Rattle.bsp_model.specs.Replaced.{IsAscending}
 use Rattle.bsp_step.specs.ViewParts.{ViewParts}
 use Rattle.bsp_run.specs.Run.{Run}
@@ -9,7 +8,7 @@ use Rattle.bsp_incr.specs.Inside.Marks.{AreDelivered}
 use Rattle.bsp_incr.specs.Inside.Before.{delivered_outcomes, views_after}
 use Rattle.bsp_incr.proofs.Carrying.{cells_in_place, cells_of_none}
 use Rattle.bsp_incr.proofs.Gathering.{listed_below, processes_where-ascending}
-use Rattle.bsp_incr.proofs.RunBefore.{delivered_before_is}
+use Rattle.bsp_incr.proofs.RunBefore.{count_beside, delivered_before_is}
 use Rattle.bsp_incr.proofs.superstep.ending.open_next.Goals as goal
 
 pub delivered-requires-clause-cells : goal.delivered-requires-clause-cells
@@ -36,7 +35,7 @@ next_views_like-requires-clause-known g c =
     let seen = c.in-Some.ensures.views ∙ ap (λ (m : Making _). views_after m.before c.step.result) c.given.view_is in
     let next = next_are old (length r.past) c.step.result views c.step.ensures seen (delivered_before_is (turn_by g.P.Program c.args.given.now.program) c.args.given.now.input old (length r.past) known.before) in
     let some : 0 < length views = c.in-Some.ensures.some in
-    let long : length views ≡ length r.outcomes = next.count ∙ c.requires.comparable.count (omega (arith, some, next.count)) in
+    let long : length views ≡ length r.outcomes = next.count ∙ count_beside (turn_by g.P.Program c.args.given.now.program) c.args.given.now.input old (length r.past) r.outcomes known.before c.requires.many (omega (arith, some, next.count)) in
     subst (λ n. All (λ p. p < n) c.args.made.processes.now) (sym long) (listed_below (length r.outcomes) (is_touched os r.outcomes) c.args.made.processes.now c.requires.processes)
 
 pub next_views_like-requires-clause-ascending : goal.next_views_like-requires-clause-ascending
@@ -54,5 +53,5 @@ next_views_like-requires-clause-cells g c =
     let seen = c.in-Some.ensures.views ∙ ap (λ (m : Making _). views_after m.before c.step.result) c.given.view_is in
     let next = next_are old (length r.past) c.step.result views c.step.ensures seen (delivered_before_is (turn_by g.P.Program c.args.given.now.program) c.args.given.now.input old (length r.past) known.before) in
     let some : 0 < length views = c.in-Some.ensures.some in
-    let long = c.requires.comparable.count (omega (arith, some, next.count)) in
+    let long = count_beside (turn_by g.P.Program c.args.given.now.program) c.args.given.now.input old (length r.past) r.outcomes known.before c.requires.many (omega (arith, some, next.count)) in
     cells_in_place (delivered_outcomes old (length r.past)) r.outcomes views c.args.made.processes.now c.args.made.cells next long c.requires.processes c.requires.cells
