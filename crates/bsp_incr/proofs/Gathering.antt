@@ -1,20 +1,12 @@
 -- Lists of answers by process, and of the processes whose answer is true.
-use Rattle.std.proofs.Common.{◌≡◌, ◌<◌, ◌+◌, ℕ, zero, suc, Bool, true, false, cond, List, [], ◌∷◌, ◌++◌, All, length, get_or, arith, refl, sym, ap, ◌∙◌, subst}
+use Rattle.std.proofs.Common.{◌≡◌, ◌<◌, ◌+◌, ℕ, zero, suc, Bool, true, false, cond, List, [], ◌∷◌, All, length, get_or, arith, refl, sym, ap, ◌∙◌, subst}
 use Rattle.std.specs.Prelude.{filter, ◌&&◌, nat_eq}
 use Rattle.std.specs.List.{range_with_len}
-use Rattle.std.proofs.lemmas.List.FromFn.{filter_of_map_range_with_len_more, get_or-map-range_with_len, get_or-range_with_len, length-map-range_with_len, length-range_with_len}
+use Rattle.std.proofs.lemmas.List.FromFn.{get_or-map-range_with_len, get_or-range_with_len, length-map-range_with_len, length-range_with_len}
 use Rattle.std.proofs.lemmas.List.Kept.{AllPairs-filter}
 use Rattle.bsp_deliver.specs.Condition.{IsAscending}
 use Rattle.bsp_deliver.specs.Requests.{each_below}
-use Rattle.bsp_run.proofs.Lists.{map_same}
 use Rattle.bsp_incr.specs.Inside.Changes.{processes_where}
-
--- one process more
-pub processes_more : (n : ℕ) (test : ℕ → Bool) → processes_where (n + 1) test ≡ processes_where n test ++ cond (test n) (n ∷ []) []
-processes_more n test =
-    ap (filter test) (sym (map_same (range_with_len 0 (n + 1))))
-    ∙ filter_of_map_range_with_len_more test (λ k. k) 0 n n (omega arith)
-    ∙ ap (λ ks. filter test ks ++ cond (test n) (n ∷ []) []) (map_same (range_with_len 0 n))
 
 pub filter_from : (f g : ℕ → Bool) (a n : ℕ) → ((k : ℕ) → a < k + 1 → k < a + n → f k ≡ g k) → filter f (range_with_len a n) ≡ filter g (range_with_len a n)
 filter_from f g a zero same = refl
@@ -29,10 +21,6 @@ processes_where-each_below n test answers e =
     ap (λ k. processes_where k (λ p. get_or answers p false)) long
     ∙ filter_from (λ p. get_or answers p false) test 0 n
     (λ k low high. ap (λ (bs : List Bool). get_or bs k false) e ∙ get_or-map-range_with_len test 0 n k k false (omega arith) (omega arith))
-
--- the answer for a process
-pub answer_at : (n : ℕ) (test : ℕ → Bool) (answers : List Bool) (p : ℕ) (d : Bool) → answers ≡ each_below n test → p < n → get_or answers p d ≡ test p
-answer_at n test answers p d e l = ap (λ (bs : List Bool). get_or bs p d) e ∙ get_or-map-range_with_len test 0 n p p d l (omega arith)
 
 -- those processes are below the count
 below_if : (rest : List ℕ) (m a : ℕ) (b : Bool) → a < m → ((k d : ℕ) → k < length rest → get_or rest k d < m) → (k d : ℕ) → k < length (cond b (a ∷ rest) rest) → get_or (cond b (a ∷ rest) rest) k d < m

@@ -23,7 +23,7 @@ pub mod Marking
 pub mod Likeness
 pub mod LawOfReuse
 pub mod Lasting
-pub mod MarkedToo
+pub mod Members
 pub mod Replying
 pub mod EndLikeness
 pub mod KnownTables

@@ -2,9 +2,10 @@
 use Rattle.std.proofs.Common.{◌≡◌, ◌≤◌, ◌<◌, ◌+◌, ℕ, Bool, true, false, List, [], ◌∷◌, ◌++◌, Option, None, Some, map, length, get_or, arith, refl, sym, ap, ◌∙◌, subst, length-append}
 use Rattle.std.specs.Prelude.{◌||◌}
 use Rattle.std.proofs.lemmas.Bool.{false≢true}
-use Rattle.std.proofs.lemmas.List.{length-map, get_or-map}
+use Rattle.std.proofs.lemmas.List.{length-map, get_or-map, get_or_default}
 use Rattle.std.proofs.lemmas.List.FromFn.{get_or-map-range_with_len, length-map-range_with_len}
 use Rattle.bsp_model.specs.declared.input.Input.{Input}
+use Rattle.bsp_model.specs.ProcessSet.{union}
 use Rattle.bsp_step.specs.ViewParts.{ViewParts}
 use Rattle.bsp_step.specs.OutcomeParts.{OutcomeParts, outcome_of, no_outcome}
 use Rattle.bsp_deliver.specs.Requests.{each_below}
@@ -19,7 +20,7 @@ use Rattle.bsp_run.proofs.Runs.{open_phase, turns_closed}
 use Rattle.bsp_run.proofs.Records.{superstep, past-delivered, open_views-in, count-views_in, count-outcomes_in, IsRecord-turned, IsRecord-goes_on, IsRecord-start}
 use Rattle.bsp_incr.specs.declared.reply.Update.{Update}
 use Rattle.bsp_incr.specs.Inside.Marks.{AreMarked, AreAlikeButForTable, ViewsDifferAtMost, OutcomesDifferAtMost}
-use Rattle.bsp_incr.specs.Inside.Changes.{differ, differ_in, touched, touched_in, is_touched, processes_where, update_of}
+use Rattle.bsp_incr.specs.Inside.Changes.{differ, differ_in, touched, touched_in, is_touched, update_of}
 use Rattle.bsp_incr.specs.Exact.{supersteps_before, delivered_before}
 use Rattle.bsp_incr.specs.Inside.Before.{taken_before, delivered_outcomes, IsBefore, HasSameArgs, AreArgsMarked, AreFirstMarked, HasSameMemory, IsUnderWay}
 use Rattle.bsp_incr.proofs.Updating.{same_update, updated_turned, updated_delivered}
@@ -30,13 +31,12 @@ use Rattle.bsp_incr.proofs.RunBefore.{args_before, memory_before, taken-in, some
 unchanged_by : (turn : ViewParts → OutcomeParts) (vs ws : List ViewParts) (p : ℕ) → p < length vs → p < length ws → get_or vs p no_view ≡ get_or ws p no_view → outcome_of (map turn vs) p ≡ outcome_of (map turn ws) p
 unchanged_by turn vs ws p l m e = get_or-map turn vs p no_view no_outcome l ∙ ap turn e ∙ sym (get_or-map turn ws p no_view no_outcome m)
 
-pub unchanged_among : (turn : ViewParts → OutcomeParts) (input : Input) (old : Option Run) (s : ℕ) (ws : List ViewParts) (processes : List ℕ) → IsBefore turn input old → ws ≡ views_in turn input s → ViewsDifferAtMost (taken_before old s) ws processes → OutcomesDifferAtMost (delivered_outcomes old s) (map turn ws) processes
-unchanged_among turn input None s ws processes h is k =
-    record { test = k.test; listed = k.listed ∙ ap (λ n. processes_where n k.test) (sym (length-map ws turn)); same = λ p l m t. absurd (nothing_delivered s p l) }
-unchanged_among turn input (Some o) s ws processes h is k =
+pub unchanged_among : (turn : ViewParts → OutcomeParts) (input : Input) (old : Option Run) (s : ℕ) (ws : List ViewParts) (set : List Bool) → IsBefore turn input old → ws ≡ views_in turn input s → ViewsDifferAtMost (taken_before old s) ws set → OutcomesDifferAtMost (delivered_outcomes old s) (map turn ws) set
+unchanged_among turn input None s ws set h is k =
+    record { count = k.count ∙ sym (length-map ws turn); same = λ p l m t. absurd (nothing_delivered s p l) }
+unchanged_among turn input (Some o) s ws set h is k =
     record {
-      test = k.test;
-      listed = k.listed ∙ ap (λ n. processes_where n k.test) (sym (length-map ws turn));
+      count = k.count ∙ sym (length-map ws turn);
       same = λ p l m t.
           let past = some_delivered o s p l in
           let here : p < length ws = omega (arith, m, length-map ws turn) in
@@ -68,21 +68,26 @@ clean_after turn input (Some k) s p h l m same there e =
 
 -- A process that is not marked after the deliveries sees next what it saw in the run before.
 marked_next : (turn : ViewParts → OutcomeParts) (input : Input) (old : Option Run) (s : ℕ) (always marks : List Bool) → IsBefore turn input old → AreArgsMarked old input always
-    → marks ≡ each_below (length (outcomes_in turn input s)) (λ d. is_touched (delivered_outcomes old s) (outcomes_in turn input s) d || get_or always d true)
+    → marks ≡ union (each_below (length (outcomes_in turn input s)) (is_touched (delivered_outcomes old s) (outcomes_in turn input s))) always
     → AreMarked (taken_before old (s + 1)) (views_in turn input (s + 1)) marks
 marked_next turn input old s always marks h a m =
     let us = outcomes_in turn input s in
-    let mark : ℕ → Bool = λ d. is_touched (delivered_outcomes old s) us d || get_or always d true in
+    let touched : ℕ → Bool = is_touched (delivered_outcomes old s) us in
+    let some : List Bool = each_below (length us) touched in
+    let mark : ℕ → Bool = λ d. get_or some d false || get_or always d false in
     let many = count-outcomes_in turn input s in
     let count = count-views_in turn input (s + 1) in
+    let long : length some ≡ length us = length-map-range_with_len touched 0 (length us) in
     record {
-      count = ap (λ (bs : List Bool). length bs) m ∙ length-map-range_with_len mark 0 (length us) ∙ many ∙ sym count;
+      count = ap (λ (bs : List Bool). length bs) m ∙ length-map-range_with_len mark 0 (length some) ∙ long ∙ many ∙ sym count;
       clean = λ p l n c.
           let here : p < length us = omega arith in
-          let at : get_or marks p true ≡ mark p = ap (λ (bs : List Bool). get_or bs p true) m ∙ get_or-map-range_with_len mark 0 (length us) p p true here (omega arith) in
-          let both = or_false (is_touched (delivered_outcomes old s) us p) (get_or always p true) (sym at ∙ c) in
-          let same = untouched_is (delivered_outcomes old s) us p both.0 in
-          clean_after turn input old s p h (omega arith) l (a.clean p (omega arith) both.1) same.0 same.1;
+          let at : get_or marks p true ≡ mark p = ap (λ (bs : List Bool). get_or bs p true) m ∙ get_or-map-range_with_len mark 0 (length some) p p true (omega arith) (omega arith) in
+          let both = or_false (get_or some p false) (get_or always p false) (sym at ∙ c) in
+          let clean : touched p ≡ false = sym (get_or-map-range_with_len touched 0 (length us) p p false here (omega arith)) ∙ both.0 in
+          let same = untouched_is (delivered_outcomes old s) us p clean in
+          let unmarked : get_or always p true ≡ false = get_or_default always p true false (omega (arith, a.count)) ∙ both.1 in
+          clean_after turn input old s p h (omega arith) l (a.clean p (omega arith) unmarked) same.0 same.1;
     }
 
 pub outcomes-turned : (r : Run) (os : List OutcomeParts) → (after_turns r os).outcomes ≡ os
@@ -101,17 +106,16 @@ under_way_turned turn looks old input r q marks u v o h is k l =
     let us = map turn (open_views r) in
     subst (λ (x : Run). IsUnderWay turn looks old input x marks v) (sym is)
     record {
-      before = h.before;
       made = IsRecord-turned turn input r h.made e;
       marked = λ t. absurd (false≢true (sym (turns_closed r us) ∙ t));
       updated = updated_turned looks old r us u v e h.updated k l;
     }
 
 -- So does one that ends by delivery.
-pub under_way_delivered : (turn : ViewParts → OutcomeParts) (looks : ViewParts → ℕ → Bool) (old : Option Run) (input : Input) (always : List Bool) (r q : Run) (m marks : List Bool) (u v : Update) → is_open r.phase ≡ true → is_turned (after_turns r (map turn (open_views r))).phase ≡ true → AreArgsMarked old input always → IsUnderWay turn looks old input r m u → q ≡ after_delivery (after_turns r (map turn (open_views r)))
-    → marks ≡ each_below (length (map turn (open_views r))) (λ d. is_touched (delivered_outcomes old (length r.past)) (map turn (open_views r)) d || get_or always d true)
+pub under_way_delivered : (turn : ViewParts → OutcomeParts) (looks : ViewParts → ℕ → Bool) (old : Option Run) (input : Input) (always : List Bool) (r q : Run) (m marks : List Bool) (u v : Update) → is_open r.phase ≡ true → is_turned (after_turns r (map turn (open_views r))).phase ≡ true → IsBefore turn input old → AreArgsMarked old input always → IsUnderWay turn looks old input r m u → q ≡ after_delivery (after_turns r (map turn (open_views r)))
+    → marks ≡ union (each_below (length (map turn (open_views r))) (is_touched (delivered_outcomes old (length r.past)) (map turn (open_views r)))) always
     → v.executed ≡ u.executed ++ differ_in looks (length r.past) (taken_before old (length r.past)) (open_views r) → v.redelivered ≡ u.redelivered ++ touched_in (length r.past) (delivered_outcomes old (length r.past)) (map turn (open_views r)) → IsUnderWay turn looks old input q marks v
-under_way_delivered turn looks old input always r q m marks u v o t a h is n k l =
+under_way_delivered turn looks old input always r q m marks u v o t b a h is n k l =
     let e = open_phase r.phase o in
     let us = map turn (open_views r) in
     let s = length r.past in
@@ -119,11 +123,10 @@ under_way_delivered turn looks old input always r q m marks u v o t a h is n k l
     let made : IsRecord turn input next = IsRecord-goes_on turn input r h.made e t in
     let long : length next.past ≡ s + 1 = ap (λ (xs : List Superstep). length xs) (past-delivered r us) ∙ length-append r.past (superstep (open_views r) us ∷ []) in
     let views : open_views next ≡ views_in turn input (s + 1) = open_views-in turn input next made ∙ ap (views_in turn input) long in
-    let all : List OutcomeParts → List Bool = λ os. each_below (length os) (λ d. is_touched (delivered_outcomes old s) os d || get_or always d true) in
-    let marked = marked_next turn input old s always marks h.before a (n ∙ ap all (turns-in turn input r h.made)) in
+    let all : List OutcomeParts → List Bool = λ os. union (each_below (length os) (is_touched (delivered_outcomes old s) os)) always in
+    let marked = marked_next turn input old s always marks b a (n ∙ ap all (turns-in turn input r h.made)) in
     subst (λ (x : Run). IsUnderWay turn looks old input x marks v) (sym is)
     record {
-      before = h.before;
       made = made;
       marked = λ _. subst (λ i. AreMarked (taken_before old i) (open_views next) marks) (sym long) (subst (λ (vs : List ViewParts). AreMarked (taken_before old (s + 1)) vs marks) (sym views) marked);
       updated = updated_delivered looks old r us u v e h.updated k l;
@@ -162,7 +165,6 @@ under_way_start turn looks old input r marks u is some h m e d =
     } in
     subst (λ (x : Run). IsUnderWay turn looks old input x marks u) (sym is)
     record {
-      before = h;
       made = made;
       marked = λ o. subst (λ n. AreMarked (taken_before old n) (open_views (start input)) marks) (sym (no_past input)) marked;
       updated = same_update u (update_of looks old (start input)) (e ∙ sym (nothing_executed looks old input)) (d ∙ sym (nothing_redelivered old input));

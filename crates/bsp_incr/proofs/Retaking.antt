@@ -1,9 +1,10 @@
 -- Which places need their turn, one after the other.
-use Rattle.std.proofs.Common.{◌≡◌, ◌≤◌, ◌<◌, ℕ, Bool, true, false, List, Option, None, Some, All, map, length, get_or, slice_get, not, arith, refl, sym, ap, ◌∙◌, subst, inl, inr}
+use Rattle.std.proofs.Common.{◌≡◌, ◌≤◌, ◌<◌, ℕ, Bool, true, false, List, Option, None, Some, All, map, replicate, length, get_or, slice_get, not, arith, refl, sym, ap, ◌∙◌, subst, inl, inr}
 use Rattle.std.specs.Prelude.{filter, ◌&&◌}
 use Rattle.std.specs.List.{range_with_len}
 use Rattle.std.proofs.lemmas.Bool.{cases_lt, false≢true}
-use Rattle.std.proofs.lemmas.List.{get_or_default, get_or-map, length-map}
+use Rattle.std.proofs.lemmas.List.{get_or_default, get_or-map, get_or-replicate, length-map, length-replicate}
+use Rattle.std.proofs.lemmas.List.Elements.{filter_passes}
 use Rattle.std.proofs.lemmas.Option.{slice_get-get_or, slice_get_past}
 use Rattle.bsp_step.specs.ViewParts.{ViewParts}
 use Rattle.bsp_step.specs.OutcomeParts.{OutcomeParts, no_outcome}
@@ -13,8 +14,11 @@ use Rattle.bsp_run.proofs.Shares.{turns_of-all}
 use Rattle.bsp_incr.specs.Inside.Reuse.{needs_turn, serves}
 use Rattle.bsp_incr.specs.Inside.Changes.{differs, processes_where}
 use Rattle.bsp_incr.specs.Inside.Marks.{AreMarked, ViewsDifferAtMost, HaveOneTable}
+use Rattle.bsp_model.specs.ProcessSet.{processes_in}
 use Rattle.bsp_model.specs.Replaced.{replaced}
-use Rattle.bsp_incr.proofs.Gathering.{filter_from, filter_twice, all_where, processes_where-below}
+use Rattle.bsp_deliver.specs.Requests.{each_below}
+use Rattle.bsp_incr.proofs.Gathering.{all_where}
+use Rattle.bsp_incr.proofs.Members.{each_below-same, filled_among}
 use Rattle.bsp_incr.proofs.Patching.{patched, patched_at, patched_is, put_or_there}
 use Rattle.bsp_model.proofs.Replaced.{length-replaced}
 use Rattle.bsp_incr.proofs.Serving.{serves-itself}
@@ -23,10 +27,6 @@ use Rattle.bsp_incr.proofs.Propagation.{same_view}
 pub not_false : (b : Bool) → not b ≡ false → b ≡ true
 not_false true h = refl
 not_false false h = cc
-
-pub not_true : (b : Bool) → not b ≡ true → b ≡ false
-not_true true h = cc
-not_true false h = refl
 
 -- where the old run has no view of the process
 pub differs-none : (looks : ViewParts → ℕ → Bool) (old new : List ViewParts) (p : ℕ) → length old ≤ p → differs looks old new p ≡ true
@@ -72,18 +72,31 @@ needed_if : (b d : Bool) → (b ≡ false → d ≡ false) → (b && d) ≡ d
 needed_if true d h = refl
 needed_if false d h = sym (h refl)
 
-pub needed_among : (looks : ViewParts → ℕ → Bool) (old new : List ViewParts) (processes : List ℕ) → ViewsDifferAtMost old new processes → filter (differs looks old new) processes ≡ processes_where (length new) (differs looks old new)
-needed_among looks old new processes h =
-    let test = h.test in
+pub needed_among : (looks : ViewParts → ℕ → Bool) (old new : List ViewParts) (set : List Bool) → ViewsDifferAtMost old new set → patched (λ _. true) (replicate (length set) false) (filter (differs looks old new) (processes_in set)) ≡ each_below (length new) (differs looks old new)
+needed_among looks old new set h =
     let d = differs looks old new in
-    ap (filter d) h.listed ∙ filter_twice test d (range_with_len 0 (length new))
-    ∙ filter_from (λ p. test p && d p) d 0 (length new)
-    (λ p low high. needed_if (test p) (d p) (λ t. let seen = h.same p (omega arith) t in differs-same looks old new p seen.0 seen.1))
+    filled_among d set ∙ ap (λ n. each_below n (λ p. get_or set p false && d p)) h.count
+    ∙ each_below-same (length new) (λ p. get_or set p false && d p) d
+    (λ p l.
+    let among : p < length set = omega (arith, l, h.count) in
+    needed_if (get_or set p false) (d p) (λ t. let seen = h.same p l (get_or_default set p true false among ∙ t) in differs-same looks old new p seen.0 seen.1))
 
 -- .. and besides them those for which the recorded turn serves.
-pub served_among : (looks : ViewParts → ℕ → Bool) (old new : List ViewParts) (processes : List ℕ) → (h : ViewsDifferAtMost old new processes) → filter (λ p. not (differs looks old new p)) processes ≡ processes_where (length new) (λ p. h.test p && not (differs looks old new p))
-served_among looks old new processes h =
-    ap (filter (λ p. not (differs looks old new p))) h.listed ∙ filter_twice h.test (λ p. not (differs looks old new p)) (range_with_len 0 (length new))
+pub served_among : (looks : ViewParts → ℕ → Bool) (old new : List ViewParts) (set : List Bool) → ViewsDifferAtMost old new set
+    → patched (λ _. true) (replicate (length set) false) (filter (λ p. not (differs looks old new p)) (processes_in set)) ≡ each_below (length new) (λ p. get_or set p false && not (differs looks old new p))
+served_among looks old new set h =
+    filled_among (λ p. not (differs looks old new p)) set ∙ ap (λ n. each_below n (λ p. get_or set p false && not (differs looks old new p))) h.count
+
+both_true : (t d : Bool) → (t && not d) ≡ true → d ≡ false
+both_true true true h = cc
+both_true true false h = refl
+both_true false d h = cc
+
+pub served_stay : (looks : ViewParts → ℕ → Bool) (old new : List ViewParts) (set : List Bool) (served : List ℕ) → served ≡ processes_where (length new) (λ p. get_or set p false && not (differs looks old new p)) → All (λ p. differs looks old new p ≡ false) served
+served_stay looks old new set served is =
+    let kept : ℕ → Bool = λ p. get_or set p false && not (differs looks old new p) in
+    subst (All (λ p. differs looks old new p ≡ false)) (sym is)
+    (λ k d l. let p = get_or (processes_where (length new) kept) k d in both_true (get_or set p false) (differs looks old new p) (filter_passes kept (range_with_len 0 (length new)) k d l))
 
 unserved : (t d : Bool) → d ≡ false → (t && not d) ≡ false → t ≡ false
 unserved true true e h = cc
@@ -91,15 +104,13 @@ unserved true false e h = cc
 unserved false d e h = refl
 
 -- The recorded outcomes, with those turns in their places, are the turns of the new views.
-pub turns_in_place : (turn : ViewParts → OutcomeParts) (looks : ViewParts → ℕ → Bool) (old new : List ViewParts) (processes : List ℕ) (os us ws : List OutcomeParts) (served needed : List ℕ) → ViewsDifferAtMost old new processes → length old ≡ length new → os ≡ map turn old
-    → served ≡ filter (λ p. not (differs looks old new p)) processes → needed ≡ filter (differs looks old new) processes → us ≡ turns_of turn new served → ws ≡ turns_of turn new needed → replaced (replaced os served us) needed ws ≡ map turn new
-turns_in_place turn looks old new processes os us ws served needed h long recorded s n u w =
+pub turns_in_place : (turn : ViewParts → OutcomeParts) (looks : ViewParts → ℕ → Bool) (old new : List ViewParts) (set : List Bool) (os us ws : List OutcomeParts) (served needed : List ℕ) → ViewsDifferAtMost old new set → length old ≡ length new → os ≡ map turn old
+    → served ≡ processes_where (length new) (λ p. get_or set p false && not (differs looks old new p)) → needed ≡ processes_where (length new) (differs looks old new) → us ≡ turns_of turn new served → ws ≡ turns_of turn new needed → replaced (replaced os served us) needed ws ≡ map turn new
+turns_in_place turn looks old new set os us ws served needed h long recorded served_is needed_is u w =
     let f : ℕ → OutcomeParts = λ p. turn (get_or new p no_view) in
     let d = differs looks old new in
-    let kept : ℕ → Bool = λ p. h.test p && not (d p) in
+    let kept : ℕ → Bool = λ p. get_or set p false && not (d p) in
     let count = length new in
-    let served_is : served ≡ processes_where count kept = s ∙ served_among looks old new processes h in
-    let needed_is : needed ≡ processes_where count d = n ∙ needed_among looks old new processes h in
     let first : List OutcomeParts = patched f os (processes_where count kept) in
     let many : length os ≡ count = ap (λ (xs : List OutcomeParts). length xs) recorded ∙ length-map old turn ∙ long in
     let there : (p : ℕ) → p < count → d p ≡ false → get_or first p no_outcome ≡ f p =
@@ -107,7 +118,8 @@ turns_in_place turn looks old new processes os us ws served needed h long record
     patched_at f kept count p os no_outcome l (omega (arith, l, many))
     ∙ put_or_there (kept p) (f p) (get_or os p no_outcome)
     (λ t.
-    let seen = h.same p l (unserved (h.test p) (d p) e t) in
+    let among : p < length set = omega (arith, l, h.count) in
+    let seen = h.same p l (get_or_default set p true false among ∙ unserved (get_or set p false) (d p) e t) in
     ap (λ (xs : List OutcomeParts). get_or xs p no_outcome) recorded ∙ get_or-map turn old p no_view no_outcome seen.0 ∙ ap turn seen.1) in
     ap (replaced (replaced os served us) needed) w
     ∙ ap (λ (xs : List OutcomeParts). patched f (replaced os served xs) needed) u
@@ -122,22 +134,18 @@ turns_of_none turn looks old new needed ws none n w =
     w ∙ ap (turns_of turn new) (n ∙ all_where (length new) (differs looks old new) (λ p l. differs-none looks old new p (omega (arith, none)))) ∙ turns_of-all turn new
 
 -- The marked processes, where each of the others sees the same view.
-pub marked_differ : (old new : List ViewParts) (marks : List Bool) (processes : List ℕ) → AreMarked old new marks → HaveOneTable old → HaveOneTable new → (get_or old 0 no_view).table ≡ (get_or new 0 no_view).table → (get_or old 0 no_view).tag_size ≡ (get_or new 0 no_view).tag_size
-    → length old ≡ length new → processes ≡ processes_where (length marks) (λ p. get_or marks p false) → ViewsDifferAtMost old new processes
-marked_differ old new marks processes h g k table tag long listed =
+pub marked_differ : (old new : List ViewParts) (marks : List Bool) → AreMarked old new marks → HaveOneTable old → HaveOneTable new → (get_or old 0 no_view).table ≡ (get_or new 0 no_view).table → (get_or old 0 no_view).tag_size ≡ (get_or new 0 no_view).tag_size
+    → length old ≡ length new → ViewsDifferAtMost old new marks
+marked_differ old new marks h g k table tag long =
     record {
-      test = λ p. get_or marks p false;
-      listed = listed ∙ ap (λ n. processes_where n (λ p. get_or marks p false)) h.count;
-      same = λ p l t.
-          let here : p < length old = omega (arith, l, long) in
-          let marked : p < length marks = omega (arith, l, h.count) in
-          (here, clean_view old new marks p h g k table tag here l (get_or_default marks p true false marked ∙ t));
+      count = h.count;
+      same = λ p l clean. let here : p < length old = omega (arith, l, long) in (here, clean_view old new marks p h g k table tag here l clean);
     }
 
 -- all processes
-pub all_differ : (old new : List ViewParts) (processes : List ℕ) → processes ≡ processes_where (length new) (λ _. true) → ViewsDifferAtMost old new processes
-all_differ old new processes listed = record { test = λ _. true; listed = listed; same = λ p l t. absurd (false≢true (sym t)) }
-
--- they are processes that there are
-pub differ_below : (old new : List ViewParts) (processes : List ℕ) → ViewsDifferAtMost old new processes → All (λ p. p < length new) processes
-differ_below old new processes h = subst (All (λ p. p < length new)) (sym h.listed) (processes_where-below (length new) h.test)
+pub all_differ : (old new : List ViewParts) → ViewsDifferAtMost old new (replicate (length new) true)
+all_differ old new =
+    record {
+      count = length-replicate (length new) true;
+      same = λ p l t. absurd (false≢true (sym t ∙ get_or-replicate (length new) p true true l));
+    }

@@ -132,6 +132,10 @@ count_before turn input None s h l = absurd (nothing_delivered s 0 l)
 count_before turn input (Some k) s h l =
     ap (λ (os : List OutcomeParts). length os) (delivered-in turn input k s h (some_delivered k s 0 l)) ∙ count-outcomes_in turn h.input_before s ∙ h.stands ∙ sym (count-outcomes_in turn input s)
 
+-- the same, of as many outcomes
+pub count_beside : (turn : ViewParts → OutcomeParts) (input : Input) (old : Option Run) (s : ℕ) (os : List OutcomeParts) → IsBefore turn input old → length os ≡ length input.mems → 0 < length (delivered_outcomes old s) → length (delivered_outcomes old s) ≡ length os
+count_beside turn input old s os h many some = count_before turn input old s h some ∙ count-outcomes_in turn input s ∙ sym many
+
 pub views_after-some : (k : Run) (s : ℕ) → s < length k.past → views_after (Some k) s ≡ (superstep_at (supersteps_opened k) (s + 1)).views
 views_after-some k s l = let t : nat_lt s (length k.past) ≡ true = grind (arith, nat_tests) in ap (λ b. cond b (superstep_at (supersteps_opened k) (s + 1)).views []) t
 

@@ -5,6 +5,7 @@ use Rattle.std.proofs.lemmas.List.{length-map}
 use Rattle.std.proofs.lemmas.List.FromFn.{fill_by_all, get_or-map-range_with_len, length-map-range_with_len}
 use Rattle.bsp_model.specs.declared.input.Input.{Input}
 use Rattle.bsp_model.specs.declared.fault.End.{End}
+use Rattle.bsp_model.specs.ProcessSet.{processes_in}
 use Rattle.bsp_step.specs.ViewParts.{ViewParts, IsView}
 use Rattle.bsp_step.specs.OutcomeParts.{OutcomeParts}
 use Rattle.bsp_step.specs.Act.{Act}
@@ -28,10 +29,10 @@ use Rattle.bsp_run.proofs.Records.{superstep, opened-past, state_at-next, count-
 use Rattle.bsp_run.proofs.Laws.{taken_outcomes}
 use Rattle.bsp_incr.specs.declared.reply.Place.{Place}
 use Rattle.bsp_incr.specs.declared.reply.Update.{Update}
-use Rattle.bsp_incr.specs.Inside.Changes.{processes_where, differ_in, touched_in}
+use Rattle.bsp_incr.specs.Inside.Changes.{differ_in, touched_in}
 use Rattle.bsp_incr.specs.Inside.Marks.{AreMarked, AreAlikeButForTable, ViewsDifferAtMost}
 use Rattle.bsp_incr.specs.Inside.Before.{taken_before, delivered_outcomes, IsBefore, IsUnderWay}
-use Rattle.bsp_incr.proofs.Patching.{patched, patched_is}
+use Rattle.bsp_incr.proofs.Members.{no_members}
 use Rattle.bsp_incr.proofs.Propagation.{view-in}
 use Rattle.bsp_incr.proofs.RunBefore.{record_of_law, taken-in, some_taken}
 use Rattle.bsp_incr.proofs.Unchanged.{nothing-differs, nothing-touched}
@@ -108,11 +109,10 @@ can_take_over acts ending i j old r before made phase some many within l seen =
     }
 
 -- Views that differ nowhere are the same.
-pub same_views : (olds news : List ViewParts) (processes : List ℕ) → ViewsDifferAtMost olds news processes → processes ≡ [] → length olds ≡ length news → olds ≡ news
-same_views olds news processes differ none long =
+pub same_views : (olds news : List ViewParts) (set : List Bool) → ViewsDifferAtMost olds news set → processes_in set ≡ [] → length olds ≡ length news → olds ≡ news
+same_views olds news set differ none long =
     let at : ℕ → ViewParts = λ p. get_or news p no_view in
-    let listed : [] ≡ processes_where (length news) differ.test = sym none ∙ differ.listed in
-    ap (λ (ps : List ℕ). patched at olds ps) listed ∙ patched_is at differ.test (length news) olds no_view long (λ p l t. (differ.same p l t).1)
+    fill_by_all at olds (length news) no_view long (λ p l. (differ.same p l (no_members set p none (omega (arith, l, differ.count)))).1)
     ∙ sym (fill_by_all at news (length news) no_view refl (λ k l. refl))
 
 -- The open superstep is one that the run before took whole, and each process sees what it saw there.
@@ -184,27 +184,26 @@ under_way_taken turn looks j old r q marks u k h under is =
     sym (append-nil u.redelivered) ∙ ap (λ (xs : List Place). u.redelivered ++ xs) (sym (ap (λ (os : List OutcomeParts). touched_in s os us) delivered ∙ nothing-touched s us)) in
     subst (λ (x : Run). IsUnderWay turn looks (Some old) j x marks u) (sym is)
     record {
-      before = under.before;
       made = made;
       marked = λ _. subst (λ n. AreMarked (taken_before (Some old) n) (open_views next) marks) (sym long) marked;
       updated = updated_delivered looks (Some old) r us u u phase under.updated executed redelivered;
     }
 
 -- where nobody sees something else, the open superstep stays
-pub staying : (turn : ViewParts → OutcomeParts) (j : Input) (old r : Run) (processes : List ℕ) (k : IsBefore turn j (Some old)) → IsRecord turn j r → is_open r.phase ≡ true → 0 < length j.mems → length r.past < length old.past → ViewsDifferAtMost (taken_before (Some old) (length r.past)) (open_views r) processes → processes ≡ []
+pub staying : (turn : ViewParts → OutcomeParts) (j : Input) (old r : Run) (set : List Bool) (k : IsBefore turn j (Some old)) → IsRecord turn j r → is_open r.phase ≡ true → 0 < length j.mems → length r.past < length old.past → ViewsDifferAtMost (taken_before (Some old) (length r.past)) (open_views r) set → processes_in set ≡ []
     → IsStaying turn k.input_before j old r
-staying turn j old r processes k made started some past differ none =
+staying turn j old r set k made started some past differ none =
     let s = length r.past in
     let taken = taken-in turn j old s k (some_before old s past) in
     let count : length (taken_before (Some old) s) ≡ length (open_views r) =
     ap (λ (vs : List ViewParts). length vs) taken ∙ count-views_in turn k.input_before s ∙ k.stands ∙ sym (count-views_in turn j s) ∙ sym (ap (λ (vs : List ViewParts). length vs) (open_views-in turn j r made)) in
-    record { before = record_of_law turn k.input_before old k.lawful k.law; made = made; many = k.stands; some = some; started = started; past = past; seen = sym taken ∙ same_views (taken_before (Some old) s) (open_views r) processes differ none count }
+    record { before = record_of_law turn k.input_before old k.lawful k.law; made = made; many = k.stands; some = some; started = started; past = past; seen = sym taken ∙ same_views (taken_before (Some old) s) (open_views r) set differ none count }
 
 -- the same, from what the code knows
-pub staying_whole : (turn : ViewParts → OutcomeParts) (j : Input) (before : Option Run) (old r : Run) (step : ℕ) (olds news : List ViewParts) (processes doubtful : List ℕ) → IsBefore turn j before → (doubtful ≡ []) × (step < length old.past) × (before ≡ Some old) → IsRecord turn j r → is_open r.phase ≡ true → 0 < length j.mems
-    → step ≡ length r.past → olds ≡ taken_before before step → news ≡ open_views r → doubtful ≡ processes → ViewsDifferAtMost olds news processes → (k : IsBefore turn j (Some old)) × IsStaying turn k.input_before j old r
-staying_whole turn j before old r step olds news processes doubtful h whole made started some steps there here same differ =
+pub staying_whole : (turn : ViewParts → OutcomeParts) (j : Input) (before : Option Run) (old r : Run) (step : ℕ) (olds news : List ViewParts) (set : List Bool) → IsBefore turn j before → (processes_in set ≡ []) × (step < length old.past) × (before ≡ Some old) → IsRecord turn j r → is_open r.phase ≡ true → 0 < length j.mems
+    → step ≡ length r.past → olds ≡ taken_before before step → news ≡ open_views r → ViewsDifferAtMost olds news set → (k : IsBefore turn j (Some old)) × IsStaying turn k.input_before j old r
+staying_whole turn j before old r step olds news set h whole made started some steps there here differ =
     let k : IsBefore turn j (Some old) = subst (IsBefore turn j) whole.2 h in
     let past : length r.past < length old.past = subst (λ n. n < length old.past) steps whole.1 in
     let taken : olds ≡ taken_before (Some old) (length r.past) = there ∙ (λ i. taken_before (whole.2 i) (steps i)) in
-    (k, staying turn j old r processes k made started some past (subst (λ (vs : List ViewParts). ViewsDifferAtMost vs (open_views r) processes) taken (subst (λ (vs : List ViewParts). ViewsDifferAtMost olds vs processes) here differ)) (sym same ∙ whole.0))
+    (k, staying turn j old r set k made started some past (subst (λ (vs : List ViewParts). ViewsDifferAtMost vs (open_views r) set) taken (subst (λ (vs : List ViewParts). ViewsDifferAtMost olds vs set) here differ)) whole.0)

@@ -11,10 +11,10 @@ mod moving;
 mod places;
 
 pub use alike::{all_cost_alike, ends_as_before};
-pub use before::{delivered_outcomes, first_views_before, views_after};
+pub use before::{delivered_outcomes, views_after, with_first_views};
 pub use beside::{OpenSuperstep, open_superstep};
 pub use doubtful::Doubtful;
 pub use known_table::KnownTable;
 pub use looking::{has_table, serves};
-pub use marks::{Marks, all_marks, mark_too, marks_of_edits};
-pub use places::{add_places, processes_where};
+pub use marks::{Marks, all_marks, marks_of_edits};
+pub use places::add_places;

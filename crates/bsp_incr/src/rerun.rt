@@ -17,7 +17,7 @@ mod opening;
 mod under_way;
 mod workers;
 
-use crate::compare::{Marks, marks_of_edits, processes_where};
+use crate::compare::{Marks, marks_of_edits};
 use crate::edit::{make_edits, restore};
 use crate::rerun::finishing::finished;
 use crate::rerun::opening::opened;
@@ -44,8 +44,8 @@ pub fn rerun<P: Program, G: Gate, R: Threads + Sync>(
     counts: &mut Counts,
 ) -> Result<(History, Update), OutOfMemory>
     requires lawful { input_fault input.now ≡ None }
-    requires args { AreArgsMarked (option_map (λ k. k.now) old) input.now marks.args.items }
-    requires first { AreFirstMarked (option_map (λ k. k.now) old) input.now marks.first.items }
+    requires args { AreArgsMarked (option_map (λ k. k.now) old) input.now marks.args }
+    requires first { AreFirstMarked (option_map (λ k. k.now) old) input.now marks.first }
     requires before { IsBefore (turn_by P.Program executor.now.program.now) input.now (option_map (λ k. k.now) old) }
     ensures run { IfOk result (λ r. r.0 ≡ run (turn_by P.Program executor.now.program.now) input.now) }
     ensures update { IfOk result
@@ -53,20 +53,18 @@ pub fn rerun<P: Program, G: Gate, R: Threads + Sync>(
 {
     let alloc = executor.alloc;
     let Marks {
-        args: always,
+        args: other_args,
         first,
     } = marks;
-    let other_args = processes_where(alloc, always.as_slice())?;
     let given = Given {
         workers: executor.workers,
         alloc,
         program: executor.program,
         input,
         old,
-        always: always.as_slice(),
-        other_args: other_args.as_slice(),
+        other_args: &other_args,
     };
-    let mut tape = opened(&given, first.as_slice())?;
+    let mut tape = opened(&given, &first)?;
     let mut under_way = UnderWay::new(alloc, first, *counts);
     while tape.is_open() {
         advance(&given, &mut tape, &mut under_way)?;

@@ -1,11 +1,12 @@
 //! One superstep of a run that is made again, against the record of the run before.
 
 ghost use Rattle.std.specs.Prelude.{◌≡◌, ◌<◌, ◌++◌, [], IfOk, IfSome, OnOk, Some, is_some, map, length, option_map, true, false};
+ghost use Rattle.bsp_model.specs.ProcessSet.{processes_in};
 ghost use Rattle.bsp_run.specs.Run.{after_turns, open_views, advance};
 ghost use Rattle.bsp_run.specs.Condition.{AreOutcomesOf, is_open, is_turned};
 ghost use Rattle.bsp_run.specs.Inside.Record.{IsRecord};
 ghost use Rattle.bsp_incr.specs.Inside.Changes.{differ_in};
-ghost use Rattle.bsp_incr.specs.Inside.Given.{run_before, turn_given, looks_given, taken_beside, IsGivenBefore, IsMidway};
+ghost use Rattle.bsp_incr.specs.Inside.Given.{turn_by, taken_beside, IsMidway};
 ghost use Rattle.bsp_incr.specs.Inside.Known.{AreDoubtful, KnowsTable, KnowsNextTable};
 
 mod deliveries;
@@ -18,7 +19,7 @@ use crate::compare::{Doubtful, KnownTable, delivered_outcomes, ends_as_before, o
 use crate::rerun::{Counts, Given, UnderWay};
 use crate::superstep::ending::make_deliveries;
 use crate::superstep::turns::turns_again;
-use bsp_model::{OutOfMemory, Seq};
+use bsp_model::{OutOfMemory, ProcessSet, Seq};
 use bsp_pool::Gate;
 use bsp_run::{History, Tape};
 use bsp_step::{Outcomes, Program};
@@ -33,14 +34,13 @@ fn end_turns<P: Program, G: Gate, R: Threads + Sync>(
     outcomes: Outcomes,
 ) -> Result<Option<KnownTable>, OutOfMemory>
     requires open { is_open tape.old.phase ≡ true }
-    requires before { IsGivenBefore given.now }
-    requires made { IsRecord (turn_given given.now) given.now.input.now tape.old }
+    requires made { IsRecord (turn_by P.Program given.now.program) given.now.input tape.old }
     requires doubtful { AreDoubtful (taken_beside given.now tape.old) (open_views tape.old) doubtful.now }
-    requires turns { outcomes ≡ map (turn_given given.now) (open_views tape.old) }
+    requires turns { outcomes ≡ map (turn_by P.Program given.now.program) (open_views tape.old) }
     requires within { AreOutcomesOf (open_views tape.old) outcomes }
     ensures turned { OnOk result (tape.new ≡ after_turns tape.old outcomes) }
     ensures answer { IfOk result (λ next. is_some next ≡ is_turned tape.new.phase) }
-    ensures known { IfOk result (λ next. IfSome next (KnowsNextTable (run_before given.now) tape.new)) }
+    ensures known { IfOk result (λ next. IfSome next (KnowsNextTable given.now.before tape.new)) }
 {
     let before = delivered_outcomes(given.old, tape.step());
     if ends_as_before(before, &outcomes, doubtful) {
@@ -63,14 +63,14 @@ fn take_turns<P: Program, G: Gate, R: Threads + Sync>(
     counts: &mut Counts,
 ) -> Result<Option<KnownTable>, OutOfMemory>
     requires open { is_open tape.old.phase ≡ true }
-    requires before { IsGivenBefore given.now }
-    requires made { IsRecord (turn_given given.now) given.now.input.now tape.old }
+    requires made { IsRecord (turn_by P.Program given.now.program) given.now.input tape.old }
     requires doubtful { AreDoubtful (taken_beside given.now tape.old) (open_views tape.old) doubtful.now }
-    ensures turned { OnOk result (tape.new ≡ after_turns tape.old (map (turn_given given.now) (open_views tape.old))) }
+    ensures turned { OnOk result (tape.new
+        ≡ after_turns tape.old (map (turn_by P.Program given.now.program) (open_views tape.old))) }
     ensures answer { IfOk result (λ next. is_some next ≡ is_turned tape.new.phase) }
-    ensures known { IfOk result (λ next. IfSome next (KnowsNextTable (run_before given.now) tape.new)) }
+    ensures known { IfOk result (λ next. IfSome next (KnowsNextTable given.now.before tape.new)) }
     ensures executed { OnOk result (executed.new ≡ executed.old
-        ++ differ_in (looks_given given.now) (length tape.old.past) (taken_beside given.now tape.old)
+        ++ differ_in (P.looks given.now.program) (length tape.old.past) (taken_beside given.now tape.old)
         (open_views tape.old)) }
 {
     let superstep = open_superstep(given, tape);
@@ -87,22 +87,28 @@ fn make_again<P: Program, G: Gate, R: Threads + Sync>(
 ) -> Result<(), OutOfMemory>
     requires open { is_open tape.old.phase ≡ true }
     requires doubtful { AreDoubtful (taken_beside given.now tape.old) (open_views tape.old) doubtful.now }
-    requires under_way { IsMidway given.now tape.old under_way.old }
-    ensures tape { OnOk result (tape.new ≡ advance (turn_given given.now) tape.old) }
-    ensures under_way { OnOk result (IsMidway given.now tape.new under_way.new) }
-    ensures table { OnOk result (KnowsTable (run_before given.now) tape.new under_way.new.table) }
+    requires under_way { IsMidway P.Program given.now tape.old under_way.old }
+    ensures tape { OnOk result (tape.new ≡ advance (turn_by P.Program given.now.program) tape.old) }
+    ensures under_way { OnOk result (IsMidway P.Program given.now tape.new under_way.new) }
+    ensures table { OnOk result (KnowsTable given.now.before tape.new under_way.new.table) }
 {
+    // What stands of the run before is known where it is read.
+    let _before = given.old;
     let executed = &mut under_way.update.executed;
     let Some(known) = take_turns(given, tape, doubtful, executed, &mut under_way.counts)? else {
         return Ok(());
     };
-    make_deliveries(given, tape, doubtful.processes.as_slice(), known, under_way)?;
+    make_deliveries(given, tape, &doubtful.processes, known, under_way)?;
     Ok(())
 }
 
 /// The run before, where its superstep ended by delivery and nobody sees something else in it.
-fn taken_whole<'a>(old: Option<&'a History>, step: usize, doubtful: &[usize]) -> Option<&'a History>
-    ensures { IfSome result (λ h. (doubtful.now ≡ []) × (step < length h.now.past)
+fn taken_whole<'a>(
+    old: Option<&'a History>,
+    step: usize,
+    doubtful: &ProcessSet,
+) -> Option<&'a History>
+    ensures { IfSome result (λ h. (processes_in doubtful.now ≡ []) × (step < length h.now.past)
         × (option_map (λ k. k.now) old.entry ≡ Some h.now)) }
 {
     match old {
@@ -119,19 +125,19 @@ pub fn advance<P: Program, G: Gate, R: Threads + Sync>(
     under_way: &mut UnderWay,
 ) -> Result<(), OutOfMemory>
     requires between { is_turned tape.old.phase ≡ false }
-    requires under_way { IsMidway given.now tape.old under_way.old }
-    requires table { KnowsTable (run_before given.now) tape.old under_way.old.table }
-    ensures tape { OnOk result (tape.new ≡ advance (turn_given given.now) tape.old) }
-    ensures under_way { OnOk result (IsMidway given.now tape.new under_way.new) }
-    ensures table { OnOk result (KnowsTable (run_before given.now) tape.new under_way.new.table) }
+    requires under_way { IsMidway P.Program given.now tape.old under_way.old }
+    requires table { KnowsTable given.now.before tape.old under_way.old.table }
+    ensures tape { OnOk result (tape.new ≡ advance (turn_by P.Program given.now.program) tape.old) }
+    ensures under_way { OnOk result (IsMidway P.Program given.now tape.new under_way.new) }
+    ensures table { OnOk result (KnowsTable given.now.before tape.new under_way.new.table) }
 {
     if !tape.is_open() {
         return Ok(());
     }
     let superstep = open_superstep(given, tape);
-    let marks = under_way.marks.as_slice();
+    let marks = &under_way.marks;
     let doubtful = Doubtful::among(given.alloc, &superstep, marks, under_way.table)?;
-    if let Some(history) = taken_whole(given.old, tape.step(), doubtful.processes.as_slice()) {
+    if let Some(history) = taken_whole(given.old, tape.step(), &doubtful.processes) {
         tape.take_over(history)?;
         under_way.table = KnownTable::AsBefore;
         return Ok(());

@@ -74,9 +74,8 @@ pub record AreArgsMarked (old : Option Run) (input : Input) (marks : List Bool) 
   pub clean : (p : ℕ) → p < length input.mems → slice_index_or marks p true ≡ false → HasSameArgs old input p
   pub other : (p : ℕ) → p < length input.mems → slice_index_or marks p false ≡ true → HasOtherArgs old input p
 
--- Between the supersteps of the new run: the run before, the new run's record, the marks of its open superstep, and the update so far.
+-- Between the supersteps of the new run: its record, the marks of its open superstep, and the update so far.
 pub record IsUnderWay (turn : ViewParts → OutcomeParts) (looks : ViewParts → ℕ → Bool) (old : Option Run) (input : Input) (r : Run) (marks : List Bool) (update : Update) : Type 0 where
-  pub before : IsBefore turn input old
   pub made : IsRecord turn input r
   pub marked : is_open r.phase ≡ true → AreMarked (taken_before old (length r.past)) (open_views r) marks
   pub updated : update ≡ update_of looks old r

@@ -1,43 +1,45 @@
--- A run that is made again, as the code holds it: the words in which the private functions of this crate ask and promise.
-use Rattle.std.specs.Prelude.{ℕ, Bool, List, Option, option_map, length}
+-- What stays the same in all supersteps of a run that is made again, and what stands between two of them: the words in which the private functions of
+-- this crate ask and promise.
+use Rattle.std.specs.Prelude.{◌≡◌, Bool, List, Option, None, length}
+use Rattle.bsp_model.specs.declared.input.Input.{Input}
+use Rattle.bsp_model.specs.Input.{input_fault}
 use Rattle.bsp_step.specs.declared.program.Program.{Ghosts}
 use Rattle.bsp_step.specs.ViewParts.{ViewParts}
 use Rattle.bsp_step.specs.OutcomeParts.{OutcomeParts}
 use Rattle.bsp_step.specs.Turn.{turn_of}
 use Rattle.bsp_run.specs.Run.{Run}
-use Rattle.bsp_incr.specs.declared.rerun.given.Given.{Given}
 use Rattle.bsp_incr.specs.declared.rerun.under_way.UnderWay.{UnderWay}
-use Rattle.bsp_incr.specs.Inside.Before.{taken_before, delivered_outcomes, views_after, IsBefore, IsUnderWay}
+use Rattle.bsp_incr.specs.Inside.Before.{taken_before, delivered_outcomes, views_after, AreArgsMarked, IsBefore, IsUnderWay}
 
 -- what a turn of a program leaves at a view
 abbrev pub turn_by : {P : Type 0} → Ghosts P → P → ViewParts → OutcomeParts
 turn_by laws program = turn_of (laws.acts program) (laws.ending program)
 
--- what a turn of the given program leaves at a view, and where it looks
-abbrev pub turn_given : {P R G : Type 0} {laws : Ghosts P} → Given P R G laws → ViewParts → OutcomeParts
-turn_given {P} {R} {G} {laws} given = turn_by laws given.program.now
+-- A program, its input, the run before, if there was one, and for each process whether it has other arguments than in that run.
+pub record Making (P : Type 0) : Type 0 where
+  pub program : P
+  pub input : Input
+  pub before : Option Run
+  pub others : List Bool
 
-abbrev pub looks_given : {P R G : Type 0} {laws : Ghosts P} → Given P R G laws → ViewParts → ℕ → Bool
-looks_given {P} {R} {G} {laws} given = laws.looks given.program.now
-
--- the run before, if there was one
-abbrev pub run_before : {P R G : Type 0} {laws : Ghosts P} → Given P R G laws → Option Run
-run_before given = option_map (λ k. k.now) given.old
+-- The input is lawful, the run before is one of the program on an input with as many processes, and the processes with other arguments are those that are
+-- said to have them.
+pub record IsMaking {P : Type 0} (laws : Ghosts P) (making : Making P) : Type 0 where
+  pub lawful : input_fault making.input ≡ None
+  pub before : IsBefore (turn_by laws making.program) making.input making.before
+  pub others : AreArgsMarked making.before making.input making.others
 
 -- of the superstep with the number of the open one: what the run before saw in it and delivered, and what it saw after that delivery
-abbrev pub taken_beside : {P R G : Type 0} {laws : Ghosts P} → Given P R G laws → Run → List ViewParts
-taken_beside given r = taken_before (run_before given) (length r.past)
+abbrev pub taken_beside : {P : Type 0} → Making P → Run → List ViewParts
+taken_beside making r = taken_before making.before (length r.past)
 
-abbrev pub delivered_beside : {P R G : Type 0} {laws : Ghosts P} → Given P R G laws → Run → List OutcomeParts
-delivered_beside given r = delivered_outcomes (run_before given) (length r.past)
+abbrev pub delivered_beside : {P : Type 0} → Making P → Run → List OutcomeParts
+delivered_beside making r = delivered_outcomes making.before (length r.past)
 
-abbrev pub views_after_beside : {P R G : Type 0} {laws : Ghosts P} → Given P R G laws → Run → List ViewParts
-views_after_beside given r = views_after (run_before given) (length r.past)
-
--- the run before, if there was one, is that of an input which has as many processes as the given one
-abbrev pub IsGivenBefore : {P R G : Type 0} {laws : Ghosts P} → Given P R G laws → Type 0
-IsGivenBefore given = IsBefore (turn_given given) given.input.now (run_before given)
+abbrev pub views_after_beside : {P : Type 0} → Making P → Run → List ViewParts
+views_after_beside making r = views_after making.before (length r.past)
 
 -- the record of the run that is made again, between two supersteps, and the update so far
-abbrev pub IsMidway : {P R G : Type 0} {laws : Ghosts P} → Given P R G laws → Run → UnderWay → Type 0
-IsMidway given r u = IsUnderWay (turn_given given) (looks_given given) (run_before given) given.input.now r u.marks.items u.update
+abbrev pub IsMidway : {P : Type 0} → Ghosts P → Making P → Run → UnderWay → Type 0
+IsMidway laws making r u =
+    IsUnderWay (turn_by laws making.program) (laws.looks making.program) making.before making.input r u.marks u.update

@@ -22,7 +22,7 @@ IsKnown Unknown old new = Unit {0}
 
 -- No other process sees something else, and the table is the same where it is said to be.
 pub record AreDoubtful (old new : List ViewParts) (d : Doubtful) : Type 0 where
-  pub processes : ViewsDifferAtMost old new d.processes.items
+  pub processes : ViewsDifferAtMost old new d.processes
   pub same_table : d.same_table ≡ true → HaveSameTable old new
 
 -- What is known of the table in the open superstep, if there is one.

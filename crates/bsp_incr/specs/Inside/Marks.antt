@@ -5,7 +5,6 @@ use Rattle.bsp_step.specs.OutcomeParts.{OutcomeParts, outcome_of}
 use Rattle.bsp_deliver.specs.Delivery.{delivery_parts, next_memory, next_queue}
 use Rattle.bsp_deliver.specs.Condition.{AreDeliverable}
 use Rattle.bsp_run.specs.Condition.{no_view}
-use Rattle.bsp_incr.specs.Inside.Changes.{processes_where}
 
 -- views that are equal but for the table and the tag size
 pub record AreAlikeButForTable (v w : ViewParts) : Type 0 where
@@ -21,17 +20,15 @@ pub record AreMarked (old new : List ViewParts) (marks : List Bool) : Type 0 whe
   pub count : length marks ≡ length new
   pub clean : (p : ℕ) → p < length old → p < length new → slice_index_or marks p true ≡ false → AreAlikeButForTable (slice_index_or old p no_view) (slice_index_or new p no_view)
 
--- The views of two supersteps differ at most at these processes, which are in order: every other one sees what it saw in the old run.
-pub record ViewsDifferAtMost (old new : List ViewParts) (processes : List ℕ) : Type 0 where
-  pub test : ℕ → Bool
-  pub listed : processes ≡ processes_where (length new) test
-  pub same : (p : ℕ) → p < length new → test p ≡ false → (p < length old) × (slice_index_or old p no_view ≡ slice_index_or new p no_view)
+-- The views of two supersteps differ at most at the processes of a set: every other one sees what it saw in the old run.
+pub record ViewsDifferAtMost (old new : List ViewParts) (set : List Bool) : Type 0 where
+  pub count : length set ≡ length new
+  pub same : (p : ℕ) → p < length new → slice_index_or set p true ≡ false → (p < length old) × (slice_index_or old p no_view ≡ slice_index_or new p no_view)
 
 -- So do the outcomes of two supersteps.
-pub record OutcomesDifferAtMost (old new : List OutcomeParts) (processes : List ℕ) : Type 0 where
-  pub test : ℕ → Bool
-  pub listed : processes ≡ processes_where (length new) test
-  pub same : (p : ℕ) → p < length old → p < length new → test p ≡ false → outcome_of old p ≡ outcome_of new p
+pub record OutcomesDifferAtMost (old new : List OutcomeParts) (set : List Bool) : Type 0 where
+  pub count : length set ≡ length new
+  pub same : (p : ℕ) → p < length old → p < length new → slice_index_or set p true ≡ false → outcome_of old p ≡ outcome_of new p
 
 -- the processes of a superstep all see one table and one tag size
 pub record HaveOneTable (views : List ViewParts) : Type 0 where

@@ -8,7 +8,7 @@ ghost use Rattle.bsp_incr.specs.Inside.Marks.{OutcomesDifferAtMost};
 
 use crate::compare::doubtful::Doubtful;
 use crate::compare::moving::{gets_move_alike, puts_move_alike, sends_move_alike};
-use bsp_model::are_same;
+use bsp_model::{ProcessSet, are_same};
 use bsp_step::{OutcomeRef, Outcomes};
 
 /// Whether two turns charged the same work, and moved as many words between the same processes.
@@ -51,13 +51,13 @@ fn ends_alike_at(old: &Outcomes, new: &Outcomes, p: usize) -> bool
 }
 
 /// Whether the turns of all processes charged and moved alike. Only those of the processes in `doubtful` are looked at, since the others left the same.
-pub fn all_cost_alike(old: &Outcomes, new: &Outcomes, doubtful: &[usize]) -> bool
+pub fn all_cost_alike(old: &Outcomes, new: &Outcomes, doubtful: &ProcessSet) -> bool
     requires count { length old.now ≡ length new.now }
     requires doubtful { OutcomesDifferAtMost old.now new.now doubtful.now }
     ensures { result ≡ true → (p : ℕ) → p < length new.now → CostsAlike (outcome_of old.now p) (outcome_of new.now p) }
 {
-    for process in doubtful {
-        if !costs_alike_at(old, new, *process) {
+    for process in doubtful.iter() {
+        if !costs_alike_at(old, new, process) {
             return false;
         }
     }
@@ -65,13 +65,13 @@ pub fn all_cost_alike(old: &Outcomes, new: &Outcomes, doubtful: &[usize]) -> boo
 }
 
 /// Whether the turns of all processes ended alike. Here too, only those in `doubtful` are looked at.
-pub fn all_end_alike(old: &Outcomes, new: &Outcomes, doubtful: &[usize]) -> bool
+pub fn all_end_alike(old: &Outcomes, new: &Outcomes, doubtful: &ProcessSet) -> bool
     requires count { length old.now ≡ length new.now }
     requires doubtful { OutcomesDifferAtMost old.now new.now doubtful.now }
     ensures { result ≡ true → AllEndAlike old.now new.now }
 {
-    for process in doubtful {
-        if !ends_alike_at(old, new, *process) {
+    for process in doubtful.iter() {
+        if !ends_alike_at(old, new, process) {
             return false;
         }
     }
@@ -84,14 +84,14 @@ pub fn ends_as_before(old: Option<&Outcomes>, new: &Outcomes, doubtful: &Doubtfu
     requires count { 0 < length (outcomes_if_any (option_map (λ o. o.now) old))
         → length (outcomes_if_any (option_map (λ o. o.now) old)) ≡ length new.now }
     requires doubtful { OutcomesDifferAtMost (outcomes_if_any (option_map (λ o. o.now) old)) new.now
-        doubtful.now.processes.items }
+        doubtful.now.processes }
     ensures some { result ≡ true → 0 < length (outcomes_if_any (option_map (λ o. o.now) old.entry)) }
     ensures table { result ≡ true → doubtful.now.same_table ≡ true }
     ensures ends { result ≡ true → AllEndAlike (outcomes_if_any (option_map (λ o. o.now) old.entry)) new.now }
 {
     match old {
         Some(old) if doubtful.same_table && !old.is_empty() => {
-            all_end_alike(old, new, doubtful.processes.as_slice())
+            all_end_alike(old, new, &doubtful.processes)
         }
         _ => false,
     }

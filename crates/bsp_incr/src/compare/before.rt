@@ -1,6 +1,6 @@
 //! What is read of the run before when a run is made again.
 
-ghost use Rattle.std.specs.Prelude.{◌≡◌, ◌<◌, [], IfNone, IfSome, length, option_map};
+ghost use Rattle.std.specs.Prelude.{◌≡◌, ◌<◌, [], IfNone, IfSome, Some, length, option_map};
 ghost use Rattle.bsp_deliver.specs.Condition.{AreDeliverable};
 ghost use Rattle.bsp_incr.specs.Inside.Before.{taken_before, outcomes_if_any, outcomes_before, delivered_outcomes, views_after};
 ghost use Rattle.bsp_incr.specs.Inside.Before.{first_views_before};
@@ -59,11 +59,21 @@ pub fn views_after<'a>(old: Option<&'a History>, step: usize) -> Option<&'a View
 }
 
 /// What the processes saw in superstep 0.
-pub fn first_views_before(old: &History) -> &Views
-    ensures { result.now ≡ first_views_before old.now }
+pub fn first_views_before(old: &History) -> ViewsRef<'_>
+    ensures { result ≡ first_views_before old.now }
 {
     match old.views(0) {
-        Some(views) => views,
-        None => unreachable!(),
+        Some(views) => views.as_ref(),
+        None => ViewsRef::none(),
     }
+}
+
+/// The run before, and what its processes saw in superstep 0; none where there was no run before.
+pub fn with_first_views<'a>(old: Option<&'a History>) -> Option<(&'a History, &'a Views)>
+    ensures history { IfSome result (λ r. option_map (λ k. k.now) old.entry ≡ Some r.0.now) }
+    ensures views { IfSome result (λ r. r.1.now ≡ first_views_before r.0.now) }
+{
+    let history = old?;
+    let views = history.views(0)?;
+    Some((history, views))
 }

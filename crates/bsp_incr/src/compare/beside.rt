@@ -6,7 +6,7 @@ ghost use Rattle.bsp_run.specs.Run.{open_views};
 ghost use Rattle.bsp_run.specs.Condition.{is_open};
 ghost use Rattle.bsp_run.specs.Inside.Record.{IsRecord};
 ghost use Rattle.bsp_incr.specs.Inside.Before.{outcomes_if_any};
-ghost use Rattle.bsp_incr.specs.Inside.Given.{turn_given, taken_beside, IsGivenBefore};
+ghost use Rattle.bsp_incr.specs.Inside.Given.{turn_by, taken_beside};
 ghost use Rattle.bsp_incr.specs.Inside.Marks.{HaveOneTable};
 
 use crate::compare::before::{outcomes_before, taken_before};
@@ -38,14 +38,13 @@ pub fn open_superstep<'old, 'new, P: Program, R, G>(
     tape: &'new Tape,
 ) -> OpenSuperstep<'old, 'new>
     requires open { is_open tape.now.phase ≡ true }
-    requires before { IsGivenBefore given.now }
-    requires made { IsRecord (turn_given given.now) given.now.input.now tape.now }
+    requires made { IsRecord (turn_by P.Program given.now.program) given.now.input tape.now }
     ensures step { result.step ≡ length tape.now.past }
     ensures views { result.views.now ≡ open_views tape.now }
     ensures limits { All IsView result.views.now }
     ensures old_views { result.old_views ≡ taken_beside given.now tape.now }
     ensures recorded { outcomes_if_any (option_map (λ o. o.now) result.old_outcomes)
-        ≡ map (turn_given given.now) result.old_views }
+        ≡ map (turn_by P.Program given.now.program) result.old_views }
 {
     let step = tape.step();
     OpenSuperstep {

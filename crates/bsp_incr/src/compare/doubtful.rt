@@ -7,16 +7,15 @@ ghost use Rattle.bsp_incr.specs.Inside.Known.{AreDoubtful, HaveSameTable, IsKnow
 use crate::compare::beside::OpenSuperstep;
 use crate::compare::known_table::KnownTable;
 use crate::compare::looking::have_same_table;
-use crate::compare::places::{all_processes, processes_where};
-use bsp_model::OutOfMemory;
+use bsp_model::{OutOfMemory, ProcessSet};
 use bsp_run::{Views, ViewsRef};
 use std::alloc::Global;
 
 /// What may be another in a superstep than in the run before.
 #[derive(Drop)]
 pub struct Doubtful {
-    /// The processes that may see something else, in order.
-    pub processes: Vec<usize>,
+    /// The processes that may see something else.
+    pub processes: ProcessSet,
     /// Whether all are known to see the table and the tag size of the run before.
     pub same_table: bool,
 }
@@ -35,12 +34,21 @@ fn is_same_table(old: &ViewsRef<'_>, new: &Views, known: KnownTable) -> bool
     }
 }
 
+/// The same set.
+fn copy_of(alloc: Global, set: &ProcessSet) -> Result<ProcessSet, OutOfMemory>
+    ensures { IfOk result (λ copy. copy ≡ set.now) }
+{
+    let mut copy = ProcessSet::none(alloc, set.count())?;
+    copy.insert_all(set);
+    Ok(copy)
+}
+
 impl Doubtful {
     /// The processes that are marked, where the table and the tag size are those of the run before, and else all.
     pub fn among(
         alloc: Global,
         superstep: &OpenSuperstep<'_, '_>,
-        marks: &[bool],
+        marks: &ProcessSet,
         known: KnownTable,
     ) -> Result<Doubtful, OutOfMemory>
         requires marks { AreMarked superstep.now.old_views superstep.now.views.now marks.now }
@@ -49,9 +57,9 @@ impl Doubtful {
     {
         let same_table = is_same_table(&superstep.old_views, superstep.views, known);
         let processes = if same_table {
-            processes_where(alloc, marks)?
+            copy_of(alloc, marks)?
         } else {
-            all_processes(alloc, superstep.views.len())?
+            ProcessSet::all(alloc, superstep.views.len())?
         };
         Ok(Doubtful {
             processes,

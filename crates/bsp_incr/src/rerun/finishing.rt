@@ -6,21 +6,25 @@ ghost use Rattle.bsp_run.specs.Condition.{is_ended};
 ghost use Rattle.bsp_incr.specs.Inside.Stays.{LinesStayBut, AreProcessesMarked};
 
 use crate::Place;
-use bsp_model::OutOfMemory;
+use bsp_model::{OutOfMemory, ProcessSet};
 use bsp_run::{History, Tape};
 use std::alloc::Global;
 
-/// The processes of some places, of so many, by process.
-fn marks_of_places(alloc: Global, nprocs: usize, places: &[Place]) -> Result<Vec<bool>, OutOfMemory>
-    ensures { IfOk result (λ marks. AreProcessesMarked places.now marks.items) }
+/// The processes of some places, of so many.
+fn processes_of_places(
+    alloc: Global,
+    nprocs: usize,
+    places: &[Place],
+) -> Result<ProcessSet, OutOfMemory>
+    ensures { IfOk result (λ marks. AreProcessesMarked places.now marks) }
 {
-    let mut marks = vec![in alloc; false; nprocs]?;
+    let mut processes = ProcessSet::none(alloc, nprocs)?;
     for place in places {
-        if place.pid < marks.len() as u64 {
-            marks[place.pid as usize] = true;
+        if place.pid < processes.count() as u64 {
+            processes.insert(place.pid as usize);
         }
     }
-    Ok(marks)
+    Ok(processes)
 }
 
 /// The history of a run that has ended. It shares the lines of each process that are those of the run before, as those of a process are whose turns
@@ -39,6 +43,6 @@ pub fn finished(
     let Some(history) = old else {
         return Ok(tape.finish()?);
     };
-    let marks = marks_of_places(alloc, nprocs, executed)?;
-    Ok(tape.finish_like(history, marks.as_slice())?)
+    let processes = processes_of_places(alloc, nprocs, executed)?;
+    Ok(tape.finish_like(history, &processes)?)
 }

@@ -1,15 +1,11 @@
 //! What stays the same in all supersteps of a run that is made again.
 
-ghost use Rattle.std.specs.Prelude.{◌≡◌, None, length, option_map, slice_index_or, false};
-ghost use Rattle.bsp_model.specs.Input.{input_fault};
-ghost use Rattle.bsp_incr.specs.Inside.Before.{AreArgsMarked};
-ghost use Rattle.bsp_incr.specs.Inside.Changes.{processes_where};
-
 use crate::rerun::workers::Workers;
-use bsp_model::Input;
+use bsp_model::{Input, ProcessSet};
 use bsp_run::History;
 use bsp_step::Program;
 use std::alloc::Global;
+use std::marker::Model;
 
 /// The program and the input of a run that is made again, the run before, and who works.
 #[derive(Drop)]
@@ -19,11 +15,27 @@ pub struct Given<'a, P: Program, R, G> {
     pub program: &'a P,
     pub input: &'a Input,
     pub old: Option<&'a History>,
-    /// Whether a process has other arguments than in the run before, by process. Then it is marked in each superstep.
-    pub always: &'a [bool],
-    /// The processes with other arguments.
-    pub other_args: &'a [usize],
-    ghost marked: { AreArgsMarked (option_map (λ k. k.now) old) input.now always.now },
-    ghost lawful: { input_fault input.now ≡ None },
-    ghost listed: { other_args.now ≡ processes_where (length always.now) (λ p. slice_index_or always.now p false) },
+    /// The processes with other arguments than in the run before. They are marked in each superstep.
+    pub other_args: &'a ProcessSet,
+}
+
+impl<'a, P: Program, R, G> Model for Given<'a, P, R, G> {
+    ghost use Rattle.std.specs.Prelude.{option_map};
+    ghost use Rattle.bsp_incr.specs.Inside.Given.{Making, IsMaking};
+
+    ghost Value = { Making P };
+
+    ghost view = { λ g. record {
+      program = g.program.now;
+      input = g.input.now;
+      before = option_map (λ k. k.now) g.old;
+      others = g.other_args.now;
+    } };
+
+    ghost invariant = { λ g. IsMaking P.Program record {
+      program = g.program.now;
+      input = g.input.now;
+      before = option_map (λ k. k.now) g.old;
+      others = g.other_args.now;
+    } };
 }

@@ -1,14 +1,14 @@
 //! The opening of a run, which shares what it can with the run before.
 
-ghost use Rattle.std.specs.Prelude.{◌≡◌, ◌<◌, All, IfOk, length, map, option_map, slice_index_or, []};
+ghost use Rattle.std.specs.Prelude.{◌≡◌, IfOk, length, map, slice_index_or, []};
+ghost use Rattle.bsp_model.specs.ProcessSet.{processes_in};
 ghost use Rattle.bsp_model.specs.Replaced.{replaced};
 ghost use Rattle.bsp_run.specs.Run.{start};
-ghost use Rattle.bsp_incr.specs.Inside.Before.{AreFirstMarked, IsBefore};
-ghost use Rattle.bsp_incr.specs.Inside.Given.{run_before};
+ghost use Rattle.bsp_incr.specs.Inside.Before.{AreFirstMarked};
 
-use crate::compare::{first_views_before, processes_where};
+use crate::compare::with_first_views;
 use crate::rerun::given::Given;
-use bsp_model::{OutOfMemory, Seq, SharedSeq, TryCopy, Words};
+use bsp_model::{OutOfMemory, ProcessSet, Seq, SharedSeq, TryCopy, Words};
 use bsp_run::{Arguments, Tape, copied};
 use bsp_step::Program;
 use std::alloc::Global;
@@ -18,20 +18,20 @@ fn args_again(
     alloc: Global,
     old: &Arguments,
     input: &Seq<Words>,
-    others: &[usize],
+    others: &ProcessSet,
 ) -> Result<Arguments, OutOfMemory>
-    requires known { All (λ p. p < length input.now) others.now }
+    requires known { length others.now ≡ length input.now }
     requires count { length old.now ≡ length input.now }
-    ensures { IfOk result
-        (λ args. args ≡ replaced old.now others.now (map (λ p. slice_index_or input.now p []) others.now)) }
+    ensures { IfOk result (λ args. args
+        ≡ replaced old.now (processes_in others.now) (map (λ p. slice_index_or input.now p []) (processes_in others.now))) }
 {
     if others.is_empty() {
         return old.copy();
     }
     let mut all = copied(alloc, old.as_slice())?;
-    for process in others {
-        let args = &input.as_slice()[*process];
-        all[*process] = args.copy()?.share()?;
+    for process in others.iter() {
+        let args = &input.as_slice()[process];
+        all[process] = args.copy()?.share()?;
     }
     SharedSeq::from_vec(all)
 }
@@ -40,18 +40,16 @@ fn args_again(
 /// arguments of those who have no others.
 pub fn opened<P: Program, R, G>(
     given: &Given<'_, P, R, G>,
-    marks: &[bool],
+    marks: &ProcessSet,
 ) -> Result<Tape, OutOfMemory>
-    requires before { (turn : _) × IsBefore turn given.now.input.now (run_before given.now) }
-    requires marks { AreFirstMarked (run_before given.now) given.now.input.now marks.now }
-    ensures { IfOk result (λ tape. tape ≡ start given.now.input.now) }
+    requires { AreFirstMarked given.now.before given.now.input marks.now }
+    ensures { IfOk result (λ tape. tape ≡ start given.now.input) }
 {
     let input = given.input;
-    let Some(history) = given.old else {
+    let Some((history, like)) = with_first_views(given.old) else {
         return Ok(Tape::open_lawful(given.alloc, input)?);
     };
-    let marked = processes_where(given.alloc, marks)?;
+    let marked = marks.members(given.alloc)?;
     let args = args_again(given.alloc, history.args(), &input.args, given.other_args)?;
-    let like = first_views_before(history);
     Ok(Tape::open_like(given.alloc, input, args, like, marked.as_slice())?)
 }

@@ -6,14 +6,14 @@ ghost use Rattle.bsp_incr.specs.declared.compare.known_table.KnownTable.TheVaria
 use crate::Update;
 use crate::compare::KnownTable;
 use crate::rerun::counts::Counts;
-use bsp_model::Seq;
+use bsp_model::{ProcessSet, Seq};
 use std::alloc::Global;
 
 /// An update under way, between two supersteps of the run that is made again.
 #[derive(Drop)]
 pub struct UnderWay {
-    /// Who may see something else in the open superstep than in the run before, by process. The table and the tag size are left aside.
-    pub marks: Vec<bool>,
+    /// Who may see something else in the open superstep than in the run before. The table and the tag size are left aside.
+    pub marks: ProcessSet,
     /// What is known of these.
     pub table: KnownTable,
     /// What was done again so far.
@@ -24,8 +24,8 @@ pub struct UnderWay {
 
 impl UnderWay {
     /// Nothing is done yet, and nothing is known of the table.
-    pub fn new(alloc: Global, marks: Vec<bool>, counts: Counts) -> UnderWay
-        ensures marks { result.marks.items ≡ marks.items }
+    pub fn new(alloc: Global, marks: ProcessSet, counts: Counts) -> UnderWay
+        ensures marks { result.marks ≡ marks }
         ensures table { result.table ≡ Unknown }
         ensures executed { result.update.executed ≡ [] }
         ensures redelivered { result.update.redelivered ≡ [] }

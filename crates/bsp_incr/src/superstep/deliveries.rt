@@ -6,12 +6,15 @@ ghost use Rattle.bsp_deliver.specs.Requests.{each_below};
 ghost use Rattle.bsp_deliver.specs.Condition.{AreDeliverable};
 ghost use Rattle.bsp_incr.specs.Inside.Before.{outcomes_if_any};
 ghost use Rattle.bsp_incr.specs.Inside.Changes.{is_touched};
+ghost use Rattle.bsp_incr.specs.Inside.Given.{delivered_beside};
 ghost use Rattle.bsp_incr.specs.Inside.Marks.{AreComparable, OutcomesDifferAtMost};
 
-use crate::compare::mark_too;
+use crate::compare::delivered_outcomes;
+use crate::rerun::Given;
 use bsp_deliver::{Cells, touched_by_changes};
-use bsp_model::OutOfMemory;
-use bsp_step::Outcomes;
+use bsp_model::{OutOfMemory, ProcessSet};
+use bsp_run::{Phase, Tape};
+use bsp_step::{Outcomes, Program};
 use std::alloc::Global;
 
 /// Deliveries that were made.
@@ -23,49 +26,59 @@ pub struct Deliveries<'a> {
     pub cells: Cells,
 }
 
-/// Which deliveries have to be made, by process, where the run before made them too.
+/// To whom deliveries have to be made, where the run before made them too.
 fn touched_again<'a>(
     alloc: Global,
     old: &'a Outcomes,
     new: &'a Outcomes,
-    doubtful: &[usize],
-) -> Result<Vec<bool>, OutOfMemory>
+    doubtful: &ProcessSet,
+) -> Result<ProcessSet, OutOfMemory>
     requires count { length old.now ≡ length new.now }
     requires old { AreDeliverable old.now }
     requires new { AreDeliverable new.now }
     requires doubtful { OutcomesDifferAtMost old.now new.now doubtful.now }
-    ensures { IfOk result (λ all. all.items ≡ each_below (length new.now) (is_touched old.now new.now)) }
+    ensures { IfOk result (λ all. all ≡ each_below (length new.now) (is_touched old.now new.now)) }
 {
-    let mut changed = vec![in alloc; false; new.len()]?;
-    mark_too(&mut changed, doubtful);
-    Ok(touched_by_changes(alloc, old, new, changed.as_slice())?)
+    Ok(touched_by_changes(alloc, old, new, doubtful)?)
 }
 
-/// Which deliveries have to be made, where the run before made none.
-fn all_touched(alloc: Global, new: &Outcomes) -> Result<Vec<bool>, OutOfMemory>
-    ensures { IfOk result (λ all. all.items ≡ each_below (length new.now) (is_touched [] new.now)) }
+/// To whom deliveries have to be made, where the run before made none.
+fn all_touched(alloc: Global, new: &Outcomes) -> Result<ProcessSet, OutOfMemory>
+    ensures { IfOk result (λ all. all ≡ each_below (length new.now) (is_touched [] new.now)) }
 {
-    let mut touched = Vec::new(alloc);
-    for _d in 0..new.len() {
-        touched.push(true)?;
-    }
-    Ok(touched)
+    Ok(ProcessSet::all(alloc, new.len())?)
 }
 
-/// Which deliveries have to be made, by process.
-pub fn touched<'a>(
+/// To whom deliveries have to be made.
+fn touched<'a>(
     alloc: Global,
     old: Option<&'a Outcomes>,
     new: &'a Outcomes,
-    doubtful: &[usize],
-) -> Result<Vec<bool>, OutOfMemory>
+    doubtful: &ProcessSet,
+) -> Result<ProcessSet, OutOfMemory>
     requires comparable { AreComparable (outcomes_if_any (option_map (λ o. o.now) old)) new.now }
     requires doubtful { OutcomesDifferAtMost (outcomes_if_any (option_map (λ o. o.now) old)) new.now doubtful.now }
-    ensures { IfOk result (λ all. all.items
+    ensures { IfOk result (λ all. all
         ≡ each_below (length new.now) (is_touched (outcomes_if_any (option_map (λ o. o.now) old.entry)) new.now)) }
 {
     match old {
         Some(old) if !old.is_empty() => touched_again(alloc, old, new, doubtful),
         _ => all_touched(alloc, new),
     }
+}
+
+/// To whom the deliveries of the superstep whose turns are taken have to be made.
+pub fn touched_beside<P: Program, R, G>(
+    given: &Given<'_, P, R, G>,
+    tape: &Tape,
+    doubtful: &ProcessSet,
+) -> Result<ProcessSet, OutOfMemory>
+    requires turned { tape.now.phase ≡ Phase.Turned }
+    requires many { length tape.now.outcomes ≡ length given.now.input.mems }
+    requires doubtful { OutcomesDifferAtMost (delivered_beside given.now tape.now) tape.now.outcomes doubtful.now }
+    ensures { IfOk result (λ all. all ≡ each_below (length tape.now.outcomes)
+        (is_touched (delivered_beside given.now tape.now) tape.now.outcomes)) }
+{
+    let before = delivered_outcomes(given.old, tape.step());
+    touched(given.alloc, before, tape.outcomes(), doubtful)
 }

@@ -1,23 +1,23 @@
 //! How a superstep of a run that is made again ends: its deliveries, and the opening of the next.
 
-ghost use Rattle.std.specs.Prelude.{◌≡◌, ◌≤◌, ◌<◌, ◌++◌, ◌||◌, IfOk, OnOk, length, option_map, slice_index_or, true};
+ghost use Rattle.std.specs.Prelude.{◌≡◌, ◌≤◌, ◌<◌, ◌++◌, IfOk, OnOk, length, option_map};
+ghost use Rattle.bsp_model.specs.ProcessSet.{union};
 ghost use Rattle.bsp_deliver.specs.Requests.{each_below};
 ghost use Rattle.bsp_run.specs.Run.{after_delivery, open_views};
 ghost use Rattle.bsp_run.specs.Setting.{next_setting};
 ghost use Rattle.bsp_run.specs.Shares.{deliveries_to};
 ghost use Rattle.bsp_run.specs.Result.{cost_of_delivery, IsSmall};
 ghost use Rattle.bsp_incr.specs.Inside.Changes.{touched_in, is_touched, processes_where};
-ghost use Rattle.bsp_incr.specs.Inside.Marks.{AreDelivered, AreComparable, OutcomesDifferAtMost};
-ghost use Rattle.bsp_incr.specs.Inside.Given.{run_before, delivered_beside, views_after_beside};
+ghost use Rattle.bsp_incr.specs.Inside.Marks.{OutcomesDifferAtMost};
+ghost use Rattle.bsp_incr.specs.Inside.Given.{delivered_beside};
 ghost use Rattle.bsp_incr.specs.Inside.Known.{IsKnown, KnowsNextTable};
 
 use crate::compare::{
-    KnownTable, add_places, all_cost_alike, delivered_outcomes, has_table, mark_too,
-    processes_where, views_after,
+    KnownTable, add_places, all_cost_alike, delivered_outcomes, has_table, views_after,
 };
 use crate::rerun::{Given, UnderWay};
-use crate::superstep::deliveries::{Deliveries, touched};
-use bsp_model::{CostRow, OutOfMemory};
+use crate::superstep::deliveries::{Deliveries, touched_beside};
+use bsp_model::{CostRow, OutOfMemory, ProcessSet};
 use bsp_pool::Gate;
 use bsp_run::{Phase, Setting, Tape, Views, wide_deliveries};
 use bsp_step::Program;
@@ -28,10 +28,10 @@ use std::thread::Threads;
 fn cost<P: Program, G: Gate, R: Threads + Sync>(
     given: &Given<'_, P, R, G>,
     tape: &Tape,
-    doubtful: &[usize],
+    doubtful: &ProcessSet,
 ) -> CostRow
     requires turned { tape.now.phase ≡ Phase.Turned }
-    requires comparable { AreComparable (delivered_beside given.now tape.now) tape.now.outcomes }
+    requires many { length tape.now.outcomes ≡ length given.now.input.mems }
     requires doubtful { OutcomesDifferAtMost (delivered_beside given.now tape.now) tape.now.outcomes doubtful.now }
     ensures value { result ≡ cost_of_delivery tape.now.g tape.now.l tape.now.outcomes }
     ensures small { IsSmall result }
@@ -81,20 +81,19 @@ fn next_setting(
 fn open_next<P: Program, G: Gate, R: Threads + Sync>(
     given: &Given<'_, P, R, G>,
     tape: &mut Tape,
-    doubtful: &[usize],
+    doubtful: &ProcessSet,
     made: Deliveries<'_>,
     known: KnownTable,
 ) -> Result<KnownTable, OutOfMemory>
     requires turned { tape.old.phase ≡ Phase.Turned }
-    requires comparable { AreComparable (delivered_beside given.now tape.old) tape.old.outcomes }
-    requires next { AreDelivered (delivered_beside given.now tape.old) (views_after_beside given.now tape.old) }
+    requires many { length tape.old.outcomes ≡ length given.now.input.mems }
     requires processes { made.processes.now ≡ processes_where (length tape.old.outcomes)
         (is_touched (delivered_beside given.now tape.old) tape.old.outcomes) }
     requires cells { made.cells ≡ deliveries_to tape.old.outcomes made.processes.now }
     requires doubtful { OutcomesDifferAtMost (delivered_beside given.now tape.old) tape.old.outcomes doubtful.now }
-    requires known { KnowsNextTable (run_before given.now) tape.old known }
+    requires known { KnowsNextTable given.now.before tape.old known }
     ensures tape { OnOk result (tape.new ≡ after_delivery tape.old) }
-    ensures known { IfOk result (KnowsNextTable (run_before given.now) tape.old) }
+    ensures known { IfOk result (KnowsNextTable given.now.before tape.old) }
 {
     let Some(old_next) = views_after(given.old, tape.step()) else {
         let _ = tape.delivered(made.cells)?;
@@ -111,34 +110,25 @@ fn open_next<P: Program, G: Gate, R: Threads + Sync>(
 pub fn make_deliveries<P: Program, G: Gate, R: Threads + Sync>(
     given: &Given<'_, P, R, G>,
     tape: &mut Tape,
-    doubtful: &[usize],
+    doubtful: &ProcessSet,
     known: KnownTable,
     under_way: &mut UnderWay,
 ) -> Result<(), OutOfMemory>
     requires turned { tape.old.phase ≡ Phase.Turned }
-    requires count { 0 < length (delivered_beside given.now tape.old)
-        → length (delivered_beside given.now tape.old) ≡ length tape.old.outcomes }
-    requires next { AreDelivered (delivered_beside given.now tape.old) (views_after_beside given.now tape.old) }
+    requires many { length tape.old.outcomes ≡ length given.now.input.mems }
     requires doubtful { OutcomesDifferAtMost (delivered_beside given.now tape.old) tape.old.outcomes doubtful.now }
-    requires always { length given.now.always.now ≡ length tape.old.outcomes }
-    requires known { KnowsNextTable (run_before given.now) tape.old known }
+    requires known { KnowsNextTable given.now.before tape.old known }
     ensures tape { OnOk result (tape.new ≡ after_delivery tape.old) }
-    ensures known { OnOk result (KnowsNextTable (run_before given.now) tape.old under_way.new.table) }
-    ensures marks { OnOk result (under_way.new.marks.items ≡ each_below (length tape.old.outcomes)
-        (λ d. is_touched (delivered_beside given.now tape.old) tape.old.outcomes d
-        || slice_index_or given.now.always.now d true)) }
+    ensures known { OnOk result (KnowsNextTable given.now.before tape.old under_way.new.table) }
+    ensures marks { OnOk result (under_way.new.marks ≡ union (each_below (length tape.old.outcomes)
+        (is_touched (delivered_beside given.now tape.old) tape.old.outcomes)) given.now.others) }
     ensures executed { OnOk result (under_way.new.update.executed ≡ under_way.old.update.executed) }
     ensures redelivered { OnOk result (under_way.new.update.redelivered ≡ under_way.old.update.redelivered
         ++ touched_in (length tape.old.past) (delivered_beside given.now tape.old) tape.old.outcomes) }
 {
     let step = tape.step();
-    let mut touched = touched(
-        given.alloc,
-        delivered_outcomes(given.old, step),
-        tape.outcomes(),
-        doubtful,
-    )?;
-    let processes = processes_where(given.alloc, touched.as_slice())?;
+    let mut touched = touched_beside(given, tape, doubtful)?;
+    let processes = touched.members(given.alloc)?;
     add_places(
         &mut under_way.update.redelivered,
         step as u64,
@@ -158,7 +148,7 @@ pub fn make_deliveries<P: Program, G: Gate, R: Threads + Sync>(
         cells,
     };
     under_way.table = open_next(given, tape, doubtful, made, known)?;
-    mark_too(&mut touched, given.other_args);
+    touched.insert_all(given.other_args);
     under_way.marks = touched;
     Ok(())
 }

@@ -1,12 +1,13 @@
 //! The turns of a superstep, of which those that serve from the run before are not taken again.
 
-ghost use Rattle.std.specs.Prelude.{◌≡◌, ◌<◌, ◌++◌, ◌∷◌, [], All, IfOk, OnOk, filter, map, length, not, option_map, slice_index_or, true, false};
+ghost use Rattle.std.specs.Prelude.{◌≡◌, ◌<◌, ◌++◌, ◌∷◌, ◌&&◌, [], All, IfOk, OnOk, map, length, not, option_map, slice_index_or, true, false};
+ghost use Rattle.bsp_deliver.specs.Requests.{each_below};
 ghost use Rattle.bsp_model.specs.Replaced.{replaced, IsAscending};
 ghost use Rattle.bsp_run.specs.Condition.{no_view};
 ghost use Rattle.bsp_run.specs.Shares.{turns_of};
 ghost use Rattle.bsp_incr.specs.Inside.Before.{outcomes_if_any};
 ghost use Rattle.bsp_incr.specs.Inside.Changes.{differ_in};
-ghost use Rattle.bsp_incr.specs.Inside.Given.{turn_by, turn_given, looks_given};
+ghost use Rattle.bsp_incr.specs.Inside.Given.{turn_by};
 ghost use Rattle.bsp_incr.specs.Inside.Known.{AreDoubtful};
 ghost use Rattle.bsp_incr.specs.Inside.OpenSuperstep.{differs_now};
 
@@ -14,7 +15,7 @@ use crate::Place;
 use crate::compare::{Doubtful, OpenSuperstep, add_places, serves};
 use crate::rerun::{Counts, Given};
 use crate::superstep::reuse::reuse;
-use bsp_model::{OutOfMemory, Seq, TryCopy};
+use bsp_model::{OutOfMemory, ProcessSet, Seq, TryCopy};
 use bsp_pool::Gate;
 use bsp_run::wide_turns;
 use bsp_step::{OutcomeRows, Outcomes, Program};
@@ -49,22 +50,22 @@ fn needed_turns<P: Program, R, G>(
     superstep: &OpenSuperstep<'_, '_>,
     doubtful: &Doubtful,
     counts: &mut Counts,
-) -> Result<(Vec<usize>, Vec<usize>), OutOfMemory>
+) -> Result<(ProcessSet, ProcessSet), OutOfMemory>
     requires doubtful { AreDoubtful superstep.now.old_views superstep.now.views.now doubtful.now }
-    ensures needed { IfOk result (λ r. r.0.items
-        ≡ filter (differs_now (looks_given given.now) superstep.now) doubtful.now.processes.items) }
-    ensures served { IfOk result (λ r. r.1.items
-        ≡ filter (λ p. not (differs_now (looks_given given.now) superstep.now p)) doubtful.now.processes.items) }
+    ensures needed { IfOk result (λ r. r.0 ≡ each_below (length superstep.now.views.now)
+        (differs_now (P.looks given.now.program) superstep.now)) }
+    ensures served { IfOk result (λ r. r.1 ≡ each_below (length superstep.now.views.now)
+        (λ p. slice_index_or doubtful.now.processes p false
+        && not (differs_now (P.looks given.now.program) superstep.now p))) }
 {
-    let processes = doubtful.processes.as_slice();
-    let mut needed = Vec::with_capacity(given.alloc, processes.len())?;
-    let mut served = Vec::new(given.alloc);
-    for process in processes {
+    let mut needed = ProcessSet::none(given.alloc, doubtful.processes.count())?;
+    let mut served = ProcessSet::none(given.alloc, doubtful.processes.count())?;
+    for process in doubtful.processes.iter() {
         counts.look();
-        if needs_turn(given.program, superstep, *process, doubtful.same_table) {
-            needed.push(*process)?;
+        if needs_turn(given.program, superstep, process, doubtful.same_table) {
+            needed.insert(process);
         } else {
-            served.push(*process)?;
+            served.insert(process);
         }
     }
     Ok((needed, served))
@@ -99,9 +100,10 @@ fn served_turns<P: Program, R, G>(
     processes: &[usize],
 ) -> Result<OutcomeRows, OutOfMemory>
     requires known { All (λ p. p < length superstep.now.views.now) processes.now }
-    requires recorded { old_outcomes.now ≡ map (turn_given given.now) superstep.now.old_views }
-    requires serve { All (λ p. differs_now (looks_given given.now) superstep.now p ≡ false) processes.now }
-    ensures { IfOk result (λ all. all ≡ turns_of (turn_given given.now) superstep.now.views.now processes.now) }
+    requires recorded { old_outcomes.now ≡ map (turn_by P.Program given.now.program) superstep.now.old_views }
+    requires serve { All (λ p. differs_now (P.looks given.now.program) superstep.now p ≡ false) processes.now }
+    ensures { IfOk result (λ all. all
+        ≡ turns_of (turn_by P.Program given.now.program) superstep.now.views.now processes.now) }
 {
     let mut served = OutcomeRows::with_capacity(given.alloc, processes.len())?;
     for process in processes {
@@ -126,10 +128,10 @@ fn with_served_turns<P: Program, R, G>(
     requires known { All (λ p. p < length superstep.now.views.now) processes.now }
     requires within { All (λ p. p < length old_outcomes.now) processes.now }
     requires ascending { IsAscending processes.now }
-    requires recorded { old_outcomes.now ≡ map (turn_given given.now) superstep.now.old_views }
-    requires serve { All (λ p. differs_now (looks_given given.now) superstep.now p ≡ false) processes.now }
+    requires recorded { old_outcomes.now ≡ map (turn_by P.Program given.now.program) superstep.now.old_views }
+    requires serve { All (λ p. differs_now (P.looks given.now.program) superstep.now p ≡ false) processes.now }
     ensures { IfOk result (λ all. all ≡ replaced old_outcomes.now processes.now
-        (turns_of (turn_given given.now) superstep.now.views.now processes.now)) }
+        (turns_of (turn_by P.Program given.now.program) superstep.now.views.now processes.now)) }
 {
     if processes.is_empty() {
         return Ok(old_outcomes.copy()?);
@@ -147,13 +149,15 @@ pub fn turns_again<P: Program, G: Gate, R: Threads + Sync>(
     counts: &mut Counts,
 ) -> Result<Outcomes, OutOfMemory>
     requires recorded { outcomes_if_any (option_map (λ o. o.now) superstep.now.old_outcomes)
-        ≡ map (turn_given given.now) superstep.now.old_views }
+        ≡ map (turn_by P.Program given.now.program) superstep.now.old_views }
     requires doubtful { AreDoubtful superstep.now.old_views superstep.now.views.now doubtful.now }
-    ensures turns { IfOk result (λ all. all ≡ map (turn_given given.now) superstep.now.views.now) }
+    ensures turns { IfOk result (λ all. all ≡ map (turn_by P.Program given.now.program) superstep.now.views.now) }
     ensures executed { OnOk result (executed.new ≡ executed.old
-        ++ differ_in (looks_given given.now) superstep.now.step superstep.now.old_views superstep.now.views.now) }
+        ++ differ_in (P.looks given.now.program) superstep.now.step superstep.now.old_views superstep.now.views.now) }
 {
-    let (needed, served) = needed_turns(given, superstep, doubtful, counts)?;
+    let (to_take, to_serve) = needed_turns(given, superstep, doubtful, counts)?;
+    let needed = to_take.members(given.alloc)?;
+    let served = to_serve.members(given.alloc)?;
     add_places(executed, superstep.step, needed.as_slice())?;
     let rows = superstep.like.room_for(given.alloc, needed.len())?;
     let taken = wide_turns(

@@ -1,4 +1,4 @@
-use Rattle.std.proofs.Common.{◌≡◌, ◌<◌, ◌∙◌, Bool, true, false, List, length, get_or, ap, sym, subst, Option, Some}
+use Rattle.std.proofs.Common.{◌≡◌, ◌<◌, ◌∙◌, true, false, length, sym, subst, Option, Some}
 use Rattle.std.specs.Prelude.{option_map}
 use Rattle.bsp_model.specs.declared.input.Input.{Input}
 use Rattle.bsp_model.proofs.Inputs.{lawful_input}
@@ -9,8 +9,8 @@ use Rattle.bsp_run.specs.Law.{IsBspRun}
 use Rattle.bsp_run.proofs.Laws.{IsBspRun-run}
 use Rattle.bsp_run.proofs.Runs.{LeadsTo, supersteps_left, start-leads, advance-leads, fewer_left, closed-leads}
 use Rattle.bsp_incr.specs.declared.reply.Update.{Update}
-use Rattle.bsp_incr.specs.Inside.Changes.{update_of, processes_where}
-use Rattle.bsp_incr.specs.Inside.Before.{IsBefore, AreArgsMarked, AreFirstMarked, taken_before}
+use Rattle.bsp_incr.specs.Inside.Changes.{update_of}
+use Rattle.bsp_incr.specs.Inside.Before.{IsBefore, AreFirstMarked, taken_before}
 use Rattle.bsp_incr.specs.Inside.Known.{IsKnown}
 use Rattle.bsp_incr.specs.declared.compare.known_table.KnownTable.{KnownTable}
 use Rattle.bsp_incr.specs.Inside.Stays.{LinesStayBut}
@@ -29,7 +29,7 @@ loop-given-init g c =
     let some = (lawful_input input c.requires.lawful).some_superstep in
     record {
       leads = subst (λ (r : Run). LeadsTo turn r (run turn input)) (sym opened) (start-leads turn input some);
-      under_way = under_way_start turn (g.P.Program.looks c.args.executor.now.program.now) old input tape begun.result.marks.items begun.result.update opened some c.requires.before
+      under_way = under_way_start turn (g.P.Program.looks c.args.executor.now.program.now) old input tape begun.result.marks begun.result.update opened some c.requires.before
           (subst (AreFirstMarked old input) (sym begun.ensures.marks) c.requires.first) begun.ensures.executed begun.ensures.redelivered;
       table = λ _. subst (λ (k : KnownTable). IsKnown k (taken_before old (length tape.past)) (open_views tape)) (sym begun.ensures.table) tt;
     }
@@ -85,13 +85,5 @@ pub returns-clause-update : goal.returns-clause-update
 returns-clause-update g c =
     subst (λ (r : Run). c.loop-given.under_way.update ≡ update_of (g.P.Program.looks c.args.executor.now.program.now) (option_map (λ k. k.now) c.args.old) r) (sym c.in_ok-history.ensures) c.loop-given.invariant.under_way.updated
 
-pub opened-requires-clause-before : goal.opened-requires-clause-before
-opened-requires-clause-before g c κs within = (turn_of (g.P.Program.acts c.args.executor.now.program.now) (g.P.Program.ending c.args.executor.now.program.now), c.requires.before)
-
 pub invariant_of-given : goal.invariant_of-given
-invariant_of-given g c =
-    record {
-      marked = subst (AreArgsMarked (option_map (λ k. k.now) c.args.old) c.args.input.now) (sym c.as_slice-2.ensures.value) c.requires.args;
-      lawful = c.requires.lawful;
-      listed = c.as_slice-3.ensures.value ∙ c.in_ok-other_args.ensures ∙ ap (λ (bs : List Bool). processes_where (length bs) (λ p. get_or bs p false)) (c.as_slice.ensures.value ∙ sym c.as_slice-2.ensures.value);
-    }
+invariant_of-given g c = record { lawful = c.requires.lawful; before = c.requires.before; others = c.requires.args }

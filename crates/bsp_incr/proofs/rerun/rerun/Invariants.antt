@@ -10,7 +10,7 @@ use Rattle.bsp_incr.proofs.rerun.rerun.Given as goal
 abbrev pub invariant-loop-given : goal.invariant-loop-given
 invariant-loop-given g l = record {
   leads : LeadsTo (turn_of (g.P.Program.acts l.executor.program.now) (g.P.Program.ending l.executor.program.now)) l.tape (run (turn_of (g.P.Program.acts l.executor.program.now) (g.P.Program.ending l.executor.program.now)) l.input);
-  under_way : IsUnderWay (turn_of (g.P.Program.acts l.executor.program.now) (g.P.Program.ending l.executor.program.now)) (g.P.Program.looks l.executor.program.now) (option_map (λ k. k.now) l.old) l.input l.tape l.under_way.marks.items l.under_way.update;
+  under_way : IsUnderWay (turn_of (g.P.Program.acts l.executor.program.now) (g.P.Program.ending l.executor.program.now)) (g.P.Program.looks l.executor.program.now) (option_map (λ k. k.now) l.old) l.input l.tape l.under_way.marks l.under_way.update;
   table : KnowsTable (option_map (λ k. k.now) l.old) l.tape l.under_way.table;
 }
 

@@ -1,7 +1,7 @@
-use Rattle.std.proofs.Common.{◌<◌, ◌++◌, ◌∙◌, ℕ, Bool, true, List, Option, ap, sym, subst, map, length, get_or}
-use Rattle.std.specs.Prelude.{is_some, option_map, ◌||◌}
+use Rattle.std.proofs.Common.{◌++◌, ◌∙◌, ℕ, Bool, List, Option, ap, sym, subst, map, length}
+use Rattle.std.specs.Prelude.{is_some}
+use Rattle.bsp_model.specs.ProcessSet.{union}
 use Rattle.bsp_step.specs.OutcomeParts.{OutcomeParts}
-use Rattle.bsp_step.specs.Turn.{turn_of}
 use Rattle.bsp_deliver.specs.Requests.{each_below}
 use Rattle.bsp_run.specs.declared.superstep.Superstep.{Superstep}
 use Rattle.bsp_run.specs.Run.{Run, after_delivery, open_views}
@@ -10,58 +10,39 @@ use Rattle.bsp_run.proofs.Runs.{open_phase, advance-delivers, advance-ends}
 use Rattle.bsp_run.proofs.Records.{past-turned, open_views-in, count-outcomes_in}
 use Rattle.bsp_incr.specs.declared.reply.Place.{Place}
 use Rattle.bsp_incr.specs.Inside.Changes.{touched_in, is_touched}
+use Rattle.bsp_incr.specs.Inside.Given.{IsMaking, turn_by}
 use Rattle.bsp_incr.specs.Inside.Marks.{OutcomesDifferAtMost}
 use Rattle.bsp_incr.specs.Inside.Before.{delivered_outcomes}
 use Rattle.bsp_incr.proofs.KnownTables.{knows_delivered, knows_ended}
-use Rattle.bsp_incr.proofs.RunBefore.{count_before, delivered_before_is}
 use Rattle.bsp_incr.proofs.Remaking.{turns-in, unchanged_among, outcomes-turned, under_way_turned, under_way_delivered}
 use Rattle.bsp_incr.proofs.superstep.make_again.Goals as goal
 
-pub make_deliveries-requires-clause-count : goal.make_deliveries-requires-clause-count
-make_deliveries-requires-clause-count g c κs within =
-    let turn = turn_of (g.P.Program.acts c.args.given.now.program.now) (g.P.Program.ending c.args.given.now.program.now) in
-    let old : Option Run = option_map (λ k. k.now) c.args.given.now.old in
+pub make_deliveries-requires-clause-many : goal.make_deliveries-requires-clause-many
+make_deliveries-requires-clause-many g c κs within =
+    let turn = turn_by g.P.Program c.args.given.now.program in
     let r : Run = c.args.tape.now in
     let us = map turn (open_views r) in
-    let is = c.in_ok-known.ensures.turned in
-    let steps = ap (λ (x : Run). length x.past) is ∙ ap (λ (xs : List Superstep). length xs) (past-turned r us) in
-    let outcomes = ap (λ (x : Run). x.outcomes) is ∙ outcomes-turned r us in
-    λ some.
-    ap (λ n. length (delivered_outcomes old n)) steps
-    ∙ count_before turn c.args.given.now.input.now old (length r.past) c.requires.under_way.before (subst (λ n. 0 < length (delivered_outcomes old n)) steps some)
-    ∙ sym (ap (λ (os : List OutcomeParts). length os) (outcomes ∙ turns-in turn c.args.given.now.input.now r c.requires.under_way.made))
-
-pub make_deliveries-requires-clause-next : goal.make_deliveries-requires-clause-next
-make_deliveries-requires-clause-next g c κs within =
-    delivered_before_is (turn_of (g.P.Program.acts c.args.given.now.program.now) (g.P.Program.ending c.args.given.now.program.now)) c.args.given.now.input.now (option_map (λ k. k.now) c.args.given.now.old) (length c.take_turns.new.tape.past) c.requires.under_way.before
+    let outcomes = ap (λ (x : Run). x.outcomes) c.in_ok-known.ensures.turned ∙ outcomes-turned r us ∙ turns-in turn c.args.given.now.input r c.requires.under_way.made in
+    ap (λ (os : List OutcomeParts). length os) outcomes ∙ count-outcomes_in turn c.args.given.now.input (length r.past)
 
 pub make_deliveries-requires-clause-doubtful : goal.make_deliveries-requires-clause-doubtful
 make_deliveries-requires-clause-doubtful g c κs within =
-    let turn = turn_of (g.P.Program.acts c.args.given.now.program.now) (g.P.Program.ending c.args.given.now.program.now) in
-    let old : Option Run = option_map (λ k. k.now) c.args.given.now.old in
+    let turn = turn_by g.P.Program c.args.given.now.program in
+    let old : Option Run = c.args.given.now.before in
     let r : Run = c.args.tape.now in
     let us = map turn (open_views r) in
     let is = c.in_ok-known.ensures.turned in
     let steps = ap (λ (x : Run). length x.past) is ∙ ap (λ (xs : List Superstep). length xs) (past-turned r us) in
     let outcomes = ap (λ (x : Run). x.outcomes) is ∙ outcomes-turned r us in
-    let processes = c.args.doubtful.now.processes.items in
-    let unchanged = unchanged_among turn c.args.given.now.input.now old (length r.past) (open_views r) processes c.requires.under_way.before (open_views-in turn c.args.given.now.input.now r c.requires.under_way.made) c.requires.doubtful.processes in
-    subst (OutcomesDifferAtMost (delivered_outcomes old (length c.take_turns.new.tape.past)) c.take_turns.new.tape.outcomes) (sym c.as_slice.ensures.value)
-    (subst (λ (os : List OutcomeParts). OutcomesDifferAtMost (delivered_outcomes old (length c.take_turns.new.tape.past)) os processes) (sym outcomes)
-    (subst (λ n. OutcomesDifferAtMost (delivered_outcomes old n) us processes) (sym steps) unchanged))
-
-pub make_deliveries-requires-clause-always : goal.make_deliveries-requires-clause-always
-make_deliveries-requires-clause-always g c κs within =
-    let turn = turn_of (g.P.Program.acts c.args.given.now.program.now) (g.P.Program.ending c.args.given.now.program.now) in
-    let old : Option Run = option_map (λ k. k.now) c.args.given.now.old in
-    let r : Run = c.args.tape.now in
-    let us = map turn (open_views r) in
-    let outcomes = ap (λ (x : Run). x.outcomes) c.in_ok-known.ensures.turned ∙ outcomes-turned r us ∙ turns-in turn c.args.given.now.input.now r c.requires.under_way.made in
-    c.args.given.now.marked.count ∙ sym (count-outcomes_in turn c.args.given.now.input.now (length r.past)) ∙ sym (ap (λ (os : List OutcomeParts). length os) outcomes)
+    let processes = c.args.doubtful.now.processes in
+    let known = subst (IsMaking g.P.Program) c.given.view_is c.given.invariant in
+    let unchanged = unchanged_among turn c.args.given.now.input old (length r.past) (open_views r) processes known.before (open_views-in turn c.args.given.now.input r c.requires.under_way.made) c.requires.doubtful.processes in
+    subst (λ (os : List OutcomeParts). OutcomesDifferAtMost (delivered_outcomes old (length c.take_turns.new.tape.past)) os processes) (sym outcomes)
+    (subst (λ n. OutcomesDifferAtMost (delivered_outcomes old n) us processes) (sym steps) unchanged)
 
 pub returns-clause-tape : goal.returns-clause-tape
 returns-clause-tape g c =
-    let turn = turn_of (g.P.Program.acts c.args.given.now.program.now) (g.P.Program.ending c.args.given.now.program.now) in
+    let turn = turn_by g.P.Program c.args.given.now.program in
     let r : Run = c.args.tape.now in
     let is = c.in_ok-known.ensures.turned in
     let delivers = ap (λ (x : Run). is_turned x.phase) (sym is) ∙ sym c.in_ok-known.ensures.answer ∙ ap is_some c.in-Some.is in
@@ -69,20 +50,21 @@ returns-clause-tape g c =
 
 pub returns-clause-under_way : goal.returns-clause-under_way
 returns-clause-under_way g c =
-    let turn = turn_of (g.P.Program.acts c.args.given.now.program.now) (g.P.Program.ending c.args.given.now.program.now) in
-    let old : Option Run = option_map (λ k. k.now) c.args.given.now.old in
+    let turn = turn_by g.P.Program c.args.given.now.program in
+    let old : Option Run = c.args.given.now.before in
     let r : Run = c.args.tape.now in
     let us = map turn (open_views r) in
     let is = c.in_ok-known.ensures.turned in
     let steps = ap (λ (x : Run). length x.past) is ∙ ap (λ (xs : List Superstep). length xs) (past-turned r us) in
     let outcomes = ap (λ (x : Run). x.outcomes) is ∙ outcomes-turned r us in
-    let looks = g.P.Program.looks c.args.given.now.program.now in
-    let always = c.args.given.now.always.now in
+    let looks = g.P.Program.looks c.args.given.now.program in
+    let always = c.args.given.now.others in
     let delivers = ap (λ (x : Run). is_turned x.phase) (sym is) ∙ sym c.in_ok-known.ensures.answer ∙ ap is_some c.in-Some.is in
-    let all : ℕ → List OutcomeParts → List Bool = λ n os. each_below (length os) (λ d. is_touched (delivered_outcomes old n) os d || get_or always d true) in
+    let all : ℕ → List OutcomeParts → List Bool = λ n os. union (each_below (length os) (is_touched (delivered_outcomes old n) os)) always in
     let places : ℕ → List OutcomeParts → List Place = λ n os. c.args.under_way.now.update.redelivered ++ touched_in n (delivered_outcomes old n) os in
-    under_way_delivered turn looks old c.args.given.now.input.now always r c.make_deliveries.new.tape c.args.under_way.now.marks.items c.make_deliveries.new.under_way.marks.items c.args.under_way.now.update c.make_deliveries.new.under_way.update
-    c.requires.open delivers c.args.given.now.marked c.requires.under_way
+    let known = subst (IsMaking g.P.Program) c.given.view_is c.given.invariant in
+    under_way_delivered turn looks old c.args.given.now.input always r c.make_deliveries.new.tape c.args.under_way.now.marks c.make_deliveries.new.under_way.marks c.args.under_way.now.update c.make_deliveries.new.under_way.update
+    c.requires.open delivers known.before known.others c.requires.under_way
     (c.in_ok-make_deliveries.ensures.tape ∙ ap after_delivery is)
     (c.in_ok-make_deliveries.ensures.marks ∙ ap (λ n. all n c.take_turns.new.tape.outcomes) steps ∙ ap (all (length r.past)) outcomes)
     (c.in_ok-make_deliveries.ensures.executed ∙ c.in_ok-known.ensures.executed)
@@ -90,7 +72,7 @@ returns-clause-under_way g c =
 
 pub returns-in_default-clause-tape : goal.returns-in_default-clause-tape
 returns-in_default-clause-tape g c =
-    let turn = turn_of (g.P.Program.acts c.args.given.now.program.now) (g.P.Program.ending c.args.given.now.program.now) in
+    let turn = turn_by g.P.Program c.args.given.now.program in
     let r : Run = c.args.tape.now in
     let is = c.in_ok-known.ensures.turned in
     let delivers = ap (λ (x : Run). is_turned x.phase) (sym is) ∙ sym c.in_ok-known.ensures.answer ∙ ap is_some c.in_default.is in
@@ -98,23 +80,24 @@ returns-in_default-clause-tape g c =
 
 pub returns-in_default-clause-under_way : goal.returns-in_default-clause-under_way
 returns-in_default-clause-under_way g c =
-    let turn = turn_of (g.P.Program.acts c.args.given.now.program.now) (g.P.Program.ending c.args.given.now.program.now) in
-    let looks = g.P.Program.looks c.args.given.now.program.now in
-    let old : Option Run = option_map (λ k. k.now) c.args.given.now.old in
-    under_way_turned turn looks old c.args.given.now.input.now c.args.tape.now c.take_turns.new.tape c.args.under_way.now.marks.items c.args.under_way.now.update record { executed = c.take_turns.new.executed; redelivered = c.args.under_way.now.update.redelivered }
+    let turn = turn_by g.P.Program c.args.given.now.program in
+    let looks = g.P.Program.looks c.args.given.now.program in
+    let old : Option Run = c.args.given.now.before in
+    under_way_turned turn looks old c.args.given.now.input c.args.tape.now c.take_turns.new.tape c.args.under_way.now.marks c.args.under_way.now.update record { executed = c.take_turns.new.executed; redelivered = c.args.under_way.now.update.redelivered }
     c.requires.open c.requires.under_way c.in_ok-known.ensures.turned c.in_ok-known.ensures.executed (λ i. c.args.under_way.now.update.redelivered)
 
 pub returns-clause-table : goal.returns-clause-table
 returns-clause-table g c =
-    let turn = turn_of (g.P.Program.acts c.args.given.now.program.now) (g.P.Program.ending c.args.given.now.program.now) in
-    let old : Option Run = option_map (λ k. k.now) c.args.given.now.old in
+    let turn = turn_by g.P.Program c.args.given.now.program in
+    let old : Option Run = c.args.given.now.before in
     let r : Run = c.args.tape.now in
-    knows_delivered turn c.args.given.now.input.now old r c.take_turns.new.tape c.make_deliveries.new.tape (map turn (open_views r)) c.make_deliveries.new.under_way.table c.requires.under_way.before
+    let known = subst (IsMaking g.P.Program) c.given.view_is c.given.invariant in
+    knows_delivered turn c.args.given.now.input old r c.take_turns.new.tape c.make_deliveries.new.tape (map turn (open_views r)) c.make_deliveries.new.under_way.table known.before
     c.in_ok-known.ensures.turned c.in_ok-make_deliveries.ensures.tape c.in_ok-make_deliveries.ensures.known
 
 pub returns-in_default-clause-table : goal.returns-in_default-clause-table
 returns-in_default-clause-table g c =
-    let turn = turn_of (g.P.Program.acts c.args.given.now.program.now) (g.P.Program.ending c.args.given.now.program.now) in
-    let old : Option Run = option_map (λ k. k.now) c.args.given.now.old in
+    let turn = turn_by g.P.Program c.args.given.now.program in
+    let old : Option Run = c.args.given.now.before in
     let r : Run = c.args.tape.now in
     knows_ended old r c.take_turns.new.tape (map turn (open_views r)) c.args.under_way.now.table c.in_ok-known.ensures.turned

@@ -1,12 +1,13 @@
-use Rattle.std.proofs.Common.{◌≡◌, ◌∙◌, ℕ, Bool, Bor, List, Option, Some, [], ap, sym, subst, length, map, get_or, false}
-use Rattle.std.specs.Prelude.{option_map}
+use Rattle.std.proofs.Common.{◌∙◌, ℕ, Bool, List, Option, [], ap, sym, subst, length, map, get_or, false, refl}
 use Rattle.bsp_model.specs.declared.input.Input.{Input}
+use Rattle.bsp_model.specs.ProcessSet.{processes_in}
 use Rattle.bsp_model.specs.Replaced.{replaced, IsAscending}
 use Rattle.bsp_model.proofs.Inputs.{lawful_input}
 use Rattle.bsp_step.specs.ViewParts.{ViewParts}
 use Rattle.bsp_run.specs.Run.{Run}
 use Rattle.bsp_run.specs.State.{cell_of, first_cell}
 use Rattle.bsp_incr.specs.Inside.Changes.{processes_where}
+use Rattle.bsp_incr.specs.Inside.Given.{Making, turn_by}
 use Rattle.bsp_incr.specs.Inside.Before.{AreArgsMarked, AreFirstMarked, IsBefore}
 use Rattle.bsp_incr.proofs.Gathering.{listed_below, processes_where-ascending}
 use Rattle.bsp_incr.proofs.FirstViews.{first_cells_in_place}
@@ -15,37 +16,38 @@ use Rattle.bsp_incr.proofs.rerun.opening.opened.Goals as goal
 
 pub args_again-requires-clause-known : goal.args_again-requires-clause-known
 args_again-requires-clause-known g c =
-    let given = c.args.given.now in
+    let given = c.given.inside in
+    let known = c.given.invariant in
     let input : Input = given.input.now in
-    let always : List Bool = given.always.now in
-    let test : ℕ → Bool = λ p. get_or always p false in
-    let long : length always ≡ length input.args = given.marked.count ∙ sym (lawful_input input given.lawful).same_count in
-    listed_below (length input.args) test given.other_args.now (given.listed ∙ ap (λ n. processes_where n test) long)
+    known.others.count ∙ sym (lawful_input input known.lawful).same_count
 
 pub args_again-requires-clause-count : goal.args_again-requires-clause-count
 args_again-requires-clause-count g c =
-    let given = c.args.given.now in
+    let given = c.given.inside in
+    let known = c.given.invariant in
+    let turn = turn_by g.P.Program given.program.now in
     let old : Run = c.in-Some.history.now in
-    let there : option_map (λ (k : Bor Run). k.now) given.old ≡ Some old = ap (option_map (λ (k : Bor Run). k.now)) c.in-Some.is in
-    ap (λ (lists : List (List ℕ)). length lists) c.args-2.ensures ∙ count_args c.requires.before.0 given.input.now old (subst (IsBefore c.requires.before.0 given.input.now) there c.requires.before.1) given.lawful
+    ap (λ (lists : List (List ℕ)). length lists) c.args-2.ensures ∙ count_args turn given.input.now old (subst (IsBefore turn given.input.now) c.in-Some.ensures.history known.before) known.lawful
 
 pub open_like-requires-clause-args : goal.open_like-requires-clause-args
 open_like-requires-clause-args g c =
-    let given = c.args.given.now in
+    let given = c.given.inside in
+    let known = c.given.invariant in
     let input : Input = given.input.now in
     let old : Run = c.in-Some.history.now in
-    let turn = c.requires.before.0 in
-    let there : option_map (λ (k : Bor Run). k.now) given.old ≡ Some old = ap (option_map (λ (k : Bor Run). k.now)) c.in-Some.is in
+    let turn = turn_by g.P.Program given.program.now in
+    let there = c.in-Some.ensures.history in
     c.in_ok-args.ensures
-    ∙ ap (λ (lists : List (List ℕ)). replaced lists given.other_args.now (map (λ p. get_or input.args p []) given.other_args.now)) c.args-2.ensures
-    ∙ args_in_place turn input old given.always.now given.other_args.now (subst (IsBefore turn input) there c.requires.before.1) given.lawful
-    (subst (λ (o : Option Run). AreArgsMarked o input given.always.now) there given.marked) given.listed
+    ∙ ap (λ (lists : List (List ℕ)). replaced lists (processes_in given.other_args.now) (map (λ p. get_or input.args p []) (processes_in given.other_args.now))) c.args-2.ensures
+    ∙ args_in_place turn input old given.other_args.now (processes_in given.other_args.now) (subst (IsBefore turn input) there known.before) known.lawful
+    (subst (λ (o : Option Run). AreArgsMarked o input given.other_args.now) there known.others) refl
 
 pub open_like-requires-clause-known : goal.open_like-requires-clause-known
 open_like-requires-clause-known g c =
     let marks : List Bool = c.args.marks.now in
     let test : ℕ → Bool = λ p. get_or marks p false in
-    listed_below (length c.args.given.now.input.now.mems) test c.as_slice.result.now (c.as_slice.ensures.value ∙ c.in_ok-marked.ensures ∙ ap (λ n. processes_where n test) c.requires.marks.count)
+    let many = c.requires.count ∙ ap (λ (m : Making _). length m.input.mems) (sym c.given.view_is) in
+    listed_below (length c.given.inside.input.now.mems) test c.as_slice.result.now (c.as_slice.ensures.value ∙ c.in_ok-marked.ensures ∙ ap (λ n. processes_where n test) many)
 
 pub open_like-requires-clause-ascending : goal.open_like-requires-clause-ascending
 open_like-requires-clause-ascending g c =
@@ -55,13 +57,13 @@ open_like-requires-clause-ascending g c =
 
 pub open_like-requires-clause-like : goal.open_like-requires-clause-like
 open_like-requires-clause-like g c =
-    let given = c.args.given.now in
+    let given = c.given.inside in
     let input : Input = given.input.now in
     let old : Run = c.in-Some.history.now in
-    let turn = c.requires.before.0 in
-    let there : option_map (λ (k : Bor Run). k.now) given.old ≡ Some old = ap (option_map (λ (k : Bor Run). k.now)) c.in-Some.is in
-    let seen : List ViewParts = c.first_views_before-like.result.now in
+    let turn = turn_by g.P.Program given.program.now in
+    let there = c.in-Some.ensures.history in
     let marked : List ℕ = c.as_slice.result.now in
-    ap (λ (vs : List ViewParts). replaced (map cell_of vs) marked (map (first_cell input.mems) marked)) c.first_views_before-like.ensures
-    ∙ first_cells_in_place turn old input c.args.marks.now marked (subst (IsBefore turn input) there c.requires.before.1)
-    (subst (λ (o : Option Run). AreFirstMarked o input c.args.marks.now) there c.requires.marks) (c.as_slice.ensures.value ∙ c.in_ok-marked.ensures)
+    let first = subst (λ (m : Making _). AreFirstMarked m.before m.input c.args.marks.now) (sym c.given.view_is) c.requires in
+    ap (λ (vs : List ViewParts). replaced (map cell_of vs) marked (map (first_cell input.mems) marked)) c.in-Some.ensures.views
+    ∙ first_cells_in_place turn old input c.args.marks.now marked (subst (IsBefore turn input) there c.given.invariant.before)
+    (subst (λ (o : Option Run). AreFirstMarked o input c.args.marks.now) there first) (c.as_slice.ensures.value ∙ c.in_ok-marked.ensures)

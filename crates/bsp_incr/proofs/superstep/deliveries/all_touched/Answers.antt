@@ -1,15 +1,12 @@
-use Rattle.std.proofs.Common.{◌∙◌, ◌++◌, ◌∷◌, [], ℕ, Bool, true, List, sym, ap}
-use Rattle.bsp_deliver.specs.Requests.{each_below}
-use Rattle.bsp_run.proofs.Lists.{each_below_more}
+use Rattle.std.proofs.Common.{◌∙◌, [], true, sym, ap, length, replicate}
+use Rattle.std.proofs.lemmas.List.{get_or-replicate, length-replicate}
+use Rattle.std.proofs.lemmas.List.FromFn.{fill_by_all}
 use Rattle.bsp_incr.specs.Inside.Changes.{is_touched}
 use Rattle.bsp_incr.proofs.Propagation.{touched-none}
 use Rattle.bsp_incr.proofs.superstep.deliveries.all_touched.Goals as goal
 
-pub loop-d-preserved : goal.loop-d-preserved
-loop-d-preserved c =
-    let test : ℕ → Bool = is_touched [] c.args.new.now in
-    let d : ℕ = c.loop-d._d in
-    c.in_ok-push.ensures.items
-    ∙ ap (λ (bs : List Bool). bs ++ true ∷ []) c.loop-d.invariant
-    ∙ ap (λ (b : Bool). each_below d test ++ b ∷ []) (sym (touched-none c.args.new.now d))
-    ∙ sym (each_below_more test d)
+pub returns : goal.returns
+returns c =
+    let n = length c.args.new.now in
+    c.in_ok-all.ensures ∙ ap (λ k. replicate k true) c.len.ensures
+    ∙ fill_by_all (is_touched [] c.args.new.now) (replicate n true) n true (length-replicate n true) (λ p l. get_or-replicate n p true true l ∙ sym (touched-none c.args.new.now p))

@@ -1,7 +1,7 @@
 use Rattle.std.proofs.Common.{◌≡◌, take}
-use Rattle.bsp_step.specs.Turn.{turn_of}
 use Rattle.bsp_run.specs.Shares.{turns_of}
+use Rattle.bsp_incr.specs.Inside.Given.{turn_by}
 use Rattle.bsp_incr.proofs.superstep.turns.served_turns.Given as goal
 
 abbrev pub invariant-loop-process : goal.invariant-loop-process
-invariant-loop-process g l = l.served ≡ turns_of (turn_of (g.P.Program.acts l.given.program.now) (g.P.Program.ending l.given.program.now)) l.superstep.views.now (take l.process-index l.processes)
+invariant-loop-process g l = l.served ≡ turns_of (turn_by g.P.Program l.given.program) l.superstep.views.now (take l.process-index l.processes)
