@@ -15,8 +15,8 @@ use Rattle.bsp_step.specs.OutcomeParts.{OutcomeParts, no_outcome, outcome_of}
 use Rattle.bsp_step.specs.Footprint.{AreAlike}
 use Rattle.bsp_deliver.specs.Requests.{words_read}
 use Rattle.bsp_deliver.specs.Delivery.{delivery_parts}
-use Rattle.bsp_deliver.specs.Inside.Comparison.{HasSameParcel}
-use Rattle.bsp_deliver.proofs.SameParts.{same_parts, same_own}
+use Rattle.bsp_deliver.specs.Inside.Comparison.{HasSameParcel, KeepsOwn}
+use Rattle.bsp_deliver.proofs.SameParts.{same_parts}
 use Rattle.bsp_run.specs.declared.superstep.Superstep.{Superstep}
 use Rattle.bsp_run.specs.Run.{run}
 use Rattle.bsp_run.specs.State.{State, first_state, next_state, pops_of, pushes_of}
@@ -109,12 +109,15 @@ same_delivered turn i j s d many l own each =
       | inr w ↦ same_words_read os us h (get_or_past os h.owner no_outcome (omega (arith, w, count-outcomes_in turn i s)) ∙ sym (get_or_past us h.owner no_outcome (omega (arith, w, many, count-outcomes_in turn j s))))
     ] in
     (same_parts os us d long (omega (arith, l, many, count-outcomes_in turn j s))).1 record {
-      parcels = λ q m.
-          elim (each q (omega (arith, m, many, count-outcomes_in turn j s))) [
-            | inl same ↦ parcel_same d (outcome_of os q) (outcome_of us q) same
-            | inr far ↦ parcel_none os us q d far.before far.after
-          ];
-      own = λ m. (same_own os us d).1 ((ap (λ (o : OutcomeParts). o.memory) own, ap (λ (o : OutcomeParts). o.gets) own), map_all (words_read os) (words_read us) (outcome_of us d).gets read);
+      brought = λ q m. record {
+        parcel =
+            elim (each q (omega (arith, m, many, count-outcomes_in turn j s))) [
+              | inl same ↦ parcel_same d (outcome_of os q) (outcome_of us q) same
+              | inr far ↦ parcel_none os us q d far.before far.after
+            ];
+        own = λ here. subst (KeepsOwn os us) here (ap (λ (o : OutcomeParts). o.memory) own, ap (λ (o : OutcomeParts). o.gets) own);
+      };
+      read = map_all (words_read os) (words_read us) (outcome_of us d).gets read;
     }
 
 pub sees_the_same : (turn : ViewParts → OutcomeParts) (i j : Input) → length i.mems ≡ length j.mems → (s d : ℕ) → d < length i.mems → HaveSameTables turn i j s → IsOutOfReach turn i j s d
