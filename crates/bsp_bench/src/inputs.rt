@@ -1,5 +1,6 @@
 //! Inputs that are made in memory, with 64 processes each.
 
+use bsp_model::limits::MOST_MEMORY_WORDS;
 use bsp_model::{Input, Memory, OutOfMemory, Seq, Words};
 use std::alloc::Global;
 
@@ -33,6 +34,24 @@ pub fn prefix(alloc: Global) -> Result<Input, OutOfMemory> {
         mems.push(Memory::from_words(alloc, &[1, 0])?)?;
     }
     input_of(alloc, mems, &[])
+}
+
+/// 4,096 words for each process, of which the first is the root's to tell, and the root's number, 0, as an argument: what `Broadcast` runs on.
+pub fn large(alloc: Global) -> Result<Input, OutOfMemory> {
+    let mut mems = Seq::new(alloc);
+    for _pid in 0..PROCESSES {
+        mems.push(counted(alloc, MOST_MEMORY_WORDS as u64)?)?;
+    }
+    input_of(alloc, mems, &[0])
+}
+
+/// So many words, which count up.
+fn counted(alloc: Global, count: u64) -> Result<Memory, OutOfMemory> {
+    let mut words = Vec::new(alloc);
+    for n in 0..count {
+        words.push(n)?;
+    }
+    Memory::from_words(alloc, words.as_slice())
 }
 
 /// A matrix of 448 rows and a vector, 7 rows and 7 words of it for each process: what `MatVec` multiplies.

@@ -2,8 +2,8 @@
 //!
 //! Without words it runs the sums of all prefixes, and prints the total cost, a fixed line. With words it prints the microseconds too:
 //! `plain-prefix`, `plain-matrix` (`run_plain`), `scratch-prefix` (`run_result`), `wide-prefix N`, `wide-matrix N`, `multiply N [TIMES]` (`run_wide` with N
-//! workers), `open-prefix`, `update-prefix PID VALUE` (a session), `prefix-input`, `matrix-input` (no run). A number before the name is how often the same
-//! is done in this process; the microseconds are then those of the shortest time.
+//! workers), `open-prefix`, `update-prefix PID VALUE`, `open-large`, `update-large PID VALUE` (a session), `prefix-input`, `matrix-input` (no run). A
+//! number before the name is how often the same is done in this process; the microseconds are then those of the shortest time.
 #![tactic(auto)]
 
 mod inputs;

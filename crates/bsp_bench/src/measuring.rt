@@ -6,7 +6,7 @@ use anyhow::{Context, Result, bail, ensure};
 use bsp_incr::{Edit, Session};
 use bsp_model::{Input, OutOfMemory};
 use bsp_pool::{Open, Timed};
-use bsp_programs::{MatVec, Prefix};
+use bsp_programs::{Broadcast, MatVec, Prefix};
 use bsp_run::{run_plain, run_result, run_wide};
 use bsp_step::Program;
 use std::alloc::Global;
@@ -27,8 +27,22 @@ pub fn measure<R: Threads + Clock + Sync>(rt: &R, alloc: Global, words: &[String
         "plain-prefix" => plain(alloc, &Prefix, inputs::prefix(alloc)),
         "scratch-prefix" => scratch(alloc, &Prefix, inputs::prefix(alloc)),
         "wide-prefix" => wide(rt, alloc, &Prefix, inputs::prefix(alloc), words),
-        "open-prefix" => opening(rt, alloc),
-        "update-prefix" => update(rt, alloc, words),
+        "open-prefix" => total(open(rt, alloc, Prefix, inputs::prefix(alloc))?),
+        "update-prefix" => update(
+            rt,
+            alloc,
+            open(rt, alloc, Prefix, inputs::prefix(alloc))?,
+            0,
+            words,
+        ),
+        "open-large" => total(open(rt, alloc, Broadcast, inputs::large(alloc))?),
+        "update-large" => update(
+            rt,
+            alloc,
+            open(rt, alloc, Broadcast, inputs::large(alloc))?,
+            100,
+            words,
+        ),
         "matrix-input" => count(inputs::matrix(alloc)),
         "plain-matrix" => plain(alloc, &MatVec, inputs::matrix(alloc)),
         "wide-matrix" => wide(rt, alloc, &MatVec, inputs::matrix(alloc), words),
@@ -89,28 +103,35 @@ fn multiply<R: Threads + Clock + Sync>(rt: &R, alloc: Global, words: &[String]) 
     wide(rt, alloc, &Squaring { times }, inputs::prefix(alloc), words)
 }
 
-/// A session on the prefix, by one worker.
-fn open_prefix<R: Threads + Sync>(rt: &R, alloc: Global) -> Result<Session<Prefix>> {
-    let opened = Session::open(rt, alloc, Prefix, inputs::prefix(alloc)?, 1, &Open);
+/// A session of a program, by one worker.
+fn open<P: Program + Drop, R: Threads + Sync>(
+    rt: &R,
+    alloc: Global,
+    program: P,
+    input: Result<Input, OutOfMemory>,
+) -> Result<Session<P>> {
+    let opened = Session::open(rt, alloc, program, input?, 1, &Open);
     let (session, _) = opened.ok().context("no run")?;
     Ok(session)
 }
 
-/// Opens that session.
-fn opening<R: Threads + Sync>(rt: &R, alloc: Global) -> Result<u64> {
-    Ok(open_prefix(rt, alloc)?.history().total())
+/// The total cost of a session's run.
+fn total<P: Program + Drop>(session: Session<P>) -> Result<u64> {
+    Ok(session.history().total())
 }
 
-/// Opens that session, and edits the word 0 of a process: its number and the new value are the words after the name.
-fn update<R: Threads + Sync>(rt: &R, alloc: Global, words: &[String]) -> Result<u64> {
+/// Edits the word at an address of a process: the process's number and the new value are the words after the name.
+fn update<P: Program + Drop, R: Threads + Sync>(
+    rt: &R,
+    alloc: Global,
+    session: Session<P>,
+    addr: u64,
+    words: &[String],
+) -> Result<u64> {
+    let mut session = session;
     let (pid, value) = (number_at(words, 2)?, number_at(words, 3)?);
-    let mut session = open_prefix(rt, alloc)?;
-    let edit = Edit::Word {
-        pid,
-        addr: 0,
-        value,
-    };
+    let edit = Edit::Word { pid, addr, value };
     let update = session.apply(rt, alloc, &[edit], 1, &Open);
     update.ok().context("no update")?;
-    Ok(session.history().total())
+    total(session)
 }
