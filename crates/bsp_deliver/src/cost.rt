@@ -75,12 +75,10 @@ impl Sums {
         ensures sums { self.new ≡ fold counted self.old (transfers_of p (outcome_of outcomes.now p)) }
         ensures room { (n : ℕ) → HasRoom self.old (MOST_REQUESTS + n) → HasRoom self.new n }
     {
-        let puts = outcomes.puts(p);
-        let gets = outcomes.gets(p);
-        let sends = outcomes.sends(p);
-        self.count_puts(p as u64, &puts);
-        self.count_gets(p as u64, gets);
-        self.count_sends(p as u64, &sends);
+        let own = outcomes.get(p);
+        self.count_puts(p as u64, &own.puts);
+        self.count_gets(p as u64, own.gets);
+        self.count_sends(p as u64, &own.sends);
     }
 
     /// The sums over all requests.

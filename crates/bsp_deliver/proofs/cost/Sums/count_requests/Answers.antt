@@ -8,12 +8,12 @@ use Rattle.bsp_deliver.proofs.cost.Sums.count_requests.Goals as goal
 
 pub count_puts-requires-clause-small : goal.count_puts-requires-clause-small
 count_puts-requires-clause-small c =
-    rw c.puts-puts.ensures
+    rw (ap (λ (x : OutcomeParts). x.puts) (c.own.view_is ∙ c.get-own.ensures))
     (small_puts c.args.outcomes.now c.args.p (outcome_of c.args.outcomes.now c.args.p) c.requires.deliverable c.requires.known (outcome_at c.args.outcomes.now c.args.p c.requires.known))
 
 pub count_gets-requires-clause-small : goal.count_gets-requires-clause-small
 count_gets-requires-clause-small c =
-    rw c.gets-gets.ensures
+    rw (ap (λ (x : OutcomeParts). x.gets) (c.own.view_is ∙ c.get-own.ensures))
     (small_gets c.args.outcomes.now c.args.p (outcome_of c.args.outcomes.now c.args.p) c.requires.deliverable c.requires.known (outcome_at c.args.outcomes.now c.args.p c.requires.known))
 
 pub count_gets-requires-clause-room : goal.count_gets-requires-clause-room
@@ -21,49 +21,54 @@ count_gets-requires-clause-room c =
     let os = c.args.outcomes.now in
     let p = c.args.p in
     let o = outcome_of os p in
-    let few = c.sends-sends.ensures.limits.few_requests in
-    rw c.gets-gets.ensures
-    (room_at (put_transfer p) o.puts c.args.self.now c.count_puts.new.self 1024 (length o.gets)
-    (c.count_puts.ensures ∙ ap (λ xs. fold counted c.args.self.now (map (put_transfer p) xs)) c.puts-puts.ensures)
-    (small_puts os p o c.requires.deliverable c.requires.known (outcome_at os p c.requires.known))
-    (omega (arith, few)) c.requires.room)
+    let puts = ap (λ (x : OutcomeParts). x.puts) (c.own.view_is ∙ c.get-own.ensures) in
+    room_at (put_transfer p) o.puts c.args.self.now c.count_puts.new.self 1024 (length c.own.inside.gets.now)
+    (c.count_puts.ensures ∙ ap (λ xs. fold counted c.args.self.now (map (put_transfer p) xs)) puts)
+    (small_puts os p o c.requires.deliverable c.requires.known (outcome_at c.args.outcomes.now c.args.p c.requires.known))
+    (omega (arith, ap length puts, c.own.invariant.few_requests)) c.requires.room
 
 pub count_sends-requires-clause-small : goal.count_sends-requires-clause-small
 count_sends-requires-clause-small c =
     let o = outcome_of c.args.outcomes.now c.args.p in
-    rw c.sends-sends.ensures.sends
-    (small_sends c.args.outcomes.now c.args.p o c.requires.deliverable c.requires.known (outcome_at c.args.outcomes.now c.args.p c.requires.known) c.sends-sends.ensures.limits.sends.each)
+    let short : All IsShortSend o.sends = subst (λ (x : OutcomeParts). All IsShortSend x.sends) (c.own.view_is ∙ c.get-own.ensures) c.own.invariant.sends.each in
+    rw (ap (λ (x : OutcomeParts). x.sends) (c.own.view_is ∙ c.get-own.ensures))
+    (small_sends c.args.outcomes.now c.args.p o c.requires.deliverable c.requires.known (outcome_at c.args.outcomes.now c.args.p c.requires.known) short)
 
 pub count_sends-requires-clause-room : goal.count_sends-requires-clause-room
 count_sends-requires-clause-room c =
     let os = c.args.outcomes.now in
     let p = c.args.p in
     let o = outcome_of os p in
-    let few = c.sends-sends.ensures.limits.few_requests in
-    let n = length o.sends in
-    rw c.sends-sends.ensures.sends
-    (room_at (get_transfer p) o.gets c.count_puts.new.self c.count_gets.new.self (length o.gets + n) n
-    (c.count_gets.ensures ∙ ap (λ xs. fold counted c.count_puts.new.self (map (get_transfer p) xs)) c.gets-gets.ensures)
-    (small_gets os p o c.requires.deliverable c.requires.known (outcome_at os p c.requires.known)) (omega arith)
+    let few = c.own.invariant.few_requests in
+    let puts = ap (λ (x : OutcomeParts). x.puts) (c.own.view_is ∙ c.get-own.ensures) in
+    let gets = ap (λ (x : OutcomeParts). x.gets) (c.own.view_is ∙ c.get-own.ensures) in
+    let n = length c.own.inside.sends in
+    room_at (get_transfer p) o.gets c.count_puts.new.self c.count_gets.new.self (length o.gets + n) n
+    (c.count_gets.ensures ∙ ap (λ xs. fold counted c.count_puts.new.self (map (get_transfer p) xs)) gets)
+    (small_gets os p o c.requires.deliverable c.requires.known (outcome_at c.args.outcomes.now c.args.p c.requires.known)) (omega arith)
     (room_at (put_transfer p) o.puts c.args.self.now c.count_puts.new.self 1024 (length o.gets + n)
-    (c.count_puts.ensures ∙ ap (λ xs. fold counted c.args.self.now (map (put_transfer p) xs)) c.puts-puts.ensures)
-    (small_puts os p o c.requires.deliverable c.requires.known (outcome_at os p c.requires.known))
-    (omega (arith, few)) c.requires.room))
+    (c.count_puts.ensures ∙ ap (λ xs. fold counted c.args.self.now (map (put_transfer p) xs)) puts)
+    (small_puts os p o c.requires.deliverable c.requires.known (outcome_at c.args.outcomes.now c.args.p c.requires.known))
+    (omega (arith, ap length puts, ap length gets, few)) c.requires.room)
 
 pub returns-clause-room : goal.returns-clause-room
 returns-clause-room c =
     let os = c.args.outcomes.now in
     let p = c.args.p in
     let o = outcome_of os p in
-    let few = c.sends-sends.ensures.limits.few_requests in
+    let few = c.own.invariant.few_requests in
+    let short : All IsShortSend o.sends = subst (λ (x : OutcomeParts). All IsShortSend x.sends) (c.own.view_is ∙ c.get-own.ensures) c.own.invariant.sends.each in
+    let puts = ap (λ (x : OutcomeParts). x.puts) (c.own.view_is ∙ c.get-own.ensures) in
+    let gets = ap (λ (x : OutcomeParts). x.gets) (c.own.view_is ∙ c.get-own.ensures) in
+    let sends = ap (λ (x : OutcomeParts). x.sends) (c.own.view_is ∙ c.get-own.ensures) in
     λ n room.
     room_at (send_transfer p) o.sends c.count_gets.new.self c.count_sends.new.self (length o.sends + n) n
-    (c.count_sends.ensures ∙ ap (λ xs. fold counted c.count_gets.new.self (map (send_transfer p) xs)) c.sends-sends.ensures.sends)
-    (small_sends os p o c.requires.deliverable c.requires.known (outcome_at os p c.requires.known) c.sends-sends.ensures.limits.sends.each) (omega arith)
+    (c.count_sends.ensures ∙ ap (λ xs. fold counted c.count_gets.new.self (map (send_transfer p) xs)) sends)
+    (small_sends os p o c.requires.deliverable c.requires.known (outcome_at c.args.outcomes.now c.args.p c.requires.known) short) (omega arith)
     (room_at (get_transfer p) o.gets c.count_puts.new.self c.count_gets.new.self (length o.gets + (length o.sends + n)) (length o.sends + n)
-    (c.count_gets.ensures ∙ ap (λ xs. fold counted c.count_puts.new.self (map (get_transfer p) xs)) c.gets-gets.ensures)
-    (small_gets os p o c.requires.deliverable c.requires.known (outcome_at os p c.requires.known)) (omega arith)
+    (c.count_gets.ensures ∙ ap (λ xs. fold counted c.count_puts.new.self (map (get_transfer p) xs)) gets)
+    (small_gets os p o c.requires.deliverable c.requires.known (outcome_at c.args.outcomes.now c.args.p c.requires.known)) (omega arith)
     (room_at (put_transfer p) o.puts c.args.self.now c.count_puts.new.self (1024 + n) (length o.gets + (length o.sends + n))
-    (c.count_puts.ensures ∙ ap (λ xs. fold counted c.args.self.now (map (put_transfer p) xs)) c.puts-puts.ensures)
-    (small_puts os p o c.requires.deliverable c.requires.known (outcome_at os p c.requires.known))
-    (omega (arith, few)) room))
+    (c.count_puts.ensures ∙ ap (λ xs. fold counted c.args.self.now (map (put_transfer p) xs)) puts)
+    (small_puts os p o c.requires.deliverable c.requires.known (outcome_at c.args.outcomes.now c.args.p c.requires.known))
+    (omega (arith, ap length puts, ap length gets, ap length sends, few)) room))
