@@ -5,3 +5,4 @@ pub mod SameDelivery
 pub mod Marks
 pub mod Gathering
 pub mod Cells
+pub mod Puts

@@ -1,13 +1,22 @@
 //! The h-relation of a superstep.
 
 ghost use Rattle.std.specs.Prelude.{◌≡◌, ℕ, ◌+◌, ◌^◌, ◌<◌, ◌≤◌, length, map, fold, All};
+ghost use Rattle.std.specs.Bool.{OnTrue};
 ghost use Rattle.bsp_step.specs.OutcomeParts.{outcome_of};
+ghost use Rattle.bsp_deliver.specs.Inside.Puts.{HasPutsAlone};
 ghost use Rattle.bsp_deliver.specs.Condition.{AreDeliverable};
 ghost use Rattle.bsp_deliver.specs.Cost.{put_transfer, get_transfer, send_transfer, largest, h_relation};
 
 use bsp_model::limits::{MOST_PROCESSES, MOST_REQUESTS};
 use bsp_model::{Get, PutsRef, SendsRef};
-use bsp_step::Outcomes;
+use bsp_step::{ListKind, Outcomes};
+
+/// Whether all requests are puts, pops and pushes.
+fn are_puts_alone(outcomes: &Outcomes) -> bool
+    ensures { OnTrue result (All HasPutsAlone outcomes.now) }
+{
+    outcomes.is_without(ListKind::Gets) && outcomes.is_without(ListKind::Sends)
+}
 
 /// The words that each process sends to and receives from others.
 #[derive(Clone, Copy)]
@@ -67,9 +76,10 @@ impl Sums {
         }
     }
 
-    /// Counts all requests of a process.
-    fn count_requests(&mut self, outcomes: &Outcomes, p: usize)
+    /// Counts all requests of a process. Where all issue puts alone, no others are looked for.
+    fn count_requests(&mut self, outcomes: &Outcomes, p: usize, puts_alone: bool)
         requires known { p < length outcomes.now }
+        requires alone { OnTrue puts_alone (All HasPutsAlone outcomes.now) }
         requires deliverable { AreDeliverable outcomes.now }
         requires room { HasRoom self.old MOST_REQUESTS }
         ensures sums { self.new ≡ fold counted self.old (transfers_of p (outcome_of outcomes.now p)) }
@@ -77,6 +87,9 @@ impl Sums {
     {
         let own = outcomes.get(p);
         self.count_puts(p as u64, &own.puts);
+        if puts_alone {
+            return;
+        }
         self.count_gets(p as u64, own.gets);
         self.count_sends(p as u64, &own.sends);
     }
@@ -91,8 +104,9 @@ impl Sums {
             sent: [0; MOST_PROCESSES],
             received: [0; MOST_PROCESSES],
         };
+        let puts_alone = are_puts_alone(outcomes);
         for p in 0..outcomes.len() {
-            sums.count_requests(outcomes, p);
+            sums.count_requests(outcomes, p, puts_alone);
         }
         sums
     }

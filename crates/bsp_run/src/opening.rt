@@ -5,7 +5,7 @@ ghost use Rattle.bsp_run.specs.State.{first_cell, no_messages};
 
 use crate::Arguments;
 use bsp_deliver::Cells;
-use bsp_model::{Memory, OutOfMemory, Seq, TryCopy, Words};
+use bsp_model::{Memory, OutOfMemory, Seq, SharedSeq, TryCopy, Words};
 use bsp_step::Queue;
 use std::alloc::Global;
 
@@ -24,11 +24,11 @@ pub fn first_cells(alloc: Global, mems: &[Memory]) -> Result<Cells, OutOfMemory>
 pub fn shared_args(args: &Seq<Words>) -> Result<Arguments, OutOfMemory>
     ensures { IfOk result (λ shared. shared ≡ args.now) }
 {
-    let mut shared = Seq::new(args.allocator());
+    let mut shared = Vec::with_capacity(args.allocator(), args.len())?;
     for words in args.as_slice() {
         shared.push(words.copy()?.share()?)?;
     }
-    shared.share()
+    SharedSeq::from_vec(shared)
 }
 
 /// The memories of some processes in the first superstep, and their queues.

@@ -1,7 +1,12 @@
-use Rattle.std.proofs.Common.{◌+◌, length, ap, ◌∙◌, arith, subst, All, fold, map}
-use Rattle.bsp_step.specs.OutcomeParts.{OutcomeParts, IsShortSend, outcome_of}
+use Rattle.std.proofs.Common.{◌≡◌, ℕ, ◌+◌, ◌++◌, [], List, length, ap, sym, ◌∙◌, arith, subst, All, fold, map}
+use Rattle.std.proofs.lemmas.Bool.{OnTrue_at}
+use Rattle.std.proofs.lemmas.List.{append-nil}
+use Rattle.bsp_model.specs.declared.request.Get.{Get}
+use Rattle.bsp_model.specs.declared.request.Send.{Send}
+use Rattle.bsp_step.specs.OutcomeParts.{OutcomeParts, IsShortSend, no_outcome, outcome_of}
 use Rattle.bsp_deliver.specs.Cost.{put_transfer, get_transfer, send_transfer}
-use Rattle.bsp_deliver.specs.Inside.Sums.{counted}
+use Rattle.bsp_deliver.specs.Inside.Puts.{HasPutsAlone}
+use Rattle.bsp_deliver.specs.Inside.Sums.{counted, transfers_of}
 use Rattle.bsp_deliver.proofs.Senders.{outcome_at}
 use Rattle.bsp_deliver.proofs.Counts.{room_at, small_puts, small_gets, small_sends}
 use Rattle.bsp_deliver.proofs.cost.Sums.count_requests.Goals as goal
@@ -72,3 +77,34 @@ returns-clause-room c =
     (c.count_puts.ensures ∙ ap (λ xs. fold counted c.args.self.now (map (put_transfer p) xs)) puts)
     (small_puts os p o c.requires.deliverable c.requires.known (outcome_at c.args.outcomes.now c.args.p c.requires.known))
     (omega (arith, ap length puts, ap length gets, ap length sends, few)) room))
+
+-- the transfers of a process that issues puts alone
+puts_alone : (p : ℕ) (o : OutcomeParts) → HasPutsAlone o → map (put_transfer p) o.puts ≡ transfers_of p o
+puts_alone p o alone =
+    let puts = map (put_transfer p) o.puts in
+    sym (
+    ap (λ (gets : List Get). (puts ++ map (get_transfer p) gets) ++ map (send_transfer p) o.sends) alone.0
+    ∙ ap (λ (sends : List Send). (puts ++ []) ++ map (send_transfer p) sends) alone.1
+    ∙ append-nil (puts ++ [])
+    ∙ append-nil puts)
+
+pub returns-then-puts_alone-clause-sums : goal.returns-then-puts_alone-clause-sums
+returns-then-puts_alone-clause-sums c =
+    let p = c.args.p in
+    let o = outcome_of c.args.outcomes.now p in
+    let alone : HasPutsAlone o = OnTrue_at c.if-puts_alone.true c.requires.alone p no_outcome c.requires.known in
+    c.count_puts.ensures
+    ∙ ap (λ xs. fold counted c.args.self.now (map (put_transfer p) xs)) (ap (λ (x : OutcomeParts). x.puts) (c.own.view_is ∙ c.get-own.ensures))
+    ∙ ap (fold counted c.args.self.now) (puts_alone p o alone)
+
+pub returns-then-puts_alone-clause-room : goal.returns-then-puts_alone-clause-room
+returns-then-puts_alone-clause-room c =
+    let os = c.args.outcomes.now in
+    let p = c.args.p in
+    let o = outcome_of os p in
+    let puts = ap (λ (x : OutcomeParts). x.puts) (c.own.view_is ∙ c.get-own.ensures) in
+    λ n room.
+    room_at (put_transfer p) o.puts c.args.self.now c.count_puts.new.self (1024 + n) n
+    (c.count_puts.ensures ∙ ap (λ xs. fold counted c.args.self.now (map (put_transfer p) xs)) puts)
+    (small_puts os p o c.requires.deliverable c.requires.known (outcome_at os p c.requires.known))
+    (omega (arith, ap length puts, c.own.invariant.few_requests)) room
