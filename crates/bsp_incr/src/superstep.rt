@@ -7,7 +7,8 @@ ghost use Rattle.bsp_run.specs.Condition.{AreOutcomesOf, is_open, is_turned};
 ghost use Rattle.bsp_run.specs.Inside.Record.{IsRecord};
 ghost use Rattle.bsp_incr.specs.Inside.Changes.{differ_in};
 ghost use Rattle.bsp_incr.specs.Inside.Given.{turn_by, taken_beside, IsMidway};
-ghost use Rattle.bsp_incr.specs.Inside.Known.{AreDoubtful, KnowsTable, KnowsNextTable};
+ghost use Rattle.bsp_incr.specs.Inside.Known.{AreDoubtful, IsKnown, KnowsTable, KnowsNextTable};
+ghost use Rattle.bsp_incr.specs.Inside.Marks.{AreMarked, ViewsDifferAtMost};
 
 mod deliveries;
 mod ending;
@@ -15,7 +16,10 @@ mod reuse;
 mod turns;
 
 use crate::Place;
-use crate::compare::{Doubtful, KnownTable, delivered_outcomes, ends_as_before, open_superstep};
+use crate::compare::{
+    Doubtful, KnownTable, OpenSuperstep, all_see_the_same, delivered_outcomes, ends_as_before,
+    open_superstep,
+};
 use crate::rerun::{Counts, Given, UnderWay};
 use crate::superstep::ending::make_deliveries;
 use crate::superstep::turns::turns_again;
@@ -102,19 +106,25 @@ fn make_again<P: Program, G: Gate, R: Threads + Sync>(
     Ok(())
 }
 
-/// The run before, where its superstep ended by delivery and nobody sees something else in it.
+/// The run before, where its superstep with the number of the open one ended by delivery and nobody sees something else in it.
 fn taken_whole<'a>(
     old: Option<&'a History>,
-    step: usize,
-    doubtful: &ProcessSet,
+    superstep: &OpenSuperstep<'_, '_>,
+    marks: &ProcessSet,
+    known: KnownTable,
 ) -> Option<&'a History>
-    ensures { IfSome result (λ h. (processes_in doubtful.now ≡ []) × (step < length h.now.past)
-        × (option_map (λ k. k.now) old.entry ≡ Some h.now)) }
+    requires marks { AreMarked superstep.now.old_views superstep.now.views.now marks.now }
+    requires known { IsKnown known superstep.now.old_views superstep.now.views.now }
+    ensures none { IfSome result (λ h. processes_in marks.now ≡ []) }
+    ensures same { IfSome result (λ h. ViewsDifferAtMost superstep.now.old_views superstep.now.views.now marks.now) }
+    ensures delivered { IfSome result (λ h. superstep.now.step < length h.now.past) }
+    ensures there { IfSome result (λ h. option_map (λ k. k.now) old.entry ≡ Some h.now) }
 {
-    match old {
-        Some(history) if doubtful.is_empty() && step < history.past().len() => Some(history),
-        _ => None,
+    let history = old?;
+    if superstep.step < history.past().len() as u64 && all_see_the_same(superstep, marks, known) {
+        return Some(history);
     }
+    None
 }
 
 /// One superstep more of a run that is made again, if it has not ended. Where nobody sees something else than in the run before, it is taken over
@@ -136,11 +146,11 @@ pub fn advance<P: Program, G: Gate, R: Threads + Sync>(
     }
     let superstep = open_superstep(given, tape);
     let marks = &under_way.marks;
-    let doubtful = Doubtful::among(given.alloc, &superstep, marks, under_way.table)?;
-    if let Some(history) = taken_whole(given.old, tape.step(), &doubtful.processes) {
+    if let Some(history) = taken_whole(given.old, &superstep, marks, under_way.table) {
         tape.take_over(history)?;
         under_way.table = KnownTable::AsBefore;
         return Ok(());
     }
+    let doubtful = Doubtful::among(given.alloc, &superstep, marks, under_way.table)?;
     make_again(given, tape, &doubtful, under_way)
 }

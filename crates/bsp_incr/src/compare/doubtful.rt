@@ -1,7 +1,8 @@
 //! Who may see something else in a superstep than in the run before.
 
-ghost use Rattle.std.specs.Prelude.{◌≡◌, ◌<◌, IfOk, length, true};
-ghost use Rattle.bsp_incr.specs.Inside.Marks.{AreMarked};
+ghost use Rattle.std.specs.Prelude.{◌≡◌, ◌<◌, [], IfOk, length, true};
+ghost use Rattle.bsp_model.specs.ProcessSet.{processes_in};
+ghost use Rattle.bsp_incr.specs.Inside.Marks.{AreMarked, ViewsDifferAtMost};
 ghost use Rattle.bsp_incr.specs.Inside.Known.{AreDoubtful, HaveSameTable, IsKnown};
 
 use crate::compare::beside::OpenSuperstep;
@@ -32,6 +33,20 @@ fn is_same_table(old: &ViewsRef<'_>, new: &Views, known: KnownTable) -> bool
         KnownTable::AsBefore => true,
         KnownTable::Unknown => have_same_table(&old.get(0), &new.get(0)),
     }
+}
+
+/// Whether all processes are known to see what they saw in the run before: none is marked, and the table and the tag size are the same.
+pub fn all_see_the_same(
+    superstep: &OpenSuperstep<'_, '_>,
+    marks: &ProcessSet,
+    known: KnownTable,
+) -> bool
+    requires marks { AreMarked superstep.now.old_views superstep.now.views.now marks.now }
+    requires known { IsKnown known superstep.now.old_views superstep.now.views.now }
+    ensures none { result ≡ true → processes_in marks.now ≡ [] }
+    ensures same { result ≡ true → ViewsDifferAtMost superstep.now.old_views superstep.now.views.now marks.now }
+{
+    marks.is_empty() && is_same_table(&superstep.old_views, superstep.views, known)
 }
 
 /// The same set.

@@ -1,4 +1,4 @@
-use Rattle.std.proofs.Common.{All, ◌∙◌, List, Option, ap, sym, subst, length}
+use Rattle.std.proofs.Common.{All, ◌<◌, refl, ◌∙◌, List, Option, ap, sym, subst, length}
 use Rattle.bsp_step.specs.ViewParts.{ViewParts, IsView}
 use Rattle.bsp_step.specs.OutcomeParts.{OutcomeParts}
 use Rattle.bsp_run.specs.Run.{Run, after_turns, after_delivery}
@@ -18,8 +18,8 @@ pub returns-then-not-is_open-clause-tape : goal.returns-then-not-is_open-clause-
 returns-then-not-is_open-clause-tape g c =
     sym (advance-closed (turn_by g.P.Program c.args.given.now.program) c.args.tape.now (sym c.if-not-is_open.ensures))
 
-pub among-requires-clause-marks : goal.among-requires-clause-marks
-among-requires-clause-marks g c =
+pub taken_whole-requires-clause-marks : goal.taken_whole-requires-clause-marks
+taken_whole-requires-clause-marks g c =
     let turn = turn_by g.P.Program c.args.given.now.program in
     let old : Option Run = c.args.given.now.before in
     let r : Run = c.args.tape.now in
@@ -29,8 +29,8 @@ among-requires-clause-marks g c =
     subst (λ (vs : List ViewParts). AreMarked vs c.open_superstep-superstep.result.views.now marks) (sym before)
     (subst (λ (vs : List ViewParts). AreMarked (taken_before old (length r.past)) vs marks) (sym now) (c.requires.under_way.marked (sym c.if-not-is_open.ensures)))
 
-pub among-requires-clause-known : goal.among-requires-clause-known
-among-requires-clause-known g c =
+pub taken_whole-requires-clause-known : goal.taken_whole-requires-clause-known
+taken_whole-requires-clause-known g c =
     let old : Option Run = c.args.given.now.before in
     let r : Run = c.args.tape.now in
     let before = c.open_superstep-superstep.ensures.old_views in
@@ -49,9 +49,10 @@ take_over-requires g c =
     let started = sym c.if-not-is_open.ensures in
     let now = c.open_superstep-superstep.ensures.views in
     let known = subst (IsMaking g.P.Program) c.given.view_is c.given.invariant in
-    let same = sym (ap (λ (m : Making _). m.before) c.given.view_is) ∙ c.in-Some.ensures.2 in
-    let stays = staying_whole turn j c.args.given.now.before old r c.step.result c.open_superstep-superstep.result.old_views c.open_superstep-superstep.result.views.now c.in_ok-doubtful.doubtful.processes known.before (c.in-Some.ensures.0, c.in-Some.ensures.1, same) c.requires.under_way.made started (lawful_input c.args.given.now.input known.lawful).some_process
-    c.step.ensures (c.open_superstep-superstep.ensures.old_views ∙ ap (taken_before c.args.given.now.before) (sym c.step.ensures)) now c.in_ok-doubtful.ensures.processes in
+    let same = sym (ap (λ (m : Making _). m.before) c.given.view_is) ∙ c.in-Some.ensures.there in
+    let past = subst (λ n. n < length old.past) c.open_superstep-superstep.ensures.step c.in-Some.ensures.delivered in
+    let stays = staying_whole turn j c.args.given.now.before old r (length r.past) c.open_superstep-superstep.result.old_views c.open_superstep-superstep.result.views.now c.args.under_way.now.marks known.before (c.in-Some.ensures.none, past, same) c.requires.under_way.made started (lawful_input c.args.given.now.input known.lawful).some_process
+    refl c.open_superstep-superstep.ensures.old_views now c.in-Some.ensures.same in
     let within = subst (All IsView) now c.open_superstep-superstep.ensures.limits in
     can_take_over acts ending stays.0.input_before j old r stays.1.before c.requires.under_way.made (open_phase r.phase started) (lawful_input c.args.given.now.input known.lawful).some_process stays.0.stands within stays.1.past stays.1.seen
 
@@ -66,9 +67,10 @@ returns-in-Some-clause-tape g c =
     let started = sym c.if-not-is_open.ensures in
     let now = c.open_superstep-superstep.ensures.views in
     let known = subst (IsMaking g.P.Program) c.given.view_is c.given.invariant in
-    let same = sym (ap (λ (m : Making _). m.before) c.given.view_is) ∙ c.in-Some.ensures.2 in
-    let stays = staying_whole turn j c.args.given.now.before old r c.step.result c.open_superstep-superstep.result.old_views c.open_superstep-superstep.result.views.now c.in_ok-doubtful.doubtful.processes known.before (c.in-Some.ensures.0, c.in-Some.ensures.1, same) c.requires.under_way.made started (lawful_input c.args.given.now.input known.lawful).some_process
-    c.step.ensures (c.open_superstep-superstep.ensures.old_views ∙ ap (taken_before c.args.given.now.before) (sym c.step.ensures)) now c.in_ok-doubtful.ensures.processes in
+    let same = sym (ap (λ (m : Making _). m.before) c.given.view_is) ∙ c.in-Some.ensures.there in
+    let past = subst (λ n. n < length old.past) c.open_superstep-superstep.ensures.step c.in-Some.ensures.delivered in
+    let stays = staying_whole turn j c.args.given.now.before old r (length r.past) c.open_superstep-superstep.result.old_views c.open_superstep-superstep.result.views.now c.args.under_way.now.marks known.before (c.in-Some.ensures.none, past, same) c.requires.under_way.made started (lawful_input c.args.given.now.input known.lawful).some_process
+    refl c.open_superstep-superstep.ensures.old_views now c.in-Some.ensures.same in
     c.in_ok-take_over.ensures.ok ∙ ap (λ (os : List OutcomeParts). after_delivery (after_turns r os)) (left turn stays.0.input_before j old r stays.1)
     ∙ sym (advance-delivers turn r (open_phase r.phase started) (goes_on turn stays.0.input_before j old r stays.1))
 
@@ -83,9 +85,10 @@ returns-in-Some-clause-under_way g c =
     let started = sym c.if-not-is_open.ensures in
     let now = c.open_superstep-superstep.ensures.views in
     let known = subst (IsMaking g.P.Program) c.given.view_is c.given.invariant in
-    let same = sym (ap (λ (m : Making _). m.before) c.given.view_is) ∙ c.in-Some.ensures.2 in
-    let stays = staying_whole turn j c.args.given.now.before old r c.step.result c.open_superstep-superstep.result.old_views c.open_superstep-superstep.result.views.now c.in_ok-doubtful.doubtful.processes known.before (c.in-Some.ensures.0, c.in-Some.ensures.1, same) c.requires.under_way.made started (lawful_input c.args.given.now.input known.lawful).some_process
-    c.step.ensures (c.open_superstep-superstep.ensures.old_views ∙ ap (taken_before c.args.given.now.before) (sym c.step.ensures)) now c.in_ok-doubtful.ensures.processes in
+    let same = sym (ap (λ (m : Making _). m.before) c.given.view_is) ∙ c.in-Some.ensures.there in
+    let past = subst (λ n. n < length old.past) c.open_superstep-superstep.ensures.step c.in-Some.ensures.delivered in
+    let stays = staying_whole turn j c.args.given.now.before old r (length r.past) c.open_superstep-superstep.result.old_views c.open_superstep-superstep.result.views.now c.args.under_way.now.marks known.before (c.in-Some.ensures.none, past, same) c.requires.under_way.made started (lawful_input c.args.given.now.input known.lawful).some_process
+    refl c.open_superstep-superstep.ensures.old_views now c.in-Some.ensures.same in
     let made = c.in_ok-take_over.ensures.ok ∙ ap (λ (os : List OutcomeParts). after_delivery (after_turns r os)) (left turn stays.0.input_before j old r stays.1) in
     subst (λ before. IsUnderWay turn (g.P.Program.looks c.args.given.now.program) before j c.take_over.new.self c.args.under_way.now.marks c.args.under_way.now.update) (sym same)
     (under_way_taken turn (g.P.Program.looks c.args.given.now.program) j old r c.take_over.new.self c.args.under_way.now.marks c.args.under_way.now.update stays.0 stays.1 (subst (λ before. IsUnderWay turn (g.P.Program.looks c.args.given.now.program) before j r c.args.under_way.now.marks c.args.under_way.now.update) same c.requires.under_way) made)
@@ -101,9 +104,10 @@ returns-in-Some-clause-table g c =
     let started = sym c.if-not-is_open.ensures in
     let now = c.open_superstep-superstep.ensures.views in
     let known = subst (IsMaking g.P.Program) c.given.view_is c.given.invariant in
-    let same = sym (ap (λ (m : Making _). m.before) c.given.view_is) ∙ c.in-Some.ensures.2 in
-    let stays = staying_whole turn j c.args.given.now.before old r c.step.result c.open_superstep-superstep.result.old_views c.open_superstep-superstep.result.views.now c.in_ok-doubtful.doubtful.processes known.before (c.in-Some.ensures.0, c.in-Some.ensures.1, same) c.requires.under_way.made started (lawful_input c.args.given.now.input known.lawful).some_process
-    c.step.ensures (c.open_superstep-superstep.ensures.old_views ∙ ap (taken_before c.args.given.now.before) (sym c.step.ensures)) now c.in_ok-doubtful.ensures.processes in
+    let same = sym (ap (λ (m : Making _). m.before) c.given.view_is) ∙ c.in-Some.ensures.there in
+    let past = subst (λ n. n < length old.past) c.open_superstep-superstep.ensures.step c.in-Some.ensures.delivered in
+    let stays = staying_whole turn j c.args.given.now.before old r (length r.past) c.open_superstep-superstep.result.old_views c.open_superstep-superstep.result.views.now c.args.under_way.now.marks known.before (c.in-Some.ensures.none, past, same) c.requires.under_way.made started (lawful_input c.args.given.now.input known.lawful).some_process
+    refl c.open_superstep-superstep.ensures.old_views now c.in-Some.ensures.same in
     let made = c.in_ok-take_over.ensures.ok ∙ ap (λ (os : List OutcomeParts). after_delivery (after_turns r os)) (left turn stays.0.input_before j old r stays.1) in
     let under = under_way_taken turn (g.P.Program.looks c.args.given.now.program) j old r c.take_over.new.self c.args.under_way.now.marks c.args.under_way.now.update stays.0 stays.1 (subst (λ before. IsUnderWay turn (g.P.Program.looks c.args.given.now.program) before j r c.args.under_way.now.marks c.args.under_way.now.update) same c.requires.under_way) made in
     subst (λ before. KnowsTable before c.take_over.new.self AsBefore) (sym same) (knows_taken turn j old r c.take_over.new.self stays.0 stays.1 under.made made)
