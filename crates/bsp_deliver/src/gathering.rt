@@ -8,7 +8,7 @@ ghost use Rattle.bsp_deliver.specs.Inside.Gathering.{overlay, put_at, sent_at, A
 ghost use Rattle.bsp_deliver.specs.Condition.{AreDeliverable, AreRequestsInside, IsAscending, sizes_of};
 
 use crate::Cells;
-use crate::delivery::{deliver, message};
+use crate::delivery::message;
 use crate::lists::empty_lists;
 use crate::writing::memories_after;
 use bsp_model::{Message, OutOfMemory, SendsRef, Seq, SharedColumn};
@@ -132,9 +132,8 @@ fn deliver_together(
     Ok(Cells::from_parts(memories, queues))
 }
 
-/// What `deliver` answers for each of these processes, in the order of the list. The list is ascending. For no process it takes no memory, one is
-/// delivered to by itself, and for several all requests are gone over once. What they get is gathered in the room of others, which are no longer
-/// needed.
+/// What `deliver` answers for each of these processes, in the order of the list. The list is ascending. For no process it takes no memory, and else
+/// all requests are gone over once. What the processes get is gathered in the room of others, which are no longer needed.
 pub fn deliver_some(
     alloc: Global,
     outcomes: &Outcomes,
@@ -146,13 +145,8 @@ pub fn deliver_some(
     requires ascending { IsAscending processes.now }
     ensures { IfOk result (λ all. all ≡ map (λ d. (next_memory (delivery_parts outcomes.now d), next_queue (delivery_parts outcomes.now d))) processes.now) }
 {
-    if processes.len() > 1 {
-        return deliver_together(alloc, outcomes, processes, room);
+    if processes.is_empty() {
+        return room.into_room(0);
     }
-    let mut cells = room.into_room(processes.len())?;
-    for process in processes {
-        let (memory, queue) = deliver(alloc, *process, outcomes)?;
-        cells.push(memory, queue)?;
-    }
-    Ok(cells)
+    deliver_together(alloc, outcomes, processes, room)
 }

@@ -11,6 +11,7 @@ use bsp_step::OutcomeRef;
 
 /// Marks the processes to which the requests at the first places differ, as far as the requests at each place are to one process in both
 /// lists. Returns how far that is.
+#[inline(always)]
 fn mark_aligned<R: Addressed>(
     marks: &mut ProcessSet,
     old: &OutcomeRef<'_>,
@@ -36,6 +37,7 @@ fn mark_aligned<R: Addressed>(
 }
 
 /// Marks the processes to which the requests differ from a place on.
+#[inline(always)]
 fn mark_unaligned<R: Addressed>(
     marks: &mut ProcessSet,
     old: &OutcomeRef<'_>,
@@ -57,6 +59,7 @@ fn mark_unaligned<R: Addressed>(
 }
 
 /// Marks the processes to which a sender's requests differ.
+#[inline(always)]
 fn mark_changes<R: Addressed>(marks: &mut ProcessSet, old: &OutcomeRef<'_>, new: &OutcomeRef<'_>)
     requires { All (λ r. R.addressee r < length marks.old) (R.issued old.now) }
     ensures { AreMarkedUnless (λ d. filter (λ r. R.addressee r == d) (R.issued old.now) ≡ filter (λ r. R.addressee r == d) (R.issued new.now)) marks.old marks.new }
@@ -66,6 +69,7 @@ fn mark_changes<R: Addressed>(marks: &mut ProcessSet, old: &OutcomeRef<'_>, new:
 }
 
 /// Marks the processes to which an outcome brings other puts or messages than before.
+#[inline(always)]
 pub fn mark_parcels(marks: &mut ProcessSet, old: &OutcomeRef<'_>, new: &OutcomeRef<'_>)
     requires { AreToKnown (length marks.old) old.now }
     ensures { AreMarkedUnless (λ d. HasSameParcel d old.now new.now) marks.old marks.new }

@@ -12,6 +12,7 @@ use bsp_model::{Get, MemoryRef, Put, Send, are_same};
 use bsp_step::{OutcomeRef, Outcomes};
 
 /// The place of the next request to `d`, or the number of requests.
+#[inline(always)]
 fn next_to<R: Addressed>(outcome: &OutcomeRef<'_>, d: u64, from: usize) -> usize
     requires { from ≤ length (R.issued outcome.now) }
     ensures within { result ≤ length (R.issued outcome.now) }
@@ -29,6 +30,7 @@ fn next_to<R: Addressed>(outcome: &OutcomeRef<'_>, d: u64, from: usize) -> usize
 }
 
 /// Whether the requests of one sender to `d`, from a place on, are equal lists.
+#[inline(always)]
 pub(crate) fn are_same_to<R: Addressed>(
     old: &OutcomeRef<'_>,
     new: &OutcomeRef<'_>,

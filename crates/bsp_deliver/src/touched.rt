@@ -46,6 +46,7 @@ fn read_same_words(old: &Outcomes, new: &Outcomes, changed: &ProcessSet, gets: &
 }
 
 /// Whether the outcomes of a process have the same memory and the same gets.
+#[inline(always)]
 fn have_same_own<'a>(old: &'a Outcomes, new: &'a Outcomes, p: usize) -> bool
     requires known { p < length new.now }
     requires count { length old.now ≡ length new.now }
@@ -57,6 +58,7 @@ fn have_same_own<'a>(old: &'a Outcomes, new: &'a Outcomes, p: usize) -> bool
 }
 
 /// Marks the processes to which a process brings other puts or messages than before.
+#[inline(always)]
 fn mark_parcels_of(marks: &mut ProcessSet, old: &Outcomes, new: &Outcomes, p: usize)
     requires known { p < length new.now }
     requires count { length old.now ≡ length new.now }
@@ -67,6 +69,7 @@ fn mark_parcels_of(marks: &mut ProcessSet, old: &Outcomes, new: &Outcomes, p: us
 }
 
 /// The same, and marks the process itself where its memory or its gets are others.
+#[inline(always)]
 fn mark_changes_of<'a>(marks: &mut ProcessSet, old: &'a Outcomes, new: &'a Outcomes, p: usize)
     requires as_many { length marks.old ≡ length new.now }
     requires count { length old.now ≡ length new.now }

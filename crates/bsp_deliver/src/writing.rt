@@ -1,14 +1,14 @@
 //! What the gets and the puts of a superstep leave in the memories of several processes.
 
-ghost use Rattle.std.specs.Prelude.{◌≡◌, ◌+◌, ◌<◌, ◌≤◌, ◌++◌, ◌∷◌, [], All, IfOk, IfSome, OnOk, length, map, fold, slice_index, slice_index_or, slice_set};
+ghost use Rattle.std.specs.Prelude.{◌≡◌, ◌+◌, ◌<◌, ◌≤◌, ◌++◌, ◌∷◌, [], All, IfOk, IfSome, OnOk, length, map, fold, slice_index, slice_index_or, slice_set, true, false};
 ghost use Rattle.bsp_deliver.specs.Requests.{all_puts, each_below, words_read};
 ghost use Rattle.bsp_deliver.specs.Delivery.{get_write, delivery_parts};
-ghost use Rattle.bsp_deliver.specs.Inside.Gathering.{overlay, put_at, ArePlaces};
+ghost use Rattle.bsp_deliver.specs.Inside.Gathering.{overlay, put_at, ArePlaces, AreTargets};
 ghost use Rattle.bsp_deliver.specs.Condition.{AreDeliverable, AreRequestsInside, IsAscending, IsGetInside, sizes_of};
 
 use crate::delivery::{piece_at, words_at};
 use bsp_model::limits::MOST_MEMORY_WORDS;
-use bsp_model::{Get, Memories, OutOfMemory, PutsRef};
+use bsp_model::{Get, Memories, OutOfMemory, ProcessSet, PutsRef};
 use bsp_step::{ListKind, Outcomes};
 use std::alloc::Global;
 
@@ -132,6 +132,39 @@ fn write_all_puts(
     Ok(())
 }
 
+/// The same, where all places are those of these processes: who puts nothing to them is not gone over.
+fn write_puts_to(
+    memories: &mut Memories,
+    places: &[usize],
+    targets: &ProcessSet,
+    outcomes: &Outcomes,
+) -> Result<(), OutOfMemory>
+    requires inside { All (AreRequestsInside (sizes_of outcomes.now)) outcomes.now }
+    requires count { length places.now ≡ length outcomes.now }
+    requires targets { AreTargets (length memories.old) places.now targets.now }
+    ensures { OnOk result (memories.new ≡ fold (λ ms s. put_at places.now ms s.1) memories.old (all_puts outcomes.now)) }
+{
+    let mut sender = outcomes.next_putting_to(targets, 0);
+    while sender < outcomes.len() {
+        let own = outcomes.puts(sender);
+        write_puts(memories, places, &own)?;
+        sender = outcomes.next_putting_to(targets, sender + 1);
+    }
+    Ok(())
+}
+
+/// The set of these processes, of so many.
+fn set_of(alloc: Global, count: usize, processes: &[usize]) -> Result<ProcessSet, OutOfMemory>
+    requires { All (λ d. d < count) processes.now }
+    ensures { IfOk result (λ set. All (λ d. slice_index_or set d false ≡ true) processes.now) }
+{
+    let mut set = ProcessSet::none(alloc, count)?;
+    for process in processes {
+        set.insert(*process);
+    }
+    Ok(set)
+}
+
 /// The memories of these processes after delivery, in the room of others.
 pub(crate) fn memories_after(
     alloc: Global,
@@ -147,6 +180,11 @@ pub(crate) fn memories_after(
     ensures { IfOk result (λ memories. memories ≡ fold (λ ms s. put_at places.now ms s.1) (map (λ d. overlay (delivery_parts outcomes.now d).memory (map get_write (delivery_parts outcomes.now d).gets)) processes.now) (all_puts outcomes.now)) }
 {
     let mut memories = memories_with_gets(alloc, outcomes, processes, room)?;
-    write_all_puts(&mut memories, places, outcomes)?;
+    if processes.len() == outcomes.len() {
+        write_all_puts(&mut memories, places, outcomes)?;
+        return Ok(memories);
+    }
+    let targets = set_of(alloc, outcomes.len(), processes)?;
+    write_puts_to(&mut memories, places, &targets, outcomes)?;
     Ok(memories)
 }

@@ -1,4 +1,5 @@
 pub mod FirstBits
+pub mod HeadsTo
 pub mod Inputs
 pub mod IssuedRows
 pub mod MadeAgain

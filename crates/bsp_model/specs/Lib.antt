@@ -3,6 +3,7 @@ pub mod Input
 pub mod Limits
 pub mod Memory
 pub mod ProcessSet
+pub mod PutsTo
 pub mod Replaced
 pub mod Stores
 pub mod Inside

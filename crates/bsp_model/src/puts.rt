@@ -10,7 +10,7 @@ use std::marker::Model;
 /// What a put has beside its words.
 #[derive(Clone, Copy, Debug, PartialEq, Eq)]
 pub(crate) struct PutHead {
-    target: u64,
+    pub(crate) target: u64,
     start: u64,
 }
 

@@ -1,6 +1,6 @@
 //! Where rows begin and end that lie one behind the other in one list.
 
-ghost use Rattle.std.specs.Prelude.{◌≡◌, ◌<◌, ◌≤◌, ◌+◌, ◌^◌, ◌++◌, ◌∷◌, length, map, ◌-◌, slice_index, slice_index_or, EachIndex, vec_capacity, vec_len};
+ghost use Rattle.std.specs.Prelude.{◌≡◌, ◌<◌, ◌≤◌, ◌+◌, ◌^◌, ◌++◌, ◌∷◌, ℕ, length, map, ◌-◌, slice_index, slice_index_or, EachIndex, vec_capacity, vec_len};
 ghost use Rattle.bsp_model.specs.Inside.Rows.{AreEnds};
 
 /// Where a row begins; where the last one ends, at the number of rows.
@@ -24,6 +24,22 @@ pub fn bounds_of(ends: &[usize], count: usize, from: usize, to: usize) -> (usize
     ensures inside { result.1 ≤ count }
 {
     (start_of(ends, from), start_of(ends, to))
+}
+
+/// The first row from `from` on that ends behind a place of the list, or the number of rows.
+pub fn row_behind(ends: &[usize], from: usize, place: usize) -> usize
+    requires { from ≤ length ends.now }
+    ensures later { from ≤ result }
+    ensures within { result ≤ length ends.now }
+    ensures before { (k : ℕ) → from ≤ k → k < result → slice_index_or ends.now k 0 ≤ place }
+    ensures there { result < length ends.now → place < slice_index_or ends.now result 0 }
+{
+    for number in from..ends.len() {
+        if ends[number] > place {
+            return number;
+        }
+    }
+    ends.len()
 }
 
 /// Adds the ends of rows whose items lay behind `start` others and now lie behind `before` others. There is room for them.

@@ -24,6 +24,9 @@ pub fn are_same_words(left: &[u64], right: &[u64]) -> bool
     if left.len() != right.len() {
         return false;
     }
+    if left.len() <= WORDS_OF_A_BLOCK {
+        return difference(left, right) == 0;
+    }
     let mut at = 0;
     while at < left.len() {
         let end = at + (left.len() - at).min(WORDS_OF_A_BLOCK);

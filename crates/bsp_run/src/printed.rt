@@ -12,17 +12,6 @@ use bsp_model::{LineColumn, OutOfMemory, ProcessSet, Rows, Shared, SharedSeq};
 use bsp_step::{ListKind, Outcomes};
 use std::alloc::Global;
 
-/// The lines that each process printed in a superstep.
-fn printed_in(alloc: Global, outcomes: &Outcomes) -> Result<LineColumn, OutOfMemory>
-    ensures { IfOk result (λ printed. (p : ℕ) → row_at printed p ≡ (outcome_of outcomes.now p).lines) }
-{
-    let mut printed = LineColumn::with_room(alloc, outcomes.len())?;
-    for pid in 0..outcomes.len() {
-        printed.put(pid, &outcomes.lines(pid))?;
-    }
-    Ok(printed)
-}
-
 /// Adds the lines of a superstep, where any stand, to those of the supersteps before.
 pub fn add_printed(
     alloc: Global,
@@ -34,7 +23,7 @@ pub fn add_printed(
     if outcomes.is_without(ListKind::Lines) {
         return Ok(());
     }
-    let superstep = printed_in(alloc, outcomes)?;
+    let superstep = outcomes.all_lines(alloc)?;
     printed.push(superstep)?;
     Ok(())
 }

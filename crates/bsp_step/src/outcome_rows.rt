@@ -1,14 +1,16 @@
 //! What the turns of several processes leave, as it is gathered.
 
-ghost use Rattle.std.specs.Prelude.{◌≡◌, ◌≤◌, ◌<◌, ◌++◌, ◌∷◌, [], All, length, map, IfOk, OnErr, OnOk, slice_range};
+ghost use Rattle.std.specs.Prelude.{◌≡◌, ◌≤◌, ◌<◌, ℕ, ◌++◌, ◌∷◌, [], All, length, map, IfOk, OnErr, OnOk, slice_range};
 ghost use Rattle.std.specs.Bool.{OnTrue};
+ghost use Rattle.bsp_model.specs.Columns.{row_at};
+ghost use Rattle.bsp_model.specs.PutsTo.{AreToNone};
 ghost use Rattle.bsp_model.specs.Replaced.{replaced, IsAscending};
 ghost use Rattle.bsp_step.specs.OutcomeParts.{outcome_of};
 ghost use Rattle.bsp_step.specs.ListKind.{IsWithout};
 
 use crate::lists::{Lists, TurnEnd};
 use crate::{ListKind, Outcome, OutcomeRef, Outcomes, TurnLists};
-use bsp_model::{Memories, Memory, OutOfMemory, Share, end_of_run};
+use bsp_model::{LineColumn, Memories, Memory, OutOfMemory, ProcessSet, Share, end_of_run};
 use std::alloc::Global;
 use std::marker::Model;
 
@@ -98,6 +100,16 @@ impl OutcomeRows {
         Ok(self.memories.copy_into(room)?)
     }
 
+    /// Copies of the lines of all processes, in the room of others, or `OutOfMemory`.
+    pub(crate) fn lines(&self, room: LineColumn) -> Result<LineColumn, OutOfMemory>
+        ensures { IfOk result (λ lines. (p : ℕ) → row_at lines p ≡ (outcome_of self.now p).lines) }
+    {
+        let mut lines = room;
+        let lists: &Lists = &self.lists;
+        lines.take_range(0, &lists.lines, 0, self.len())?;
+        Ok(lines)
+    }
+
     /// The allocator that the lists keep.
     pub(crate) fn allocator(&self) -> Global {
         *self.ends.allocator()
@@ -143,6 +155,19 @@ impl OutcomeRows {
     {
         let lists: &Lists = &self.lists;
         lists.is_without(kind)
+    }
+
+    /// The first process from `from` on whose turn puts something to one of these processes, or the number of processes.
+    pub(crate) fn next_putting_to(&self, targets: &ProcessSet, from: usize) -> usize
+        requires { from ≤ length self.now }
+        ensures later { from ≤ result }
+        ensures before { (p : ℕ) → from ≤ p → p < result → AreToNone targets.now (outcome_of self.now p).puts }
+    {
+        let lists: &Lists = &self.lists;
+        match lists.puts.next_to(targets, from) {
+            Some(next) => next,
+            None => self.len(),
+        }
     }
 
     /// Adds what the turn of one process more left, and answers an outcome whose lists may serve again. After `OutOfMemory` nothing has changed.

@@ -1,7 +1,8 @@
 //! What the turns of several processes leave.
 
-ghost use Rattle.std.specs.Prelude.{◌≡◌, ◌<◌, [], All, IfOk, length, nat_eq};
+ghost use Rattle.std.specs.Prelude.{◌≡◌, ◌≤◌, ◌<◌, ℕ, [], All, IfOk, length, nat_eq};
 ghost use Rattle.std.specs.Bool.{OnTrue};
+ghost use Rattle.bsp_model.specs.PutsTo.{AreToNone};
 ghost use Rattle.bsp_model.specs.Replaced.{replaced, IsAscending};
 ghost use Rattle.bsp_step.specs.OutcomeParts.{IsOutcome, outcome_of};
 ghost use Rattle.bsp_step.specs.Inside.Others.{rows_of, IsBelow};
@@ -13,7 +14,7 @@ mod room;
 
 use crate::{ListKind, OutcomeRef, OutcomeRows};
 use bsp_model::{
-    Get, MemoryRef, OutOfMemory, PutsRef, RowsRef, SendsRef, Shared, TryCopy, are_few,
+    Get, MemoryRef, OutOfMemory, ProcessSet, PutsRef, RowsRef, SendsRef, Shared, TryCopy, are_few,
 };
 use others::Others;
 use std::alloc::Global;
@@ -168,6 +169,20 @@ impl Outcomes {
         match &self.others {
             Some(others) => others.is_without(kind) && is_without(&self.rows, kind),
             None => is_without(&self.rows, kind),
+        }
+    }
+
+    /// The first process from `from` on whose turn may put something to one of these processes, or the number of processes. None before it does: so
+    /// who looks for puts to few processes goes over few turns.
+    pub fn next_putting_to(&self, targets: &ProcessSet, from: usize) -> usize
+        requires { from ≤ length self.now }
+        ensures later { from ≤ result }
+        ensures before { (p : ℕ) → from ≤ p → p < result → AreToNone targets.now (outcome_of self.now p).puts }
+    {
+        match (&self.rows, &self.others) {
+            (Some(rows), Some(others)) => others.next_putting_to(rows, targets, from),
+            (Some(rows), None) => rows.next_putting_to(targets, from),
+            (None, _) => 0,
         }
     }
 

@@ -1,5 +1,5 @@
 -- Requests that change, one after another, what stands at their target's place in a list: private functions alone speak of them.
-use Rattle.std.specs.Prelude.{◌≡◌, ◌↔◌, ℕ, ◌<◌, List, [], ◌∷◌, ◌++◌, length, slice_index, slice_index_or, slice_set}
+use Rattle.std.specs.Prelude.{◌≡◌, ◌↔◌, ℕ, ◌<◌, ◌≤◌, Bool, false, List, [], ◌∷◌, ◌++◌, length, slice_index, slice_index_or, slice_set}
 use Rattle.bsp_model.specs.Memory.{memory_written}
 use Rattle.bsp_model.specs.declared.request.Put.{Put}
 use Rattle.bsp_model.specs.declared.request.Send.{Send}
@@ -29,6 +29,10 @@ sent_at places = changed_at sent_into [] (λ m. slice_index places m.target)
 pub record ArePlaces (n : ℕ) (processes places : List ℕ) : Type 0 where
   pub count : length places ≡ n
   pub each : (d k : ℕ) → d < n → k < length processes → (slice_index places d ≡ k) ↔ (slice_index processes k ≡ d)
+
+-- Who is not in the set has no place among so many.
+abbrev pub AreTargets : ℕ → List ℕ → List Bool → Type 0
+AreTargets count places targets = (d : ℕ) → d < length places → slice_index_or targets d false ≡ false → count ≤ slice_index places d
 
 -- the memory after these writes, of which private functions alone speak
 abbrev pub overlay : List ℕ → List Write → List ℕ

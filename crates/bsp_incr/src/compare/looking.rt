@@ -26,6 +26,7 @@ pub fn have_same_table(old: &View<'_>, new: &View<'_>) -> bool
 }
 
 /// Whether two views are equal but for the words of their memories. The tables need not be compared where they are known to be the same.
+#[inline(always)]
 fn is_alike_but_for_words(old: &View<'_>, new: &View<'_>, same_table: bool) -> bool
     requires { same_table ≡ true → old.now.table ≡ new.now.table }
     ensures { IsTrue result ↔ AreAlikeButForWords old.now new.now }
@@ -41,6 +42,7 @@ fn is_alike_but_for_words(old: &View<'_>, new: &View<'_>, same_table: bool) -> b
 }
 
 /// Whether words of two views are equal at each address at which the program looks. The first of them are at the address `first`.
+#[inline(always)]
 fn are_alike_from<P: Program>(
     program: &P,
     view: &View<'_>,
@@ -65,6 +67,7 @@ fn are_alike_from<P: Program>(
 }
 
 /// Whether the words are equal at each address at which the program looks.
+#[inline(always)]
 fn is_alike_where_looked_at<P: Program>(program: &P, old: &View<'_>, new: &View<'_>) -> bool
     requires { length old.now.memory ≡ length new.now.memory }
     ensures { result ≡ same_where_looked_at (P.looks program.now old.now) old.now.memory new.now.memory }
@@ -82,6 +85,7 @@ fn is_alike_where_looked_at<P: Program>(program: &P, old: &View<'_>, new: &View<
 }
 
 /// Whether the turn of the first view serves for the second. It takes no memory. The tables are not compared where they are known to be the same.
+#[inline(always)]
 pub fn serves<P: Program>(program: &P, old: &View<'_>, new: &View<'_>, same_table: bool) -> bool
     requires { same_table ≡ true → old.now.table ≡ new.now.table }
     ensures { result ≡ serves (P.looks program.now) old.now new.now }

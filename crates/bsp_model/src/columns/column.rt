@@ -3,7 +3,7 @@
 ghost use Rattle.std.specs.Prelude.{◌≡◌, [], IfOk, OnErr, OnOk, length, nat_eq};
 ghost use Rattle.bsp_model.specs.Columns.{row_at, AreCut, AreTaken, IsPut};
 
-use crate::{OutOfMemory, Rows, Share};
+use crate::{OutOfMemory, Rows, RowsRef, Share};
 use std::alloc::Global;
 use std::marker::Model;
 
@@ -38,6 +38,14 @@ impl<T> Column<T> {
         ensures { result ≡ nat_eq (length self.now) 0 }
     {
         self.rows.is_empty()
+    }
+
+    /// The rows that stand, to be read where they lie.
+    #[inline(always)]
+    pub(crate) fn as_ref(&self) -> RowsRef<'_, T>
+        ensures { result ≡ self.now }
+    {
+        self.rows.as_ref()
     }
 
     /// The row of a process.

@@ -5,7 +5,7 @@ ghost use Rattle.bsp_model.specs.Columns.{AreCut, AreTaken, IsPut};
 ghost use Rattle.bsp_model.specs.Inside.Columns.{pair_at};
 
 use super::Column;
-use crate::{OutOfMemory, Share};
+use crate::{OutOfMemory, RowsRef, Share};
 use std::alloc::Global;
 use std::marker::Model;
 
@@ -41,6 +41,14 @@ impl<A, B> Pairs<A, B> {
         ensures { result ≡ (nat_eq (length self.now.0) 0 && nat_eq (length self.now.1) 0) }
     {
         self.firsts.is_empty() && self.seconds.is_empty()
+    }
+
+    /// The first rows, to be read where they lie.
+    #[inline(always)]
+    pub fn firsts(&self) -> RowsRef<'_, A>
+        ensures { result ≡ self.now.0 }
+    {
+        self.firsts.as_ref()
     }
 
     /// The rows of a process.

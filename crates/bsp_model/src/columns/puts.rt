@@ -1,12 +1,15 @@
 //! For each process puts.
 
-ghost use Rattle.std.specs.Prelude.{◌≡◌, [], IfOk, OnErr, OnOk};
+ghost use Rattle.std.specs.Prelude.{◌≡◌, ◌≤◌, ◌<◌, ℕ, [], IfNone, IfOk, IfSome, OnErr, OnOk, false, length, slice_index_or, true};
 ghost use Rattle.bsp_model.specs.Columns.{row_at, AreCut, AreTaken, IsPut};
+ghost use Rattle.bsp_model.specs.PutsTo.{AreToNone};
+ghost use Rattle.bsp_model.specs.declared.puts.PutHead.{PutHead};
 
 use super::pairs::Pairs;
 use crate::headed_rows::HeadedRowsRef;
 use crate::puts::PutHead;
-use crate::{OutOfMemory, PutsRef, Share};
+use crate::row_ends::{row_behind, start_of};
+use crate::{OutOfMemory, ProcessSet, PutsRef, Share};
 use std::alloc::Global;
 use std::marker::Model;
 
@@ -26,6 +29,25 @@ impl Model for PutColumn {
     ghost view = { λ c. paired puts_of c.pairs.0 c.pairs.1 };
 
     ghost invariant = { λ c. (k : ℕ) → AreHeaded (pair_at c.pairs k).0 (pair_at c.pairs k).1 };
+}
+
+/// The place of the first head from `from` on of a put to one of these processes, or the number of heads.
+fn head_to(heads: &[(PutHead, usize)], targets: &ProcessSet, from: usize) -> usize
+    requires { from ≤ length heads.now }
+    ensures later { from ≤ result }
+    ensures within { result ≤ length heads.now }
+    ensures before { (k : ℕ) (head : PutHead × ℕ) → from ≤ k → k < result
+        → slice_index_or targets.now (slice_index_or heads.now k head).0.target false ≡ false }
+    ensures there { (head : PutHead × ℕ) → result < length heads.now
+        → slice_index_or targets.now (slice_index_or heads.now result head).0.target false ≡ true }
+{
+    for place in from..heads.len() {
+        let (head, _end) = &heads[place];
+        if targets.contains(head.target as usize) {
+            return place;
+        }
+    }
+    heads.len()
 }
 
 impl PutColumn {
@@ -76,6 +98,24 @@ impl PutColumn {
         PutsRef {
             rows: HeadedRowsRef { heads, words },
         }
+    }
+
+    /// The first process from `from` on that puts something to one of these processes.
+    pub fn next_to(&self, targets: &ProcessSet, from: usize) -> Option<usize>
+        ensures later { IfSome result (λ next. from ≤ next) }
+        ensures before { IfSome result (λ next. (k : ℕ) → from ≤ k → k < next → AreToNone targets.now (row_at self.now k)) }
+        ensures there { IfSome result (λ next. ¬ AreToNone targets.now (row_at self.now next)) }
+        ensures none { IfNone result ((k : ℕ) → from ≤ k → AreToNone targets.now (row_at self.now k)) }
+    {
+        let heads = self.pairs.firsts();
+        if from >= heads.len() {
+            return None;
+        }
+        let place = head_to(heads.items, targets, start_of(heads.ends, from));
+        if place == heads.items.len() {
+            return None;
+        }
+        Some(row_behind(heads.ends, from, place))
     }
 
     /// Makes these those of a process, and leaves those of the processes behind it out. After `OutOfMemory` its own are left out too.

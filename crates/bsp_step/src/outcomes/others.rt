@@ -1,14 +1,15 @@
 //! The outcomes of few processes, which lie apart from those of all.
 
-ghost use Rattle.std.specs.Prelude.{◌≡◌, ◌<◌, All, IfOk, length};
+ghost use Rattle.std.specs.Prelude.{◌≡◌, ◌≤◌, ◌<◌, ℕ, All, IfOk, length};
 ghost use Rattle.std.specs.Bool.{OnTrue};
+ghost use Rattle.bsp_model.specs.PutsTo.{AreToNone};
 ghost use Rattle.bsp_model.specs.Replaced.{IsAscending};
 ghost use Rattle.bsp_step.specs.OutcomeParts.{outcome_of};
 ghost use Rattle.bsp_step.specs.ListKind.{IsWithout};
 ghost use Rattle.bsp_step.specs.Inside.Others.{with_others, AreOthers, IsBelow};
 
 use crate::{ListKind, OutcomeRows};
-use bsp_model::{OutOfMemory, Shared, TryCopy, are_among, place_among};
+use bsp_model::{OutOfMemory, ProcessSet, Shared, TryCopy, are_among, place_among};
 use std::alloc::Global;
 
 /// The outcomes of some processes, which are in ascending order.
@@ -16,6 +17,20 @@ use std::alloc::Global;
 pub struct Others {
     pub processes: Vec<usize>,
     pub rows: OutcomeRows,
+}
+
+/// The first process from a number on in a list of them in ascending order, or a number that is no process's.
+fn first_from(processes: &[usize], from: usize) -> usize
+    requires { IsAscending processes.now }
+    ensures later { from ≤ result }
+    ensures first { All (λ p. from ≤ p → result ≤ p) processes.now }
+{
+    for process in processes {
+        if *process >= from {
+            return *process;
+        }
+    }
+    usize::MAX
 }
 
 impl Others {
@@ -50,6 +65,18 @@ impl Others {
             return Ok(rows.copy()?);
         }
         Ok(Shared::new(alloc, rows.replaced(alloc, apart, &self.rows)?)?)
+    }
+
+    /// The first process from `from` on whose turn may put something to one of these processes, or the number of processes.
+    pub fn next_putting_to(&self, rows: &OutcomeRows, targets: &ProcessSet, from: usize) -> usize
+        requires others { AreOthers rows.now self.now }
+        requires within { from ≤ length rows.now }
+        ensures later { from ≤ result }
+        ensures before { (p : ℕ) → from ≤ p → p < result
+            → AreToNone targets.now (outcome_of (with_others rows.now self.now) p).puts }
+    {
+        let next = rows.next_putting_to(targets, from);
+        next.min(first_from(self.processes.as_slice(), from))
     }
 
     /// Whether no list of a kind stands in these rows.

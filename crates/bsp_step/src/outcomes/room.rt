@@ -1,11 +1,12 @@
-//! Room for the outcomes and the memories of another superstep.
+//! Room for the outcomes and the memories of another superstep, and copies of what all turns left.
 
-ghost use Rattle.std.specs.Prelude.{◌≡◌, ◌<◌, [], All, IfOk, IfSome, length, map};
+ghost use Rattle.std.specs.Prelude.{◌≡◌, ◌<◌, ℕ, [], All, IfOk, IfSome, length, map};
+ghost use Rattle.bsp_model.specs.Columns.{row_at};
 ghost use Rattle.bsp_model.specs.Replaced.{IsAscending};
 ghost use Rattle.bsp_step.specs.OutcomeParts.{outcome_of};
 
 use crate::{OutcomeRows, Outcomes};
-use bsp_model::{Memories, OutOfMemory, Share};
+use bsp_model::{LineColumn, Memories, OutOfMemory, Share};
 use std::alloc::Global;
 
 /// Whether lists for so many of all processes begin with their share of room. For very few it is cheaper that the lists that are used grow.
@@ -87,5 +88,19 @@ impl Outcomes {
             memories.push_copy(&self.memory(*process))?;
         }
         Ok(memories)
+    }
+
+    /// Copies of the lines of all processes; where none lies apart, they are copied in one piece. Or `OutOfMemory`.
+    pub fn all_lines(&self, alloc: Global) -> Result<LineColumn, OutOfMemory>
+        ensures { IfOk result (λ lines. (p : ℕ) → row_at lines p ≡ (outcome_of self.now p).lines) }
+    {
+        let mut lines = LineColumn::with_room(alloc, self.len())?;
+        if let Some(rows) = self.all_rows(self.len()) {
+            return Ok(rows.lines(lines)?);
+        }
+        for pid in 0..self.len() {
+            lines.put(pid, &self.lines(pid))?;
+        }
+        Ok(lines)
     }
 }

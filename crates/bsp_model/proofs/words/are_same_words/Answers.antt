@@ -11,5 +11,5 @@ loop-at-preserved c =
     let long : at + count - at ≡ count = omega arith in
     record {
       within = omega (arith, c.min.ensures);
-      same = one_part_more left right at count c.loop-at.invariant.same (subst (λ m. take m (drop at left) ≡ take m (drop at right)) long (c.difference.ensures.0 c.if-difference-ne0.false));
+      same = one_part_more left right at count c.loop-at.invariant.same (subst (λ m. take m (drop at left) ≡ take m (drop at right)) long (c.difference-in-loop-at.ensures.0 c.if-difference-ne0.false));
     }
