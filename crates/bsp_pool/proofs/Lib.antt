@@ -1,5 +1,5 @@
 pub mod ClaimSteps
-pub mod PieceLists
+pub mod ShareLists
 pub mod TurnLists
 pub mod RoundSteps
 pub mod EventLaws

@@ -5,7 +5,7 @@ use Rattle.std.specs.Prelude.{Option, Some, None, slice_get, slice_index_or}
 use Rattle.bsp_pool.specs.Inside.Turning.{made_unless, missing_of, merged_of}
 use Rattle.bsp_pool.specs.Rounds.{RoundParts, opened, finished}
 use Rattle.bsp_pool.specs.Machine.{Machine, machine, inputs_of, turned}
-use Rattle.bsp_pool.proofs.PieceLists.{output_more}
+use Rattle.bsp_pool.proofs.ShareLists.{output_more}
 
 pub length-missing_of : {In Out : Type 0} (does : In → Out) (xs : List In) (os : List (Option Out)) → length (missing_of does xs os) ≡ length xs
 length-missing_of does [] os = refl

@@ -1,5 +1,6 @@
 pub mod Claim
 pub mod Views
 pub mod Turning
-pub mod Pieces
+pub mod HandsBack
+pub mod Lists
 pub mod Holding

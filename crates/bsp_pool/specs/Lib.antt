@@ -4,4 +4,6 @@ pub mod Rounds
 pub mod Machine
 pub mod EventLists
 pub mod Refusals
+pub mod Shares
+pub mod Runs
 pub mod Inside

@@ -1,7 +1,7 @@
 //! A worker pool over one claim word.
 //!
 //! `phase` works a list of inputs by 1 to 16 threads and gives the outputs in the order of the inputs. Its workers
-//! draw the numbers of the inputs from a `Deck`, each with a `Pass`. `Core` is the same pool as a machine on one
+//! draw the numbers of the inputs from a `Deck`, each with a `Pass`. `gather` hands over what each worker has gathered. `Core` is the same pool as a machine on one
 //! thread, event by event.
 #![tactic(auto)]
 
@@ -9,23 +9,25 @@ mod claim;
 mod coordinator;
 mod deck;
 mod event;
+mod listed;
 mod machine;
 mod pass_view;
-mod piece;
 mod round;
 mod row;
+mod share;
 mod turning;
 mod watch;
 mod work;
 mod worker;
 
-pub use coordinator::phase;
+pub use coordinator::{gather, phase};
 pub use deck::{Deck, Pass};
 pub use event::{CoreRefusal, Event};
 pub use machine::Core;
 pub use row::Row;
+pub use share::{Run, Share, run_from};
 pub use std::alloc::AllocError as OutOfMemory;
-pub use work::{Gate, Open, Timed, Work};
+pub use work::{Gate, Gathering, Open, Timed, Work};
 
 #[cfg(test)]
 mod tests;

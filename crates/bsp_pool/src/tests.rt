@@ -1,5 +1,6 @@
 mod deck;
 mod doubling;
+mod gathering;
 mod machine;
 mod phase;
 mod refusals;

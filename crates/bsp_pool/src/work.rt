@@ -1,6 +1,6 @@
 //! What the pool works, and the gate before it.
 
-ghost use Rattle.std.specs.Prelude.{◌≡◌, IfOk};
+ghost use Rattle.std.specs.Prelude.{◌≡◌, ◌++◌, ◌∷◌, [], List, IfOk, OnErr, OnOk};
 
 use crate::OutOfMemory;
 use std::alloc::Global;
@@ -27,6 +27,44 @@ pub trait Work: Sync {
     fn work(&self, alloc: Global, input: &Self::In) -> Result<Self::Out, OutOfMemory>
         requires { accepts self.now input.now }
         ensures { IfOk result (λ out. out ≡ does self.now input.now) };
+}
+
+/// A function of one input whose outputs are gathered in rows, where contracts see each output by itself. Several threads may call it at
+/// once, each with rows of its own.
+pub trait Gathering: Sync {
+    /// What a job is given.
+    type In: Sync + Drop;
+
+    /// What a job gives, as contracts see it.
+    type Out;
+
+    /// The outputs of several jobs, one behind the other, and what a worker keeps from one job to the next.
+    type Rows: Send + Drop;
+
+    /// The inputs that `add` takes: the condition of its call.
+    ghost accepts: { Self → Self.In → Type 0 };
+
+    /// The output of an input.
+    ghost does: { Self → Self.In → Self.Out };
+
+    /// The outputs that rows have, in order.
+    ghost outputs: { Self → Self.Rows → List Self.Out };
+
+    /// Rows without an output.
+    ///
+    /// # Errors
+    /// `OutOfMemory` where memory is refused.
+    fn begin(&self, alloc: Global) -> Result<Self::Rows, OutOfMemory>
+        ensures { IfOk result (λ rows. outputs self.now rows ≡ []) };
+
+    /// Puts the output of this input behind the others, the same at each call.
+    ///
+    /// # Errors
+    /// `OutOfMemory` where memory is refused. The outputs are then as before, and the next call with the same input may succeed.
+    fn add(&self, alloc: Global, rows: &mut Self::Rows, input: &Self::In) -> Result<(), OutOfMemory>
+        requires { accepts self.now input.now }
+        ensures ok { OnOk result (outputs self.now rows.new ≡ outputs self.now rows.old ++ does self.now input.now ∷ []) }
+        ensures err { OnErr result (outputs self.now rows.new ≡ outputs self.now rows.old) };
 }
 
 /// A place that a worker passes between drawing a job and working it, as to hold it there in a test.

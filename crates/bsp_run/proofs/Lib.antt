@@ -20,3 +20,4 @@ pub mod SharedCells
 pub mod RunErrors
 pub mod Gathered
 pub mod PrintedLines
+pub mod WorkerRows

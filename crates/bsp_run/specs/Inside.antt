@@ -9,3 +9,4 @@ pub mod Lines
 pub mod SharedCells
 pub mod Views
 pub mod ViewsRef
+pub mod WorkerRows

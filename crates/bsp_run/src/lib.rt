@@ -5,6 +5,7 @@ mod copying;
 mod costs;
 mod ending;
 mod history;
+mod in_order;
 mod keeping;
 mod law;
 mod lines;

@@ -9,13 +9,14 @@ ghost use Rattle.bsp_run.specs.Run.{run};
 ghost use Rattle.bsp_run.specs.Law.{IsBspRun};
 ghost use Rattle.bsp_run.specs.RunErrors.{input_fault_of};
 
+use crate::in_order::{cells_in_order, turns_in_order};
 use crate::supersteps::run_by;
 use crate::works::{Deliveries, Turns};
 use crate::{History, RunError, Views};
 use bsp_deliver::{Cells, deliver_some, sort_requests};
-use bsp_model::{Input, Memory, OutOfMemory};
-use bsp_pool::{Gate, phase};
-use bsp_step::{Outcome, OutcomeRef, OutcomeRows, Outcomes, Program, Queue, turn_reusing};
+use bsp_model::{Input, OutOfMemory};
+use bsp_pool::{Gate, gather};
+use bsp_step::{Outcome, OutcomeRef, OutcomeRows, Outcomes, Program, turn_reusing};
 use std::alloc::Global;
 use std::thread::Threads;
 
@@ -42,23 +43,11 @@ pub(crate) fn turns_by_one<P: Program, G: Gate>(
     Ok(rows)
 }
 
-/// These outcomes, gathered in `rows`.
-fn gathered(rows: OutcomeRows, outcomes: Vec<Outcome>) -> Result<OutcomeRows, OutOfMemory>
-    requires { rows ≡ [] }
-    ensures { IfOk result (λ all. all ≡ outcomes.items) }
-{
-    let mut rows = rows;
-    for outcome in outcomes {
-        let _spare = rows.push(outcome)?;
-    }
-    Ok(rows)
-}
-
 /// The turns of some processes, in the order of the list, shared by 1 to 16 workers. `processes` are places in `views`. Whoever drew
 /// the place k of the list, counted from 0, passes the gate with k before that turn.
 ///
-/// They are gathered in `rows`, in which there is nothing yet: by one worker as each turn leaves its outcome; what several hand in once all have
-/// left.
+/// They are gathered in `rows`, in which there is nothing yet: by one worker as each turn leaves its outcome. Of several each gathers in rows of its
+/// own, and once all have left these are copied in order.
 ///
 /// # Errors
 /// `OutOfMemory` where the calling thread is refused memory for the list, or for a turn that no worker handed in.
@@ -81,8 +70,8 @@ pub fn wide_turns<P: Program, G: Gate, R: Threads + Sync>(
         return turns_by_one(alloc, rows, program, views, processes, gate);
     }
     let turns = Turns { program, views };
-    let outcomes = phase(rt, alloc, &turns, processes, workers, gate)?;
-    gathered(rows, outcomes)
+    let shares = gather(rt, alloc, &turns, processes, workers, gate);
+    turns_in_order(alloc, rows, &turns, processes, shares.as_slice())
 }
 
 /// Passes the gate with each of so many places, in order.
@@ -133,18 +122,6 @@ fn is_light(outcomes: &Outcomes) -> bool {
     nanos < NANOS_WORTH_SHARING
 }
 
-/// These memories and queues, gathered.
-fn cells_of(alloc: Global, made: Vec<(Memory, Queue)>) -> Result<Cells, OutOfMemory>
-    ensures { IfOk result (λ cells. cells ≡ made.items) }
-{
-    let mut cells = Cells::with_capacity(alloc, made.len())?;
-    for cell in made {
-        let (memory, queue) = cell;
-        cells.push(memory, queue)?;
-    }
-    Ok(cells)
-}
-
 /// The next memory and queue of some processes, in the order of the list, shared by 1 to 16 workers. `processes` are places in
 /// `outcomes`, which are those of all processes, in ascending order. Whoever drew the place k of the list, counted from 0, passes the
 /// gate with k before that delivery.
@@ -178,8 +155,8 @@ pub fn wide_deliveries<G: Gate, R: Threads + Sync>(
         outcomes,
         sorted: &sorted,
     };
-    let made = phase(rt, alloc, &deliveries, processes, workers, gate)?;
-    cells_of(alloc, made)
+    let shares = gather(rt, alloc, &deliveries, processes, workers, gate);
+    cells_in_order(alloc, &deliveries, processes, shares.as_slice())
 }
 
 /// What `run_plain` answers, by 1 to 16 workers. They share the turns of each superstep, and then its deliveries: whoever drew a process

@@ -1,4 +1,4 @@
-//! The turns and the deliveries of a superstep, as works of the pool.
+//! The turns and the deliveries of a superstep, as workers of the pool gather them.
 
 ghost use Rattle.std.specs.Prelude.{◌<◌, length, slice_index_or};
 ghost use Rattle.bsp_step.specs.Turn.{turn_of};
@@ -8,10 +8,10 @@ ghost use Rattle.bsp_deliver.specs.Sorting.{IsSortedFrom};
 ghost use Rattle.bsp_run.specs.Condition.{no_view};
 
 use crate::Views;
-use bsp_deliver::{SortedRequests, deliver_sorted};
+use bsp_deliver::{Cells, SortedRequests, deliver_sorted};
 use bsp_model::{Memory, OutOfMemory};
-use bsp_pool::Work;
-use bsp_step::{Ctx, Outcome, Outcomes, Program, Queue};
+use bsp_pool::Gathering;
+use bsp_step::{Ctx, Outcome, OutcomeRows, Outcomes, Program, Queue};
 use std::alloc::Global;
 
 /// The turns of a program. A job is the number of a process.
@@ -21,23 +21,54 @@ pub struct Turns<'a, P: Program> {
     pub views: &'a Views,
 }
 
-impl<'a, P: Program> Work for Turns<'a, P> {
+/// What a worker keeps of the turns that it takes.
+#[derive(Drop)]
+pub struct TurnRows {
+    /// What the turns so far left.
+    pub outcomes: OutcomeRows,
+    /// An outcome whose lists serve the next turn. There is none before the first turn, and behind one that was refused memory.
+    pub spare: Option<Outcome>,
+}
+
+/// The spare outcome, or else a new one.
+fn spare_of(alloc: Global, spare: &mut Option<Outcome>) -> Result<Outcome, OutOfMemory> {
+    match spare.take() {
+        Some(outcome) => Ok(outcome),
+        None => Ok(Outcome::new(alloc)?),
+    }
+}
+
+impl<'a, P: Program> Gathering for Turns<'a, P> {
     type In = usize;
 
     type Out = Outcome;
+
+    type Rows = TurnRows;
 
     ghost accepts = { λ turns p. p < length turns.views.now };
 
     ghost does = { λ turns p.
         turn_of (P.acts turns.program.now) (P.ending turns.program.now) (slice_index_or turns.views.now p no_view) };
 
-    // The calls of `bsp_step::turn`, to which no method of a trait may pass a program.
-    fn work(&self, alloc: Global, process: &usize) -> Result<Outcome, OutOfMemory> {
+    ghost outputs = { λ _ rows. rows.outcomes };
+
+    fn begin(&self, alloc: Global) -> Result<TurnRows, OutOfMemory> {
+        Ok(TurnRows {
+            outcomes: OutcomeRows::with_capacity(alloc, 0)?,
+            spare: None,
+        })
+    }
+
+    // The calls of `bsp_step::turn_reusing`, to which no method of a trait may pass a program.
+    fn add(&self, alloc: Global, rows: &mut TurnRows, process: &usize) -> Result<(), OutOfMemory> {
         let views = self.views;
         let view = views.get(*process);
-        let mut ctx = Ctx::open(alloc, &view)?;
+        let spare = spare_of(alloc, &mut rows.spare)?;
+        let mut ctx = Ctx::open_reusing(alloc, &view, spare)?;
         let how = self.program.step(alloc, &mut ctx)?;
-        Ok(ctx.close(how))
+        let spare = rows.outcomes.push(ctx.close(how))?;
+        rows.spare = Some(spare);
+        Ok(())
     }
 }
 
@@ -50,17 +81,27 @@ pub struct Deliveries<'a> {
     ghost sorted_from: { IsSortedFrom outcomes.now sorted.now },
 }
 
-impl<'a> Work for Deliveries<'a> {
+impl<'a> Gathering for Deliveries<'a> {
     type In = usize;
 
     type Out = (Memory, Queue);
+
+    type Rows = Cells;
 
     ghost accepts = { λ all d. d < length all.outcomes.now };
 
     ghost does = { λ all d.
         (next_memory (delivery_parts all.outcomes.now d), next_queue (delivery_parts all.outcomes.now d)) };
 
-    fn work(&self, alloc: Global, process: &usize) -> Result<(Memory, Queue), OutOfMemory> {
-        deliver_sorted(alloc, *process, self.sorted, self.outcomes)
+    ghost outputs = { λ _ cells. cells };
+
+    fn begin(&self, alloc: Global) -> Result<Cells, OutOfMemory> {
+        Ok(Cells::new(alloc))
+    }
+
+    fn add(&self, alloc: Global, cells: &mut Cells, process: &usize) -> Result<(), OutOfMemory> {
+        let (memory, queue) = deliver_sorted(alloc, *process, self.sorted, self.outcomes)?;
+        cells.push(memory, queue)?;
+        Ok(())
     }
 }

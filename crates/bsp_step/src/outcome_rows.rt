@@ -208,7 +208,7 @@ impl OutcomeRows {
     }
 
     /// These outcomes, and behind them those that others have from `from` on, and before `to`, or `OutOfMemory`.
-    pub(crate) fn with_range(
+    pub fn with_range(
         self,
         more: &OutcomeRows,
         from: usize,
