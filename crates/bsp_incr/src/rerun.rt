@@ -31,7 +31,7 @@ pub use counts::Counts;
 pub use executor::Executor;
 pub use given::Given;
 use std::thread::Threads;
-pub use under_way::UnderWay;
+pub use under_way::{TurnTaking, UnderWay};
 pub use workers::Workers;
 
 /// The run of a program on a lawful input, made against the run before, if there was one, of the same program and as many processes: a turn is
@@ -73,9 +73,9 @@ pub fn rerun<P: Program, G: Gate, R: Threads + Sync>(
         marks: _,
         table: _,
         update,
-        counts: spent,
+        taking,
     } = under_way;
-    *counts = spent;
+    *counts = taking.counts;
     let executed = update.executed.as_slice();
     let history = finished(alloc, old, tape, input.mems.len(), executed)?;
     Ok((history, update))

@@ -20,7 +20,7 @@ use crate::compare::{
     Doubtful, KnownTable, OpenSuperstep, all_see_the_same, delivered_outcomes, ends_as_before,
     open_superstep,
 };
-use crate::rerun::{Counts, Given, UnderWay};
+use crate::rerun::{Given, TurnTaking, UnderWay};
 use crate::superstep::ending::make_deliveries;
 use crate::superstep::turns::turns_again;
 use bsp_model::{OutOfMemory, ProcessSet, Seq};
@@ -64,7 +64,7 @@ fn take_turns<P: Program, G: Gate, R: Threads + Sync>(
     tape: &mut Tape,
     doubtful: &Doubtful,
     executed: &mut Seq<Place>,
-    counts: &mut Counts,
+    taking: &mut TurnTaking,
 ) -> Result<Option<KnownTable>, OutOfMemory>
     requires open { is_open tape.old.phase ≡ true }
     requires made { IsRecord (turn_by P.Program given.now.program) given.now.input tape.old }
@@ -78,7 +78,7 @@ fn take_turns<P: Program, G: Gate, R: Threads + Sync>(
         (open_views tape.old)) }
 {
     let superstep = open_superstep(given, tape);
-    let outcomes = turns_again(given, &superstep, doubtful, executed, counts)?;
+    let outcomes = turns_again(given, &superstep, doubtful, executed, taking)?;
     end_turns(given, tape, doubtful, outcomes)
 }
 
@@ -99,7 +99,7 @@ fn make_again<P: Program, G: Gate, R: Threads + Sync>(
     // What stands of the run before is known where it is read.
     let _before = given.old;
     let executed = &mut under_way.update.executed;
-    let Some(known) = take_turns(given, tape, doubtful, executed, &mut under_way.counts)? else {
+    let Some(known) = take_turns(given, tape, doubtful, executed, &mut under_way.taking)? else {
         return Ok(());
     };
     make_deliveries(given, tape, &doubtful.processes, known, under_way)?;

@@ -6,7 +6,8 @@ ghost use Rattle.bsp_pool.specs.Shares.{AreShares};
 ghost use Rattle.bsp_run.specs.Shares.{turns_of, deliveries_to};
 ghost use Rattle.bsp_run.specs.Inside.WorkerRows.{outcomes_of, cells_of};
 
-use crate::works::{Deliveries, TurnRows, Turns};
+use crate::TurnRows;
+use crate::works::{Deliveries, Turns};
 use bsp_deliver::{Cells, deliver_sorted};
 use bsp_model::OutOfMemory;
 use bsp_pool::{Share, run_from};

@@ -14,7 +14,7 @@ use crate::ending::end_of;
 use crate::supersteps::run_by;
 use crate::unrecorded::{ended, ended_at_limit, go_on, open_unrecorded};
 use crate::wide::turns_by_one;
-use crate::{History, RunError, RunResult, Views};
+use crate::{History, RunError, RunResult, TurnRows, Views};
 use bsp_deliver::{Cells, deliver_some};
 use bsp_model::{Input, OutOfMemory};
 use bsp_pool::Open;
@@ -42,12 +42,13 @@ pub fn run_plain<P: Program>(alloc: Global, program: &P, input: &Input) -> Resul
         {
             turns_by_one(
                 alloc,
-                like.room_for(alloc, processes.len())?,
+                TurnRows::new(like.room_for(alloc, processes.len())?, None),
                 program,
                 views,
                 processes,
                 &Open,
             )?
+            .outcomes
             .share()
         },
         &|outcomes: &Outcomes, processes: &[usize]| -> Result<Cells, OutOfMemory>

@@ -11,67 +11,73 @@ ghost use Rattle.bsp_run.specs.RunErrors.{input_fault_of};
 
 use crate::in_order::{cells_in_order, turns_in_order};
 use crate::supersteps::run_by;
+use crate::turn_rows::spare_of;
 use crate::works::{Deliveries, Turns};
-use crate::{History, RunError, Views};
+use crate::{History, RunError, TurnRows, Views};
 use bsp_deliver::{Cells, deliver_some, sort_requests};
 use bsp_model::{Input, OutOfMemory};
 use bsp_pool::{Gate, gather};
-use bsp_step::{Outcome, OutcomeRef, OutcomeRows, Outcomes, Program, turn_reusing};
+use bsp_step::{OutcomeRef, Outcomes, Program, turn_reusing};
 use std::alloc::Global;
 use std::thread::Threads;
 
 /// The turns of some processes, in the order of the list, by the calling thread, which passes the gate before each. They are gathered in `rows`.
 pub(crate) fn turns_by_one<P: Program, G: Gate>(
     alloc: Global,
-    rows: OutcomeRows,
+    rows: TurnRows,
     program: &P,
     views: &Views,
     processes: &[usize],
     gate: &G,
-) -> Result<OutcomeRows, OutOfMemory>
+) -> Result<TurnRows, OutOfMemory>
     requires processes { All (λ p. p < length views.now) processes.now }
-    requires empty { rows ≡ [] }
-    ensures { IfOk result (λ all. all ≡ turns_of (turn_of (P.acts program.now) (P.ending program.now)) views.now processes.now) }
+    requires empty { rows.outcomes ≡ [] }
+    ensures { IfOk result (λ all. all.outcomes ≡ turns_of (turn_of (P.acts program.now) (P.ending program.now)) views.now processes.now) }
 {
-    let mut rows = rows;
-    let mut spare = Outcome::new(alloc)?;
+    let TurnRows {
+        mut outcomes,
+        mut spare,
+    } = rows;
+    let mut spare = spare_of(alloc, &mut spare)?;
     for (place, process) in processes.iter().enumerate() {
         gate.pass(place);
         let outcome = turn_reusing(alloc, program, &views.get(*process), spare)?;
-        spare = rows.push(outcome)?;
+        spare = outcomes.push(outcome)?;
     }
-    Ok(rows)
+    Ok(TurnRows::new(outcomes, Some(spare)))
 }
 
 /// The turns of some processes, in the order of the list, shared by 1 to 16 workers. `processes` are places in `views`. Whoever drew
 /// the place k of the list, counted from 0, passes the gate with k before that turn.
 ///
-/// They are gathered in `rows`, in which there is nothing yet: by one worker as each turn leaves its outcome. Of several each gathers in rows of its
-/// own, and once all have left these are copied in order.
+/// They are gathered in `rows`, in which there is nothing yet: by one worker as each turn leaves its outcome, in the lists of the spare outcome that
+/// is handed in and answered. Of several each gathers in rows of its own, and once all have left these are copied in order.
 ///
 /// # Errors
 /// `OutOfMemory` where the calling thread is refused memory for the list, or for a turn that no worker handed in.
 pub fn wide_turns<P: Program, G: Gate, R: Threads + Sync>(
     rt: &R,
     alloc: Global,
-    rows: OutcomeRows,
+    rows: TurnRows,
     program: &P,
     views: &Views,
     processes: &[usize],
     workers: usize,
     gate: &G,
-) -> Result<OutcomeRows, OutOfMemory>
-    requires empty { rows ≡ [] }
+) -> Result<TurnRows, OutOfMemory>
+    requires empty { rows.outcomes ≡ [] }
     requires processes { All (λ p. p < length views.now) processes.now }
     requires workers { (0 < workers) × (workers ≤ 16) }
-    ensures { IfOk result (λ all. all ≡ turns_of (turn_of (P.acts program.now) (P.ending program.now)) views.now processes.now) }
+    ensures { IfOk result (λ all. all.outcomes ≡ turns_of (turn_of (P.acts program.now) (P.ending program.now)) views.now processes.now) }
 {
     if workers.min(processes.len()) < 2 {
         return turns_by_one(alloc, rows, program, views, processes, gate);
     }
     let turns = Turns { program, views };
+    let TurnRows { outcomes, spare } = rows;
     let shares = gather(rt, alloc, &turns, processes, workers, gate);
-    turns_in_order(alloc, rows, &turns, processes, shares.as_slice())
+    let all = turns_in_order(alloc, outcomes, &turns, processes, shares.as_slice())?;
+    Ok(TurnRows::new(all, spare))
 }
 
 /// Passes the gate with each of so many places, in order.
@@ -187,8 +193,10 @@ pub fn run_wide<P: Program, G: Gate, R: Threads + Sync>(
             requires workers { (0 < workers) × (workers ≤ 16) }
             ensures { IfOk result (λ all. all ≡ turns_of (turn_of (P.acts program.now) (P.ending program.now)) views.now processes.now) }
         {
-            let rows = like.room_for(alloc, processes.len())?;
-            wide_turns(rt, alloc, rows, program, views, processes, workers, gate)?.share()
+            let rows = TurnRows::new(like.room_for(alloc, processes.len())?, None);
+            wide_turns(rt, alloc, rows, program, views, processes, workers, gate)?
+                .outcomes
+                .share()
         },
         &|outcomes: &Outcomes, processes: &[usize]| -> Result<Cells, OutOfMemory>
             requires deliverable { AreDeliverable outcomes.now }

@@ -7,7 +7,8 @@ ghost use Rattle.bsp_deliver.specs.Delivery.{delivery_parts, next_memory, next_q
 ghost use Rattle.bsp_deliver.specs.Sorting.{IsSortedFrom};
 ghost use Rattle.bsp_run.specs.Condition.{no_view};
 
-use crate::Views;
+use crate::turn_rows::spare_of;
+use crate::{TurnRows, Views};
 use bsp_deliver::{Cells, SortedRequests, deliver_sorted};
 use bsp_model::{Memory, OutOfMemory};
 use bsp_pool::Gathering;
@@ -19,23 +20,6 @@ use std::alloc::Global;
 pub struct Turns<'a, P: Program> {
     pub program: &'a P,
     pub views: &'a Views,
-}
-
-/// What a worker keeps of the turns that it takes.
-#[derive(Drop)]
-pub struct TurnRows {
-    /// What the turns so far left.
-    pub outcomes: OutcomeRows,
-    /// An outcome whose lists serve the next turn. There is none before the first turn, and behind one that was refused memory.
-    pub spare: Option<Outcome>,
-}
-
-/// The spare outcome, or else a new one.
-fn spare_of(alloc: Global, spare: &mut Option<Outcome>) -> Result<Outcome, OutOfMemory> {
-    match spare.take() {
-        Some(outcome) => Ok(outcome),
-        None => Ok(Outcome::new(alloc)?),
-    }
 }
 
 impl<'a, P: Program> Gathering for Turns<'a, P> {
@@ -53,10 +37,7 @@ impl<'a, P: Program> Gathering for Turns<'a, P> {
     ghost outputs = { λ _ rows. rows.outcomes };
 
     fn begin(&self, alloc: Global) -> Result<TurnRows, OutOfMemory> {
-        Ok(TurnRows {
-            outcomes: OutcomeRows::with_capacity(alloc, 0)?,
-            spare: None,
-        })
+        Ok(TurnRows::new(OutcomeRows::with_capacity(alloc, 0)?, None))
     }
 
     // The calls of `bsp_step::turn_reusing`, to which no method of a trait may pass a program.

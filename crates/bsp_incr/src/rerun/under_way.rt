@@ -7,6 +7,7 @@ use crate::Update;
 use crate::compare::KnownTable;
 use crate::rerun::counts::Counts;
 use bsp_model::{ProcessSet, Seq};
+use bsp_step::Outcome;
 use std::alloc::Global;
 
 /// An update under way, between two supersteps of the run that is made again.
@@ -18,8 +19,17 @@ pub struct UnderWay {
     pub table: KnownTable,
     /// What was done again so far.
     pub update: Update,
-    /// What that cost, and what all updates before it did.
+    /// What its turns are taken with.
+    pub taking: TurnTaking,
+}
+
+/// What goes on from the turns of one superstep to those of the next.
+#[derive(Drop)]
+pub struct TurnTaking {
+    /// What the update cost so far, and what all updates before it did.
     pub counts: Counts,
+    /// An outcome whose lists serve the next turn, if there is one.
+    pub spare: Option<Outcome>,
 }
 
 impl UnderWay {
@@ -38,7 +48,10 @@ impl UnderWay {
             marks,
             table: KnownTable::Unknown,
             update,
-            counts,
+            taking: TurnTaking {
+                counts,
+                spare: None,
+            },
         }
     }
 }

@@ -134,7 +134,7 @@ pub fn make_deliveries<P: Program, G: Gate, R: Threads + Sync>(
         step as u64,
         processes.as_slice(),
     )?;
-    under_way.counts.deliver(processes.len());
+    under_way.taking.counts.deliver(processes.len());
     let cells = wide_deliveries(
         given.workers.rt,
         given.alloc,

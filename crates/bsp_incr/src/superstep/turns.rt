@@ -13,11 +13,11 @@ ghost use Rattle.bsp_incr.specs.Inside.OpenSuperstep.{differs_now};
 
 use crate::Place;
 use crate::compare::{Doubtful, OpenSuperstep, add_places, serves};
-use crate::rerun::{Counts, Given};
+use crate::rerun::{Counts, Given, TurnTaking};
 use crate::superstep::reuse::reuse;
 use bsp_model::{OutOfMemory, ProcessSet, Seq, TryCopy};
 use bsp_pool::Gate;
-use bsp_run::wide_turns;
+use bsp_run::{TurnRows, wide_turns};
 use bsp_step::{OutcomeRows, Outcomes, Program};
 use std::thread::Threads;
 
@@ -140,13 +140,39 @@ fn with_served_turns<P: Program, R, G>(
     Ok(old_outcomes.replaced(given.alloc, processes, served)?)
 }
 
+/// The turns of these processes, which the workers take, in the lists of the spare outcome.
+fn taken_turns<P: Program, G: Gate, R: Threads + Sync>(
+    given: &Given<'_, P, R, G>,
+    superstep: &OpenSuperstep<'_, '_>,
+    processes: &[usize],
+    taking: &mut TurnTaking,
+) -> Result<OutcomeRows, OutOfMemory>
+    requires { All (λ p. p < length superstep.now.views.now) processes.now }
+    ensures { IfOk result (λ all. all
+        ≡ turns_of (turn_by P.Program given.now.program) superstep.now.views.now processes.now) }
+{
+    let room = superstep.like.room_for(given.alloc, processes.len())?;
+    let TurnRows { outcomes, spare } = wide_turns(
+        given.workers.rt,
+        given.alloc,
+        TurnRows::new(room, taking.spare.take()),
+        given.program,
+        superstep.views,
+        processes,
+        given.workers.count,
+        given.workers.gate,
+    )?;
+    taking.spare = spare;
+    Ok(outcomes)
+}
+
 /// The turns of a superstep: the workers take those that have to be taken, and their places are added.
 pub fn turns_again<P: Program, G: Gate, R: Threads + Sync>(
     given: &Given<'_, P, R, G>,
     superstep: &OpenSuperstep<'_, '_>,
     doubtful: &Doubtful,
     executed: &mut Seq<Place>,
-    counts: &mut Counts,
+    taking: &mut TurnTaking,
 ) -> Result<Outcomes, OutOfMemory>
     requires recorded { outcomes_if_any (option_map (λ o. o.now) superstep.now.old_outcomes)
         ≡ map (turn_by P.Program given.now.program) superstep.now.old_views }
@@ -155,21 +181,11 @@ pub fn turns_again<P: Program, G: Gate, R: Threads + Sync>(
     ensures executed { OnOk result (executed.new ≡ executed.old
         ++ differ_in (P.looks given.now.program) superstep.now.step superstep.now.old_views superstep.now.views.now) }
 {
-    let (to_take, to_serve) = needed_turns(given, superstep, doubtful, counts)?;
+    let (to_take, to_serve) = needed_turns(given, superstep, doubtful, &mut taking.counts)?;
     let needed = to_take.members(given.alloc)?;
     let served = to_serve.members(given.alloc)?;
     add_places(executed, superstep.step, needed.as_slice())?;
-    let rows = superstep.like.room_for(given.alloc, needed.len())?;
-    let taken = wide_turns(
-        given.workers.rt,
-        given.alloc,
-        rows,
-        given.program,
-        superstep.views,
-        needed.as_slice(),
-        given.workers.count,
-        given.workers.gate,
-    )?;
+    let taken = taken_turns(given, superstep, needed.as_slice(), taking)?;
     if superstep.old_views.is_empty() {
         return Ok(taken.share()?);
     }

@@ -2,7 +2,7 @@
 use Rattle.std.specs.Prelude.{ℕ, List}
 use Rattle.bsp_model.specs.declared.request.Message.{Message}
 use Rattle.bsp_step.specs.OutcomeParts.{OutcomeParts}
-use Rattle.bsp_run.specs.declared.works.TurnRows.{TurnRows}
+use Rattle.bsp_run.specs.declared.turn_rows.TurnRows.{TurnRows}
 
 -- the outcomes of the turns that a worker took
 abbrev pub outcomes_of : TurnRows → List OutcomeParts

@@ -24,8 +24,8 @@ none_recorded old turn views none recorded some =
     let empty : [] ≡ map turn views = ap (λ (o : Option (Bor (List OutcomeParts))). outcomes_if_any (option_map (λ x. x.now) o)) (sym none) ∙ recorded in
     omega (arith, some, ap (λ (os : List OutcomeParts). length os) empty, length-map views turn)
 
-pub wide_turns-requires-clause-processes : goal.wide_turns-requires-clause-processes
-wide_turns-requires-clause-processes g c κs within =
+pub taken_turns-requires : goal.taken_turns-requires
+taken_turns-requires g c κs within =
     let n = length c.args.superstep.now.views.now in
     let test : ℕ → Bool = differs (g.P.Program.looks c.args.given.now.program) c.args.superstep.now.old_views c.args.superstep.now.views.now in
     let needed = c.in_ok-needed.ensures ∙ processes_where-each_below n test c.in_ok-to_take.to_take c.in_ok-to_take.ensures.needed in
