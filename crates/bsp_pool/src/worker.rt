@@ -89,6 +89,18 @@ fn draw_all<W: Gathering, G: Gate>(
     false
 }
 
+/// What a worker hands back that has drawn nothing, for want of memory.
+fn without_rows<W: Gathering, G: Gate>(jobs: &Jobs<W, G>, pass: Pass) -> Finished<W::Rows>
+    requires { pass.deck ≡ jobs.now.deck.now }
+    ensures { HandsBack jobs.now.deck.now (W.outputs jobs.now.work.now) (map (W.does jobs.now.work.now) jobs.now.inputs.now) result }
+{
+    Finished {
+        pass,
+        shares: Vec::new(jobs.alloc),
+        refused: true,
+    }
+}
+
 /// One worker, with rows of its own, which it hands back with the numbers that it worked.
 fn run_worker<W: Gathering, G: Gate>(
     jobs: &Jobs<W, G>,
@@ -99,24 +111,16 @@ fn run_worker<W: Gathering, G: Gate>(
     requires accepts { All (W.accepts jobs.now.work.now) jobs.now.inputs.now }
     ensures { HandsBack jobs.now.deck.now (W.outputs jobs.now.work.now) (map (W.does jobs.now.work.now) jobs.now.inputs.now) result }
 {
-    let mut shares = Vec::new(jobs.alloc);
+    let Ok(mut shares) = Vec::with_capacity(jobs.alloc, 1) else {
+        return without_rows(jobs, pass);
+    };
     let Ok(rows) = jobs.work.begin(jobs.alloc) else {
-        return Finished {
-            pass,
-            shares,
-            refused: true,
-        };
+        return without_rows(jobs, pass);
     };
     let numbers = Vec::new(jobs.alloc);
     let mut share = Share { numbers, rows };
     let refused = draw_all(jobs, &mut pass, &mut share, watch);
-    let Ok(()) = shares.push(share) else {
-        return Finished {
-            pass,
-            shares,
-            refused: true,
-        };
-    };
+    shares.push_reserved(share);
     Finished {
         pass,
         shares,

@@ -9,10 +9,10 @@ returns g c =
     let inputs = c.args.jobs.now.inputs.now in
     let outs = map (g.W.Gathering.does work) inputs in
     let share = c.draw_all-refused.new.share in
-    let before = c.new-shares.result.items in
-    let new = c.push.new.self.items in
-    let none = c.new-shares.ensures.items in
-    let is = c.in-Ok-push.ensures.items in
+    let before = c.in-Ok.shares.items in
+    let new = c.push_reserved.new.self.items in
+    let none = c.in-Ok.ensures.items in
+    let is = c.push_reserved.ensures.items in
     record {
       of_deck = c.draw_all-refused.ensures.deck;
       shares = first_share (g.W.Gathering.outputs work) outs before new share c.draw_all-refused.ensures.share none is;
