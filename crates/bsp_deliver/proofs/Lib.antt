@@ -10,6 +10,7 @@ pub mod SameParts
 pub mod SameDelivery
 pub mod Gathered
 mod Origins
+mod Links
 pub mod ReadWords
 pub mod WrittenAt
 pub mod CellsOf
