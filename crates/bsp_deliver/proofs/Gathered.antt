@@ -1,30 +1,23 @@
 -- One pass over all requests leaves at each place what the requests to it alone would.
-use Rattle.std.proofs.Common.{◌≡◌, ℕ, ◌+◌, ◌<◌, ◌≤◌, ◌==◌, Bool, cond, List, [], ◌∷◌, ◌++◌, map, filter, fold, take, length, set, replicate, All, refl, sym, ◌∙◌, ap, arith, get_or, subst, inl, inr, ◌⊎◌, append_assoc, append-nil}
-use Rattle.std.proofs.lemmas.Bool.{eq-eqb, ne_eqb, cases_eq, cases_lt}
-use Rattle.std.proofs.lemmas.List.{length-set, length-map, length-replicate, get_or_past, get_or-map, get_or-replicate, get_or-set_same, get_or-set_other, ext_get_or}
+use Rattle.std.proofs.Common.{◌≡◌, ℕ, zero, suc, ◌+◌, ◌<◌, ◌≤◌, ◌==◌, Bool, cond, List, [], ◌∷◌, ◌++◌, map, filter, fold, take, length, set, replicate, All, refl, sym, ◌∙◌, ap, arith, get_or, subst, inl, inr, ◌⊎◌}
+use Rattle.std.proofs.lemmas.Bool.{eq-eqb, ne_eqb, cases_eq}
+use Rattle.std.proofs.lemmas.List.{length-set, length-map, length-replicate, length-take-le, take_more, map-append, get_or-map, get_or-replicate, get_or-set_same, get_or-set_other, ext_get_or}
 use Rattle.std.proofs.lemmas.List.Elements.{All-head, All-tail}
 use Rattle.std.proofs.lemmas.Grind.{fold-append}
 use Rattle.std.proofs.lemmas.List.Folds.{fold-map}
 use Rattle.bsp_model.specs.declared.request.Put.{Put}
 use Rattle.bsp_model.specs.declared.request.Send.{Send}
 use Rattle.bsp_model.specs.declared.request.Message.{Message}
-use Rattle.bsp_model.specs.Columns.{row_at}
+use Rattle.bsp_model.specs.Columns.{row_at, IsPut}
 use Rattle.bsp_model.specs.declared.request.Get.{Get}
 use Rattle.bsp_step.specs.OutcomeParts.{OutcomeParts, outcome_of, no_outcome}
 use Rattle.bsp_deliver.specs.Requests.{requests_from, all_puts, all_sends, words_read}
 use Rattle.bsp_deliver.specs.Delivery.{get_write, put_write, message_of, delivery_parts, next_memory, next_queue}
-use Rattle.bsp_deliver.specs.Inside.Gathering.{overlay, changed_at, put_into, sent_into, put_at, sent_at, ArePlaces}
+use Rattle.bsp_deliver.specs.Inside.Gathering.{overlay, changed_at, put_into, put_at, ArePlaces}
 use Rattle.bsp_deliver.specs.Condition.{sizes_of, IsPutInside, AreDeliverable, IsAscending}
+use Rattle.bsp_deliver.proofs.CellsOf.{row_at-push}
 use Rattle.bsp_deliver.proofs.Writes.{overlay-none, overlay-overlay, length-overlay, memory_written-overlay, overlay-next_memory}
 use Rattle.bsp_deliver.proofs.Senders.{requests_of-more, all_requests, puts_inside, sizes-outcome_of, length-sizes_of}
-
--- rows without items
-pub empty_rows : {X : Type 0} (count k : ℕ) → row_at (replicate {A = List X} count []) k ≡ []
-empty_rows {X = X} count k =
-    elim (cases_lt k count) [
-      | inl below ↦ get_or-replicate count k [] [] below
-      | inr past ↦ get_or_past (replicate {A = List X} count []) k [] (omega (arith, past, length-replicate {A = List X} count []))
-    ]
 
 -- one request more, at one place
 changed_one : {S R : Type 0} (step : S → R → S) (none : S) (place : R → ℕ) (items : List S) (r : R) (rs : List R) (k : ℕ) → k < length items
@@ -87,10 +80,6 @@ puts_folded m (s ∷ ss) h =
     ∙ ap (λ x. overlay x (map put_write ss)) one
     ∙ overlay-overlay m (put_write s ∷ []) (map put_write ss)
 
-sends_folded : (q : List Message) (ss : List (ℕ × Send)) → fold (λ x (s : ℕ × Send). sent_into x s.1) q ss ≡ q ++ map (λ (s : ℕ × Send). message_of s.1) ss
-sends_folded q [] = sym (append-nil q)
-sends_folded q (s ∷ ss) = sends_folded (q ++ message_of s.1 ∷ []) ss ∙ append_assoc q (message_of s.1 ∷ []) (map (λ (x : ℕ × Send). message_of x.1) ss)
-
 -- all puts to the memories of these processes
 pub memories_gathered : (os : List OutcomeParts) (ps places : List ℕ) (ms : List (List ℕ)) → AreDeliverable os → All (λ d. d < length os) ps → ArePlaces (length os) ps places
     → ms ≡ map (λ d. overlay (delivery_parts os d).memory (map get_write (delivery_parts os d).gets)) ps
@@ -120,28 +109,23 @@ memories_gathered os ps places ms h known at e =
     ∙ overlay-next_memory parts
     ∙ sym (get_or-map N ps k 0 [] lk))
 
--- all messages to the queues of these processes
-pub queues_gathered : (os : List OutcomeParts) (ps places : List ℕ) (qs : List (List Message)) → AreDeliverable os → ArePlaces (length os) ps places → qs ≡ replicate (length ps) []
-    → fold (λ xs (s : ℕ × Send). sent_at places xs s.1) qs (all_sends os) ≡ map (λ d. next_queue (delivery_parts os d)) ps
-unfolding delivery_parts all_sends next_queue
-queues_gathered os ps places qs h at e =
+-- where nobody sends, no queue has a message
+pub none_queued : (os : List OutcomeParts) (ps : List ℕ) (k : ℕ) → all_sends os ≡ [] → row_at (map (λ d. next_queue (delivery_parts os d)) ps) k ≡ []
+unfolding delivery_parts next_queue
+none_queued os [] k none = refl
+none_queued os (p ∷ ps) zero none = ap (λ (ss : List (ℕ × Send)). map (λ (m : ℕ × Send). message_of m.1) (filter (λ (m : ℕ × Send). m.1.target == p) ss)) none
+none_queued os (p ∷ ps) (suc k) none = none_queued os ps k none
+
+-- the queue of one process more
+pub queued_more : (os : List OutcomeParts) (ps : List ℕ) (i p : ℕ) (old new : List (List Message)) (queue : List Message) → i < length ps → p ≡ get_or ps i p → ((k : ℕ) → row_at old k ≡ row_at (map (λ d. next_queue (delivery_parts os d)) (take i ps)) k)
+    → queue ≡ next_queue (delivery_parts os p) → IsPut [] (row_at old) i queue (row_at new)
+    → (k : ℕ) → row_at new k ≡ row_at (map (λ d. next_queue (delivery_parts os d)) (take (i + 1) ps)) k
+queued_more os ps i p old new queue within read before is put k =
     let N : ℕ → List Message = λ d. next_queue (delivery_parts os d) in
-    let step : List Message → ℕ × Send → List Message = λ x s. sent_into x s.1 in
-    let place : ℕ × Send → ℕ = λ s. get_or places s.1.target 0 in
-    let count : length qs ≡ length ps = ap length e ∙ length-replicate (length ps) [] in
-    let all = all_requests (λ (m : Send). m.target < length (sizes_of os)) (λ (o : OutcomeParts). o.sends) 0 os (λ k o l. (h.inside k o l).sends) in
-    ext_get_or [] (fold (changed_at step [] place) qs (all_sends os)) (map N ps)
-    (length-gathered step [] place qs (all_sends os) ∙ count ∙ sym (length-map ps N))
-    (λ k l.
-    let here : k < length qs = omega (arith, l, length-gathered step [] place qs (all_sends os)) in
-    let lk : k < length ps = omega (arith, here, count) in
-    let d = get_or ps k 0 in
-    gathered step [] place qs (all_sends os) k here
-    ∙ ap (fold step (get_or qs k []))
-    (filter_agree (λ s. place s == k) (λ s. s.1.target == d) (all_sends os) (λ j s lj. at_place (length os) ps places (get_or (all_sends os) j s).1.target k at (omega (arith, all j s lj, length-sizes_of os)) lk))
-    ∙ ap (λ q. fold step q (delivery_parts os d).sends) (ap (λ (xs : List (List Message)). get_or xs k []) e ∙ get_or-replicate (length ps) k [] [] lk)
-    ∙ sends_folded [] (delivery_parts os d).sends
-    ∙ sym (get_or-map N ps k 0 [] lk))
+    let count : i ≡ length (map N (take i ps)) = omega (arith, within, length-map (take i ps) N, length-take-le i ps (omega (arith, within))) in
+    row_at-push old new (map N (take i ps)) i queue count before put k
+    ∙ ap (λ (q : List Message). row_at (map N (take i ps) ++ q ∷ []) k) is
+    ∙ ap (λ (qs : List (List Message)). row_at qs k) (sym (map-append N (take i ps) (p ∷ [])) ∙ ap (map N) (ap (λ (x : ℕ). take i ps ++ x ∷ []) read ∙ sym (take_more ps i p within)))
 
 -- The first i processes have their places, and the others one past the end.
 pub record ArePlacedTo (n i : ℕ) (ps places : List ℕ) : Type 0 where

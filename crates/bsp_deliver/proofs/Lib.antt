@@ -11,6 +11,7 @@ pub mod SameDelivery
 pub mod Gathered
 mod Origins
 pub mod SkippedSenders
+mod Links
 pub mod ReadWords
 pub mod WrittenAt
 pub mod CellsOf

@@ -5,4 +5,5 @@ pub mod SameDelivery
 pub mod Marks
 pub mod Gathering
 pub mod Cells
+pub mod Chains
 pub mod Puts

@@ -5,18 +5,18 @@ ghost use Rattle.bsp_model.specs.Replaced.{replaced, IsAscending};
 ghost use Rattle.bsp_deliver.specs.Inside.Cells.{cells_of};
 
 use bsp_model::{
-    Memories, Memory, MemoryRef, Message, OutOfMemory, Share, SharedColumn, end_of_run,
+    Memories, Memory, MemoryRef, MessageColumn, MessagesRef, OutOfMemory, Share, end_of_run,
 };
 use bsp_step::Queue;
 use std::alloc::Global;
 use std::marker::Model;
 
-/// The next memory and the next queue of each of several processes, in the order of a list. The memories lie in flat lists.
+/// The next memory and the next queue of each of several processes, in the order of a list, in few lists.
 #[derive(Drop)]
 pub struct Cells {
     memories: Memories,
     /// The queue of each memory. Those past the last memory belong to no process.
-    queues: SharedColumn<Message>,
+    queues: MessageColumn,
 }
 
 impl Model for Cells {
@@ -36,7 +36,7 @@ impl Cells {
     {
         Cells {
             memories: Memories::new(alloc),
-            queues: SharedColumn::new(alloc),
+            queues: MessageColumn::new(alloc),
         }
     }
 
@@ -53,7 +53,7 @@ impl Cells {
     {
         Ok(Cells {
             memories: Memories::with_room_of(alloc, &like.memories, Share::whole())?,
-            queues: SharedColumn::with_room_of(alloc, &like.queues)?,
+            queues: MessageColumn::with_room_of(alloc, &like.queues, Share::whole())?,
         })
     }
 
@@ -79,14 +79,14 @@ impl Cells {
     }
 
     /// These memories, and the queue of each.
-    pub(crate) fn from_parts(memories: Memories, queues: SharedColumn<Message>) -> Cells
+    pub(crate) fn from_parts(memories: Memories, queues: MessageColumn) -> Cells
         ensures { result ≡ cells_of memories queues }
     {
         Cells { memories, queues }
     }
 
     /// The memories, and the queue of each.
-    pub(crate) fn into_parts(self) -> (Memories, SharedColumn<Message>)
+    pub(crate) fn into_parts(self) -> (Memories, MessageColumn)
         ensures { cells_of result.0 result.1 ≡ self }
     {
         (self.memories, self.queues)
@@ -118,11 +118,11 @@ impl Cells {
 
     /// The queue of a process.
     #[inline(always)]
-    pub fn queue(&self, place: usize) -> &[Message]
+    pub fn queue(&self, place: usize) -> MessagesRef<'_>
         requires { place < length self.now }
-        ensures { result.now ≡ (slice_index_or self.now place ([], [])).1 }
+        ensures { result ≡ (slice_index_or self.now place ([], [])).1 }
     {
-        self.queues.row(place)
+        self.queues.get(place)
     }
 
     /// Adds one process more. After `OutOfMemory` nothing has changed.
@@ -131,7 +131,7 @@ impl Cells {
         ensures err { OnErr result (self.new ≡ self.old) }
     {
         let mut memory = memory;
-        self.queues.put(self.memories.len(), queue)?;
+        self.queues.put(self.memories.len(), &queue.as_ref())?;
         self.memories.push_from(&mut memory)?;
         Ok(())
     }
@@ -141,20 +141,22 @@ impl Cells {
         ensures ok { OnOk result (self.new ≡ self.old ++ (memory.now, queue) ∷ []) }
         ensures err { OnErr result (self.new ≡ self.old) }
     {
-        self.queues.put(self.memories.len(), queue)?;
+        self.queues.put(self.memories.len(), &queue.as_ref())?;
         self.memories.push_copy(memory)?;
         Ok(())
     }
 
-    /// These processes, and behind them those of another list from `from` on, and before `to`, or `OutOfMemory`. Full pages and messages are
-    /// shared.
+    /// These processes, and behind them those of another list from `from` on, and before `to`, or `OutOfMemory`. Full pages are shared.
     pub fn with_range(self, more: &Cells, from: usize, to: usize) -> Result<Cells, OutOfMemory>
         requires order { from ≤ to }
         requires inside { to ≤ length more.now }
         ensures { IfOk result (λ cells. cells ≡ self ++ slice_range more.now from to) }
     {
-        let Cells { memories, queues } = self;
-        let queues = queues.with_range(memories.len(), &more.queues, from, to)?;
+        let Cells {
+            memories,
+            mut queues,
+        } = self;
+        queues.take_range(memories.len(), &more.queues, from, to)?;
         let memories = memories.with_range(&more.memories, from, to)?;
         Ok(Cells { memories, queues })
     }

@@ -1,18 +1,16 @@
 //! What a superstep's end brings to several processes, in one pass over all requests.
 
-ghost use Rattle.std.specs.Prelude.{◌≡◌, ◌<◌, ℕ, All, IfOk, OnOk, length, map, fold, replicate, []};
+ghost use Rattle.std.specs.Prelude.{◌≡◌, ◌<◌, ℕ, All, IfOk, length, map};
 ghost use Rattle.bsp_model.specs.Columns.{row_at};
-ghost use Rattle.bsp_deliver.specs.Requests.{all_puts, all_sends};
-ghost use Rattle.bsp_deliver.specs.Delivery.{get_write, delivery_parts, next_memory, next_queue};
-ghost use Rattle.bsp_deliver.specs.Inside.Gathering.{overlay, put_at, sent_at, ArePlaces};
-ghost use Rattle.bsp_deliver.specs.Condition.{AreDeliverable, AreRequestsInside, IsAscending, sizes_of};
+ghost use Rattle.bsp_deliver.specs.Delivery.{delivery_parts, next_memory, next_queue};
+ghost use Rattle.bsp_deliver.specs.Inside.Gathering.{ArePlaces};
+ghost use Rattle.bsp_deliver.specs.Condition.{AreDeliverable, IsAscending};
 
 use crate::Cells;
-use crate::delivery::message;
-use crate::lists::empty_lists;
+use crate::sorting::{add_queue, origins_of};
 use crate::writing::memories_after;
-use bsp_model::{Message, OutOfMemory, SendsRef, Seq, SharedColumn};
-use bsp_step::{ListKind, Outcomes};
+use bsp_model::{MessageColumn, OutOfMemory, Send};
+use bsp_step::{ListKind, Outcomes, Queue};
 use std::alloc::Global;
 
 /// Where each of so many processes stands in the list. Those that aren't in it stand past its end.
@@ -28,82 +26,31 @@ fn places_of(alloc: Global, count: usize, processes: &[usize]) -> Result<Vec<usi
     Ok(places)
 }
 
-/// Adds one sender's messages, in issue order, each to the queue at its target's place.
-fn add_messages(
-    queues: &mut [Seq<Message>],
-    places: &[usize],
-    sends: &SendsRef<'_>,
-) -> Result<(), OutOfMemory>
-    requires { All (λ m. m.target < length places.now) sends.now }
-    ensures { OnOk result (queues.new ≡ fold (sent_at places.now) queues.old sends.now) }
-{
-    for i in 0..sends.len() {
-        let send = sends.at(i);
-        let place = places[send.target as usize];
-        if place < queues.len() {
-            let queue = &mut queues[place];
-            let message = message(queue.allocator(), send.tag, send.words)?;
-            queue.push(message)?;
-        }
-    }
-    Ok(())
-}
-
-/// Adds all messages, by sender, then by issue, each to the queue at its target's place.
-fn add_all_messages(
-    queues: &mut [Seq<Message>],
-    places: &[usize],
-    outcomes: &Outcomes,
-) -> Result<(), OutOfMemory>
-    requires inside { All (AreRequestsInside (sizes_of outcomes.now)) outcomes.now }
-    requires count { length places.now ≡ length outcomes.now }
-    ensures { OnOk result (queues.new ≡ fold (λ qs s. sent_at places.now qs s.1) queues.old (all_sends outcomes.now)) }
-{
-    for sender in 0..outcomes.len() {
-        let own = outcomes.sends(sender);
-        add_messages(queues, places, &own)?;
-    }
-    Ok(())
-}
-
-/// These queues, which their copies share from now on, in the room of others.
-fn shared_queues(
-    queues: Vec<Seq<Message>>,
-    room: SharedColumn<Message>,
-) -> Result<SharedColumn<Message>, OutOfMemory>
-    ensures { IfOk result (λ all. (k : ℕ) → row_at all k ≡ row_at queues.items k) }
-{
-    let mut all = room;
-    all.clear();
-    let mut place = 0;
-    for queue in queues {
-        all.put(place, queue.share()?)?;
-        place += 1;
-    }
-    Ok(all)
-}
-
-/// The queues of so many processes after delivery, in the room of others. Where nobody sends a message no list is made.
+/// The queues of these processes after delivery, in the room of others. Where nobody sends a message none is looked for.
 fn queues_after(
     alloc: Global,
     outcomes: &Outcomes,
-    count: usize,
-    places: &[usize],
-    room: SharedColumn<Message>,
-) -> Result<SharedColumn<Message>, OutOfMemory>
+    processes: &[usize],
+    room: MessageColumn,
+) -> Result<MessageColumn, OutOfMemory>
     requires deliverable { AreDeliverable outcomes.now }
-    requires places { length places.now ≡ length outcomes.now }
+    requires known { All (λ d. d < length outcomes.now) processes.now }
     ensures { IfOk result (λ queues. (k : ℕ) → row_at queues k
-        ≡ row_at (fold (λ qs s. sent_at places.now qs s.1) (replicate count []) (all_sends outcomes.now)) k) }
+        ≡ row_at (map (λ d. next_queue (delivery_parts outcomes.now d)) processes.now) k) }
 {
+    let mut queues = room;
+    queues.clear();
     if outcomes.is_without(ListKind::Sends) {
-        let mut none = room;
-        none.clear();
-        return Ok(none);
+        return Ok(queues);
     }
-    let mut queues = empty_lists(alloc, count)?;
-    add_all_messages(queues.as_mut_slice(), places, outcomes)?;
-    shared_queues(queues, room)
+    let sends = origins_of::<Send>(alloc, outcomes)?;
+    let mut queue = Queue::new(alloc);
+    for place in 0..processes.len() {
+        queue.clear();
+        add_queue(&mut queue, processes[place], &sends, outcomes)?;
+        queues.put(place, &queue.as_ref())?;
+    }
+    Ok(queues)
 }
 
 /// What `deliver` answers for each of these processes, in the order of the list, in one pass over all requests. The list is ascending.
@@ -122,13 +69,7 @@ fn deliver_together(
     let places = places_of(alloc, outcomes.len(), processes)?;
     let (old_memories, old_queues) = room.into_parts();
     let memories = memories_after(alloc, outcomes, processes, places.as_slice(), old_memories)?;
-    let queues = queues_after(
-        alloc,
-        outcomes,
-        processes.len(),
-        places.as_slice(),
-        old_queues,
-    )?;
+    let queues = queues_after(alloc, outcomes, processes, old_queues)?;
     Ok(Cells::from_parts(memories, queues))
 }
 

@@ -3,12 +3,12 @@
 
 mod addressed;
 mod cells;
+mod chains;
 mod cost;
 mod delivery;
 mod faults;
 mod gathering;
 mod inboxes;
-mod lists;
 mod marking;
 mod same;
 mod sorting;

@@ -9,6 +9,7 @@ pub mod PairedColumns
 pub mod ProcessSets
 pub mod Ranges
 pub mod SetBits
+pub mod ShownRows
 pub mod Replaced
 pub mod Rests
 pub mod RowReplaced

@@ -6,6 +6,7 @@ pub mod HeadedRows
 pub mod Issued
 pub mod LawfulInput
 pub mod Memories
+pub mod Messages
 pub mod Pages
 pub mod Ranges
 pub mod Rows

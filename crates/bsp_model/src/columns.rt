@@ -2,6 +2,7 @@
 
 mod column;
 mod lines;
+mod messages;
 mod pairs;
 mod puts;
 mod sends;
@@ -10,6 +11,7 @@ mod stores;
 
 pub use column::Column;
 pub use lines::LineColumn;
+pub use messages::MessageColumn;
 pub use puts::PutColumn;
 pub use sends::SendColumn;
 pub use shared_column::SharedColumn;

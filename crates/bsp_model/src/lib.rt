@@ -11,6 +11,7 @@ pub mod limits;
 mod memories;
 mod memory;
 mod memory_ref;
+mod messages;
 mod page;
 mod paging;
 mod places;
@@ -28,7 +29,9 @@ mod stores;
 mod stores_ref;
 mod words;
 
-pub use columns::{Column, LineColumn, PutColumn, SendColumn, SharedColumn, StoreColumn};
+pub use columns::{
+    Column, LineColumn, MessageColumn, PutColumn, SendColumn, SharedColumn, StoreColumn,
+};
 pub use copying::{Same, TryCopy};
 pub use cost::CostRow;
 pub use fault::{End, Fault, InputFault, SyncFault};
@@ -36,6 +39,7 @@ pub use input::Input;
 pub use memories::Memories;
 pub use memory::Memory;
 pub use memory_ref::MemoryRef;
+pub use messages::{MessageView, Messages, MessagesRef};
 pub use places::{are_among, are_few, end_of_run, place_among};
 pub use process_set::{Members, ProcessSet};
 pub use puts::{PutView, Puts, PutsRef};

@@ -98,18 +98,3 @@ impl Same for Send {
         self.target == other.target && self.tag.same(&other.tag) && self.words.same(&other.words)
     }
 }
-
-impl TryCopy for Message {
-    fn copy(&self) -> Result<Message, OutOfMemory> {
-        Ok(Message {
-            tag: self.tag.copy()?,
-            words: self.words.copy()?,
-        })
-    }
-}
-
-impl Same for Message {
-    fn same(&self, other: &Message) -> bool {
-        self.tag.same(&other.tag) && self.words.same(&other.words)
-    }
-}

@@ -15,7 +15,7 @@ pub fn first_cells(alloc: Global, mems: &[Memory]) -> Result<Cells, OutOfMemory>
 {
     let mut cells = Cells::with_capacity(alloc, mems.len())?;
     for memory in mems {
-        cells.push_copy(&memory.as_ref(), Queue::new())?;
+        cells.push_copy(&memory.as_ref(), Queue::new(alloc))?;
     }
     Ok(cells)
 }
@@ -43,7 +43,7 @@ pub fn first_cells_of(
     let mut cells = Cells::with_capacity(alloc, processes.len())?;
     for process in processes {
         let memory = &mems[*process];
-        cells.push_copy(&memory.as_ref(), Queue::new())?;
+        cells.push_copy(&memory.as_ref(), Queue::new(alloc))?;
     }
     Ok(cells)
 }

@@ -5,9 +5,7 @@ ghost use Rattle.bsp_model.specs.Replaced.{replaced, IsAscending};
 ghost use Rattle.bsp_run.specs.Inside.SharedCells.{no_cell, with_others, AreOthers, IsBelow};
 
 use bsp_deliver::Cells;
-use bsp_model::{
-    MemoryRef, Message, OutOfMemory, Shared, TryCopy, are_among, are_few, place_among,
-};
+use bsp_model::{OutOfMemory, Shared, TryCopy, are_among, are_few, place_among};
 use std::alloc::Global;
 use std::marker::Model;
 

@@ -5,6 +5,7 @@ pub mod Placing
 pub mod Finding
 pub mod Boxed
 pub mod Limits
+pub mod MessagesLeft
 pub mod Storing
 pub mod Laws
 pub mod OutcomeColumns

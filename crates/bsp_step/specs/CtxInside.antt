@@ -1,5 +1,5 @@
 -- The state of a turn, from the fields of its context.
-use Rattle.std.specs.Prelude.{◌≡◌, ◌≤◌, length}
+use Rattle.std.specs.Prelude.{◌≡◌, ◌≤◌, drop, length}
 use Rattle.bsp_model.specs.Limits.{most_requests, most_work}
 use Rattle.bsp_step.specs.declared.ctx.Ctx.TheInside.{Inside}
 use Rattle.bsp_step.specs.ViewParts.{IsView, IsQueue}
@@ -14,7 +14,7 @@ context_of c =
     record {
       view = c.view.now;
       memory = c.lists.value.memory;
-      left = c.left.now;
+      left = drop c.taken c.view.now.queue;
       stores = c.lists.value.stores;
       puts = c.lists.value.puts;
       gets = c.lists.value.rare.gets;

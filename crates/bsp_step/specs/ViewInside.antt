@@ -12,7 +12,7 @@ view_parts v =
       memory = v.memory;
       table = v.table.now;
       tag_size = v.tag_size;
-      queue = v.queue.now;
+      queue = v.queue;
     }
 
 abbrev pub IsLawful : Inside → Type 0

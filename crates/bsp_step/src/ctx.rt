@@ -16,7 +16,7 @@ mod remote;
 
 use crate::{Ended, Outcome, Stop, TurnLists, View};
 use bsp_model::limits::MOST_REQUESTS;
-use bsp_model::{End, Fault, Message, OutOfMemory};
+use bsp_model::{End, Fault, OutOfMemory};
 use std::alloc::Global;
 use std::marker::Model;
 
@@ -25,7 +25,8 @@ use std::marker::Model;
 pub struct Ctx<'v> {
     view: &'v View<'v>,
     alloc: Global,
-    left: &'v [Message],
+    /// How many messages were taken.
+    taken: usize,
     lists: Box<TurnLists>,
     tag: Option<u64>,
     work: u64,
@@ -67,7 +68,7 @@ impl<'v> Ctx<'v> {
         Ok(Ctx {
             view,
             alloc,
-            left: view.queue,
+            taken: 0,
             lists,
             tag: None,
             work: 0,

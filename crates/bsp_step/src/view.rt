@@ -1,11 +1,11 @@
 //! What a process sees in a superstep.
 
-use bsp_model::{MemoryRef, Message, Same, SharedSeq, are_same, are_same_words};
+use bsp_model::{MemoryRef, Messages, MessagesRef, Same, are_same_words};
 use bsp_table::Table;
 use std::marker::Model;
 
 /// A message queue: the messages that were sent to a process in the superstep before, by sender, then by issue.
-pub type Queue = SharedSeq<Message>;
+pub type Queue = Messages;
 
 /// What a process may see in a superstep (Hill et al. 1998). Its parts are read where they lie.
 #[derive(Drop)]
@@ -25,7 +25,7 @@ pub struct View<'a> {
     /// The tag size in force: at most `MOST_TAG_WORDS` words.
     pub tag_size: u64,
     /// The messages that came: at most `MOST_MESSAGES`.
-    pub queue: &'a [Message],
+    pub queue: MessagesRef<'a>,
 }
 
 impl<'a> Model for View<'a> {
@@ -49,6 +49,6 @@ impl<'a> Same for View<'a> {
             && self.memory.same(&other.memory)
             && self.table.same(other.table)
             && self.tag_size == other.tag_size
-            && are_same(self.queue, other.queue)
+            && self.queue.same(&other.queue)
     }
 }

@@ -1,10 +1,8 @@
 -- Requests that change, one after another, what stands at their target's place in a list: private functions alone speak of them.
-use Rattle.std.specs.Prelude.{◌≡◌, ◌↔◌, ℕ, ◌<◌, ◌≤◌, Bool, false, List, [], ◌∷◌, ◌++◌, length, slice_index, slice_index_or, slice_set}
+use Rattle.std.specs.Prelude.{◌≡◌, ◌↔◌, ℕ, ◌<◌, ◌≤◌, Bool, false, List, [], length, slice_index, slice_index_or, slice_set}
 use Rattle.bsp_model.specs.Memory.{memory_written}
 use Rattle.bsp_model.specs.declared.request.Put.{Put}
-use Rattle.bsp_model.specs.declared.request.Send.{Send}
-use Rattle.bsp_model.specs.declared.request.Message.{Message}
-use Rattle.bsp_deliver.specs.Delivery.{message_of, Write, written}
+use Rattle.bsp_deliver.specs.Delivery.{Write, written}
 use Rattle.bsp_deliver.specs.Requests.{each_below}
 
 -- the item at a request's place, changed by it. Where there is no such place, nothing changes.
@@ -14,16 +12,9 @@ changed_at step none place items r = slice_set items (place r) (step (slice_inde
 abbrev pub put_into : List ℕ → Put → List ℕ
 put_into memory p = memory_written memory p.start p.words
 
-abbrev pub sent_into : List Message → Send → List Message
-sent_into queue m = queue ++ message_of m ∷ []
-
 -- a put into the memory at its target's place
 abbrev pub put_at : List ℕ → List (List ℕ) → Put → List (List ℕ)
 put_at places = changed_at put_into [] (λ p. slice_index places p.target)
-
--- a message into the queue at its target's place
-abbrev pub sent_at : List ℕ → List (List Message) → Send → List (List Message)
-sent_at places = changed_at sent_into [] (λ m. slice_index places m.target)
 
 -- For each of so many processes its place in the list. Those that aren't in it have a place past its end.
 pub record ArePlaces (n : ℕ) (processes places : List ℕ) : Type 0 where

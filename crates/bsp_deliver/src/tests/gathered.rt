@@ -13,8 +13,8 @@ use std::test::Fail;
 /// Whether a delivery to two processes left these memories and no message.
 fn leave(cells: &Cells, first: &[u64], second: &[u64]) -> bool {
     cells.len() == 2
-        && leaves(&cells.memory(0), cells.queue(0), first)
-        && leaves(&cells.memory(1), cells.queue(1), second)
+        && leaves(&cells.memory(0), &cells.queue(0), first)
+        && leaves(&cells.memory(1), &cells.queue(1), second)
 }
 
 /// Whether one pass brings each of two processes the other's put, which wins over a get, in the room of what one of them got.
@@ -42,7 +42,7 @@ fn is_brought(
     requires sorted { IsSortedFrom outcomes.now sorted.now }
 {
     let (memory, queue) = deliver_sorted(alloc, d, sorted, outcomes)?;
-    let is_left = leaves(&memory.as_ref(), queue.as_slice(), words);
+    let is_left = leaves(&memory.as_ref(), &queue.as_ref(), words);
     drop(memory);
     drop(queue);
     Ok(is_left)

@@ -38,7 +38,7 @@ fn is_inbox(
     let delivered = deliver_inbox(alloc, d, &mine, outcomes);
     drop(mine);
     let (memory, queue) = delivered?;
-    let is_left = leaves(&memory.as_ref(), queue.as_slice(), after);
+    let is_left = leaves(&memory.as_ref(), &queue.as_ref(), after);
     drop(memory);
     drop(queue);
     Ok(is_put && is_left)

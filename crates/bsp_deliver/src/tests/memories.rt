@@ -1,6 +1,6 @@
 //! What deliveries have to leave.
 
-use bsp_model::{MemoryRef, Message};
+use bsp_model::{MemoryRef, MessagesRef};
 
 /// Whether these are the words of the memory.
 fn is_memory(memory: &MemoryRef<'_>, words: &[u64]) -> bool {
@@ -13,6 +13,6 @@ fn is_memory(memory: &MemoryRef<'_>, words: &[u64]) -> bool {
 }
 
 /// Whether a delivery left this memory and no message.
-pub(crate) fn leaves(memory: &MemoryRef<'_>, queue: &[Message], words: &[u64]) -> bool {
+pub(crate) fn leaves(memory: &MemoryRef<'_>, queue: &MessagesRef<'_>, words: &[u64]) -> bool {
     queue.is_empty() && is_memory(memory, words)
 }

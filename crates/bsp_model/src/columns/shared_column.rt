@@ -77,18 +77,6 @@ impl<T> SharedColumn<T> {
 }
 
 impl<T: Drop> SharedColumn<T> {
-    /// Empty lists alone, with the room that these take, or `OutOfMemory`.
-    pub fn with_room_of(
-        alloc: Global,
-        like: &SharedColumn<T>,
-    ) -> Result<SharedColumn<T>, OutOfMemory>
-        ensures { IfOk result (λ c. c ≡ []) }
-    {
-        Ok(SharedColumn {
-            rows: Vec::with_capacity(alloc, like.rows.len())?,
-        })
-    }
-
     /// Leaves empty lists alone. The room stays.
     pub fn clear(&mut self)
         ensures { self.new ≡ [] }

@@ -1,26 +1,37 @@
 //! The acts and readings of messages.
 
-ghost use Rattle.std.specs.Prelude.{◌≡◌, ◌≤◌, ◌++◌, ◌*◌, All, IfOk, IfSome, OnErr, length, min, take, drop, sum_by, option_map};
+ghost use Rattle.std.specs.Prelude.{◌≡◌, ◌<◌, ◌≤◌, ◌+◌, ◌++◌, ◌∷◌, [], ◌*◌, IfOk, IfSome, IsNone, OnErr, length, min, take, drop, sum_by, option_map};
 ghost use Rattle.bsp_step.specs.Act as act;
-ghost use Rattle.bsp_step.specs.ViewParts.{IsShortMessage};
+ghost use Rattle.bsp_step.specs.ViewParts.{IsQueue};
 ghost use Rattle.bsp_step.specs.Queue.{first_words, first_message, heading};
 ghost use Rattle.bsp_step.specs.Calls.{Performs, PerformsAlways};
 
 use crate::{Ctx, Stop};
 use bsp_model::limits::{MOST_MESSAGES, MOST_PAYLOAD_WORDS, MOST_TAG_WORDS};
-use bsp_model::{Fault, Message};
+use bsp_model::{Fault, MessageView, MessagesRef};
 
-/// The words of all payloads together.
-fn count_of_words(messages: &[Message]) -> usize
-    requires few { length messages.now ≤ MOST_MESSAGES }
-    requires short { All IsShortMessage messages.now }
-    ensures { result ≡ sum_by (λ m. length m.words) messages.now }
+/// The words of the payloads from a place on together.
+fn count_of_words(messages: &MessagesRef<'_>, from: usize) -> usize
+    requires { IsQueue (drop from messages.now) }
+    ensures { result ≡ sum_by (λ m. length m.words) (drop from messages.now) }
 {
     let mut words = 0;
-    for message in messages {
-        words += message.words.len();
+    for place in from..messages.len() {
+        words += messages.at(place).words.len();
     }
     words
+}
+
+/// The first message that is left in a queue of which so many were taken.
+fn first_left<'a>(queue: &MessagesRef<'a>, taken: usize) -> Option<MessageView<'a>>
+    ensures none { IsNone result → drop taken queue.now ≡ [] }
+    ensures first { IfSome result (λ m. drop taken queue.now ≡ record { tag = m.tag.now; words = m.words.now } ∷ drop (taken + 1) queue.now) }
+    ensures known { IfSome result (λ _. taken < length queue.now) }
+{
+    if taken >= queue.len() {
+        return None;
+    }
+    Some(queue.at(taken))
 }
 
 impl<'v> Ctx<'v> {
@@ -30,8 +41,9 @@ impl<'v> Ctx<'v> {
         ensures few { result.0 ≤ MOST_MESSAGES }
         ensures words { result.1 ≡ sum_by (λ m. length m.words) self.now.left }
     {
-        let left = self.left;
-        (left.len(), count_of_words(left))
+        let view = self.view;
+        let left = view.queue.len().saturating_sub(self.taken);
+        (left, count_of_words(&view.queue, self.taken))
     }
 
     /// The length of the first message's payload, at most `MOST_PAYLOAD_WORDS` words, and its tag, of at most `MOST_TAG_WORDS`, if a message is left (`bsp_get_tag`).
@@ -40,8 +52,9 @@ impl<'v> Ctx<'v> {
         ensures payload { IfSome result (λ t. t.0 ≤ MOST_PAYLOAD_WORDS) }
         ensures tag { IfSome result (λ t. length t.1.now ≤ MOST_TAG_WORDS) }
     {
-        let message = self.left.first()?;
-        Some((message.words.len(), message.tag.as_slice()))
+        let view = self.view;
+        let message = first_left(&view.queue, self.taken)?;
+        Some((message.words.len(), message.tag))
     }
 
     /// Sends a message with a tag of the size in force to process `pid` (`bsp_send`). It is in the queue there in the next superstep alone.
@@ -78,13 +91,13 @@ impl<'v> Ctx<'v> {
         if let Some(fault) = self.fault {
             return Err(Stop::Fault(fault));
         }
-        let Some((message, later)) = self.left.split_first() else {
+        let view = self.view;
+        let Some(message) = first_left(&view.queue, self.taken) else {
             return self.refuse(Fault::EmptyQueue);
         };
-        let words = message.words.as_slice();
-        let count = words.len().min(buffer.len());
-        buffer[..count].copy_from_slice(&words[..count]);
-        self.left = later;
+        let count = message.words.len().min(buffer.len());
+        buffer[..count].copy_from_slice(&message.words[..count]);
+        self.taken += 1;
         Ok(count)
     }
 

@@ -1,5 +1,4 @@
-use Rattle.std.proofs.Common.{ℕ, ◌≡◌, ◌<◌, ◌==◌, ◌+◌, ◌++◌, ◌∙◌, ap, sym, arith, map, filter, length, List, subst}
-use Rattle.std.proofs.lemmas.Result.{IfOk-weaker}
+use Rattle.std.proofs.Common.{ℕ, [], ◌≡◌, ◌<◌, ◌==◌, ◌+◌, ◌++◌, ◌∙◌, ap, sym, arith, map, filter, length, List, subst}
 use Rattle.bsp_model.specs.declared.request.Send.{Send}
 use Rattle.bsp_model.specs.declared.request.Message.{Message}
 use Rattle.bsp_step.specs.ViewParts.{IsQueue}
@@ -13,12 +12,13 @@ use Rattle.bsp_deliver.proofs.delivery.queue_of.Goals as goal
 pub returns-then-is_without-clause-messages : goal.returns-then-is_without-clause-messages
 returns-then-is_without-clause-messages c =
     let to : List (ℕ × Send) → List Message = λ sends. map (λ (m : ℕ × Send). message_of m.1) (filter (λ (m : ℕ × Send). m.1.target == c.args.d) sends) in
-    c.new.ensures ∙ ap to (sym (none_sent c.args.outcomes.now c.is_without.result c.if-is_without.true c.is_without.ensures))
+    c.new-queue.ensures ∙ ap to (sym (none_sent c.args.outcomes.now c.is_without.result c.if-is_without.true c.is_without.ensures))
+
+pub returns-then-is_without-clause-limits : goal.returns-then-is_without-clause-limits
+returns-then-is_without-clause-limits c = subst IsQueue (sym c.new-queue.ensures) (queue_of_few 0 [] (omega arith) no_senders)
 
 pub returns-clause-limits : goal.returns-clause-limits
-returns-clause-limits c =
-    let few = queue_of_few c.loop-sender.sender c.loop-sender.queue (omega (arith, c.requires)) c.loop-sender.invariant.limits in
-    IfOk-weaker c.share.result (λ (q : List Message). q ≡ c.loop-sender.queue) IsQueue (λ q same. subst IsQueue (sym same) few) c.share.ensures
+returns-clause-limits c = queue_of_few c.loop-sender.sender c.loop-sender.queue (omega (arith, c.requires)) c.loop-sender.invariant.limits
 
 pub loop-sender-init : goal.loop-sender-init
 unfolding all_sends

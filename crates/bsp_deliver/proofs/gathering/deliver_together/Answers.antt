@@ -1,10 +1,9 @@
-use Rattle.std.proofs.Common.{◌≡◌, ◌∙◌, ℕ, List, [], length, map, replicate, ap, sym, refl, subst}
-use Rattle.bsp_model.specs.Columns.{row_at}
+use Rattle.std.proofs.Common.{◌≡◌, ◌∙◌, ℕ, List, length, map, sym, refl, subst}
 use Rattle.bsp_model.specs.declared.request.Message.{Message}
 use Rattle.bsp_deliver.specs.Delivery.{get_write, delivery_parts, next_memory, next_queue}
 use Rattle.bsp_deliver.specs.Inside.Gathering.{overlay, ArePlaces}
 use Rattle.bsp_deliver.proofs.CellsOf.{cells_of-maps}
-use Rattle.bsp_deliver.proofs.Gathered.{memories_gathered, queues_gathered}
+use Rattle.bsp_deliver.proofs.Gathered.{memories_gathered}
 use Rattle.bsp_deliver.proofs.gathering.deliver_together.Goals as goal
 
 pub returns : goal.returns
@@ -18,6 +17,4 @@ returns c =
     let N : ℕ → List ℕ = λ d. next_memory (delivery_parts os d) in
     let Q : ℕ → List Message = λ d. next_queue (delivery_parts os d) in
     let memories : c.in_ok-memories.memories ≡ map N ps = c.in_ok-memories.ensures ∙ memories_gathered os ps places (map G ps) c.requires.deliverable c.requires.known at refl in
-    let gathered = queues_gathered os ps c.as_slice-2.result.now (replicate (length ps) []) c.requires.deliverable (subst (ArePlaces (length os) ps) (sym c.as_slice-2.ensures.value) all) refl in
-    let queues : (k : ℕ) → row_at c.in_ok-queues.queues k ≡ row_at (map Q ps) k = λ k. c.in_ok-queues.ensures k ∙ ap (λ (qs : List (List Message)). row_at qs k) gathered in
-    c.from_parts.ensures ∙ cells_of-maps N Q ps c.in_ok-memories.memories c.in_ok-queues.queues memories queues
+    c.from_parts.ensures ∙ cells_of-maps N Q ps c.in_ok-memories.memories c.in_ok-queues.queues memories c.in_ok-queues.ensures

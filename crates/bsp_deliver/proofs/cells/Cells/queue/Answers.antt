@@ -4,4 +4,4 @@ use Rattle.bsp_deliver.proofs.CellsOf.{cell_now}
 use Rattle.bsp_deliver.proofs.cells.Cells.queue.Goals as goal
 
 pub returns : goal.returns
-returns c = c.row.ensures ∙ ap (λ (cell : List ℕ × List Message). cell.1) (cell_now c.self.inside.memories c.self.inside.queues c.args.self.now c.args.place c.self.view_is c.requires)
+returns c = c.get.ensures ∙ ap (λ (cell : List ℕ × List Message). cell.1) (cell_now c.self.inside.memories c.self.inside.queues c.args.self.now c.args.place c.self.view_is c.requires)

@@ -43,7 +43,7 @@ cells_of-place-requires c = known c.self.inside c.args.self.now c.args.pid c.sel
 
 -- the parts that are found make the view of the process
 parts_of : (c : After-queue)
-    → record { nprocs = c.len.result; pid = c.args.pid; step = c.self.inside.setting.step; args = c.as_slice-2.result.now; memory = c.memory.result; table = c.self.inside.setting.table; tag_size = c.self.inside.setting.tag_size; queue = c.queue.result.now }
+    → record { nprocs = c.len.result; pid = c.args.pid; step = c.self.inside.setting.step; args = c.as_slice-2.result.now; memory = c.memory.result; table = c.self.inside.setting.table; tag_size = c.self.inside.setting.tag_size; queue = c.queue.result }
     ≡ view_of c.self.inside.setting.args c.self.inside.setting.step (state_in c.self.inside) c.args.pid
 parts_of c =
     let v = c.self.inside in
@@ -53,7 +53,7 @@ parts_of c =
     c.as_slice-2.ensures ∙ c.index-as_slice-pid.is ∙ ap (λ (xs : List (List ℕ)). get_or xs c.args.pid c.index-as_slice-pid.result) c.as_slice.ensures
     ∙ get_or_default v.setting.args c.args.pid c.index-as_slice-pid.result [] (omega (arith, l, c.self.invariant.same_args, long v)) in
     let memory : c.memory.result ≡ get_or (state_in v).memories c.args.pid [] = c.memory.ensures ∙ ap (λ (cell : List ℕ × List Message). cell.0) c.cells_of-place.ensures.there ∙ sym (get_or-map (λ (cell : List ℕ × List Message). cell.0) v.cells c.args.pid ([], [])) in
-    let queue : c.queue.result.now ≡ get_or (state_in v).queues c.args.pid [] = c.queue.ensures ∙ ap (λ (cell : List ℕ × List Message). cell.1) c.cells_of-place.ensures.there ∙ sym (get_or-map (λ (cell : List ℕ × List Message). cell.1) v.cells c.args.pid ([], [])) in
+    let queue : c.queue.result ≡ get_or (state_in v).queues c.args.pid [] = c.queue.ensures ∙ ap (λ (cell : List ℕ × List Message). cell.1) c.cells_of-place.ensures.there ∙ sym (get_or-map (λ (cell : List ℕ × List Message). cell.1) v.cells c.args.pid ([], [])) in
     λ i. record { nprocs = count i; pid = c.args.pid; step = v.setting.step; args = args i; memory = memory i; table = v.setting.table; tag_size = v.setting.tag_size; queue = queue i }
 
 pub invariant_of-result : goal.invariant_of-result
