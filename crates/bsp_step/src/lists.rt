@@ -1,6 +1,6 @@
 //! The lists that several outcomes have, in columns.
 
-ghost use Rattle.std.specs.Prelude.{◌≡◌, ◌≤◌, ◌<◌, ◌+◌, ◌-◌, ℕ, [], slice_get, OnOk};
+ghost use Rattle.std.specs.Prelude.{◌≡◌, ◌≤◌, ◌<◌, ◌+◌, ◌-◌, ℕ, [], OnOk};
 ghost use Rattle.bsp_model.specs.Columns.{row_at};
 ghost use Rattle.std.specs.Bool.{OnTrue};
 ghost use Rattle.bsp_step.specs.Inside.Outcomes.{IsWithoutColumn, first_at, AreSameLists, HasLists, HasRare, KeepsRest};
@@ -36,25 +36,37 @@ pub(crate) struct Lists {
     pub(crate) lines: LineColumn,
 }
 
-/// The row of the fault that there may be.
+/// Makes the fault that there may be the row of a process, behind which none stand any more. After `OutOfMemory` its own is left out too.
 #[inline(always)]
-fn row_of_fault(fault: &Option<Fault>) -> &[Fault]
-    ensures { slice_get result.now 0 ≡ fault.now }
+fn put_fault(
+    column: &mut Column<Fault>,
+    place: usize,
+    fault: Option<Fault>,
+) -> Result<(), OutOfMemory>
+    ensures before { (k : ℕ) → k < place → row_at column.new k ≡ row_at column.old k }
+    ensures there { OnOk result (first_at column.new place ≡ fault) }
 {
     match fault {
-        Some(fault) => slice::from_ref(fault),
-        None => &[],
+        Some(fault) => column.put(place, slice::from_ref(&fault)),
+        None => {
+            column.cut(place);
+            Ok(())
+        }
     }
 }
 
-/// The row of the tag size that may have been chosen.
+/// Makes the tag size that there may be the row of a process, behind which none stand any more. After `OutOfMemory` its own is left out too.
 #[inline(always)]
-fn row_of_tag(tag: &Option<u64>) -> &[u64]
-    ensures { slice_get result.now 0 ≡ tag.now }
+fn put_tag(column: &mut Column<u64>, place: usize, tag: Option<u64>) -> Result<(), OutOfMemory>
+    ensures before { (k : ℕ) → k < place → row_at column.new k ≡ row_at column.old k }
+    ensures there { OnOk result (first_at column.new place ≡ tag) }
 {
     match tag {
-        Some(tag) => slice::from_ref(tag),
-        None => &[],
+        Some(tag) => column.put(place, slice::from_ref(&tag)),
+        None => {
+            column.cut(place);
+            Ok(())
+        }
     }
 }
 
@@ -150,16 +162,14 @@ impl Lists {
         ensures before { (k : ℕ) → k < place → AreSameLists self.old k self.new k }
         ensures there { OnOk result (HasLists self.new place memory.now outcome.now) }
     {
-        // The rows of one item are lent, so these are copies: else all of the outcome would have to lie in memory.
-        let (fault, tag) = (outcome.fault, outcome.tag);
-        let faults = self.faults.put(place, row_of_fault(&fault));
+        let faults = put_fault(&mut self.faults, place, outcome.fault);
         let stores = self.stores.put(place, &outcome.stores, memory);
         let puts = self.puts.put(place, &outcome.puts);
         let gets = self.gets.put(place, outcome.gets);
         let sends = self.sends.put(place, &outcome.sends);
         let pops = self.pops.put(place, outcome.pops);
         let pushes = self.pushes.put(place, outcome.pushes);
-        let tags = self.tags.put(place, row_of_tag(&tag));
+        let tags = put_tag(&mut self.tags, place, outcome.tag);
         let lines = self.lines.put(place, &outcome.lines);
         let requests = puts.and(gets).and(sends).and(pops).and(pushes);
         faults.and(stores).and(requests).and(tags).and(lines)
@@ -172,12 +182,11 @@ impl Lists {
         ensures there { OnOk result (HasLists self.new place outcome.now.memory outcome.now) }
     {
         let lists: &TurnLists = &outcome.lists;
-        let (fault, tag) = (outcome.fault, outcome.tag);
-        let faults = self.faults.put(place, row_of_fault(&fault));
+        let faults = put_fault(&mut self.faults, place, outcome.fault);
         let memory = lists.memory.as_ref();
         let stores = self.stores.put(place, &lists.stores.as_ref(), &memory);
         let puts = self.puts.put(place, &lists.puts.as_ref());
-        let tags = self.tags.put(place, row_of_tag(&tag));
+        let tags = put_tag(&mut self.tags, place, outcome.tag);
         let rare = self.put_rare(place, &lists.rare);
         faults.and(stores).and(puts).and(tags).and(rare)
     }

@@ -11,9 +11,9 @@ lowest ps from i first ascending lower low k d within behind =
     elim (cases_lt k i) [
       | inl before ↦ absurd (omega (arith, lower k before, at, behind))
       | inr above ↦ elim (cases_lt i k) [
-          | inl later ↦ omega (arith, ascending i k later within, low, at)
-          | inr here ↦ let same : k ≡ i = omega (arith, above, here) in omega (arith, low, at, ap (λ (n : ℕ). get_or ps n 0) same)
-        ]
+        | inl later ↦ omega (arith, ascending i k later within, low, at)
+        | inr here ↦ let same : k ≡ i = omega (arith, above, here) in omega (arith, low, at, ap (λ (n : ℕ). get_or ps n 0) same)
+      ]
     ]
 
 pub returns-then-process-from-clause-first : goal.returns-then-process-from-clause-first

@@ -18,7 +18,7 @@ returns-clause-before c p behind below =
     let ps = c.args.self.now.processes.items in
     let apart : (k : ℕ) → k < length ps → p ≢ get_or ps k 0 =
     λ k within same.
-        let first : c.first_from.result ≤ get_or ps k 0 = lowest c k within (omega (arith, behind, same)) in
-        omega (arith, below, c.min.ensures, first, same) in
+    let first : c.first_from.result ≤ get_or ps k 0 = lowest c k within (omega (arith, behind, same)) in
+    omega (arith, below, c.min.ensures, first, same) in
     subst (λ (o : OutcomeParts). AreToNone c.args.targets.now o.puts) (outcome_elsewhere c.args.rows.now c.args.self.now p apart)
     (c.next_putting_to-next.ensures.before p behind (omega (arith, below, c.min.ensures)))
