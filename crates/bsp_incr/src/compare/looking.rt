@@ -5,7 +5,7 @@ ghost use Rattle.bsp_step.specs.Footprint.{AreAlikeButForWords};
 ghost use Rattle.bsp_incr.specs.Inside.Reuse.{same_where_looked_at, serves};
 
 use bsp_model::limits::MOST_MEMORY_WORDS;
-use bsp_model::{Same, are_same, are_same_words};
+use bsp_model::{Same, are_same_words};
 use bsp_step::{Program, View};
 use bsp_table::Table;
 
@@ -37,7 +37,7 @@ fn is_alike_but_for_words(old: &View<'_>, new: &View<'_>, same_table: bool) -> b
         && are_same_words(old.args, new.args)
         && (same_table || old.table.same(new.table))
         && old.tag_size == new.tag_size
-        && are_same(old.queue, new.queue)
+        && old.queue.same(&new.queue)
         && old.memory.len() == new.memory.len()
 }
 
