@@ -147,7 +147,7 @@ fn taken_turns<P: Program, G: Gate, R: Threads + Sync>(
     processes: &[usize],
     taking: &mut TurnTaking,
 ) -> Result<OutcomeRows, OutOfMemory>
-    requires { All (λ p. p < length superstep.now.views.now) processes.now }
+    requires known { All (λ p. p < length superstep.now.views.now) processes.now }
     ensures { IfOk result (λ all. all
         ≡ turns_of (turn_by P.Program given.now.program) superstep.now.views.now processes.now) }
 {

@@ -24,8 +24,8 @@ none_recorded old turn views none recorded some =
     let empty : [] ≡ map turn views = ap (λ (o : Option (Bor (List OutcomeParts))). outcomes_if_any (option_map (λ x. x.now) o)) (sym none) ∙ recorded in
     omega (arith, some, ap (λ (os : List OutcomeParts). length os) empty, length-map views turn)
 
-pub taken_turns-requires : goal.taken_turns-requires
-taken_turns-requires g c κs within =
+pub taken_turns-requires-clause-known : goal.taken_turns-requires-clause-known
+taken_turns-requires-clause-known g c κs within =
     let n = length c.args.superstep.now.views.now in
     let test : ℕ → Bool = differs (g.P.Program.looks c.args.given.now.program) c.args.superstep.now.old_views c.args.superstep.now.views.now in
     let needed = c.in_ok-needed.ensures ∙ processes_where-each_below n test c.in_ok-to_take.to_take c.in_ok-to_take.ensures.needed in
@@ -41,7 +41,7 @@ returns-then-is_empty-clause-turns g c =
     let needed = c.in_ok-needed.ensures ∙ processes_where-each_below (length new) test c.in_ok-to_take.to_take c.in_ok-to_take.ensures.needed in
     let none : length old ≡ 0 = eqb-true (length old) 0 (sym c.is_empty.ensures ∙ c.if-is_empty.true) in
     c.in_ok-share.ensures ∙ turns_of_none turn looks old new c.as_slice-2.result.now c.in_ok-taken.taken none (c.as_slice-2.ensures.value ∙ needed)
-    (c.in_ok-taken.ensures ∙ ap (λ (m : Making _). turns_of (turn_by g.P.Program m.program) new c.as_slice-2.result.now) c.given.view_is)
+    c.in_ok-taken.ensures
 
 pub returns-then-is_empty-clause-executed : goal.returns-then-is_empty-clause-executed
 returns-then-is_empty-clause-executed g c =
@@ -135,7 +135,7 @@ returns-clause-turns g c =
     let stays : ℕ → Bool = λ p. get_or set p false && not (differs looks old new p) in
     let needed = c.in_ok-needed.ensures ∙ processes_where-each_below (length new) goes c.in_ok-to_take.to_take c.in_ok-to_take.ensures.needed in
     let served = c.in_ok-served.ensures ∙ processes_where-each_below (length new) stays c.in_ok-to_take.to_serve c.in_ok-to_take.ensures.served in
-    let taken : c.in_ok-taken.taken ≡ turns_of turn new c.as_slice-4.result.now = c.in_ok-taken.ensures ∙ ap (λ (m : Making _). turns_of (turn_by g.P.Program m.program) new c.as_slice-2.result.now) c.given.view_is ∙ ap (turns_of turn new) (c.as_slice-2.ensures.value ∙ sym c.as_slice-4.ensures.value) in
+    let taken : c.in_ok-taken.taken ≡ turns_of turn new c.as_slice-4.result.now = c.in_ok-taken.ensures ∙ ap (turns_of turn new) (c.as_slice-2.ensures.value ∙ sym c.as_slice-4.ensures.value) in
     c.in_ok-all.ensures
     ∙ ap (λ (os : List OutcomeParts). replaced os c.as_slice-4.result.now c.in_ok-taken.taken) c.in_ok-renewed.ensures
     ∙ turns_in_place turn looks old new set c.in-Some.old_outcomes.now (turns_of turn new c.as_slice-3.result.now) c.in_ok-taken.taken c.as_slice-3.result.now c.as_slice-4.result.now
