@@ -136,12 +136,16 @@ impl Cells {
         Ok(())
     }
 
-    /// Adds one process more, with a copy of this memory. After `OutOfMemory` nothing has changed.
-    pub fn push_copy(&mut self, memory: &MemoryRef<'_>, queue: Queue) -> Result<(), OutOfMemory>
-        ensures ok { OnOk result (self.new ≡ self.old ++ (memory.now, queue) ∷ []) }
+    /// Adds one process more, with copies of this memory and this queue. After `OutOfMemory` nothing has changed.
+    pub fn push_copy(
+        &mut self,
+        memory: &MemoryRef<'_>,
+        queue: &MessagesRef<'_>,
+    ) -> Result<(), OutOfMemory>
+        ensures ok { OnOk result (self.new ≡ self.old ++ (memory.now, queue.now) ∷ []) }
         ensures err { OnErr result (self.new ≡ self.old) }
     {
-        self.queues.put(self.memories.len(), &queue.as_ref())?;
+        self.queues.put(self.memories.len(), queue)?;
         self.memories.push_copy(memory)?;
         Ok(())
     }

@@ -6,13 +6,14 @@ ghost use Rattle.bsp_step.specs.OutcomeParts.{outcome_of};
 ghost use Rattle.bsp_deliver.specs.Inside.Puts.{HasPutsAlone};
 ghost use Rattle.bsp_deliver.specs.Condition.{AreDeliverable};
 ghost use Rattle.bsp_deliver.specs.Cost.{put_transfer, get_transfer, send_transfer, largest, h_relation};
+ghost use Rattle.bsp_deliver.specs.Inside.Sums.{counted, no_words, transfers_from, HasRoom};
 
 use bsp_model::limits::{MOST_PROCESSES, MOST_REQUESTS};
 use bsp_model::{Get, PutsRef, SendsRef};
 use bsp_step::{ListKind, Outcomes};
 
 /// Whether all requests are puts, pops and pushes.
-fn are_puts_alone(outcomes: &Outcomes) -> bool
+pub(crate) fn are_puts_alone(outcomes: &Outcomes) -> bool
     ensures { OnTrue result (All HasPutsAlone outcomes.now) }
 {
     outcomes.is_without(ListKind::Gets) && outcomes.is_without(ListKind::Sends)
@@ -76,8 +77,19 @@ impl Sums {
         }
     }
 
+    /// No words.
+    pub(crate) fn none() -> Sums
+        ensures { result ≡ no_words }
+    {
+        Sums {
+            sent: [0; MOST_PROCESSES],
+            received: [0; MOST_PROCESSES],
+        }
+    }
+
     /// Counts all requests of a process. Where all issue puts alone, no others are looked for.
-    fn count_requests(&mut self, outcomes: &Outcomes, p: usize, puts_alone: bool)
+    #[inline(always)]
+    pub(crate) fn count_requests(&mut self, outcomes: &Outcomes, p: usize, puts_alone: bool)
         requires known { p < length outcomes.now }
         requires alone { OnTrue puts_alone (All HasPutsAlone outcomes.now) }
         requires deliverable { AreDeliverable outcomes.now }
@@ -100,10 +112,7 @@ impl Sums {
         ensures sums { result ≡ fold counted no_words (transfers_from 0 outcomes.now) }
         ensures room { HasRoom result 0 }
     {
-        let mut sums = Sums {
-            sent: [0; MOST_PROCESSES],
-            received: [0; MOST_PROCESSES],
-        };
+        let mut sums = Sums::none();
         let puts_alone = are_puts_alone(outcomes);
         for p in 0..outcomes.len() {
             sums.count_requests(outcomes, p, puts_alone);
@@ -123,6 +132,20 @@ fn largest(numbers: &[u64]) -> u64
     most
 }
 
+/// The h-relation, from the sums over all requests.
+pub(crate) fn h_from(sums: &Sums, outcomes: &Outcomes) -> u64
+    requires few { length outcomes.now ≤ MOST_PROCESSES }
+    requires sums { sums.now ≡ fold counted no_words (transfers_from 0 outcomes.now) }
+    requires room { HasRoom sums.now 0 }
+    ensures value { result ≡ h_relation outcomes.now }
+    ensures small { result < 2 ^ 29 }
+{
+    let nprocs = outcomes.len();
+    let sent = largest(&sums.sent[..nprocs]);
+    let received = largest(&sums.received[..nprocs]);
+    sent.max(received)
+}
+
 /// The h-relation of a superstep that ends by delivery: the largest number of words that a process sends or receives. A put counts its words
 /// from sender to target, a get from owner to requester, a message its tag and payload; words to oneself count nowhere (the usual additive BSP
 /// cost formula; what counts: this profile). It takes no memory.
@@ -131,9 +154,5 @@ pub fn h_of(outcomes: &Outcomes) -> u64
     ensures value { result ≡ h_relation outcomes.now }
     ensures small { result < 2 ^ 29 }
 {
-    let sums = Sums::of(outcomes);
-    let nprocs = outcomes.len();
-    let sent = largest(&sums.sent[..nprocs]);
-    let received = largest(&sums.received[..nprocs]);
-    sent.max(received)
+    h_from(&Sums::of(outcomes), outcomes)
 }

@@ -27,7 +27,7 @@ fn places_of(alloc: Global, count: usize, processes: &[usize]) -> Result<Vec<usi
 }
 
 /// The queues of these processes after delivery, in the room of others. Where nobody sends a message none is looked for.
-fn queues_after(
+pub(crate) fn queues_after(
     alloc: Global,
     outcomes: &Outcomes,
     processes: &[usize],

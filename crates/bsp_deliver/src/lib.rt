@@ -2,6 +2,7 @@
 #![tactic(auto)]
 
 mod addressed;
+mod all;
 mod cells;
 mod chains;
 mod cost;
@@ -16,6 +17,7 @@ mod touched;
 mod writing;
 
 pub use addressed::inbox;
+pub use all::deliver_all;
 pub use cells::Cells;
 pub use cost::h_of;
 pub use delivery::{deliver, deliver_inbox};

@@ -75,7 +75,7 @@ fn add_memory(
 }
 
 /// The memories of these processes after computing, with the words over each that its gets read, in the room of others.
-fn memories_with_gets(
+pub(crate) fn memories_with_gets(
     alloc: Global,
     outcomes: &Outcomes,
     processes: &[usize],
@@ -97,7 +97,8 @@ fn memories_with_gets(
 }
 
 /// Writes one sender's puts, in issue order, each to the memory at its target's place.
-fn write_puts(
+#[inline(always)]
+pub(crate) fn write_puts(
     memories: &mut Memories,
     places: &[usize],
     puts: &PutsRef<'_>,

@@ -14,8 +14,9 @@ pub fn first_cells(alloc: Global, mems: &[Memory]) -> Result<Cells, OutOfMemory>
     ensures { IfOk result (λ cells. cells ≡ map (λ m. (m, no_messages m)) mems.now) }
 {
     let mut cells = Cells::with_capacity(alloc, mems.len())?;
+    let none = Queue::new(alloc);
     for memory in mems {
-        cells.push_copy(&memory.as_ref(), Queue::new(alloc))?;
+        cells.push_copy(&memory.as_ref(), &none.as_ref())?;
     }
     Ok(cells)
 }
@@ -41,9 +42,10 @@ pub fn first_cells_of(
     ensures { IfOk result (λ cells. cells ≡ map (first_cell mems.now) processes.now) }
 {
     let mut cells = Cells::with_capacity(alloc, processes.len())?;
+    let none = Queue::new(alloc);
     for process in processes {
         let memory = &mems[*process];
-        cells.push_copy(&memory.as_ref(), Queue::new(alloc))?;
+        cells.push_copy(&memory.as_ref(), &none.as_ref())?;
     }
     Ok(cells)
 }

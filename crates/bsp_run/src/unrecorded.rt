@@ -1,10 +1,11 @@
 //! A run of which no record is kept: what its reply needs, superstep by superstep.
 
-ghost use Rattle.std.specs.Prelude.{◌≡◌, ◌<◌, ◌≤◌, ◌+◌, ◌++◌, ◌∷◌, ℕ, [], All, None, IfOk, IfErr, OnOk, length, map};
+ghost use Rattle.std.specs.Prelude.{◌≡◌, ◌<◌, ◌≤◌, ◌+◌, ◌^◌, ◌++◌, ◌∷◌, ℕ, [], All, None, IfOk, IfErr, OnOk, length, map};
 ghost use Rattle.std.specs.List.{range_with_len};
 ghost use Rattle.bsp_model.specs.Input.{input_fault};
 ghost use Rattle.bsp_deliver.specs.Requests.{each_below};
 ghost use Rattle.bsp_deliver.specs.Condition.{AreDeliverable};
+ghost use Rattle.bsp_deliver.specs.Cost.{h_relation};
 ghost use Rattle.bsp_run.specs.Run.{start};
 ghost use Rattle.bsp_run.specs.State.{views_of};
 ghost use Rattle.bsp_run.specs.Inside.Opening.{CanOpen};
@@ -15,7 +16,7 @@ ghost use Rattle.bsp_run.specs.RunErrors.{input_fault_of};
 ghost use Rattle.bsp_run.specs.Inside.Unrecorded.{lines_and, lines_in, state_after, AreLinesAnd};
 ghost use Rattle.bsp_run.specs.Inside.IsUnrecorded.{IsUnrecorded};
 
-use crate::costs::{cost_of_delivery, cost_of_end, total_of};
+use crate::costs::{cost_of_end, cost_with_h, total_of};
 use crate::history::{memories_of_outcomes, memories_of_views};
 use crate::keeping::next_table;
 use crate::opening::{first_cells, shared_args};
@@ -23,7 +24,7 @@ use crate::printed::{add_printed, lines_and_last, lines_printed};
 use crate::supersteps::numbers;
 use crate::tape::checked;
 use crate::{Arguments, RunError, RunResult, Setting, Status, Views};
-use bsp_deliver::{Cells, deliver_some, next_tag_size};
+use bsp_deliver::{Cells, deliver_all, next_tag_size};
 use bsp_model::limits::{HIGHEST_PRICE, MOST_SUPERSTEPS};
 use bsp_model::{CostRow, Input, LineColumn, OutOfMemory, Seq, TryCopy};
 use bsp_step::Outcomes;
@@ -67,19 +68,21 @@ pub(crate) fn open_unrecorded(alloc: Global, input: &Input) -> Result<Unrecorded
     })
 }
 
-/// The next memory and queue of each process, in the room of others.
+/// The next memory and queue of each process, in the room of others, and the h-relation.
 #[tactic(auto, unfolding(crate::specs::Condition::deliveries_of))]
 fn all_deliveries(
     alloc: Global,
     outcomes: &Outcomes,
     processes: &[usize],
     room: Cells,
-) -> Result<Cells, OutOfMemory>
+) -> Result<(Cells, u64), OutOfMemory>
     requires deliverable { AreDeliverable outcomes.now }
     requires processes { processes.now ≡ range_with_len 0 (length outcomes.now) }
-    ensures { IfOk result (λ cells. cells ≡ deliveries_of outcomes.now) }
+    ensures cells { IfOk result (λ all. all.0 ≡ deliveries_of outcomes.now) }
+    ensures h { IfOk result (λ all. all.1 ≡ h_relation outcomes.now) }
+    ensures small { IfOk result (λ all. all.1 < 2 ^ 29) }
 {
-    deliver_some(alloc, outcomes, processes, room)
+    deliver_all(alloc, outcomes, processes, room)
 }
 
 /// What is kept in the next superstep, whose number is `step`. What the processes see there is gathered in the room of what they saw before.
@@ -110,7 +113,7 @@ pub(crate) fn go_on(
 {
     let mut kept = kept;
     let room = kept.views.into_room(alloc);
-    let cells = all_deliveries(alloc, outcomes, kept.processes.as_slice(), room)?;
+    let (cells, h) = all_deliveries(alloc, outcomes, kept.processes.as_slice(), room)?;
     kept.table = next_table(&kept.table, outcomes)?;
     kept.tag_size = next_tag_size(kept.tag_size, outcomes);
     let setting = Setting {
@@ -121,7 +124,7 @@ pub(crate) fn go_on(
     };
     kept.views = Views::open(alloc, setting, cells)?;
     add_printed(alloc, &mut kept.lines, outcomes)?;
-    let row = cost_of_delivery(input.g, input.l, outcomes);
+    let row = cost_with_h(input.g, input.l, outcomes, h);
     kept.costs.push(row)?;
     Ok(kept)
 }

@@ -5,5 +5,5 @@ use Rattle.bsp_deliver.proofs.writing.set_of.Given as goal
 abbrev pub invariant-loop-process : goal.invariant-loop-process
 invariant-loop-process l = record {
   count : length l.set ≡ l.count;
-  members : (k : ℕ) → k < l.process-index → get_or l.set (get_or l.processes k 0) false ≡ true
+  members : (k : ℕ) → k < l.process-index → get_or l.set (get_or l.processes k 0) false ≡ true;
 }

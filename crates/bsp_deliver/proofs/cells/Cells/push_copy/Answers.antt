@@ -17,5 +17,5 @@ returns-in_err-push_copy-clause-err c =
 
 pub returns-clause-ok : goal.returns-clause-ok
 returns-clause-ok c =
-    let put : IsPut [] (row_at c.self.inside.queues) (length c.self.inside.memories) c.args.queue (row_at c.put.new.self) = rw (c.len.ensures, c.as_ref.ensures) at c.in_ok-put.ensures.ok in
-    rw c.in_ok-push_copy.ensures.ok (cells_of-push c.self.inside.memories c.self.inside.queues c.put.new.self c.args.self.now _ c.args.queue c.self.view_is put)
+    let put : IsPut [] (row_at c.self.inside.queues) (length c.self.inside.memories) c.args.queue.now (row_at c.put.new.self) = rw c.len.ensures at c.in_ok-put.ensures.ok in
+    rw c.in_ok-push_copy.ensures.ok (cells_of-push c.self.inside.memories c.self.inside.queues c.put.new.self c.args.self.now _ c.args.queue.now c.self.view_is put)
