@@ -18,7 +18,7 @@ pub struct MessageView<'a> {
 /// The messages of a queue, in its order. The words of all lie in one list, the tag of each before its payload.
 #[derive(Debug, Drop)]
 pub struct Messages {
-    /// The sends that came. To whom they went is not seen.
+    /// The messages as sends, of which the targets are not seen.
     sends: Sends,
 }
 
