@@ -1,12 +1,15 @@
-use Rattle.std.proofs.Common.{◌<◌, length, ◌+◌, ◌*◌, ◌-◌, ap, ◌∙◌, arith, fold, refl}
+use Rattle.std.proofs.Common.{◌<◌, length, ◌+◌, ◌*◌, ◌-◌, ap, ◌∙◌, arith, fold, subst, sym}
 use Rattle.bsp_deliver.specs.declared.cost.Sums.{Sums}
 use Rattle.bsp_step.specs.OutcomeParts.{outcome_of}
-use Rattle.bsp_deliver.specs.Inside.Sums.{counted, no_words, transfers_of}
+use Rattle.bsp_deliver.specs.Inside.Sums.{counted, no_words, transfers_of, HasRoom}
 use Rattle.bsp_deliver.proofs.Counts.{transfers_more, less_room, no_words_room}
 use Rattle.bsp_deliver.proofs.cost.Sums.of.Goals as goal
 
 pub loop-p-init : goal.loop-p-init
-loop-p-init c = record { sums = refl; room = no_words_room 65536 (omega arith) }
+loop-p-init c = record {
+  sums = c.none-sums.ensures;
+  room = subst (λ (s : Sums). HasRoom s 65536) (sym c.none-sums.ensures) (no_words_room 65536 (omega arith));
+}
 
 pub loop-p-preserved : goal.loop-p-preserved
 loop-p-preserved c =
