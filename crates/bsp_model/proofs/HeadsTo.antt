@@ -65,8 +65,8 @@ heads_between targets items ends from k place are order ended none =
           let high : b ≤ length items = end-within 0 ends (length items) k are here in
           let low : start_at 0 ends from ≤ a = start_at-below ends (length items) from k are order (omega (arith, here)) in
           subst P (sym (get_or-rows_of 0 items ends k here)) (λ i h within.
-              let inside : a + i < b = omega (arith, within, length-between items a b high) in
-              ap (is_to targets) (get_or-between items a b i h inside) ∙ none (a + i) h (omega (arith, low)) (omega (arith, inside, ended here)))
+          let inside : a + i < b = omega (arith, within, length-between items a b high) in
+          ap (is_to targets) (get_or-between items a b i h inside) ∙ none (a + i) h (omega (arith, low)) (omega (arith, inside, ended here)))
       | inr past ↦
           subst P (sym (get_or_past (rows_of 0 items ends) k [] (omega (arith, past, length-rows_of 0 items ends)))) (λ i h within. absurd (omega (arith, within)))
     ]
