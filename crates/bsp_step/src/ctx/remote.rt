@@ -24,6 +24,7 @@ impl<'v> Ctx<'v> {
     }
 
     /// Where a request to `len` words of process `pid` starts, from `offset` of that area on: the checks of a put, and of a get but its last.
+    #[inline(always)]
     pub(super) fn resolve(
         &mut self,
         pid: u64,
