@@ -34,7 +34,7 @@ impl Model for Memories {
 }
 
 impl Memories {
-    /// No memories, with room for so many of a word each beside their full pages, or `OutOfMemory`.
+    /// No memories, with room for so many, or `OutOfMemory`.
     pub fn with_capacity(alloc: Global, count: usize) -> Result<Memories, OutOfMemory>
         ensures { IfOk result (λ m. m ≡ []) }
     {
@@ -70,7 +70,7 @@ impl Memories {
         self.lasts.clear();
     }
 
-    /// No memories, in the room of these, which is made enough for so many of a word each beside their full pages. Or `OutOfMemory`.
+    /// No memories, in the room of these, which is made enough for so many. Or `OutOfMemory`.
     pub fn into_room(self, count: usize) -> Result<Memories, OutOfMemory>
         ensures { IfOk result (λ m. m ≡ []) }
     {
@@ -79,7 +79,7 @@ impl Memories {
             mut lasts,
         } = self;
         pages.clear();
-        lasts.make_room(count, count)?;
+        lasts.make_room(count, 0)?;
         Ok(Memories { pages, lasts })
     }
 
