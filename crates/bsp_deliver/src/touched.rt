@@ -2,17 +2,16 @@
 
 ghost use Rattle.std.specs.Prelude.{◌≡◌, ◌<◌, ◌↔◌, IsTrue, IfOk, All, length, map};
 ghost use Rattle.bsp_deliver.specs.Requests.{words_read};
-ghost use Rattle.bsp_step.specs.OutcomeParts.{outcome_of};
 ghost use Rattle.bsp_deliver.specs.Delivery.{delivery_parts};
 ghost use Rattle.bsp_deliver.specs.Condition.{AreDeliverable};
-ghost use Rattle.bsp_deliver.specs.Inside.Comparison.{AllBringSame, BringsSame, HasSameParcel, HaveGetsUnlessMarked, IsReadable, KeepsOwn, ReadsSame};
-ghost use Rattle.bsp_deliver.specs.Inside.Marks.{AreMarkedUnless, AreToKnown};
+ghost use Rattle.bsp_deliver.specs.Inside.Comparison.{AllBringSame, BringsSame, HasSameOwn, HaveGetsUnlessMarked, IsReadable, ReadsSame};
+ghost use Rattle.bsp_deliver.specs.Inside.Marks.{AreMarkedUnless};
 ghost use Rattle.bsp_deliver.specs.Touched.{AreSameUnlessMarked, AreTouched};
 
 use crate::marking::mark_parcels;
 use crate::same::is_same_answer;
 use bsp_model::{Get, OutOfMemory, ProcessSet, Same, are_same};
-use bsp_step::{ListKind, Outcomes};
+use bsp_step::{ListKind, OutcomeRef, Outcomes};
 use std::alloc::Global;
 
 /// Whether a get reads the words that it read before. Those of an owner whose outcome has not changed are the same.
@@ -45,40 +44,27 @@ fn read_same_words(old: &Outcomes, new: &Outcomes, changed: &ProcessSet, gets: &
     true
 }
 
-/// Whether the outcomes of a process have the same memory and the same gets.
+/// Whether two outcomes have the same memory and the same gets.
 #[inline(always)]
-fn have_same_own<'a>(old: &'a Outcomes, new: &'a Outcomes, p: usize) -> bool
-    requires known { p < length new.now }
-    requires count { length old.now ≡ length new.now }
-    ensures { IsTrue result ↔ KeepsOwn old.now new.now p }
+fn have_same_own(old: &OutcomeRef<'_>, new: &OutcomeRef<'_>) -> bool
+    ensures { IsTrue result ↔ HasSameOwn old.now new.now }
 {
-    let earlier = old.get(p);
-    let later = new.get(p);
-    earlier.memory.same(&later.memory) && are_same(earlier.gets, later.gets)
+    old.memory.same(&new.memory) && are_same(old.gets, new.gets)
 }
 
-/// Marks the processes to which a process brings other puts or messages than before.
+/// Marks the processes to which a process brings other puts or messages than before, and the process itself where its memory or its gets are others.
 #[inline(always)]
-fn mark_parcels_of(marks: &mut ProcessSet, old: &Outcomes, new: &Outcomes, p: usize)
-    requires known { p < length new.now }
-    requires count { length old.now ≡ length new.now }
-    requires before { AreToKnown (length marks.old) (outcome_of old.now p) }
-    ensures { AreMarkedUnless (λ d. HasSameParcel d (outcome_of old.now p) (outcome_of new.now p)) marks.old marks.new }
-{
-    mark_parcels(marks, &old.get(p), &new.get(p));
-}
-
-/// The same, and marks the process itself where its memory or its gets are others.
-#[inline(always)]
-fn mark_changes_of<'a>(marks: &mut ProcessSet, old: &'a Outcomes, new: &'a Outcomes, p: usize)
+fn mark_changes_of(marks: &mut ProcessSet, old: &Outcomes, new: &Outcomes, p: usize)
     requires as_many { length marks.old ≡ length new.now }
     requires count { length old.now ≡ length new.now }
     requires known { p < length new.now }
     requires before { AreDeliverable old.now }
     ensures { AreMarkedUnless (BringsSame old.now new.now p) marks.old marks.new }
 {
-    mark_parcels_of(marks, old, new, p);
-    if !have_same_own(old, new, p) {
+    let earlier = old.get(p);
+    let later = new.get(p);
+    mark_parcels(marks, &earlier, &later);
+    if !have_same_own(&earlier, &later) {
         marks.insert(p);
     }
 }

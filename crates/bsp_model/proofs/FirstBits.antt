@@ -1,5 +1,5 @@
 -- The first bit that is set in some words.
-use Rattle.std.proofs.Common.{w64, ◌≡◌, ◌≢◌, ◌<◌, ◌≤◌, ◌+◌, ◌-◌, ◌*◌, ◌/◌, ◌%◌, ◌^◌, ℕ, true, false, List, [], ◌∷◌, length, get_or, inl, inr, sym, ap, ◌∙◌, arith}
+use Rattle.std.proofs.Common.{w64, ◌≡◌, ◌≢◌, ◌<◌, ◌≤◌, ◌+◌, ◌-◌, ◌*◌, ◌/◌, ◌%◌, ◌^◌, ℕ, true, false, List, [], ◌∷◌, length, get_or, eqb, inl, inr, sym, ap, ◌∙◌, arith}
 use lib.Pow.{pow-add}
 use Rattle.std.specs.Int.{bit_at, trailing_zeros}
 use Rattle.std.proofs.Math.Nat.{div-div-eq-div-mul, div-le_self, div-one}
@@ -9,7 +9,7 @@ use Rattle.std.proofs.lemmas.List.{get_or_past}
 use Rattle.std.proofs.lemmas.Nat.Bits.{bit_at-zero, bit_at_above, bit_at-trailing_zeros}
 use Rattle.bsp_model.specs.ProcessSet.{processes_from}
 use Rattle.bsp_model.specs.Inside.Bits.{has_bit, set_of, AreWordsOf, IsFirstBitFrom, HasNoBitFrom}
-use Rattle.bsp_model.proofs.SetBits.{word_of, bit_set, bit_clear, in_set}
+use Rattle.bsp_model.proofs.SetBits.{word_of, bit_set, bit_clear, in_set, get_or-behind}
 use Rattle.bsp_model.proofs.ProcessSets.{processes_from_none, processes_from_first}
 
 -- the bits of a word from one on
@@ -103,3 +103,23 @@ pub found_behind : (r : Option ℕ) (words : List ℕ) (from to : ℕ) → from 
     → MatchOption r (HasNoBitFrom words from) (IsFirstBitFrom words from)
 found_behind None words from to order none found = none_behind words from to none found
 found_behind (Some q) words from to order none found = first_behind words from to q order none found
+
+-- the bits behind the first word
+
+bit_behind : (first : ℕ) (rest : List ℕ) (p : ℕ) → 64 ≤ p → has_bit (first ∷ rest) p ≡ has_bit rest (p - 64)
+unfolding has_bit
+bit_behind first rest p past =
+    let place : p / 64 - 1 ≡ (p - 64) / 64 = omega (arith, past) in
+    let bit : p % 64 ≡ (p - 64) % 64 = omega (arith, past) in
+    let word : get_or (first ∷ rest) (p / 64) 0 ≡ get_or rest ((p - 64) / 64) 0 = get_or-behind first rest (p / 64) 0 (omega (arith, past)) ∙ ap (λ k. get_or rest k 0) place in
+    ap (λ w. eqb (bit_at w (p % 64)) 1) word ∙ ap (λ k. eqb (bit_at (get_or rest ((p - 64) / 64) 0) k) 1) bit
+
+pub none_behind_first : (first : ℕ) (rest : List ℕ) (place : ℕ) → HasNoBitFrom rest (64 * place) → HasNoBitFrom (first ∷ rest) (64 * (place + 1))
+none_behind_first first rest place none p above = bit_behind first rest p (omega (arith, above)) ∙ none (p - 64) (omega (arith, above))
+
+pub first_behind_first : (first : ℕ) (rest : List ℕ) (place q : ℕ) → IsFirstBitFrom rest (64 * place) q → IsFirstBitFrom (first ∷ rest) (64 * (place + 1)) (64 + q)
+first_behind_first first rest place q is = record {
+  behind = omega (arith, is.behind);
+  set = bit_behind first rest (64 + q) (omega arith) ∙ (let same : 64 + q - 64 ≡ q = omega arith in ap (has_bit rest) same) ∙ is.set;
+  none = λ p above below. bit_behind first rest p (omega (arith, above)) ∙ is.none (p - 64) (omega (arith, above)) (omega (arith, above, below));
+}

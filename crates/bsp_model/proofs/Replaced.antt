@@ -124,7 +124,7 @@ replaced-there items (p ∷ ps) (x ∷ xs) (suc k) d ascending inside new within
 
 -- as many places as there are items, in ascending order, are all of them
 
-above_first : (ps : List ℕ) (k : ℕ) → IsAscending ps → k < length ps → k ≤ get_or ps k 0
+pub above_first : (ps : List ℕ) (k : ℕ) → IsAscending ps → k < length ps → get_or ps 0 0 + k ≤ get_or ps k 0
 above_first ps zero ascending inside = omega arith
 above_first ps (suc k) ascending inside =
     omega (arith, above_first ps k ascending (omega (arith, inside)), ascending k (suc k) (omega arith) inside)

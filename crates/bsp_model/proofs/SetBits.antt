@@ -1,15 +1,24 @@
 -- Sets of processes as the bits of words.
-use Rattle.std.proofs.Common.{w64, ◌≡◌, ◌≢◌, ◌<◌, ◌≤◌, ◌+◌, ◌-◌, ◌*◌, ◌/◌, ◌%◌, ◌^◌, ℕ, zero, suc, max, Bool, true, false, ◌||◌, List, length, get_or, set, replicate, eqb, inl, inr, refl, sym, ap, ◌∙◌, arith}
+use Rattle.std.proofs.Common.{w64, ◌≡◌, ◌≢◌, ◌<◌, ◌≤◌, ◌+◌, ◌-◌, ◌*◌, ◌/◌, ◌%◌, ◌^◌, ℕ, zero, suc, max, min, Bool, true, false, ◌||◌, List, ◌∷◌, length, get_or, set, replicate, eqb, inl, inr, refl, sym, ap, ◌∙◌, arith}
 use Rattle.std.specs.Int.{bit_at}
 use Rattle.std.specs.Int.RustNames.{bit_or}
 use lib.Bits.{bit_and}
-use Rattle.std.proofs.lemmas.Nat.{one_shl}
 use Rattle.std.proofs.lemmas.Bool.{cases_lt, cases_eq}
 use Rattle.std.proofs.lemmas.List.{ext_get_or, length-set, get_or-set_same, get_or-set_other, get_or_past, get_or-replicate, length-replicate}
 use Rattle.std.proofs.lemmas.List.FromFn.{length-map-range_with_len, get_or-map-range_with_len}
 use Rattle.std.proofs.lemmas.Nat.Bits.{shr_and_one, bit_at-zero, bit_at-lt, bit_at_or, bit_at_set_same, bit_at_set_other, bit_at_ones, bit_at_ones_above}
 use Rattle.bsp_model.specs.ProcessSet.{union}
 use Rattle.bsp_model.specs.Inside.Bits.{has_bit, set_of, AreWordsOf, IsWithBit}
+
+-- a word behind the first
+
+pub get_or-behind : (first : ℕ) (rest : List ℕ) (i d : ℕ) → 0 < i → get_or (first ∷ rest) i d ≡ get_or rest (i - 1) d
+get_or-behind first rest zero d l = absurd (omega (arith, l))
+get_or-behind first rest (suc i) d l = let before : i ≡ suc i - 1 = omega arith in ap (λ k. get_or rest k d) before
+
+pub set-behind : (first : ℕ) (rest : List ℕ) (i word : ℕ) → 0 < i → set (first ∷ rest) i word ≡ first ∷ set rest (i - 1) word
+set-behind first rest zero word l = absurd (omega (arith, l))
+set-behind first rest (suc i) word l = let before : i ≡ suc i - 1 = omega arith in ap (λ k. first ∷ set rest k word) before
 
 abbrev pub word_of : List ℕ → ℕ → ℕ
 word_of words p = get_or words (p / 64) 0
@@ -79,8 +88,7 @@ set_of-with_bit count words after p is known =
 
 pub words_with_bit : (count : ℕ) (words after : List ℕ) (p : ℕ) → AreWordsOf count words → IsWithBit words after p → length after ≡ length words → p < count → AreWordsOf count after
 words_with_bit count words after p are is long known = record {
-  enough = omega (arith, are.enough, long);
-  few = omega (arith, are.few, long);
+  many = long ∙ are.many;
   clear = λ q past. is.others q (λ e. absurd (omega (arith, past, known, e))) ∙ are.clear q past;
 }
 
@@ -93,10 +101,14 @@ no_bits words n p is =
       | inr l ↦ ap (λ k. bit_at k (p % 64)) (get_or_past (replicate n 0) (p / 64) 0 (omega (arith, l, length-replicate {A = ℕ} n 0))) ∙ bit_at-zero (p % 64)
     ])
 
-pub words_of_none : (count n : ℕ) (words : List ℕ) → words ≡ replicate n 0 → count ≤ 64 * n → 64 * n < count + 64 → AreWordsOf count words
-words_of_none count n words is enough few =
-    let long : length words ≡ n = ap length is ∙ length-replicate {A = ℕ} n 0 in
-    record { enough = omega arith; few = omega arith; clear = λ p _. no_bits words n p is }
+pub words_of_none : (count n : ℕ) (rest : List ℕ) → rest ≡ replicate n 0 → n ≡ (count - 1) / 64 → AreWordsOf count (0 ∷ rest)
+words_of_none count n rest is behind =
+    let words : 0 ∷ rest ≡ replicate (suc n) 0 = ap (λ (ws : List ℕ). 0 ∷ ws) is in
+    let long : length (0 ∷ rest) ≡ suc n = ap length words ∙ length-replicate {A = ℕ} (suc n) 0 in
+    record { many = omega (arith, long, behind); clear = λ p _. no_bits (0 ∷ rest) (suc n) p words }
+
+pub none_in_words : (n p : ℕ) (rest : List ℕ) → rest ≡ replicate n 0 → has_bit (0 ∷ rest) p ≡ false
+none_in_words n p rest is = no_bits (0 ∷ rest) (suc n) p (ap (λ (ws : List ℕ). 0 ∷ ws) is)
 
 -- a set all of whose processes have the same
 pub set_of_same : (count : ℕ) (words : List ℕ) (b : Bool) → ((p : ℕ) → p < count → has_bit words p ≡ b) → set_of count words ≡ replicate count b
@@ -106,59 +118,28 @@ set_of_same count words b same =
 
 -- all bits up to a place, and no others
 
--- the words of a set of all: each is full, but for the last, where some processes are left over
-pub record AreFull (count n : ℕ) (words : List ℕ) : Type 0 where
-  pub long : length words ≡ n
-  pub full : (i : ℕ) → i < count / 64 → get_or words i 0 ≡ 2 ^ 64 - 1
-  pub rest : 0 < count % 64 → get_or words (count / 64) 0 ≡ 2 ^ (count % 64) - 1
+-- the words of a set of all: each has the bits of those that are left for it
+abbrev pub AreFull : ℕ → List ℕ → Type 0
+AreFull count words = (i : ℕ) → i < length words → get_or words i 0 ≡ 2 ^ min (count - 64 * i) 64 - 1
 
-pub full_bits : (count n : ℕ) (words : List ℕ) → AreFull count n words → (p : ℕ) → p < count → has_bit words p ≡ true
-full_bits count n words are p l =
-    bit_set words p (elim (cases_lt (p / 64) (count / 64)) [
-      | inl before ↦ ap (λ k. bit_at k (p % 64)) (are.full (p / 64) before) ∙ bit_at_ones 64 (p % 64) (omega arith)
-      | inr last ↦
-          let here : p / 64 ≡ count / 64 = omega arith in
-          let low : p % 64 < count % 64 = omega arith in
-          ap (λ i. bit_at (get_or words i 0) (p % 64)) here ∙ ap (λ k. bit_at k (p % 64)) (are.rest (omega arith)) ∙ bit_at_ones (count % 64) (p % 64) low
-    ])
+pub full_bits : (count : ℕ) (words : List ℕ) → length words ≡ (count - 1) / 64 + 1 → AreFull count words → (p : ℕ) → p < count → has_bit words p ≡ true
+full_bits count words many are p l =
+    let left = min (count - 64 * (p / 64)) 64 in
+    let within : p / 64 < length words = omega (arith, many, l) in
+    let low : p % 64 < left = omega (arith, l) in
+    bit_set words p (ap (λ k. bit_at k (p % 64)) (are (p / 64) within) ∙ bit_at_ones left (p % 64) low)
 
-full_clear : (count n : ℕ) (words : List ℕ) → AreFull count n words → 64 * n < count + 64 → (p : ℕ) → count ≤ p → has_bit words p ≡ false
-full_clear count n words are few p past =
-    bit_clear words p (elim (cases_lt (p / 64) n) [
-      | inl known ↦
-          let here : p / 64 ≡ count / 64 = omega arith in
-          let high : count % 64 ≤ p % 64 = omega arith in
-          ap (λ i. bit_at (get_or words i 0) (p % 64)) here ∙ ap (λ k. bit_at k (p % 64)) (are.rest (omega arith)) ∙ bit_at_ones_above (count % 64) (p % 64) high
-      | inr outside ↦ ap (λ k. bit_at k (p % 64)) (get_or_past words (p / 64) 0 (omega (arith, outside, are.long))) ∙ bit_at-zero (p % 64)
-    ])
-
-pub words_of_all : (count n : ℕ) (words : List ℕ) → AreFull count n words → count ≤ 64 * n → 64 * n < count + 64 → AreWordsOf count words
-words_of_all count n words are enough few = record { enough = omega (arith, are.long); few = omega (arith, are.long); clear = full_clear count n words are few }
-
--- where none is left over
-pub full_words : (count n : ℕ) (words : List ℕ) → words ≡ replicate n (2 ^ 64 - 1) → 64 * n < count + 64 → count ≤ 64 * n → count % 64 ≡ 0 → AreFull count n words
-full_words count n words is few enough even = record {
-  long = ap length is ∙ length-replicate {A = ℕ} n (2 ^ 64 - 1);
-  full = λ i l. ap (λ (ws : List ℕ). get_or ws i 0) is ∙ get_or-replicate n i (2 ^ 64 - 1) 0 (omega arith);
-  rest = λ some. absurd (omega (arith, some, even));
+pub words_of_all : (count : ℕ) (words : List ℕ) → length words ≡ (count - 1) / 64 + 1 → AreFull count words → AreWordsOf count words
+words_of_all count words many are = record {
+  many = many;
+  clear = λ p past.
+      let left = min (count - 64 * (p / 64)) 64 in
+      let high : left ≤ p % 64 = omega (arith, past) in
+      bit_clear words p (elim (cases_lt (p / 64) (length words)) [
+        | inl within ↦ ap (λ k. bit_at k (p % 64)) (are (p / 64) within) ∙ bit_at_ones_above left (p % 64) high
+        | inr outside ↦ ap (λ k. bit_at k (p % 64)) (get_or_past words (p / 64) 0 outside) ∙ bit_at-zero (p % 64)
+      ]);
 }
-
--- where some are
-pub full_words_and_rest : (count n : ℕ) (words after : List ℕ) → words ≡ replicate n (2 ^ 64 - 1) → 64 * n < count + 64 → count ≤ 64 * n → count % 64 ≢ 0
-    → after ≡ set words (count / 64) (1 * 2 ^ (count % 64) % 2 ^ 64 - 1) → AreFull count n after
-full_words_and_rest count n words after is few enough some set_is =
-    let word = 1 * 2 ^ (count % 64) % 2 ^ 64 - 1 in
-    let long : length words ≡ n = ap length is ∙ length-replicate {A = ℕ} n (2 ^ 64 - 1) in
-    let place : count / 64 < length words = omega arith in
-    record {
-      long = ap length set_is ∙ length-set words (count / 64) word ∙ long;
-      full = λ i l.
-          ap (λ (ws : List ℕ). get_or ws i 0) set_is ∙ get_or-set_other words (count / 64) i word 0 (λ e. absurd (omega (arith, l, e)))
-          ∙ ap (λ (ws : List ℕ). get_or ws i 0) is ∙ get_or-replicate n i (2 ^ 64 - 1) 0 (omega arith);
-      rest = λ _.
-          ap (λ (ws : List ℕ). get_or ws (count / 64) 0) set_is ∙ get_or-set_same words (count / 64) word 0 place
-          ∙ ap (λ k. k - 1) (one_shl (count % 64) 64 (omega arith));
-    }
 
 -- the bits of two sets
 
@@ -198,7 +179,7 @@ set_of-united count words others after n are too is all =
     let s = set_of count words in
     let t = set_of count others in
     let long : length s ≡ count = length-set_of count words in
-    let same : length others ≡ length words = omega (arith, are.enough, are.few, too.enough, too.few) in
+    let same : length others ≡ length words = too.many ∙ sym are.many in
     let both : ℕ → Bool = λ p. get_or s p false || get_or t p false in
     let at : (p : ℕ) → p < count → get_or (set_of count after) p false ≡ get_or (union s t) p false =
     λ p l.
@@ -210,15 +191,11 @@ set_of-united count words others after n are too is all =
 
 pub words_united : (count : ℕ) (words others after : List ℕ) (n : ℕ) → AreWordsOf count words → AreWordsOf count others → AreUnited words others after n → length words ≤ n → AreWordsOf count after
 words_united count words others after n are too is all =
-    let same : length others ≡ length words = omega (arith, are.enough, are.few, too.enough, too.few) in
+    let same : length others ≡ length words = too.many ∙ sym are.many in
     record {
-      enough = omega (arith, are.enough, is.long);
-      few = omega (arith, are.few, is.long);
+      many = is.long ∙ are.many;
       clear = λ p past. united_bits words others after n is all same p ∙ ap (λ b. b || has_bit others p) (are.clear p past) ∙ too.clear p past;
     }
-
-pub none_united : (words others : List ℕ) → AreUnited words others words 0
-none_united words others = record { long = refl; united = λ i l. absurd (omega (arith, l)); rest = λ i _. refl }
 
 pub united_more : (words others before after : List ℕ) (n : ℕ) → AreUnited words others before n → n < length before → after ≡ set before n (bit_or (get_or before n 0) (get_or others n 0)) → AreUnited words others after (n + 1)
 united_more words others before after n are known is =
@@ -236,3 +213,11 @@ united_more words others before after n are known is =
           ];
       rest = λ i l. ap (λ (ws : List ℕ). get_or ws i 0) is ∙ get_or-set_other before n i word 0 (λ e. absurd (omega (arith, l, e))) ∙ are.rest i (omega (arith, l));
     }
+
+-- the first words, and those behind them
+pub united_behind : (first other : ℕ) (rest others after : List ℕ) (n : ℕ) → AreUnited rest others after n → AreUnited (first ∷ rest) (other ∷ others) (bit_or first other ∷ after) (suc n)
+united_behind first other rest others after n are = record {
+  long = ap suc are.long;
+  united = λ i l. elim i as (λ k. k < suc n → get_or (bit_or first other ∷ after) k 0 ≡ bit_or (get_or (first ∷ rest) k 0) (get_or (other ∷ others) k 0)) [ zero ↦ λ _. refl | suc k ↦ λ m. are.united k (omega (arith, m)) ] l;
+  rest = λ i l. elim i as (λ k. suc n ≤ k → get_or (bit_or first other ∷ after) k 0 ≡ get_or (first ∷ rest) k 0) [ zero ↦ λ m. absurd (omega (arith, m)) | suc k ↦ λ m. are.rest k (omega (arith, m)) ] l;
+}

@@ -1,5 +1,5 @@
 -- Puts, and the processes that they are to.
-use Rattle.std.specs.Prelude.{◌≡◌, ℕ, Bool, false, List, All, slice_index_or}
+use Rattle.std.specs.Prelude.{◌≡◌, Bool, false, List, All, slice_index_or}
 use Rattle.bsp_model.specs.declared.request.Put.{Put}
 
 -- none of these puts is to a process in the set

@@ -3,12 +3,14 @@
 ghost use Rattle.std.specs.Prelude.{◌≡◌, ◌<◌, ◌≤◌, ◌+◌, ◌++◌, ◌∷◌, [], All, IfOk, OnErr, OnOk, length, nat_le, slice_index_or, slice_range, slice_set};
 ghost use Rattle.bsp_model.specs.Columns.{row_at};
 ghost use Rattle.bsp_model.specs.Memory.{memory_written};
+ghost use Rattle.bsp_model.specs.Replaced.{replaced, IsAscending};
 
 #[cfg(test)]
 mod tests;
 
 use crate::page::{Page, WORDS_OF_A_PAGE};
 use crate::paging::{cut_write, is_within, shared_pages, take_pages, write_row};
+use crate::places::end_of_run;
 use crate::{Memory, MemoryRef, OutOfMemory, Rows, Share, SharedColumn, TryCopy};
 use std::alloc::Global;
 use std::marker::Model;
@@ -102,6 +104,32 @@ impl Memories {
     {
         let memories = room.into_room_like(self, Share::whole())?;
         memories.with_range(self, 0, self.len())
+    }
+
+    /// A copy of these memories, but for new ones of some processes, which are in ascending order, in the room of others, or `OutOfMemory`. Those of
+    /// consecutive processes are copied in one piece, and so is what lies between.
+    pub fn replaced_into(
+        &self,
+        processes: &[usize],
+        new: &Memories,
+        room: Memories,
+    ) -> Result<Memories, OutOfMemory>
+        requires known { All (λ p. p < length self.now) processes.now }
+        requires ascending { IsAscending processes.now }
+        requires count { length new.now ≡ length processes.now }
+        ensures { IfOk result (λ m. m ≡ replaced self.now processes.now new.now) }
+    {
+        let mut all = room.into_room_like(self, Share::whole())?;
+        let mut place = 0;
+        while place < processes.len() {
+            let end = end_of_run(processes, place);
+            let done = all.len();
+            all = all.with_range(self, done, processes[place])?;
+            all = all.with_range(new, place, end)?;
+            place = end;
+        }
+        let done = all.len();
+        all.with_range(self, done, self.len())
     }
 
     /// The number of memories.

@@ -14,23 +14,26 @@ pub fn are_few(some: usize, all: usize) -> bool
     some <= all / ONE_APART_OF
 }
 
-/// Where a process stands in a list of them in ascending order, if it does.
+/// Where a process stands in a list of them in ascending order, if it does. It is not behind the place that it has where the list is one run of
+/// consecutive numbers.
 #[inline(always)]
 pub fn place_among(processes: &[usize], pid: usize) -> Option<usize>
     requires ascending { IsAscending processes.now }
     ensures some { IfSome result (λ k. (k < length processes.now) × (slice_index_or processes.now k 0 ≡ pid)) }
     ensures none { IfNone result ((k : ℕ) → k < length processes.now → pid ≢ slice_index_or processes.now k 0) }
 {
-    for place in 0..processes.len() {
-        if processes[place] >= pid {
-            return if processes[place] == pid {
-                Some(place)
-            } else {
-                None
-            };
-        }
+    if processes.is_empty() || pid < processes[0] {
+        return None;
     }
-    None
+    let mut place = (pid - processes[0]).min(processes.len() - 1);
+    while processes[place] > pid {
+        place -= 1;
+    }
+    if processes[place] == pid {
+        Some(place)
+    } else {
+        None
+    }
 }
 
 /// Where the run of consecutive numbers ends that begins at a place of an ascending list of processes.

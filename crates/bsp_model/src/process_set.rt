@@ -1,6 +1,6 @@
 //! Sets of processes.
 
-ghost use Rattle.std.specs.Prelude.{◌≡◌, ◌+◌, ◌*◌, ◌^◌, ◌<◌, ◌≤◌, ◌↔◌, [], IsTrue, IfOk, IfSome, MatchOption, true, false, length, replicate, slice_get, slice_index_or, slice_set};
+ghost use Rattle.std.specs.Prelude.{◌≡◌, ◌+◌, ◌-◌, ◌*◌, ◌/◌, ◌^◌, ◌<◌, ◌≤◌, ◌↔◌, [], ◌∷◌, min, IsTrue, IfOk, IfSome, MatchOption, true, false, length, replicate, slice_get, slice_index, slice_index_or, slice_set};
 ghost use Rattle.std.specs.Iterator.{YieldsFirst, item_count};
 ghost use Rattle.bsp_model.specs.ProcessSet.{processes_from, processes_in, union};
 ghost use Rattle.bsp_model.specs.Inside.Bits.{HasNoBitFrom, IsFirstBitFrom};
@@ -15,22 +15,52 @@ use std::marker::Model;
 /// The processes for which a word has bits.
 const BITS: usize = 64;
 
-/// A set of processes, of so many: a bit for each, in as many words as these need.
+/// A set of processes, of so many: a bit for each, in as many words as these need. The first word lies in the set itself, so that a set of few
+/// processes takes no memory.
 #[derive(Debug, Drop)]
 pub struct ProcessSet {
     count: usize,
-    words: Vec<u64>,
+    first: u64,
+    /// The words behind the first.
+    rest: Vec<u64>,
 }
 
 impl Model for ProcessSet {
-    ghost use Rattle.std.specs.Prelude.{List, Bool};
+    ghost use Rattle.std.specs.Prelude.{List, Bool, ◌∷◌};
     ghost use Rattle.bsp_model.specs.Inside.Bits.{set_of, AreWordsOf};
 
     ghost Value = { List Bool };
 
-    ghost view = { λ s. set_of s.count s.words.items };
+    ghost view = { λ s. set_of s.count (s.first ∷ s.rest.items) };
 
-    ghost invariant = { λ s. AreWordsOf s.count s.words.items };
+    ghost invariant = { λ s. AreWordsOf s.count (s.first ∷ s.rest.items) };
+}
+
+/// How many words a set of so many processes has behind the first.
+fn words_behind(count: usize) -> usize
+    ensures { result ≡ (count - 1) / 64 }
+{
+    count.saturating_sub(1) / BITS
+}
+
+/// A word with the bits of so many processes, or with all bits where these are more.
+fn ones(count: usize) -> u64
+    ensures { result ≡ 2 ^ min count 64 - 1 }
+{
+    if count < BITS {
+        (1 << count) - 1
+    } else {
+        u64::MAX
+    }
+}
+
+/// The word at a place: the first, or one of those behind it.
+#[inline(always)]
+fn word_at(first: u64, rest: &[u64], place: usize) -> u64
+    requires { place ≤ length rest.now }
+    ensures { result ≡ slice_index (first ∷ rest.now) place }
+{
+    if place == 0 { first } else { rest[place - 1] }
 }
 
 /// The first bit that is set in the words from a place on.
@@ -48,27 +78,29 @@ fn first_from_word(words: &[u64], place: usize) -> Option<usize>
 
 /// The first bit that is set from the one of a process on.
 #[inline(always)]
-fn first_from(words: &[u64], from: usize) -> Option<usize>
-    requires known { from < 64 * length words.now }
-    requires few { 64 * length words.now ≤ 2 ^ 64 }
-    ensures { MatchOption result (HasNoBitFrom words.now from) (IsFirstBitFrom words.now from) }
+fn first_from(first: u64, rest: &[u64], from: usize) -> Option<usize>
+    requires known { from < 64 * (length rest.now + 1) }
+    requires few { 64 * (length rest.now + 1) ≤ 2 ^ 64 }
+    ensures { MatchOption result (HasNoBitFrom (first ∷ rest.now) from) (IsFirstBitFrom (first ∷ rest.now) from) }
 {
     let place = from / BITS;
-    let rest = words[place] >> (from % BITS);
-    if rest != 0 {
-        return Some(from + rest.trailing_zeros() as usize);
+    let left = word_at(first, rest, place) >> (from % BITS);
+    if left != 0 {
+        return Some(from + left.trailing_zeros() as usize);
     }
-    first_from_word(words, place + 1)
+    let behind = first_from_word(rest, place)?;
+    Some(BITS + behind)
 }
 
 impl ProcessSet {
-    /// The set of no processes, which takes no memory.
+    /// The set of no processes.
     pub fn new(alloc: Global) -> ProcessSet
         ensures { result ≡ [] }
     {
         ProcessSet {
             count: 0,
-            words: Vec::new(alloc),
+            first: 0,
+            rest: Vec::new(alloc),
         }
     }
 
@@ -76,19 +108,28 @@ impl ProcessSet {
     pub fn none(alloc: Global, count: usize) -> Result<ProcessSet, OutOfMemory>
         ensures { IfOk result (λ set. set ≡ replicate count false) }
     {
-        let words = vec![in alloc; 0; count.div_ceil(BITS)]?;
-        Ok(ProcessSet { count, words })
+        let rest = vec![in alloc; 0; words_behind(count)]?;
+        Ok(ProcessSet {
+            count,
+            first: 0,
+            rest,
+        })
     }
 
     /// The set of all of so many processes, or `OutOfMemory`.
     pub fn all(alloc: Global, count: usize) -> Result<ProcessSet, OutOfMemory>
         ensures { IfOk result (λ set. set ≡ replicate count true) }
     {
-        let mut words = vec![in alloc; u64::MAX; count.div_ceil(BITS)]?;
-        if count % BITS != 0 {
-            words[count / BITS] = (1 << (count % BITS)) - 1;
+        let behind = words_behind(count);
+        let mut rest = Vec::with_capacity(alloc, behind)?;
+        for place in 0..behind {
+            rest.push(ones(count - BITS * (place + 1)))?;
         }
-        Ok(ProcessSet { count, words })
+        Ok(ProcessSet {
+            count,
+            first: ones(count),
+            rest,
+        })
     }
 
     /// Of how many processes it is a set.
@@ -104,7 +145,11 @@ impl ProcessSet {
     pub fn contains(&self, process: usize) -> bool
         ensures { result ≡ slice_index_or self.now process false }
     {
-        process < self.count && (self.words[process / BITS] >> (process % BITS)) & 1 == 1
+        if process >= self.count {
+            return false;
+        }
+        let word = word_at(self.first, self.rest.as_slice(), process / BITS);
+        (word >> (process % BITS)) & 1 == 1
     }
 
     /// Puts a process into the set.
@@ -113,7 +158,12 @@ impl ProcessSet {
         requires { process < length self.old }
         ensures { self.new ≡ slice_set self.old process true }
     {
-        self.words[process / BITS] |= 1 << (process % BITS);
+        let bit = 1 << (process % BITS);
+        if process < BITS {
+            self.first |= bit;
+        } else {
+            self.rest[process / BITS - 1] |= bit;
+        }
     }
 
     /// Puts the processes of another set into this one.
@@ -121,8 +171,9 @@ impl ProcessSet {
         requires { length others.now ≡ length self.old }
         ensures { self.new ≡ union self.old others.now }
     {
-        for i in 0..self.words.len() {
-            self.words[i] |= others.words[i];
+        self.first |= others.first;
+        for i in 0..self.rest.len() {
+            self.rest[i] |= others.rest[i];
         }
     }
 
@@ -142,7 +193,7 @@ impl ProcessSet {
         if from >= self.count {
             return None;
         }
-        first_from(self.words.as_slice(), from)
+        first_from(self.first, self.rest.as_slice(), from)
     }
 
     /// The processes in the set, in ascending order.
@@ -157,11 +208,20 @@ impl ProcessSet {
     pub fn members(&self, alloc: Global) -> Result<Vec<usize>, OutOfMemory>
         ensures { IfOk result (λ members. members.items ≡ processes_in self.now) }
     {
-        let mut members = Vec::new(alloc);
+        let mut members = Vec::with_capacity(alloc, self.bits())?;
         for process in self.iter() {
             members.push(process)?;
         }
         Ok(members)
+    }
+
+    /// How many bits are set, which is how much room a list of the processes takes.
+    fn bits(&self) -> usize {
+        let mut bits = self.first.count_ones() as usize;
+        for word in &self.rest {
+            bits = bits.saturating_add(word.count_ones() as usize);
+        }
+        bits
     }
 }
 

@@ -11,7 +11,6 @@ ghost use Rattle.bsp_run.specs.Result.{status_of, memories_of, lines_of, costs_o
 use crate::costs::{all_costs, total_of};
 use crate::keeping::{is_limit, last_turn};
 use crate::lines::all_lines;
-use crate::supersteps::numbers;
 use crate::{Arguments, Lines, Phase, RunResult, Status, Superstep, Tape, Views};
 use bsp_model::{
     CostRow, Memories, MemoryRef, OutOfMemory, ProcessSet, Shared, SharedSeq, TryCopy,
@@ -194,9 +193,7 @@ pub(crate) fn memories_of_outcomes(
 ) -> Result<Memories, OutOfMemory>
     ensures { IfOk result (λ all. all ≡ map (λ o. o.memory) outcomes.now) }
 {
-    let processes = numbers(alloc, outcomes.len())?;
-    let room = Memories::with_capacity(alloc, 0)?;
-    outcomes.memories_of(processes.as_slice(), room)
+    Ok(outcomes.memories(Memories::new(alloc))?)
 }
 
 impl History {

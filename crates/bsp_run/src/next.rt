@@ -58,15 +58,15 @@ impl Tape {
         &self,
         like: &Views,
         setting: Setting,
-        processes: &[usize],
+        processes: Vec<usize>,
         cells: Cells,
     ) -> Result<Views, OutOfMemory>
         requires turned { self.now.phase ≡ Phase.Turned }
         requires setting { setting ≡ next_setting self.now }
-        requires known { All (λ p. p < length like.now) processes.now }
-        requires ascending { IsAscending processes.now }
-        requires count { length cells ≡ length processes.now }
-        requires cells { replaced (map cell_of like.now) processes.now cells ≡ deliveries_of self.now.outcomes }
+        requires known { All (λ p. p < length like.now) processes.items }
+        requires ascending { IsAscending processes.items }
+        requires count { length cells ≡ length processes.items }
+        requires cells { replaced (map cell_of like.now) processes.items cells ≡ deliveries_of self.now.outcomes }
         ensures { IfOk result (λ views. views ≡ next_views self.now) }
     {
         let alloc = *self.past.allocator();

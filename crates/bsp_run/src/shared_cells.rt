@@ -133,21 +133,21 @@ impl SharedCells {
     pub fn replaced(
         &self,
         alloc: Global,
-        processes: &[usize],
+        processes: Vec<usize>,
         new: Cells,
     ) -> Result<SharedCells, OutOfMemory>
-        requires known { All (λ p. p < length self.now) processes.now }
-        requires ascending { IsAscending processes.now }
-        requires count { length new ≡ length processes.now }
-        ensures { IfOk result (λ c. c ≡ replaced self.now processes.now new) }
+        requires known { All (λ p. p < length self.now) processes.items }
+        requires ascending { IsAscending processes.items }
+        requires count { length new ≡ length processes.items }
+        ensures { IfOk result (λ c. c ≡ replaced self.now processes.items new) }
     {
-        let cells = self.cells_below(alloc, processes)?;
+        let cells = self.cells_below(alloc, processes.as_slice())?;
         if !are_few(processes.len(), self.len()) {
-            let all = cells.replaced(alloc, processes, &new)?;
+            let all = cells.replaced(alloc, processes.as_slice(), &new)?;
             return Ok(SharedCells::new(alloc, all)?);
         }
         let others = OtherCells {
-            processes: processes.to_vec(alloc)?,
+            processes,
             cells: new,
         };
         Ok(SharedCells {

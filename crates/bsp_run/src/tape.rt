@@ -92,18 +92,18 @@ impl Tape {
         input: &Input,
         args: Arguments,
         like: &Views,
-        processes: &[usize],
+        processes: Vec<usize>,
     ) -> Result<Tape, OutOfMemory>
         requires lawful { input_fault input.now ≡ None }
         requires args { args ≡ input.now.args }
-        requires known { All (λ p. p < length input.now.mems) processes.now }
-        requires ascending { IsAscending processes.now }
-        requires like { replaced (map cell_of like.now) processes.now (map (first_cell input.now.mems) processes.now)
+        requires known { All (λ p. p < length input.now.mems) processes.items }
+        requires ascending { IsAscending processes.items }
+        requires like { replaced (map cell_of like.now) processes.items (map (first_cell input.now.mems) processes.items)
             ≡ map (λ m. (m, no_messages m)) input.now.mems }
         ensures { IfOk result (λ tape. tape ≡ start input.now) }
     {
         let mems = input.mems.as_slice();
-        let cells = first_cells_of(alloc, mems, processes)?;
+        let cells = first_cells_of(alloc, mems, processes.as_slice())?;
         let setting = Setting::first(alloc, &args, mems.len())?;
         let views = like.replaced(alloc, setting, processes, cells)?;
         Tape::open_with(alloc, input, args, views)

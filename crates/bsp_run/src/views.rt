@@ -51,16 +51,16 @@ impl Views {
         &self,
         alloc: Global,
         setting: Setting,
-        processes: &[usize],
+        processes: Vec<usize>,
         cells: Cells,
     ) -> Result<Views, OutOfMemory>
-        requires known { All (λ p. p < length self.now) processes.now }
-        requires ascending { IsAscending processes.now }
-        requires count { length cells ≡ length processes.now }
+        requires known { All (λ p. p < length self.now) processes.items }
+        requires ascending { IsAscending processes.items }
+        requires count { length cells ≡ length processes.items }
         requires opens { CanOpen setting.args
-            (state_of (replaced (map cell_of self.now) processes.now cells) setting.table setting.tag_size) }
+            (state_of (replaced (map cell_of self.now) processes.items cells) setting.table setting.tag_size) }
         ensures { IfOk result (λ v. v ≡ views_of setting.args setting.step
-            (state_of (replaced (map cell_of self.now) processes.now cells) setting.table setting.tag_size)) }
+            (state_of (replaced (map cell_of self.now) processes.items cells) setting.table setting.tag_size)) }
     {
         Ok(Views {
             setting,

@@ -100,6 +100,21 @@ impl OutcomeRows {
         Ok(self.memories.copy_into(room)?)
     }
 
+    /// The same, but for those of new outcomes of some processes, which are in ascending order.
+    pub(crate) fn memories_replaced(
+        &self,
+        processes: &[usize],
+        new: &OutcomeRows,
+        room: Memories,
+    ) -> Result<Memories, OutOfMemory>
+        requires known { All (λ p. p < length self.now) processes.now }
+        requires ascending { IsAscending processes.now }
+        requires count { length new.now ≡ length processes.now }
+        ensures { IfOk result (λ m. m ≡ map (λ o. o.memory) (replaced self.now processes.now new.now)) }
+    {
+        Ok(self.memories.replaced_into(processes, &new.memories, room)?)
+    }
+
     /// Copies of the lines of all processes, in the room of others, or `OutOfMemory`.
     pub(crate) fn lines(&self, room: LineColumn) -> Result<LineColumn, OutOfMemory>
         ensures { IfOk result (λ lines. (p : ℕ) → row_at lines p ≡ (outcome_of self.now p).lines) }

@@ -217,23 +217,23 @@ impl Outcomes {
     pub fn replaced(
         &self,
         alloc: Global,
-        processes: &[usize],
+        processes: Vec<usize>,
         new: OutcomeRows,
     ) -> Result<Outcomes, OutOfMemory>
-        requires known { All (λ p. p < length self.now) processes.now }
-        requires ascending { IsAscending processes.now }
-        requires count { length new ≡ length processes.now }
-        ensures { IfOk result (λ o. o ≡ replaced self.now processes.now new) }
+        requires known { All (λ p. p < length self.now) processes.items }
+        requires ascending { IsAscending processes.items }
+        requires count { length new ≡ length processes.items }
+        ensures { IfOk result (λ o. o ≡ replaced self.now processes.items new) }
     {
         if processes.is_empty() {
             return self.copy();
         }
-        let rows = self.rows_below(alloc, processes)?;
+        let rows = self.rows_below(alloc, processes.as_slice())?;
         if !are_few(processes.len(), self.len()) {
-            return rows.replaced(alloc, processes, &new)?.share();
+            return rows.replaced(alloc, processes.as_slice(), &new)?.share();
         }
         let others = Others {
-            processes: processes.to_vec(alloc)?,
+            processes,
             rows: new,
         };
         Ok(Outcomes {

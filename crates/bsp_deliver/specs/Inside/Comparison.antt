@@ -15,9 +15,13 @@ pub record IsReadable (os : List OutcomeParts) (g : Get) : Type 0 where
   pub known : g.owner < length os
   pub inside : g.start + g.len ≤ slice_index (sizes_of os) g.owner
 
--- the memory of p after computing is the same, and so are its gets
+-- the memory after computing is the same, and so are the gets
+abbrev pub HasSameOwn : OutcomeParts → OutcomeParts → Type 0
+HasSameOwn old new = (old.memory ≡ new.memory) × (old.gets ≡ new.gets)
+
+-- those of p are
 abbrev pub KeepsOwn : List OutcomeParts → List OutcomeParts → ℕ → Type 0
-KeepsOwn os us p = ((outcome_of os p).memory ≡ (outcome_of us p).memory) × ((outcome_of os p).gets ≡ (outcome_of us p).gets)
+KeepsOwn os us p = HasSameOwn (outcome_of os p) (outcome_of us p)
 
 -- p puts and sends the same to d, and where p is d, it keeps its own
 pub record BringsSame (os us : List OutcomeParts) (p d : ℕ) : Type 0 where

@@ -51,5 +51,5 @@ pub fn opened<P: Program, R, G>(
     };
     let marked = marks.members(given.alloc)?;
     let args = args_again(given.alloc, history.args(), &input.args, given.other_args)?;
-    Ok(Tape::open_like(given.alloc, input, args, like, marked.as_slice())?)
+    Ok(Tape::open_like(given.alloc, input, args, like, marked)?)
 }

@@ -19,9 +19,9 @@ use std::alloc::Global;
 
 /// Deliveries that were made.
 #[derive(Drop)]
-pub struct Deliveries<'a> {
+pub struct Deliveries {
     /// To whom, in order.
-    pub processes: &'a [usize],
+    pub processes: Vec<usize>,
     /// What each of them got.
     pub cells: Cells,
 }

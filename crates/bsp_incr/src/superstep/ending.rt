@@ -82,25 +82,26 @@ fn open_next<P: Program, G: Gate, R: Threads + Sync>(
     given: &Given<'_, P, R, G>,
     tape: &mut Tape,
     doubtful: &ProcessSet,
-    made: Deliveries<'_>,
+    made: Deliveries,
     known: KnownTable,
 ) -> Result<KnownTable, OutOfMemory>
     requires turned { tape.old.phase ≡ Phase.Turned }
     requires many { length tape.old.outcomes ≡ length given.now.input.mems }
-    requires processes { made.processes.now ≡ processes_where (length tape.old.outcomes)
+    requires processes { made.processes.items ≡ processes_where (length tape.old.outcomes)
         (is_touched (delivered_beside given.now tape.old) tape.old.outcomes) }
-    requires cells { made.cells ≡ deliveries_to tape.old.outcomes made.processes.now }
+    requires cells { made.cells ≡ deliveries_to tape.old.outcomes made.processes.items }
     requires doubtful { OutcomesDifferAtMost (delivered_beside given.now tape.old) tape.old.outcomes doubtful.now }
     requires known { KnowsNextTable given.now.before tape.old known }
     ensures tape { OnOk result (tape.new ≡ after_delivery tape.old) }
     ensures known { IfOk result (KnowsNextTable given.now.before tape.old) }
 {
+    let Deliveries { processes, cells } = made;
     let Some(old_next) = views_after(given.old, tape.step()) else {
-        let _ = tape.delivered(made.cells)?;
+        let _ = tape.delivered(cells)?;
         return Ok(KnownTable::Unknown);
     };
     let (setting, known) = next_setting(tape, old_next, known)?;
-    let views = tape.next_views_like(old_next, setting, made.processes, made.cells)?;
+    let views = tape.next_views_like(old_next, setting, processes, cells)?;
     let row = cost(given, tape, doubtful);
     let _ = tape.delivered_as(views, row)?;
     Ok(known)
@@ -143,10 +144,7 @@ pub fn make_deliveries<P: Program, G: Gate, R: Threads + Sync>(
         given.workers.count,
         given.workers.gate,
     )?;
-    let made = Deliveries {
-        processes: processes.as_slice(),
-        cells,
-    };
+    let made = Deliveries { processes, cells };
     under_way.table = open_next(given, tape, doubtful, made, known)?;
     touched.insert_all(given.other_args);
     under_way.marks = touched;

@@ -123,20 +123,20 @@ fn with_served_turns<P: Program, R, G>(
     given: &Given<'_, P, R, G>,
     superstep: &OpenSuperstep<'_, '_>,
     old_outcomes: &Outcomes,
-    processes: &[usize],
+    processes: Vec<usize>,
 ) -> Result<Outcomes, OutOfMemory>
-    requires known { All (λ p. p < length superstep.now.views.now) processes.now }
-    requires within { All (λ p. p < length old_outcomes.now) processes.now }
-    requires ascending { IsAscending processes.now }
+    requires known { All (λ p. p < length superstep.now.views.now) processes.items }
+    requires within { All (λ p. p < length old_outcomes.now) processes.items }
+    requires ascending { IsAscending processes.items }
     requires recorded { old_outcomes.now ≡ map (turn_by P.Program given.now.program) superstep.now.old_views }
-    requires serve { All (λ p. differs_now (P.looks given.now.program) superstep.now p ≡ false) processes.now }
-    ensures { IfOk result (λ all. all ≡ replaced old_outcomes.now processes.now
-        (turns_of (turn_by P.Program given.now.program) superstep.now.views.now processes.now)) }
+    requires serve { All (λ p. differs_now (P.looks given.now.program) superstep.now p ≡ false) processes.items }
+    ensures { IfOk result (λ all. all ≡ replaced old_outcomes.now processes.items
+        (turns_of (turn_by P.Program given.now.program) superstep.now.views.now processes.items)) }
 {
     if processes.is_empty() {
         return Ok(old_outcomes.copy()?);
     }
-    let served = served_turns(given, superstep, old_outcomes, processes)?;
+    let served = served_turns(given, superstep, old_outcomes, processes.as_slice())?;
     Ok(old_outcomes.replaced(given.alloc, processes, served)?)
 }
 
@@ -192,7 +192,7 @@ pub fn turns_again<P: Program, G: Gate, R: Threads + Sync>(
     let Some(old_outcomes) = superstep.old_outcomes else {
         return Ok(taken.share()?);
     };
-    let renewed = with_served_turns(given, superstep, old_outcomes, served.as_slice())?;
-    let all = renewed.replaced(given.alloc, needed.as_slice(), taken)?;
+    let renewed = with_served_turns(given, superstep, old_outcomes, served)?;
+    let all = renewed.replaced(given.alloc, needed, taken)?;
     Ok(all)
 }

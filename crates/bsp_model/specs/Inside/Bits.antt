@@ -1,5 +1,5 @@
 -- A set of processes by the bits of its words: no public contract speaks of them.
-use Rattle.std.specs.Prelude.{ℕ, ◌+◌, ◌*◌, ◌/◌, ◌%◌, ◌<◌, ◌≤◌, ◌≡◌, ◌≢◌, Bool, true, false, List, map, length, nat_eq, slice_index}
+use Rattle.std.specs.Prelude.{ℕ, ◌+◌, ◌-◌, ◌/◌, ◌%◌, ◌<◌, ◌≤◌, ◌≡◌, ◌≢◌, Bool, true, false, List, map, length, nat_eq, slice_index}
 use Rattle.std.specs.List.{range_with_len}
 use Rattle.std.specs.Int.{bit_at}
 
@@ -11,10 +11,9 @@ has_bit words p = nat_eq (bit_at (slice_index words (p / 64)) (p % 64)) 1
 abbrev pub set_of : ℕ → List ℕ → List Bool
 set_of count words = map (has_bit words) (range_with_len 0 count)
 
--- There are as many words as so many processes need, in which no other bit is set.
+-- There are as many words as so many processes need, and one at least, in which no other bit is set.
 pub record AreWordsOf (count : ℕ) (words : List ℕ) : Type 0 where
-  pub enough : count ≤ 64 * length words
-  pub few : 64 * length words < count + 64
+  pub many : length words ≡ (count - 1) / 64 + 1
   pub clear : (p : ℕ) → count ≤ p → has_bit words p ≡ false
 
 -- one bit more

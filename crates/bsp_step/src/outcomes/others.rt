@@ -1,6 +1,6 @@
 //! The outcomes of few processes, which lie apart from those of all.
 
-ghost use Rattle.std.specs.Prelude.{◌≡◌, ◌≤◌, ◌<◌, ℕ, All, IfOk, length};
+ghost use Rattle.std.specs.Prelude.{◌≡◌, ◌≤◌, ◌<◌, ℕ, All, IfOk, length, map};
 ghost use Rattle.std.specs.Bool.{OnTrue};
 ghost use Rattle.bsp_model.specs.PutsTo.{AreToNone};
 ghost use Rattle.bsp_model.specs.Replaced.{IsAscending};
@@ -9,7 +9,7 @@ ghost use Rattle.bsp_step.specs.ListKind.{IsWithout};
 ghost use Rattle.bsp_step.specs.Inside.Others.{with_others, AreOthers, IsBelow};
 
 use crate::{ListKind, OutcomeRows};
-use bsp_model::{OutOfMemory, ProcessSet, Shared, TryCopy, are_among, place_among};
+use bsp_model::{Memories, OutOfMemory, ProcessSet, Shared, TryCopy, are_among, place_among};
 use std::alloc::Global;
 
 /// The outcomes of some processes, which are in ascending order.
@@ -65,6 +65,14 @@ impl Others {
             return Ok(rows.copy()?);
         }
         Ok(Shared::new(alloc, rows.replaced(alloc, apart, &self.rows)?)?)
+    }
+
+    /// Copies of the memories of all processes, of these and of all others, in the room of others. Or `OutOfMemory`.
+    pub fn memories(&self, rows: &OutcomeRows, room: Memories) -> Result<Memories, OutOfMemory>
+        requires others { AreOthers rows.now self.now }
+        ensures { IfOk result (λ m. m ≡ map (λ o. o.memory) (with_others rows.now self.now)) }
+    {
+        Ok(rows.memories_replaced(self.processes.as_slice(), &self.rows, room)?)
     }
 
     /// The first process from `from` on whose turn may put something to one of these processes, or the number of processes.

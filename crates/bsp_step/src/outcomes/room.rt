@@ -63,25 +63,35 @@ impl Outcomes {
         }
     }
 
-    /// The lists of all processes, where they are so many and none lies apart.
-    fn all_rows(&self, count: usize) -> Option<&OutcomeRows>
-        ensures { IfSome result (λ rows. (rows.now ≡ self.now) × (length self.now ≡ count)) }
+    /// The lists of all processes, where none lies apart.
+    fn all_rows(&self) -> Option<&OutcomeRows>
+        ensures { IfSome result (λ rows. rows.now ≡ self.now) }
     {
         match (&self.rows, &self.others) {
-            (Some(rows), None) if rows.len() == count => Some(rows),
+            (Some(rows), None) => Some(rows),
             _ => None,
         }
     }
 
-    /// Copies of the memories of some processes, which are in ascending order, in the room of others; those of all are copied in one piece. Or
-    /// `OutOfMemory`.
+    /// Copies of the memories of all processes, in the room of others: in one piece, or in few where some outcomes lie apart. Or `OutOfMemory`.
+    pub fn memories(&self, room: Memories) -> Result<Memories, OutOfMemory>
+        ensures { IfOk result (λ m. m ≡ map (λ o. o.memory) self.now) }
+    {
+        match (&self.rows, &self.others) {
+            (Some(rows), Some(others)) => Ok(others.memories(rows, room)?),
+            (Some(rows), None) => Ok(rows.memories(room)?),
+            (None, _) => room.into_room(0),
+        }
+    }
+
+    /// Copies of the memories of some processes, which are in ascending order, in the room of others. Or `OutOfMemory`.
     pub fn memories_of(&self, processes: &[usize], room: Memories) -> Result<Memories, OutOfMemory>
         requires known { All (λ p. p < length self.now) processes.now }
         requires ascending { IsAscending processes.now }
         ensures { IfOk result (λ m. m ≡ map (λ p. (outcome_of self.now p).memory) processes.now) }
     {
-        if let Some(rows) = self.all_rows(processes.len()) {
-            return Ok(rows.memories(room)?);
+        if processes.len() == self.len() {
+            return self.memories(room);
         }
         let mut memories = room.into_room(processes.len())?;
         for process in processes {
@@ -95,7 +105,7 @@ impl Outcomes {
         ensures { IfOk result (λ lines. (p : ℕ) → row_at lines p ≡ (outcome_of self.now p).lines) }
     {
         let mut lines = LineColumn::with_room(alloc, self.len())?;
-        if let Some(rows) = self.all_rows(self.len()) {
+        if let Some(rows) = self.all_rows() {
             return Ok(rows.lines(lines)?);
         }
         for pid in 0..self.len() {

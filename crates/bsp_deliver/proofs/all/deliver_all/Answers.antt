@@ -1,7 +1,6 @@
-use Rattle.std.proofs.Common.{◌≡◌, ◌≤◌, ◌<◌, ◌+◌, ◌∙◌, ℕ, List, [], length, map, get_or, ap, sym, refl, subst, arith, All, fold}
+use Rattle.std.proofs.Common.{◌≡◌, ◌<◌, ◌∙◌, ℕ, List, length, map, ap, sym, refl, subst, arith, All, fold}
 use Rattle.std.specs.List.{range_with_len}
 use Rattle.std.proofs.lemmas.List.FromFn.{get_or-range_with_len, length-range_with_len}
-use Rattle.bsp_model.specs.Columns.{row_at}
 use Rattle.bsp_model.specs.declared.request.Message.{Message}
 use Rattle.bsp_deliver.specs.Requests.{all_puts}
 use Rattle.bsp_deliver.specs.Condition.{IsAscending}

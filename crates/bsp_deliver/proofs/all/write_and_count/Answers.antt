@@ -1,4 +1,4 @@
-use Rattle.std.proofs.Common.{◌≡◌, ◌<◌, ◌+◌, ◌*◌, ◌-◌, ◌∙◌, ap, sym, refl, arith, length, fold, subst, All}
+use Rattle.std.proofs.Common.{◌<◌, ◌+◌, ◌*◌, ◌-◌, ◌∙◌, ap, sym, refl, arith, length, fold, subst, All}
 use Rattle.bsp_model.specs.declared.request.Put.{Put}
 use Rattle.bsp_step.specs.OutcomeParts.{OutcomeParts, outcome_of}
 use Rattle.bsp_deliver.specs.declared.cost.Sums.{Sums}

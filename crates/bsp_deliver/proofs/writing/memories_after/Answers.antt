@@ -1,4 +1,4 @@
-use Rattle.std.proofs.Common.{◌≡◌, ◌∙◌, ℕ, List, length, map, ap, subst, sym}
+use Rattle.std.proofs.Common.{◌≡◌, ◌∙◌, length, map, ap, subst, sym}
 use Rattle.std.proofs.lemmas.List.{length-map}
 use Rattle.bsp_deliver.specs.Delivery.{get_write, delivery_parts}
 use Rattle.bsp_deliver.specs.Inside.Gathering.{overlay, AreTargets}

@@ -1,4 +1,4 @@
-use Rattle.std.proofs.Common.{◌≡◌, ◌<◌, ◌+◌, ◌-◌, ◌∙◌, ℕ, ap, sym, refl, arith, length, fold, subst, All}
+use Rattle.std.proofs.Common.{◌≡◌, ◌<◌, ◌+◌, ◌-◌, ◌∙◌, ap, sym, arith, length, fold, subst, All}
 use Rattle.std.proofs.lemmas.List.{take_all}
 use Rattle.bsp_model.specs.declared.request.Put.{Put}
 use Rattle.bsp_step.specs.OutcomeParts.{OutcomeParts, outcome_of}
@@ -6,7 +6,7 @@ use Rattle.bsp_deliver.specs.Requests.{all_puts, requests_from}
 use Rattle.bsp_deliver.specs.Inside.Gathering.{put_at}
 use Rattle.bsp_deliver.proofs.Senders.{outcome_at}
 use Rattle.bsp_deliver.proofs.Gathered.{folded_more}
-use Rattle.bsp_deliver.proofs.SkippedSenders.{after_senders, senders_skipped, targets_known}
+use Rattle.bsp_deliver.proofs.SkippedSenders.{senders_skipped, targets_known}
 use Rattle.bsp_deliver.proofs.writing.write_puts_to.Goals as goal
 
 pub loop-sender-init : goal.loop-sender-init

@@ -47,13 +47,13 @@ open_like-requires-clause-known g c =
     let marks : List Bool = c.args.marks.now in
     let test : ℕ → Bool = λ p. get_or marks p false in
     let many = c.requires.count ∙ ap (λ (m : Making _). length m.input.mems) (sym c.given.view_is) in
-    listed_below (length c.given.inside.input.now.mems) test c.as_slice.result.now (c.as_slice.ensures.value ∙ c.in_ok-marked.ensures ∙ ap (λ n. processes_where n test) many)
+    listed_below (length c.given.inside.input.now.mems) test c.in_ok-marked.marked.items (c.in_ok-marked.ensures ∙ ap (λ n. processes_where n test) many)
 
 pub open_like-requires-clause-ascending : goal.open_like-requires-clause-ascending
 open_like-requires-clause-ascending g c =
     let marks : List Bool = c.args.marks.now in
     let test : ℕ → Bool = λ p. get_or marks p false in
-    subst IsAscending (sym (c.as_slice.ensures.value ∙ c.in_ok-marked.ensures)) (processes_where-ascending (length marks) test)
+    subst IsAscending (sym c.in_ok-marked.ensures) (processes_where-ascending (length marks) test)
 
 pub open_like-requires-clause-like : goal.open_like-requires-clause-like
 open_like-requires-clause-like g c =
@@ -62,8 +62,8 @@ open_like-requires-clause-like g c =
     let old : Run = c.in-Some.history.now in
     let turn = turn_by g.P.Program given.program.now in
     let there = c.in-Some.ensures.history in
-    let marked : List ℕ = c.as_slice.result.now in
+    let marked : List ℕ = c.in_ok-marked.marked.items in
     let first = subst (λ (m : Making _). AreFirstMarked m.before m.input c.args.marks.now) (sym c.given.view_is) c.requires in
     ap (λ (vs : List ViewParts). replaced (map cell_of vs) marked (map (first_cell input.mems) marked)) c.in-Some.ensures.views
     ∙ first_cells_in_place turn old input c.args.marks.now marked (subst (IsBefore turn input) there c.given.invariant.before)
-    (subst (λ (o : Option Run). AreFirstMarked o input c.args.marks.now) there first) (c.as_slice.ensures.value ∙ c.in_ok-marked.ensures)
+    (subst (λ (o : Option Run). AreFirstMarked o input c.args.marks.now) there first) c.in_ok-marked.ensures

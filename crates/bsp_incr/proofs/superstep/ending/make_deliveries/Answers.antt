@@ -30,7 +30,7 @@ pub open_next-requires-clause-processes : goal.open_next-requires-clause-process
 open_next-requires-clause-processes g c κs within =
     let r : Run = c.args.tape.now in
     let test : ℕ → Bool = is_touched (delivered_beside c.args.given.now r) r.outcomes in
-    c.as_slice-3.ensures.value ∙ c.in_ok-processes.ensures ∙ processes_where-each_below (length r.outcomes) test c.in_ok-touched.touched c.in_ok-touched.ensures
+    c.in_ok-processes.ensures ∙ processes_where-each_below (length r.outcomes) test c.in_ok-touched.touched c.in_ok-touched.ensures
 
 pub insert_all-requires : goal.insert_all-requires
 insert_all-requires g c =

@@ -68,7 +68,7 @@ with_served_turns-requires-clause-known g c κs within =
     let new = c.args.superstep.now.views.now in
     let test : ℕ → Bool = λ p. get_or set p false && not (differs (g.P.Program.looks c.args.given.now.program) c.args.superstep.now.old_views new p) in
     let served = c.in_ok-served.ensures ∙ processes_where-each_below (length new) test c.in_ok-to_take.to_serve c.in_ok-to_take.ensures.served in
-    listed_below (length new) test c.as_slice-3.result.now (c.as_slice-3.ensures.value ∙ served)
+    listed_below (length new) test c.in_ok-served.served.items served
 
 pub with_served_turns-requires-clause-serve : goal.with_served_turns-requires-clause-serve
 with_served_turns-requires-clause-serve g c κs within =
@@ -78,7 +78,7 @@ with_served_turns-requires-clause-serve g c κs within =
     let new = c.args.superstep.now.views.now in
     let test : ℕ → Bool = λ p. get_or set p false && not (differs looks old new p) in
     let served = c.in_ok-served.ensures ∙ processes_where-each_below (length new) test c.in_ok-to_take.to_serve c.in_ok-to_take.ensures.served in
-    served_stay looks old new set c.as_slice-3.result.now (c.as_slice-3.ensures.value ∙ served)
+    served_stay looks old new set c.in_ok-served.served.items served
 
 pub with_served_turns-requires-clause-within : goal.with_served_turns-requires-clause-within
 with_served_turns-requires-clause-within g c κs within =
@@ -92,7 +92,7 @@ with_served_turns-requires-clause-within g c κs within =
     let some : 0 < length old = not_empty old (sym c.is_empty.ensures ∙ c.if-is_empty.false) in
     let recorded = recorded_in c.args.superstep.now.old_outcomes c.in-Some.old_outcomes (map turn old) c.in-Some.is c.requires.recorded in
     let long : length c.in-Some.old_outcomes.now ≡ n = ap (λ (os : List OutcomeParts). length os) recorded ∙ length-map old turn ∙ c.args.superstep.now.count some in
-    subst (λ m. All (λ p. p < m) c.as_slice-3.result.now) (sym long) (listed_below n test c.as_slice-3.result.now (c.as_slice-3.ensures.value ∙ served))
+    subst (λ m. All (λ p. p < m) c.in_ok-served.served.items) (sym long) (listed_below n test c.in_ok-served.served.items served)
 
 pub with_served_turns-requires-clause-ascending : goal.with_served_turns-requires-clause-ascending
 with_served_turns-requires-clause-ascending g c κs within =
@@ -100,7 +100,7 @@ with_served_turns-requires-clause-ascending g c κs within =
     let new = c.args.superstep.now.views.now in
     let test : ℕ → Bool = λ p. get_or set p false && not (differs (g.P.Program.looks c.args.given.now.program) c.args.superstep.now.old_views new p) in
     let served = c.in_ok-served.ensures ∙ processes_where-each_below (length new) test c.in_ok-to_take.to_serve c.in_ok-to_take.ensures.served in
-    subst IsAscending (sym (c.as_slice-3.ensures.value ∙ served)) (processes_where-ascending (length new) test)
+    subst IsAscending (sym served) (processes_where-ascending (length new) test)
 
 pub replaced-requires-clause-known : goal.replaced-requires-clause-known
 replaced-requires-clause-known g c =
@@ -113,15 +113,15 @@ replaced-requires-clause-known g c =
     let some : 0 < length old = not_empty old (sym c.is_empty.ensures ∙ c.if-is_empty.false) in
     let recorded = recorded_in c.args.superstep.now.old_outcomes c.in-Some.old_outcomes (map turn old) c.in-Some.is c.requires.recorded in
     let long : length c.in-Some.old_outcomes.now ≡ n = ap (λ (os : List OutcomeParts). length os) recorded ∙ length-map old turn ∙ c.args.superstep.now.count some in
-    let after : length c.in_ok-renewed.renewed ≡ n = ap (λ (os : List OutcomeParts). length os) c.in_ok-renewed.ensures ∙ length-replaced c.in-Some.old_outcomes.now c.as_slice-3.result.now (turns_of turn new c.as_slice-3.result.now) ∙ long in
-    subst (λ m. All (λ p. p < m) c.as_slice-4.result.now) (sym after) (listed_below n test c.as_slice-4.result.now (c.as_slice-4.ensures.value ∙ needed))
+    let after : length c.in_ok-renewed.renewed ≡ n = ap (λ (os : List OutcomeParts). length os) c.in_ok-renewed.ensures ∙ length-replaced c.in-Some.old_outcomes.now c.in_ok-served.served.items (turns_of turn new c.in_ok-served.served.items) ∙ long in
+    subst (λ m. All (λ p. p < m) c.in_ok-needed.needed.items) (sym after) (listed_below n test c.in_ok-needed.needed.items needed)
 
 pub replaced-requires-clause-ascending : goal.replaced-requires-clause-ascending
 replaced-requires-clause-ascending g c =
     let new = c.args.superstep.now.views.now in
     let test : ℕ → Bool = differs (g.P.Program.looks c.args.given.now.program) c.args.superstep.now.old_views new in
     let needed = c.in_ok-needed.ensures ∙ processes_where-each_below (length new) test c.in_ok-to_take.to_take c.in_ok-to_take.ensures.needed in
-    subst IsAscending (sym (c.as_slice-4.ensures.value ∙ needed)) (processes_where-ascending (length new) test)
+    subst IsAscending (sym needed) (processes_where-ascending (length new) test)
 
 pub returns-clause-turns : goal.returns-clause-turns
 returns-clause-turns g c =
@@ -135,12 +135,12 @@ returns-clause-turns g c =
     let stays : ℕ → Bool = λ p. get_or set p false && not (differs looks old new p) in
     let needed = c.in_ok-needed.ensures ∙ processes_where-each_below (length new) goes c.in_ok-to_take.to_take c.in_ok-to_take.ensures.needed in
     let served = c.in_ok-served.ensures ∙ processes_where-each_below (length new) stays c.in_ok-to_take.to_serve c.in_ok-to_take.ensures.served in
-    let taken : c.in_ok-taken.taken ≡ turns_of turn new c.as_slice-4.result.now = c.in_ok-taken.ensures ∙ ap (turns_of turn new) (c.as_slice-2.ensures.value ∙ sym c.as_slice-4.ensures.value) in
+    let taken : c.in_ok-taken.taken ≡ turns_of turn new c.in_ok-needed.needed.items = c.in_ok-taken.ensures ∙ ap (turns_of turn new) c.as_slice-2.ensures.value in
     c.in_ok-all.ensures
-    ∙ ap (λ (os : List OutcomeParts). replaced os c.as_slice-4.result.now c.in_ok-taken.taken) c.in_ok-renewed.ensures
-    ∙ turns_in_place turn looks old new set c.in-Some.old_outcomes.now (turns_of turn new c.as_slice-3.result.now) c.in_ok-taken.taken c.as_slice-3.result.now c.as_slice-4.result.now
+    ∙ ap (λ (os : List OutcomeParts). replaced os c.in_ok-needed.needed.items c.in_ok-taken.taken) c.in_ok-renewed.ensures
+    ∙ turns_in_place turn looks old new set c.in-Some.old_outcomes.now (turns_of turn new c.in_ok-served.served.items) c.in_ok-taken.taken c.in_ok-served.served.items c.in_ok-needed.needed.items
     c.requires.doubtful.processes (c.args.superstep.now.count some) (recorded_in c.args.superstep.now.old_outcomes c.in-Some.old_outcomes (map turn old) c.in-Some.is c.requires.recorded)
-    (c.as_slice-3.ensures.value ∙ served) (c.as_slice-4.ensures.value ∙ needed) refl taken
+    served needed refl taken
 
 pub returns-clause-executed : goal.returns-clause-executed
 returns-clause-executed g c =

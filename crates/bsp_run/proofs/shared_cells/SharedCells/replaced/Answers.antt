@@ -4,5 +4,5 @@ use Rattle.bsp_run.proofs.shared_cells.SharedCells.replaced.Goals as goal
 
 pub invariant_of-result : goal.invariant_of-result
 invariant_of-result c =
-    lie_apart c.in_ok-cells.cells c.args.self.now c.args.new c.args.processes.now (record { processes = c.in_ok-to_vec.field-0; cells = c.args.new }) refl (c.in_ok-to_vec.ensures.items_if_clones_equal (λ x y h. h))
+    lie_apart c.in_ok-cells.cells c.args.self.now c.args.new c.args.processes.items (record { processes = c.args.processes; cells = c.args.new }) refl refl
     c.in_ok-cells.ensures.count c.requires.known c.requires.ascending c.requires.count

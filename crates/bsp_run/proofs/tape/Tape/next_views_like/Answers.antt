@@ -7,7 +7,7 @@ use Rattle.bsp_run.proofs.tape.Tape.next_views_like.Goals as goal
 
 pub replaced-requires-clause-opens : goal.replaced-requires-clause-opens
 replaced-requires-clause-opens c =
-    opens_next c.args.self.now c.args.setting (replaced (map cell_of c.args.like.now) c.args.processes.now c.args.cells) (subst IsRun c.self.view_is c.self.invariant.run) c.requires.turned c.requires.setting c.requires.cells
+    opens_next c.args.self.now c.args.setting (replaced (map cell_of c.args.like.now) c.args.processes.items c.args.cells) (subst IsRun c.self.view_is c.self.invariant.run) c.requires.turned c.requires.setting c.requires.cells
 
 pub returns : goal.returns
-returns c = c.in_ok-views.ensures ∙ views_next c.args.self.now c.args.setting (replaced (map cell_of c.args.like.now) c.args.processes.now c.args.cells) c.requires.setting c.requires.cells
+returns c = c.in_ok-views.ensures ∙ views_next c.args.self.now c.args.setting (replaced (map cell_of c.args.like.now) c.args.processes.items c.args.cells) c.requires.setting c.requires.cells

@@ -19,7 +19,7 @@ pub replaced-requires-clause-known : goal.replaced-requires-clause-known
 replaced-requires-clause-known c =
     let now : List ViewParts = c.args.self.now in
     let long : length now ≡ length c.self.inside.cells = sym (length-map now cell_of) ∙ ap (λ (cs : List (List ℕ × List Message)). length cs) (cells_now c.self.inside now c.self.view_is) in
-    subst (λ n. All (λ p. p < n) c.args.processes.now) long c.requires.known
+    subst (λ n. All (λ p. p < n) c.args.processes.items) long c.requires.known
 
 -- what is kept makes the state
 kept : (v : Inside) (now : List ViewParts) (ps : List ℕ) (cells new : List (List ℕ × List Message)) (table : List (List Area)) (tag : ℕ) → seen_in v ≡ now → new ≡ replaced v.cells ps cells → state_of new table tag ≡ state_of (replaced (map cell_of now) ps cells) table tag
@@ -28,10 +28,10 @@ kept v now ps cells new table tag seen is =
 
 pub invariant_of-result : goal.invariant_of-result
 invariant_of-result c =
-    let state = kept c.self.inside c.args.self.now c.args.processes.now c.args.cells c.in_ok-replaced.field-0 c.args.setting.table c.args.setting.tag_size c.self.view_is c.in_ok-replaced.ensures in
+    let state = kept c.self.inside c.args.self.now c.args.processes.items c.args.cells c.in_ok-replaced.field-0 c.args.setting.table c.args.setting.tag_size c.self.view_is c.in_ok-replaced.ensures in
     subst (CanOpen c.args.setting.args) (sym state) c.requires.opens
 
 pub returns : goal.returns
 returns c =
-    let state = kept c.self.inside c.args.self.now c.args.processes.now c.args.cells c.in_ok-replaced.field-0 c.args.setting.table c.args.setting.tag_size c.self.view_is c.in_ok-replaced.ensures in
+    let state = kept c.self.inside c.args.self.now c.args.processes.items c.args.cells c.in_ok-replaced.field-0 c.args.setting.table c.args.setting.tag_size c.self.view_is c.in_ok-replaced.ensures in
     ap (views_of c.args.setting.args c.args.setting.step) state

@@ -1,4 +1,4 @@
-use Rattle.std.proofs.Common.{◌≡◌, ◌≤◌, ◌<◌, ℕ, length, ap, arith, ◌∙◌, refl}
+use Rattle.std.proofs.Common.{◌≤◌, ◌<◌, length, ap, arith, ◌∙◌}
 use Rattle.bsp_model.proofs.RowsOf.{length-rows_of, end-within}
 use Rattle.bsp_model.proofs.RowsBetween.{start_at-within}
 use Rattle.bsp_model.proofs.HeadsTo.{puts_between, ends_behind, put_there}

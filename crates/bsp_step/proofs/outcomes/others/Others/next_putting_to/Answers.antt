@@ -1,7 +1,7 @@
-use Rattle.std.proofs.Common.{◌≡◌, ◌≢◌, ◌≤◌, ◌<◌, ℕ, List, length, get_or, sym, subst, ap, arith}
+use Rattle.std.proofs.Common.{◌≢◌, ◌≤◌, ◌<◌, ℕ, List, length, get_or, subst, arith}
 use Rattle.std.specs.Prelude.{All}
 use Rattle.bsp_model.specs.PutsTo.{AreToNone}
-use Rattle.bsp_step.specs.OutcomeParts.{OutcomeParts, no_outcome}
+use Rattle.bsp_step.specs.OutcomeParts.{OutcomeParts}
 use Rattle.bsp_step.proofs.Others.{outcome_elsewhere}
 use Rattle.bsp_step.proofs.outcomes.others.Others.next_putting_to.Goals as goal
 use Rattle.bsp_step.proofs.outcomes.others.Others.next_putting_to.Goals.{After-min}
