@@ -1,5 +1,5 @@
 -- The h-relation of a superstep (the usual additive BSP cost formula, later than Valiant 1990; units and what counts: this profile).
-use Rattle.std.specs.Prelude.{ℕ, ◌+◌, ◌&&◌, ◌==◌, not, max, List, [], ◌∷◌, ◌++◌, map, filter, length, sum_by}
+use Rattle.std.specs.Prelude.{ℕ, ◌≡◌, ◌<◌, ◌^◌, ◌+◌, ◌&&◌, ◌==◌, not, max, List, [], ◌∷◌, ◌++◌, map, filter, length, sum_by}
 use Rattle.bsp_model.specs.declared.request.Put.{Put}
 use Rattle.bsp_model.specs.declared.request.Get.{Get}
 use Rattle.bsp_model.specs.declared.request.Send.{Send}
@@ -44,3 +44,8 @@ largest (n ∷ ns) = max n (largest ns)
 unfoldable pub h_relation : List OutcomeParts → ℕ
 h_relation os =
     max (largest (each_below (length os) (count_sent (transfers os)))) (largest (each_below (length os) (count_received (transfers os))))
+
+-- It is that number, which is small.
+pub record IsHRelation (os : List OutcomeParts) (h : ℕ) : Type 0 where
+  pub value : h ≡ h_relation os
+  pub small : h < 2 ^ 29

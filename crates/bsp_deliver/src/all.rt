@@ -1,9 +1,9 @@
 //! What a superstep's end brings to all processes, and its h-relation, in one pass over the puts.
 
-ghost use Rattle.std.specs.Prelude.{◌≡◌, ◌^◌, ◌<◌, IfOk, OnOk, fold, length, map};
+ghost use Rattle.std.specs.Prelude.{◌≡◌, IfOk, OnOk, fold, length, map};
 ghost use Rattle.std.specs.List.{range_with_len};
 ghost use Rattle.bsp_deliver.specs.Requests.{all_puts};
-ghost use Rattle.bsp_deliver.specs.Cost.{h_relation};
+ghost use Rattle.bsp_deliver.specs.Cost.{IsHRelation};
 ghost use Rattle.bsp_deliver.specs.Delivery.{delivery_parts, next_memory, next_queue};
 ghost use Rattle.bsp_deliver.specs.Inside.Gathering.{put_at};
 ghost use Rattle.bsp_deliver.specs.Inside.Sums.{counted, no_words, transfers_from, HasRoom};
@@ -51,8 +51,7 @@ pub fn deliver_all(
     requires processes { processes.now ≡ range_with_len 0 (length outcomes.now) }
     ensures cells { IfOk result (λ all. all.0
         ≡ map (λ d. (next_memory (delivery_parts outcomes.now d), next_queue (delivery_parts outcomes.now d))) processes.now) }
-    ensures h { IfOk result (λ all. all.1 ≡ h_relation outcomes.now) }
-    ensures small { IfOk result (λ all. all.1 < 2 ^ 29) }
+    ensures h { IfOk result (λ all. IsHRelation outcomes.now all.1) }
 {
     let (old_memories, old_queues) = room.into_parts();
     let mut memories = memories_with_gets(alloc, outcomes, processes, old_memories)?;

@@ -1,17 +1,28 @@
 //! What a superstep's end brings to several processes, in one pass over all requests.
 
-ghost use Rattle.std.specs.Prelude.{◌≡◌, ◌<◌, ℕ, All, IfOk, length, map};
+ghost use Rattle.std.specs.Prelude.{◌≡◌, ◌<◌, ℕ, All, IfOk, IfSome, length, map};
 ghost use Rattle.bsp_model.specs.Columns.{row_at};
+ghost use Rattle.bsp_deliver.specs.Cost.{IsHRelation};
 ghost use Rattle.bsp_deliver.specs.Delivery.{delivery_parts, next_memory, next_queue};
 ghost use Rattle.bsp_deliver.specs.Inside.Gathering.{ArePlaces};
 ghost use Rattle.bsp_deliver.specs.Condition.{AreDeliverable, IsAscending};
 
 use crate::Cells;
+use crate::all::deliver_all;
 use crate::sorting::{add_queue, origins_of};
 use crate::writing::memories_after;
 use bsp_model::{MessageColumn, OutOfMemory, Send};
 use bsp_step::{ListKind, Outcomes, Queue};
 use std::alloc::Global;
+
+/// What the deliveries of a superstep to several processes give.
+#[derive(Drop)]
+pub struct Delivered {
+    /// The next memory and the next queue of each, in the order of their list.
+    pub cells: Cells,
+    /// The h-relation, where it was counted with them: where they were made to all processes in one pass over the requests.
+    pub h: Option<u64>,
+}
 
 /// Where each of so many processes stands in the list. Those that aren't in it stand past its end.
 fn places_of(alloc: Global, count: usize, processes: &[usize]) -> Result<Vec<usize>, OutOfMemory>
@@ -53,7 +64,8 @@ pub(crate) fn queues_after(
     Ok(queues)
 }
 
-/// What `deliver` answers for each of these processes, in the order of the list, in one pass over all requests. The list is ascending.
+/// What `deliver` answers for each of these processes, in the order of the list, in one pass over the requests of those who issue some to them. The
+/// list is ascending.
 fn deliver_together(
     alloc: Global,
     outcomes: &Outcomes,
@@ -74,20 +86,29 @@ fn deliver_together(
 }
 
 /// What `deliver` answers for each of these processes, in the order of the list. The list is ascending. For no process it takes no memory, and else
-/// all requests are gone over once. What the processes get is gathered in the room of others, which are no longer needed.
+/// the requests are gone over once; where the list has all processes, they are counted too. What the processes get is gathered in the room of
+/// others, which are no longer needed.
 pub fn deliver_some(
     alloc: Global,
     outcomes: &Outcomes,
     processes: &[usize],
     room: Cells,
-) -> Result<Cells, OutOfMemory>
+) -> Result<Delivered, OutOfMemory>
     requires deliverable { AreDeliverable outcomes.now }
     requires known { All (λ d. d < length outcomes.now) processes.now }
     requires ascending { IsAscending processes.now }
-    ensures { IfOk result (λ all. all ≡ map (λ d. (next_memory (delivery_parts outcomes.now d), next_queue (delivery_parts outcomes.now d))) processes.now) }
+    ensures cells { IfOk result (λ r. r.cells
+        ≡ map (λ d. (next_memory (delivery_parts outcomes.now d), next_queue (delivery_parts outcomes.now d))) processes.now) }
+    ensures h { IfOk result (λ r. IfSome r.h (IsHRelation outcomes.now)) }
 {
     if processes.is_empty() {
-        return room.into_room(0);
+        let cells = room.into_room(0)?;
+        return Ok(Delivered { cells, h: None });
     }
-    deliver_together(alloc, outcomes, processes, room)
+    if processes.len() == outcomes.len() {
+        let (cells, h) = deliver_all(alloc, outcomes, processes, room)?;
+        return Ok(Delivered { cells, h: Some(h) });
+    }
+    let cells = deliver_together(alloc, outcomes, processes, room)?;
+    Ok(Delivered { cells, h: None })
 }

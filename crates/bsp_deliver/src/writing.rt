@@ -116,24 +116,8 @@ pub(crate) fn write_puts(
     Ok(())
 }
 
-/// Writes all puts, by sender, then by issue, each to the memory at its target's place.
-fn write_all_puts(
-    memories: &mut Memories,
-    places: &[usize],
-    outcomes: &Outcomes,
-) -> Result<(), OutOfMemory>
-    requires inside { All (AreRequestsInside (sizes_of outcomes.now)) outcomes.now }
-    requires count { length places.now ≡ length outcomes.now }
-    ensures { OnOk result (memories.new ≡ fold (λ ms s. put_at places.now ms s.1) memories.old (all_puts outcomes.now)) }
-{
-    for sender in 0..outcomes.len() {
-        let own = outcomes.puts(sender);
-        write_puts(memories, places, &own)?;
-    }
-    Ok(())
-}
-
-/// The same, where all places are those of these processes: who puts nothing to them is not gone over.
+/// Writes all puts, by sender, then by issue, each to the memory at its target's place. All places are those of these processes: who puts nothing to
+/// them is not gone over.
 fn write_puts_to(
     memories: &mut Memories,
     places: &[usize],
@@ -181,10 +165,6 @@ pub(crate) fn memories_after(
     ensures { IfOk result (λ memories. memories ≡ fold (λ ms s. put_at places.now ms s.1) (map (λ d. overlay (delivery_parts outcomes.now d).memory (map get_write (delivery_parts outcomes.now d).gets)) processes.now) (all_puts outcomes.now)) }
 {
     let mut memories = memories_with_gets(alloc, outcomes, processes, room)?;
-    if processes.len() == outcomes.len() {
-        write_all_puts(&mut memories, places, outcomes)?;
-        return Ok(memories);
-    }
     let targets = set_of(alloc, outcomes.len(), processes)?;
     write_puts_to(&mut memories, places, &targets, outcomes)?;
     Ok(memories)

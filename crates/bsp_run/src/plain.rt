@@ -1,9 +1,10 @@
 //! A run on one thread.
 
-ghost use Rattle.std.specs.Prelude.{◌≡◌, ◌<◌, All, None, IfOk, IfErr, OnOk, length, map};
+ghost use Rattle.std.specs.Prelude.{◌≡◌, ◌<◌, All, None, IfOk, IfErr, IfSome, OnOk, length, map};
 ghost use Rattle.bsp_model.specs.Input.{input_fault};
 ghost use Rattle.bsp_step.specs.Turn.{turn_of};
 ghost use Rattle.bsp_deliver.specs.Condition.{AreDeliverable, IsAscending};
+ghost use Rattle.bsp_deliver.specs.Cost.{IsHRelation};
 ghost use Rattle.bsp_run.specs.Shares.{turns_of, deliveries_to};
 ghost use Rattle.bsp_run.specs.Run.{run};
 ghost use Rattle.bsp_run.specs.Result.{result_of};
@@ -15,7 +16,7 @@ use crate::supersteps::run_by;
 use crate::unrecorded::{ended, ended_at_limit, go_on, open_unrecorded};
 use crate::wide::turns_by_one;
 use crate::{History, RunError, RunResult, TurnRows, Views};
-use bsp_deliver::{Cells, deliver_some};
+use bsp_deliver::{Cells, Delivered, deliver_some};
 use bsp_model::{Input, OutOfMemory};
 use bsp_pool::Open;
 use bsp_step::{Outcome, Outcomes, Program, turn_reusing};
@@ -51,11 +52,12 @@ pub fn run_plain<P: Program>(alloc: Global, program: &P, input: &Input) -> Resul
             .outcomes
             .share()
         },
-        &|outcomes: &Outcomes, processes: &[usize]| -> Result<Cells, OutOfMemory>
+        &|outcomes: &Outcomes, processes: &[usize]| -> Result<Delivered, OutOfMemory>
             requires deliverable { AreDeliverable outcomes.now }
             requires processes { All (λ d. d < length outcomes.now) processes.now }
             requires ascending { IsAscending processes.now }
-            ensures { IfOk result (λ all. all ≡ deliveries_to outcomes.now processes.now) }
+            ensures cells { IfOk result (λ made. made.cells ≡ deliveries_to outcomes.now processes.now) }
+            ensures h { IfOk result (λ made. IfSome made.h (IsHRelation outcomes.now)) }
         { deliver_some(alloc, outcomes, processes, Cells::new(alloc)) },
     )
 }

@@ -1,10 +1,11 @@
 //! A run, superstep by superstep, whoever takes its turns and makes its deliveries.
 
-ghost use Rattle.std.specs.Prelude.{◌≡◌, ◌<◌, All, None, IfOk, IfErr, OnOk, length, true};
+ghost use Rattle.std.specs.Prelude.{◌≡◌, ◌<◌, All, None, IfOk, IfErr, IfSome, OnOk, length, true};
 ghost use Rattle.std.specs.List.{range_with_len};
 ghost use Rattle.bsp_model.specs.Input.{input_fault};
 ghost use Rattle.bsp_step.specs.Turn.{turn_of};
 ghost use Rattle.bsp_deliver.specs.Condition.{AreDeliverable, IsAscending};
+ghost use Rattle.bsp_deliver.specs.Cost.{IsHRelation};
 ghost use Rattle.bsp_run.specs.Run.{advance, run};
 ghost use Rattle.bsp_run.specs.Condition.{is_open};
 ghost use Rattle.bsp_run.specs.Shares.{turns_of, deliveries_to};
@@ -12,7 +13,7 @@ ghost use Rattle.bsp_run.specs.Law.{IsBspRun};
 ghost use Rattle.bsp_run.specs.RunErrors.{input_fault_of};
 
 use crate::{History, RunError, Tape, Views};
-use bsp_deliver::Cells;
+use bsp_deliver::Delivered;
 use bsp_model::{Input, OutOfMemory};
 use bsp_step::{Outcomes, Program};
 use std::alloc::Global;
@@ -33,15 +34,17 @@ pub fn numbers(alloc: Global, count: usize) -> Result<Vec<usize>, OutOfMemory>
 fn advance<
     P: Program,
     T: Fn(&P, &Views, &[usize], &Outcomes) -> Result<Outcomes, OutOfMemory>,
-    D: Fn(&Outcomes, &[usize]) -> Result<Cells, OutOfMemory>,
+    D: Fn(&Outcomes, &[usize]) -> Result<Delivered, OutOfMemory>,
 >(alloc: Global, program: &P, turns: &T, deliveries: &D, tape: &mut Tape) -> Result<(), OutOfMemory>
     requires open { is_open tape.old.phase ≡ true }
     requires turn { (p : _) (views : _) (ps : _) (like : _) → All (λ k. k < length views.now) ps.now → T.pre turns.now p views ps like }
     requires turns { (p : _) (views : _) (ps : _) (like : _) (r : _) → T.post turns.now p views ps like r
         → IfOk r (λ all. all ≡ turns_of (turn_of (P.acts p.now) (P.ending p.now)) views.now ps.now) }
     requires deliver { (os : _) (ds : _) → AreDeliverable os.now → All (λ d. d < length os.now) ds.now → IsAscending ds.now → D.pre deliveries.now os ds }
-    requires deliveries { (os : _) (ds : _) (r : _) → D.post deliveries.now os ds r
-        → IfOk r (λ all. all ≡ deliveries_to os.now ds.now) }
+    requires cells { (os : _) (ds : _) (r : _) → D.post deliveries.now os ds r
+        → IfOk r (λ made. made.cells ≡ deliveries_to os.now ds.now) }
+    requires h { (os : _) (ds : _) (r : _) → D.post deliveries.now os ds r
+        → IfOk r (λ made. IfSome made.h (IsHRelation os.now)) }
     ensures { OnOk result (tape.new ≡ advance (turn_of (P.acts program.now) (P.ending program.now)) tape.old) }
 {
     let views = tape.open_views();
@@ -49,8 +52,8 @@ fn advance<
     let outcomes = turns(program, views, processes.as_slice(), tape.outcomes_before())?;
     let delivers = tape.turned(outcomes)?;
     if delivers {
-        let cells = deliveries(tape.outcomes(), processes.as_slice())?;
-        let _ = tape.delivered(cells)?;
+        let made = deliveries(tape.outcomes(), processes.as_slice())?;
+        let _ = tape.delivered(made)?;
     }
     Ok(())
 }
@@ -60,14 +63,16 @@ fn advance<
 pub(crate) fn run_by<
     P: Program,
     T: Fn(&P, &Views, &[usize], &Outcomes) -> Result<Outcomes, OutOfMemory>,
-    D: Fn(&Outcomes, &[usize]) -> Result<Cells, OutOfMemory>,
+    D: Fn(&Outcomes, &[usize]) -> Result<Delivered, OutOfMemory>,
 >(alloc: Global, program: &P, input: &Input, turns: &T, deliveries: &D) -> Result<History, RunError>
     requires turn { (p : _) (views : _) (ps : _) (like : _) → All (λ k. k < length views.now) ps.now → T.pre turns.now p views ps like }
     requires turns { (p : _) (views : _) (ps : _) (like : _) (r : _) → T.post turns.now p views ps like r
         → IfOk r (λ all. all ≡ turns_of (turn_of (P.acts p.now) (P.ending p.now)) views.now ps.now) }
     requires deliver { (os : _) (ds : _) → AreDeliverable os.now → All (λ d. d < length os.now) ds.now → IsAscending ds.now → D.pre deliveries.now os ds }
-    requires deliveries { (os : _) (ds : _) (r : _) → D.post deliveries.now os ds r
-        → IfOk r (λ all. all ≡ deliveries_to os.now ds.now) }
+    requires cells { (os : _) (ds : _) (r : _) → D.post deliveries.now os ds r
+        → IfOk r (λ made. made.cells ≡ deliveries_to os.now ds.now) }
+    requires h { (os : _) (ds : _) (r : _) → D.post deliveries.now os ds r
+        → IfOk r (λ made. IfSome made.h (IsHRelation os.now)) }
     ensures lawful { OnOk result (input_fault input.now ≡ None) }
     ensures run { IfOk result (λ history. history ≡ run (turn_of (P.acts program.now) (P.ending program.now)) input.now) }
     ensures law { IfOk result (λ history. IsBspRun (turn_of (P.acts program.now) (P.ending program.now)) input.now history) }

@@ -1,9 +1,10 @@
 //! A run while it is recorded.
 
-ghost use Rattle.std.specs.Prelude.{◌≡◌, ◌<◌, ◌+◌, ◌-◌, ◌++◌, ◌∷◌, [], IfOk, IfErr, OnOk, OnErr, None, Some, length, map, slice_index_or, true, All};
+ghost use Rattle.std.specs.Prelude.{◌≡◌, ◌<◌, ◌+◌, ◌-◌, ◌++◌, ◌∷◌, [], IfOk, IfErr, IfSome, OnOk, OnErr, None, Some, length, map, slice_index_or, true, All};
 ghost use Rattle.bsp_model.specs.Input.{input_fault};
 ghost use Rattle.bsp_step.specs.ViewParts.{IsView};
 ghost use Rattle.bsp_deliver.specs.Condition.{AreDeliverable};
+ghost use Rattle.bsp_deliver.specs.Cost.{IsHRelation};
 ghost use Rattle.bsp_run.specs.Run.{start, after_turns, after_delivery, open_views};
 ghost use Rattle.bsp_run.specs.Supersteps.{superstep_at, superstep_shown};
 ghost use Rattle.bsp_model.specs.Replaced.{replaced, IsAscending};
@@ -13,13 +14,13 @@ ghost use Rattle.bsp_run.specs.Condition.{AreOutcomesOf, deliveries_of, is_turne
 ghost use Rattle.bsp_run.specs.RunErrors.{input_fault_of};
 ghost use Rattle.bsp_run.specs.Result.{cost_of_delivery, IsSmall};
 
-use crate::costs::cost_of_delivery;
+use crate::costs::{cost_of_delivery, cost_with_h};
 use crate::ending::end_of;
 use crate::keeping::{keep_superstep, phase_after, phase_at};
 use crate::next::table_seen;
 use crate::opening::{first_cells, first_cells_of, shared_args};
 use crate::{Arguments, Phase, RunError, Setting, Status, Superstep, Views, ViewsRef};
-use bsp_deliver::Cells;
+use bsp_deliver::Delivered;
 use bsp_model::{CostRow, Input, OutOfMemory, Shared, SharedSeq, TryCopy};
 use bsp_step::{Outcomes, View};
 use bsp_table::Table;
@@ -202,29 +203,34 @@ impl Tape {
         Ok(goes_on)
     }
 
-    /// Takes the next memory and queue of each process. True where the next superstep opens; else the limit has ended the run.
-    /// After `OutOfMemory` nothing has changed.
-    pub fn delivered(&mut self, cells: Cells) -> Result<bool, OutOfMemory>
+    /// Takes the next memory and queue of each process, and the h-relation where it is known. True where the next superstep opens; else the limit has
+    /// ended the run. After `OutOfMemory` nothing has changed.
+    pub fn delivered(&mut self, made: Delivered) -> Result<bool, OutOfMemory>
         requires turned { self.old.phase ≡ Phase.Turned }
-        requires cells { cells ≡ deliveries_of self.old.outcomes }
+        requires cells { made.cells ≡ deliveries_of self.old.outcomes }
+        requires h { IfSome made.h (IsHRelation self.old.outcomes) }
         ensures ok { OnOk result (self.new ≡ after_delivery self.old) }
         ensures answer { IfOk result (λ goes_on. goes_on ≡ is_open self.new.phase) }
         ensures err { OnErr result (self.new ≡ self.old) }
     {
         let alloc = *self.past.allocator();
         let setting = self.next_setting()?;
-        let views = Views::open(alloc, setting, cells)?;
-        let row = self.cost();
+        let views = Views::open(alloc, setting, made.cells)?;
+        let row = self.cost(made.h);
         Ok(self.delivered_as(views, row)?)
     }
 
-    /// The cost of the superstep whose turns are taken.
-    pub fn cost(&self) -> CostRow
+    /// The cost of the superstep whose turns are taken, whose h-relation may be known.
+    pub fn cost(&self, h: Option<u64>) -> CostRow
         requires turned { self.now.phase ≡ Phase.Turned }
+        requires h { IfSome h (IsHRelation self.now.outcomes) }
         ensures value { result ≡ cost_of_delivery self.now.g self.now.l self.now.outcomes }
         ensures small { IsSmall result }
     {
-        cost_of_delivery(self.g, self.l, &self.outcomes)
+        match h {
+            Some(h) => cost_with_h(self.g, self.l, &self.outcomes, h),
+            None => cost_of_delivery(self.g, self.l, &self.outcomes),
+        }
     }
 
     /// Takes the views of the next superstep, and the cost of this one. True where the next one opens; else the limit has ended the run. After

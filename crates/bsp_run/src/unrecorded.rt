@@ -5,7 +5,7 @@ ghost use Rattle.std.specs.List.{range_with_len};
 ghost use Rattle.bsp_model.specs.Input.{input_fault};
 ghost use Rattle.bsp_deliver.specs.Requests.{each_below};
 ghost use Rattle.bsp_deliver.specs.Condition.{AreDeliverable};
-ghost use Rattle.bsp_deliver.specs.Cost.{h_relation};
+ghost use Rattle.bsp_deliver.specs.Cost.{IsHRelation};
 ghost use Rattle.bsp_run.specs.Run.{start};
 ghost use Rattle.bsp_run.specs.State.{views_of};
 ghost use Rattle.bsp_run.specs.Inside.Opening.{CanOpen};
@@ -79,8 +79,7 @@ fn all_deliveries(
     requires deliverable { AreDeliverable outcomes.now }
     requires processes { processes.now ≡ range_with_len 0 (length outcomes.now) }
     ensures cells { IfOk result (λ all. all.0 ≡ deliveries_of outcomes.now) }
-    ensures h { IfOk result (λ all. all.1 ≡ h_relation outcomes.now) }
-    ensures small { IfOk result (λ all. all.1 < 2 ^ 29) }
+    ensures h { IfOk result (λ all. IsHRelation outcomes.now all.1) }
 {
     deliver_all(alloc, outcomes, processes, room)
 }

@@ -1,9 +1,10 @@
 //! A run by a pool of workers, and its parts.
 
-ghost use Rattle.std.specs.Prelude.{◌≡◌, ◌<◌, ◌≤◌, [], All, None, IfOk, IfErr, OnOk, length};
+ghost use Rattle.std.specs.Prelude.{◌≡◌, ◌<◌, ◌≤◌, [], All, None, IfOk, IfErr, IfSome, OnOk, length};
 ghost use Rattle.bsp_model.specs.Input.{input_fault};
 ghost use Rattle.bsp_step.specs.Turn.{turn_of};
 ghost use Rattle.bsp_deliver.specs.Condition.{AreDeliverable, IsAscending};
+ghost use Rattle.bsp_deliver.specs.Cost.{IsHRelation};
 ghost use Rattle.bsp_run.specs.Shares.{turns_of, deliveries_to};
 ghost use Rattle.bsp_run.specs.Run.{run};
 ghost use Rattle.bsp_run.specs.Law.{IsBspRun};
@@ -14,7 +15,7 @@ use crate::supersteps::run_by;
 use crate::turn_rows::spare_of;
 use crate::works::{Deliveries, Turns};
 use crate::{History, RunError, TurnRows, Views};
-use bsp_deliver::{Cells, deliver_some, sort_requests};
+use bsp_deliver::{Cells, Delivered, deliver_some, sort_requests};
 use bsp_model::{Input, OutOfMemory};
 use bsp_pool::{Gate, gather};
 use bsp_step::{OutcomeRef, Outcomes, Program, turn_reusing};
@@ -132,8 +133,8 @@ fn is_light(outcomes: &Outcomes) -> bool {
 /// `outcomes`, which are those of all processes, in ascending order. Whoever drew the place k of the list, counted from 0, passes the
 /// gate with k before that delivery.
 ///
-/// The requests are gone over once: one worker passes the gate with every place, and then makes the deliveries together; several sort the
-/// requests first. Where the gate tells the time and the requests are few, the calling thread is the one worker.
+/// The requests are gone over once: one worker passes the gate with every place, and then makes the deliveries together, where they are to all processes
+/// with the h-relation; several sort the requests first. Where the gate tells the time and the requests are few, the calling thread is the one worker.
 ///
 /// # Errors
 /// `OutOfMemory` where the calling thread is refused memory for the list, to sort the requests, or for a delivery that no worker handed
@@ -145,12 +146,13 @@ pub fn wide_deliveries<G: Gate, R: Threads + Sync>(
     processes: &[usize],
     workers: usize,
     gate: &G,
-) -> Result<Cells, OutOfMemory>
+) -> Result<Delivered, OutOfMemory>
     requires deliverable { AreDeliverable outcomes.now }
     requires processes { All (λ d. d < length outcomes.now) processes.now }
     requires ascending { IsAscending processes.now }
     requires workers { (0 < workers) × (workers ≤ 16) }
-    ensures { IfOk result (λ all. all ≡ deliveries_to outcomes.now processes.now) }
+    ensures cells { IfOk result (λ made. made.cells ≡ deliveries_to outcomes.now processes.now) }
+    ensures h { IfOk result (λ made. IfSome made.h (IsHRelation outcomes.now)) }
 {
     if workers.min(processes.len()) < 2 || gate.now().is_some() && is_light(outcomes) {
         pass_all(gate, processes.len());
@@ -162,7 +164,8 @@ pub fn wide_deliveries<G: Gate, R: Threads + Sync>(
         sorted: &sorted,
     };
     let shares = gather(rt, alloc, &deliveries, processes, workers, gate);
-    cells_in_order(alloc, &deliveries, processes, shares.as_slice())
+    let cells = cells_in_order(alloc, &deliveries, processes, shares.as_slice())?;
+    Ok(Delivered { cells, h: None })
 }
 
 /// What `run_plain` answers, by 1 to 16 workers. They share the turns of each superstep, and then its deliveries: whoever drew a process
@@ -198,12 +201,13 @@ pub fn run_wide<P: Program, G: Gate, R: Threads + Sync>(
                 .outcomes
                 .share()
         },
-        &|outcomes: &Outcomes, processes: &[usize]| -> Result<Cells, OutOfMemory>
+        &|outcomes: &Outcomes, processes: &[usize]| -> Result<Delivered, OutOfMemory>
             requires deliverable { AreDeliverable outcomes.now }
             requires processes { All (λ d. d < length outcomes.now) processes.now }
             requires ascending { IsAscending processes.now }
             requires workers { (0 < workers) × (workers ≤ 16) }
-            ensures { IfOk result (λ all. all ≡ deliveries_to outcomes.now processes.now) }
+            ensures cells { IfOk result (λ made. made.cells ≡ deliveries_to outcomes.now processes.now) }
+            ensures h { IfOk result (λ made. IfSome made.h (IsHRelation outcomes.now)) }
         { wide_deliveries(rt, alloc, outcomes, processes, workers, gate) },
     )
 }

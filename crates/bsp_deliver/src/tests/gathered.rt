@@ -22,8 +22,8 @@ fn are_gathered(alloc: Global, outcomes: &Outcomes) -> Result<bool, OutOfMemory>
     requires deliverable { AreDeliverable outcomes.now }
     requires two { length outcomes.now ≡ 2 }
 {
-    let room = deliver_some(alloc, outcomes, &[1], Cells::new(alloc))?;
-    let cells = deliver_some(alloc, outcomes, &[0, 1], room)?;
+    let room = deliver_some(alloc, outcomes, &[1], Cells::new(alloc))?.cells;
+    let cells = deliver_some(alloc, outcomes, &[0, 1], room)?.cells;
     let are_left = leave(&cells, &[77, 21], &[88, 89]);
     drop(cells);
     Ok(are_left)

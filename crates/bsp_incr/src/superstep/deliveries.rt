@@ -11,7 +11,7 @@ ghost use Rattle.bsp_incr.specs.Inside.Marks.{AreComparable, OutcomesDifferAtMos
 
 use crate::compare::delivered_outcomes;
 use crate::rerun::Given;
-use bsp_deliver::{Cells, touched_by_changes};
+use bsp_deliver::{Delivered, touched_by_changes};
 use bsp_model::{OutOfMemory, ProcessSet};
 use bsp_run::{Phase, Tape};
 use bsp_step::{Outcomes, Program};
@@ -23,7 +23,7 @@ pub struct Deliveries {
     /// To whom, in order.
     pub processes: Vec<usize>,
     /// What each of them got.
-    pub cells: Cells,
+    pub made: Delivered,
 }
 
 /// To whom deliveries have to be made, where the run before made them too.

@@ -1,7 +1,8 @@
 //! How a superstep of a run that is made again ends: its deliveries, and the opening of the next.
 
-ghost use Rattle.std.specs.Prelude.{◌≡◌, ◌≤◌, ◌<◌, ◌++◌, IfOk, OnOk, length, option_map};
+ghost use Rattle.std.specs.Prelude.{◌≡◌, ◌≤◌, ◌<◌, ◌++◌, IfOk, IfSome, OnOk, length, option_map};
 ghost use Rattle.bsp_model.specs.ProcessSet.{union};
+ghost use Rattle.bsp_deliver.specs.Cost.{IsHRelation};
 ghost use Rattle.bsp_deliver.specs.Requests.{each_below};
 ghost use Rattle.bsp_run.specs.Run.{after_delivery, open_views};
 ghost use Rattle.bsp_run.specs.Setting.{next_setting};
@@ -17,33 +18,39 @@ use crate::compare::{
 };
 use crate::rerun::{Given, UnderWay};
 use crate::superstep::deliveries::{Deliveries, touched_beside};
+use bsp_deliver::Delivered;
 use bsp_model::{CostRow, OutOfMemory, ProcessSet};
 use bsp_pool::Gate;
 use bsp_run::{Phase, Setting, Tape, Views, wide_deliveries};
 use bsp_step::Program;
 use std::thread::Threads;
 
-/// The cost of the superstep whose turns are taken: that of the run before, at the prices in force, where no turn that may be another one charged other
-/// work or moved other numbers of words.
+/// The cost of the superstep whose turns are taken, whose h-relation may be known: where it is not, that of the run before, at the prices in force, if
+/// no turn that may be another one charged other work or moved other numbers of words.
 fn cost<P: Program, G: Gate, R: Threads + Sync>(
     given: &Given<'_, P, R, G>,
     tape: &Tape,
     doubtful: &ProcessSet,
+    h: Option<u64>,
 ) -> CostRow
+    requires h { IfSome h (IsHRelation tape.now.outcomes) }
     requires turned { tape.now.phase ≡ Phase.Turned }
     requires many { length tape.now.outcomes ≡ length given.now.input.mems }
     requires doubtful { OutcomesDifferAtMost (delivered_beside given.now tape.now) tape.now.outcomes doubtful.now }
     ensures value { result ≡ cost_of_delivery tape.now.g tape.now.l tape.now.outcomes }
     ensures small { IsSmall result }
 {
+    if h.is_some() {
+        return tape.cost(h);
+    }
     let Some(history) = given.old else {
-        return tape.cost();
+        return tape.cost(None);
     };
     let Some(old) = delivered_outcomes(given.old, tape.step()) else {
-        return tape.cost();
+        return tape.cost(None);
     };
     if !all_cost_alike(old, tape.outcomes(), doubtful) {
-        return tape.cost();
+        return tape.cost(None);
     }
     tape.cost_like(history)
 }
@@ -82,27 +89,29 @@ fn open_next<P: Program, G: Gate, R: Threads + Sync>(
     given: &Given<'_, P, R, G>,
     tape: &mut Tape,
     doubtful: &ProcessSet,
-    made: Deliveries,
+    deliveries: Deliveries,
     known: KnownTable,
 ) -> Result<KnownTable, OutOfMemory>
     requires turned { tape.old.phase ≡ Phase.Turned }
     requires many { length tape.old.outcomes ≡ length given.now.input.mems }
-    requires processes { made.processes.items ≡ processes_where (length tape.old.outcomes)
+    requires processes { deliveries.processes.items ≡ processes_where (length tape.old.outcomes)
         (is_touched (delivered_beside given.now tape.old) tape.old.outcomes) }
-    requires cells { made.cells ≡ deliveries_to tape.old.outcomes made.processes.items }
+    requires cells { deliveries.made.cells ≡ deliveries_to tape.old.outcomes deliveries.processes.items }
+    requires h { IfSome deliveries.made.h (IsHRelation tape.old.outcomes) }
     requires doubtful { OutcomesDifferAtMost (delivered_beside given.now tape.old) tape.old.outcomes doubtful.now }
     requires known { KnowsNextTable given.now.before tape.old known }
     ensures tape { OnOk result (tape.new ≡ after_delivery tape.old) }
     ensures known { IfOk result (KnowsNextTable given.now.before tape.old) }
 {
-    let Deliveries { processes, cells } = made;
+    let Deliveries { processes, made } = deliveries;
     let Some(old_next) = views_after(given.old, tape.step()) else {
-        let _ = tape.delivered(cells)?;
+        let _ = tape.delivered(made)?;
         return Ok(KnownTable::Unknown);
     };
+    let Delivered { cells, h } = made;
     let (setting, known) = next_setting(tape, old_next, known)?;
     let views = tape.next_views_like(old_next, setting, processes, cells)?;
-    let row = cost(given, tape, doubtful);
+    let row = cost(given, tape, doubtful, h);
     let _ = tape.delivered_as(views, row)?;
     Ok(known)
 }
@@ -136,7 +145,7 @@ pub fn make_deliveries<P: Program, G: Gate, R: Threads + Sync>(
         processes.as_slice(),
     )?;
     under_way.taking.counts.deliver(processes.len());
-    let cells = wide_deliveries(
+    let made = wide_deliveries(
         given.workers.rt,
         given.alloc,
         tape.outcomes(),
@@ -144,8 +153,8 @@ pub fn make_deliveries<P: Program, G: Gate, R: Threads + Sync>(
         given.workers.count,
         given.workers.gate,
     )?;
-    let made = Deliveries { processes, cells };
-    under_way.table = open_next(given, tape, doubtful, made, known)?;
+    let deliveries = Deliveries { processes, made };
+    under_way.table = open_next(given, tape, doubtful, deliveries, known)?;
     touched.insert_all(given.other_args);
     under_way.marks = touched;
     Ok(())

@@ -19,7 +19,7 @@ delivered-requires-clause-cells g c =
     let next = delivered_before_is (turn_by g.P.Program c.args.given.now.program) c.args.given.now.input old (length r.past) known.before in
     let none = ap (λ (m : Making _). views_after m.before c.step.result) (sym c.given.view_is) ∙ c.in_default.ensures.none in
     let seen : length (views_after old (length r.past)) ≡ 0 = ap (λ n. length (views_after old n)) (sym c.step.ensures) ∙ ap (λ (vs : List ViewParts). length vs) none in
-    cells_of_none (delivered_outcomes old (length r.past)) r.outcomes c.args.made.processes.items c.args.made.cells (sym next.count ∙ seen) c.requires.processes c.requires.cells
+    cells_of_none (delivered_outcomes old (length r.past)) r.outcomes c.args.deliveries.processes.items c.args.deliveries.made.cells (sym next.count ∙ seen) c.requires.processes c.requires.cells
 
 -- the views after the delivery, by another name
 next_are : (old : Option Run) (s n : ℕ) (views : List ViewParts) → n ≡ s → views ≡ views_after old n → AreDelivered (delivered_outcomes old s) (views_after old s) → AreDelivered (delivered_outcomes old s) views
@@ -36,7 +36,7 @@ next_views_like-requires-clause-known g c =
     let next = next_are old (length r.past) c.step.result views c.step.ensures seen (delivered_before_is (turn_by g.P.Program c.args.given.now.program) c.args.given.now.input old (length r.past) known.before) in
     let some : 0 < length views = c.in-Some.ensures.some in
     let long : length views ≡ length r.outcomes = next.count ∙ count_beside (turn_by g.P.Program c.args.given.now.program) c.args.given.now.input old (length r.past) r.outcomes known.before c.requires.many (omega (arith, some, next.count)) in
-    subst (λ n. All (λ p. p < n) c.args.made.processes.items) (sym long) (listed_below (length r.outcomes) (is_touched os r.outcomes) c.args.made.processes.items c.requires.processes)
+    subst (λ n. All (λ p. p < n) c.args.deliveries.processes.items) (sym long) (listed_below (length r.outcomes) (is_touched os r.outcomes) c.args.deliveries.processes.items c.requires.processes)
 
 pub next_views_like-requires-clause-ascending : goal.next_views_like-requires-clause-ascending
 next_views_like-requires-clause-ascending g c =
@@ -54,4 +54,4 @@ next_views_like-requires-clause-cells g c =
     let next = next_are old (length r.past) c.step.result views c.step.ensures seen (delivered_before_is (turn_by g.P.Program c.args.given.now.program) c.args.given.now.input old (length r.past) known.before) in
     let some : 0 < length views = c.in-Some.ensures.some in
     let long = count_beside (turn_by g.P.Program c.args.given.now.program) c.args.given.now.input old (length r.past) r.outcomes known.before c.requires.many (omega (arith, some, next.count)) in
-    cells_in_place (delivered_outcomes old (length r.past)) r.outcomes views c.args.made.processes.items c.args.made.cells next long c.requires.processes c.requires.cells
+    cells_in_place (delivered_outcomes old (length r.past)) r.outcomes views c.args.deliveries.processes.items c.args.deliveries.made.cells next long c.requires.processes c.requires.cells

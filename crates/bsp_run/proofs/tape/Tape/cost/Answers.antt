@@ -12,7 +12,12 @@ cost_of_delivery-requires-clause-deliverable c =
     let turned = is_turned_run r c.self.invariant.run (ap (λ (x : Run). x.phase) c.self.view_is ∙ c.requires.turned) in
     AreDeliverable-from_turns r.args (length r.past) r.state r.outcomes c.self.invariant.run.state turned.turns
 
-pub returns-clause-value : goal.returns-clause-value
-returns-clause-value c =
+pub returns-in-Some-clause-value : goal.returns-in-Some-clause-value
+returns-in-Some-clause-value c =
+    let r : Run = run_of c.self.inside in
+    c.cost_with_h.ensures.value ∙ ap (λ (x : Run). cost_of_delivery x.g x.l x.outcomes) c.self.view_is
+
+pub returns-in-None-clause-value : goal.returns-in-None-clause-value
+returns-in-None-clause-value c =
     let r : Run = run_of c.self.inside in
     c.cost_of_delivery.ensures.value ∙ ap (λ (x : Run). cost_of_delivery x.g x.l x.outcomes) c.self.view_is
