@@ -5,7 +5,8 @@ ghost use Rattle.bsp_model.specs.Replaced.{replaced, IsAscending};
 ghost use Rattle.bsp_deliver.specs.Inside.Cells.{cells_of};
 
 use bsp_model::{
-    Memories, Memory, MemoryRef, MessageColumn, MessagesRef, OutOfMemory, Share, end_of_run,
+    ByProcess, Memories, Memory, MemoryRef, MessageColumn, MessagesRef, OutOfMemory, Share,
+    replaced_in,
 };
 use bsp_step::Queue;
 use std::alloc::Global;
@@ -150,23 +151,7 @@ impl Cells {
         Ok(())
     }
 
-    /// These processes, and behind them those of another list from `from` on, and before `to`, or `OutOfMemory`. Full pages are shared.
-    pub fn with_range(self, more: &Cells, from: usize, to: usize) -> Result<Cells, OutOfMemory>
-        requires order { from ≤ to }
-        requires inside { to ≤ length more.now }
-        ensures { IfOk result (λ cells. cells ≡ self ++ slice_range more.now from to) }
-    {
-        let Cells {
-            memories,
-            mut queues,
-        } = self;
-        queues.take_range(memories.len(), &more.queues, from, to)?;
-        let memories = memories.with_range(&more.memories, from, to)?;
-        Ok(Cells { memories, queues })
-    }
-
-    /// These memories and queues, but for new ones of some processes, which are in ascending order. Those of consecutive processes are copied in
-    /// one piece, and so is what lies between.
+    /// These memories and queues, but for new ones of some processes, which are in ascending order.
     pub fn replaced(
         &self,
         alloc: Global,
@@ -178,16 +163,30 @@ impl Cells {
         requires count { length cells.now ≡ length processes.now }
         ensures { IfOk result (λ c. c ≡ replaced self.now processes.now cells.now) }
     {
-        let mut new = Cells::with_room_of(alloc, self)?;
-        let mut place = 0;
-        while place < processes.len() {
-            let end = end_of_run(processes, place);
-            let done = new.len();
-            new = new.with_range(self, done, processes[place])?;
-            new = new.with_range(cells, place, end)?;
-            place = end;
-        }
-        let done = new.len();
-        new.with_range(self, done, self.len())
+        let room = Cells::with_room_of(alloc, self)?;
+        Ok(replaced_in(room, self, processes, cells)?)
+    }
+}
+
+impl ByProcess for Cells {
+    ghost use Rattle.std.specs.Prelude.{List, ℕ};
+    ghost use Rattle.bsp_model.specs.declared.request.Message.{Message};
+
+    ghost Item = { (List ℕ) × (List Message) };
+
+    ghost items = { λ c. c };
+
+    fn count(&self) -> usize {
+        self.len()
+    }
+
+    fn with_range(self, more: &Cells, from: usize, to: usize) -> Result<Cells, OutOfMemory> {
+        let Cells {
+            memories,
+            mut queues,
+        } = self;
+        queues.take_range(memories.len(), &more.queues, from, to)?;
+        let memories = memories.with_range(&more.memories, from, to)?;
+        Ok(Cells { memories, queues })
     }
 }

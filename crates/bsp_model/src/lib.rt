@@ -1,6 +1,7 @@
 //! The words, memories, input and requests of a BSP computation.
 #![tactic(auto)]
 
+mod by_process;
 mod columns;
 mod copying;
 mod cost;
@@ -29,6 +30,7 @@ mod stores;
 mod stores_ref;
 mod words;
 
+pub use by_process::{ByProcess, replaced_in};
 pub use columns::{
     Column, LineColumn, MessageColumn, PutColumn, SendColumn, SharedColumn, StoreColumn,
 };
@@ -40,7 +42,7 @@ pub use memories::Memories;
 pub use memory::Memory;
 pub use memory_ref::MemoryRef;
 pub use messages::{MessageView, Messages, MessagesRef};
-pub use places::{are_among, are_few, end_of_run, place_among};
+pub use places::{are_among, are_few, place_among};
 pub use process_set::{Members, ProcessSet};
 pub use puts::{PutView, Puts, PutsRef};
 pub use request::{Get, Message, Put, Send, Store};

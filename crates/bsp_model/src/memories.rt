@@ -10,8 +10,9 @@ mod tests;
 
 use crate::page::{Page, WORDS_OF_A_PAGE};
 use crate::paging::{cut_write, is_within, shared_pages, take_pages, write_row};
-use crate::places::end_of_run;
-use crate::{Memory, MemoryRef, OutOfMemory, Rows, Share, SharedColumn, TryCopy};
+use crate::{
+    ByProcess, Memory, MemoryRef, OutOfMemory, Rows, Share, SharedColumn, TryCopy, replaced_in,
+};
 use std::alloc::Global;
 use std::marker::Model;
 
@@ -106,8 +107,7 @@ impl Memories {
         memories.with_range(self, 0, self.len())
     }
 
-    /// A copy of these memories, but for new ones of some processes, which are in ascending order, in the room of others, or `OutOfMemory`. Those of
-    /// consecutive processes are copied in one piece, and so is what lies between.
+    /// A copy of these memories, but for new ones of some processes, which are in ascending order, in the room of others, or `OutOfMemory`.
     pub fn replaced_into(
         &self,
         processes: &[usize],
@@ -119,17 +119,8 @@ impl Memories {
         requires count { length new.now ≡ length processes.now }
         ensures { IfOk result (λ m. m ≡ replaced self.now processes.now new.now) }
     {
-        let mut all = room.into_room_like(self, Share::whole())?;
-        let mut place = 0;
-        while place < processes.len() {
-            let end = end_of_run(processes, place);
-            let done = all.len();
-            all = all.with_range(self, done, processes[place])?;
-            all = all.with_range(new, place, end)?;
-            place = end;
-        }
-        let done = all.len();
-        all.with_range(self, done, self.len())
+        let room = room.into_room_like(self, Share::whole())?;
+        replaced_in(room, self, processes, new)
     }
 
     /// The number of memories.
@@ -222,18 +213,20 @@ impl Memories {
         self.lasts.replace(pid, cut.place, cut.behind);
         Ok(true)
     }
+}
 
-    /// These memories, and behind them those of another list from `from` on, and before `to`, or `OutOfMemory`. Full pages are shared.
-    pub fn with_range(
-        self,
-        more: &Memories,
-        from: usize,
-        to: usize,
-    ) -> Result<Memories, OutOfMemory>
-        requires order { from ≤ to }
-        requires inside { to ≤ length more.now }
-        ensures { IfOk result (λ m. m ≡ self ++ slice_range more.now from to) }
-    {
+impl ByProcess for Memories {
+    ghost use Rattle.std.specs.Prelude.{List, ℕ};
+
+    ghost Item = { List ℕ };
+
+    ghost items = { λ m. m };
+
+    fn count(&self) -> usize {
+        self.len()
+    }
+
+    fn with_range(self, more: &Memories, from: usize, to: usize) -> Result<Memories, OutOfMemory> {
         if from == to {
             return Ok(self);
         }

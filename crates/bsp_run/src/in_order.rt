@@ -9,7 +9,7 @@ ghost use Rattle.bsp_run.specs.Inside.WorkerRows.{outcomes_of, cells_of};
 use crate::TurnRows;
 use crate::works::{Deliveries, Turns};
 use bsp_deliver::{Cells, deliver_sorted};
-use bsp_model::OutOfMemory;
+use bsp_model::{ByProcess, OutOfMemory};
 use bsp_pool::{Share, run_from};
 use bsp_step::{OutcomeRows, Program, turn};
 use std::alloc::Global;

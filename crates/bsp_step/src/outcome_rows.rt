@@ -10,7 +10,9 @@ ghost use Rattle.bsp_step.specs.ListKind.{IsWithout};
 
 use crate::lists::{Lists, TurnEnd};
 use crate::{ListKind, Outcome, OutcomeRef, Outcomes, TurnLists};
-use bsp_model::{LineColumn, Memories, Memory, OutOfMemory, ProcessSet, Share, end_of_run};
+use bsp_model::{
+    ByProcess, LineColumn, Memories, Memory, OutOfMemory, ProcessSet, Share, replaced_in,
+};
 use std::alloc::Global;
 use std::marker::Model;
 
@@ -222,17 +224,47 @@ impl OutcomeRows {
         Ok(())
     }
 
-    /// These outcomes, and behind them those that others have from `from` on, and before `to`, or `OutOfMemory`.
-    pub fn with_range(
+    /// These outcomes, but for new ones of some processes, which are in ascending order.
+    pub(crate) fn replaced(
+        &self,
+        alloc: Global,
+        processes: &[usize],
+        new: &OutcomeRows,
+    ) -> Result<OutcomeRows, OutOfMemory>
+        requires known { All (λ p. p < length self.now) processes.now }
+        requires ascending { IsAscending processes.now }
+        requires count { length new.now ≡ length processes.now }
+        ensures { IfOk result (λ o. o ≡ replaced self.now processes.now new.now) }
+    {
+        let room = OutcomeRows::with_room_of(alloc, self, Share::whole())?;
+        Ok(replaced_in(room, self, processes, new)?)
+    }
+
+    /// These outcomes, which stay as they are, or `OutOfMemory`.
+    pub fn share(self) -> Result<Outcomes, OutOfMemory>
+        ensures { IfOk result (λ o. o ≡ self) }
+    {
+        Outcomes::of(self)
+    }
+}
+
+impl ByProcess for OutcomeRows {
+    ghost use Rattle.bsp_step.specs.OutcomeParts.{OutcomeParts};
+
+    ghost Item = { OutcomeParts };
+
+    ghost items = { λ o. o };
+
+    fn count(&self) -> usize {
+        self.len()
+    }
+
+    fn with_range(
         self,
         more: &OutcomeRows,
         from: usize,
         to: usize,
-    ) -> Result<OutcomeRows, OutOfMemory>
-        requires order { from ≤ to }
-        requires inside { to ≤ length more.now }
-        ensures { IfOk result (λ o. o ≡ self ++ slice_range more.now from to) }
-    {
+    ) -> Result<OutcomeRows, OutOfMemory> {
         let OutcomeRows {
             mut ends,
             memories,
@@ -246,38 +278,5 @@ impl OutcomeRows {
             memories,
             lists,
         })
-    }
-
-    /// These outcomes, but for new ones of some processes, which are in ascending order. Those of consecutive processes are copied in one piece,
-    /// and so is what lies between.
-    pub(crate) fn replaced(
-        &self,
-        alloc: Global,
-        processes: &[usize],
-        new: &OutcomeRows,
-    ) -> Result<OutcomeRows, OutOfMemory>
-        requires known { All (λ p. p < length self.now) processes.now }
-        requires ascending { IsAscending processes.now }
-        requires count { length new.now ≡ length processes.now }
-        ensures { IfOk result (λ o. o ≡ replaced self.now processes.now new.now) }
-    {
-        let mut all = OutcomeRows::with_room_of(alloc, self, Share::whole())?;
-        let mut place = 0;
-        while place < processes.len() {
-            let end = end_of_run(processes, place);
-            let done = all.len();
-            all = all.with_range(self, done, processes[place])?;
-            all = all.with_range(new, place, end)?;
-            place = end;
-        }
-        let done = all.len();
-        all.with_range(self, done, self.len())
-    }
-
-    /// These outcomes, which stay as they are, or `OutOfMemory`.
-    pub fn share(self) -> Result<Outcomes, OutOfMemory>
-        ensures { IfOk result (λ o. o ≡ self) }
-    {
-        Outcomes::of(self)
     }
 }

@@ -1,7 +1,7 @@
 //! Memories of pages that are full, and of words behind them.
 
 use super::Memories;
-use crate::{Memory, MemoryRef, OutOfMemory, Same};
+use crate::{ByProcess, Memory, MemoryRef, OutOfMemory, Same};
 use std::alloc::Global;
 use std::process::Abort;
 use std::test::Fail;

@@ -1,7 +1,7 @@
 use Rattle.std.proofs.Common.{◌≤◌, [], length, ap, arith}
 use Rattle.bsp_model.specs.Columns.{row_at, AreTaken}
 use Rattle.bsp_model.proofs.PagedMemories.{length-memories_of, ArePaged-more, memories_of-more}
-use Rattle.bsp_model.proofs.memories.Memories.with_range.Goals as goal
+use Rattle.bsp_model.proofs.memories.MemoriesByProcess.with_range.Goals as goal
 
 pub append_range-requires-clause-inside : goal.append_range-requires-clause-inside
 append_range-requires-clause-inside c =

@@ -1,7 +1,7 @@
 use Rattle.std.proofs.Common.{◌≤◌, [], length, ap, arith}
 use Rattle.bsp_model.specs.Columns.{row_at, AreTaken}
 use Rattle.bsp_deliver.proofs.CellsOf.{length-cells_of, cells_of-more}
-use Rattle.bsp_deliver.proofs.cells.Cells.with_range.Goals as goal
+use Rattle.bsp_deliver.proofs.cells.CellsByProcess.with_range.Goals as goal
 
 pub with_range-requires-clause-inside : goal.with_range-requires-clause-inside
 with_range-requires-clause-inside c = omega (arith, c.requires.inside, length-cells_of c.more.inside.memories c.more.inside.queues, ap length c.more.view_is)

@@ -4,7 +4,7 @@ use Rattle.bsp_step.specs.declared.outcome_rows.OutcomeRows.TheInside.{Inside}
 use Rattle.bsp_step.specs.OutcomeParts.{OutcomeParts}
 use Rattle.bsp_step.specs.Inside.Outcomes.{outcomes_of, AreSameLists}
 use Rattle.bsp_step.proofs.OutcomeColumns.{length-outcomes_of, outcomes-range, lawful-range, same_below}
-use Rattle.bsp_step.proofs.outcome_rows.OutcomeRows.with_range.Goals as goal
+use Rattle.bsp_step.proofs.outcome_rows.OutcomeRowsByProcess.with_range.Goals as goal
 
 long : (r : Inside) (now : List OutcomeParts) → outcomes_of r.ends.items r.memories r.lists.value ≡ now → length now ≡ length r.ends.items
 long r now seen = ap length (sym seen) ∙ length-outcomes_of r.ends.items r.memories r.lists.value
