@@ -9,7 +9,7 @@ use Rattle.bsp_step.specs.OutcomeParts.{OutcomeParts}
 use Rattle.bsp_run.specs.Shares.{turns_of}
 use Rattle.bsp_incr.specs.Inside.Before.{outcomes_if_any}
 use Rattle.bsp_incr.specs.Inside.Changes.{differs, places_of}
-use Rattle.bsp_incr.specs.Inside.Given.{Making, turn_by}
+use Rattle.bsp_incr.specs.Inside.Given.{turn_by}
 use Rattle.bsp_incr.proofs.Gathering.{listed_below, not_empty, processes_where-ascending, processes_where-each_below}
 use Rattle.bsp_incr.proofs.Retaking.{served_stay, turns_in_place, turns_of_none}
 use Rattle.bsp_incr.proofs.superstep.turns.turns_again.Goals as goal
