@@ -102,7 +102,8 @@ impl<P: Program + Drop> Session<P> {
     /// The history, which is the run of the input.
     pub fn history(&self) -> &History
         ensures history { result.now ≡ self.now.history }
-        ensures law { IsBspRun (turn_of (P.acts self.now.program) (P.ending self.now.program)) self.now.input result.now }
+        ensures law { IsBspRun (turn_of (P.acts self.now.program) (P.ending self.now.program))
+            self.now.input result.now }
     {
         &self.history
     }
@@ -123,8 +124,10 @@ impl<P: Program + Drop> Session<P> {
         ensures refused { IfErr result (λ e. refusal_of self.old.input edits.now ≡ refusal_in e) }
         ensures program { self.new.program ≡ self.old.program }
         ensures given { OnOk result (self.new.input ≡ edited self.old.input edits.now) }
-        ensures law { OnOk result (IsBspRun (turn_of (P.acts self.old.program) (P.ending self.old.program)) self.new.input self.new.history) }
-        ensures exact { IfOk result (λ u. IsExact (P.looks self.old.program) (Some self.old.history) self.new.history u) }
+        ensures law { OnOk result (IsBspRun (turn_of (P.acts self.old.program) (P.ending self.old.program))
+            self.new.input self.new.history) }
+        ensures exact { IfOk result (λ u. IsExact (P.looks self.old.program)
+            (Some self.old.history) self.new.history u) }
         ensures reused { OnOk result (AreReused (P.looks self.old.program) (Some self.old.history) self.new.history) }
         ensures err { OnErr result (self.new ≡ self.old) }
     {

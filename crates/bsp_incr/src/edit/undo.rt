@@ -95,7 +95,8 @@ impl<P: Program + Drop> Session<P> {
         ensures refused { IfErr result (λ e. refusal_of self.now.input edits.now ≡ refusal_in e) }
         ensures batch { IfOk result (λ undo. undo ≡ undo_of self.now.input edits.now) }
         ensures back { IfOk result (λ undo. TakesBack self.now.input edits.now undo) }
-        ensures history { IfOk result (λ undo. IsBspRun (turn_of (P.acts self.now.program) (P.ending self.now.program)) (edited (edited self.now.input edits.now) undo) self.now.history) }
+        ensures history { IfOk result (λ undo. IsBspRun (turn_of (P.acts self.now.program) (P.ending self.now.program))
+            (edited (edited self.now.input edits.now) undo) self.now.history) }
     {
         let input = self.input();
         let _history = self.history();
@@ -120,12 +121,15 @@ impl<P: Program + Drop> Session<P> {
         ensures refused { IfErr result (λ e. refusal_of self.old.input edits.now ≡ refusal_in e) }
         ensures program { self.new.program ≡ self.old.program }
         ensures given { OnOk result (self.new.input ≡ edited self.old.input edits.now) }
-        ensures law { OnOk result (IsBspRun (turn_of (P.acts self.old.program) (P.ending self.old.program)) self.new.input self.new.history) }
-        ensures exact { IfOk result (λ r. IsExact (P.looks self.old.program) (Some self.old.history) self.new.history r.0) }
+        ensures law { OnOk result (IsBspRun (turn_of (P.acts self.old.program) (P.ending self.old.program))
+            self.new.input self.new.history) }
+        ensures exact { IfOk result (λ r. IsExact (P.looks self.old.program)
+            (Some self.old.history) self.new.history r.0) }
         ensures reused { OnOk result (AreReused (P.looks self.old.program) (Some self.old.history) self.new.history) }
         ensures batch { IfOk result (λ r. r.1 ≡ undo_of self.old.input edits.now) }
         ensures back { IfOk result (λ r. TakesBack self.old.input edits.now r.1) }
-        ensures before { IfOk result (λ r. IsBspRun (turn_of (P.acts self.old.program) (P.ending self.old.program)) (edited self.new.input r.1) self.old.history) }
+        ensures before { IfOk result (λ r. IsBspRun (turn_of (P.acts self.old.program) (P.ending self.old.program))
+            (edited self.new.input r.1) self.old.history) }
         ensures err { OnErr result (self.new ≡ self.old) }
     {
         let undo = self.undo_of(alloc, edits)?;

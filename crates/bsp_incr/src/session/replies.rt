@@ -96,7 +96,8 @@ pub fn session_run<P: Program + Drop, R: Threads + Sync, G: Gate>(
     gate: &G,
 ) -> Result<Vec<Reply>, RunError>
     requires workers { (0 < workers) × (workers ≤ 16) }
-    ensures law { IfOk result (λ all. AreReplies (P.looks program) (turn_of (P.acts program) (P.ending program)) input batches.now all.items) }
+    ensures law { IfOk result (λ all. AreReplies (P.looks program) (turn_of (P.acts program) (P.ending program))
+        input batches.now all.items) }
     ensures lawful { OnOk result (input_fault input ≡ None) }
     ensures input { IfErr result (λ e. input_fault input ≡ input_fault_of e) }
 {
@@ -178,7 +179,9 @@ pub fn scratch_run<P: Program>(
     input: Input,
     batches: &[Batch],
 ) -> Result<Vec<Reply>, RunError>
-    ensures law { IfOk result (λ all. AreScratchReplies (P.looks program.now) (turn_of (P.acts program.now) (P.ending program.now)) input batches.now all.items) }
+    ensures law { IfOk result (λ all. AreScratchReplies (P.looks program.now)
+        (turn_of (P.acts program.now) (P.ending program.now))
+        input batches.now all.items) }
     ensures lawful { OnOk result (input_fault input ≡ None) }
     ensures input { IfErr result (λ e. input_fault input ≡ input_fault_of e) }
 {
