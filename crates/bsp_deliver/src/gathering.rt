@@ -1,6 +1,6 @@
 //! What a superstep's end brings to several processes, in one pass over all requests.
 
-ghost use Rattle.std.specs.Prelude.{◌≡◌, ◌<◌, ℕ, All, IfOk, IfSome, length, map};
+ghost use Rattle.std.specs.Prelude.{◌≡◌, ◌<◌, ℕ, All, IfOk, IfSome, is_some, length, map, nat_eq};
 ghost use Rattle.bsp_model.specs.Columns.{row_at};
 ghost use Rattle.bsp_deliver.specs.Cost.{IsHRelation};
 ghost use Rattle.bsp_deliver.specs.Delivery.{delivery_parts, next_memory, next_queue};
@@ -100,6 +100,7 @@ pub fn deliver_some(
     ensures cells { IfOk result (λ r. r.cells
         ≡ map (λ d. (next_memory (delivery_parts outcomes.now d), next_queue (delivery_parts outcomes.now d))) processes.now) }
     ensures h { IfOk result (λ r. IfSome r.h (IsHRelation outcomes.now)) }
+    ensures counted { IfOk result (λ r. is_some r.h ≡ nat_eq (length processes.now) (length outcomes.now)) }
 {
     if processes.is_empty() {
         let cells = room.into_room(0)?;
