@@ -21,7 +21,7 @@ use Rattle.bsp_run.proofs.Laws.{taken-opened}
 use Rattle.bsp_incr.specs.declared.compare.known_table.KnownTable.{KnownTable}
 use Rattle.bsp_incr.specs.declared.compare.known_table.KnownTable.TheVariants.{AsBefore, Unknown}
 use Rattle.bsp_incr.specs.Inside.Alike.{AllEndAlike}
-use Rattle.bsp_incr.specs.Inside.Before.{taken_before, delivered_outcomes, views_after, IsBefore}
+use Rattle.bsp_incr.specs.Inside.Before.{views_before, delivered_outcomes, views_after, IsBefore}
 use Rattle.bsp_incr.specs.Inside.Known.{HaveSameTable, IsKnown, KnowsTable, KnowsNextTable}
 use Rattle.bsp_incr.proofs.EndLikeness.{same_end, same_next_table, same_next_tag_size}
 use Rattle.bsp_incr.proofs.Propagation.{view-in}
@@ -81,7 +81,7 @@ pub known_of_next : (r : Run) (views : List ViewParts) → 1 ≤ length r.outcom
 known_of_next r views some seen table tag = record { some = seen; table = table ∙ sym (table-delivered r some); tag_size = tag ∙ sym (tag-delivered r some) }
 
 -- Where the open superstep has the table of the run before, the states share it.
-shares_open : (turn : ViewParts → OutcomeParts) (input : Input) (k r : Run) (h : IsBefore turn input (Some k)) → IsRecord turn input r → HaveSameTable (taken_before (Some k) (length r.past)) (open_views r) → SharesTable (state_at turn h.input_before (length r.past)) r.state
+shares_open : (turn : ViewParts → OutcomeParts) (input : Input) (k r : Run) (h : IsBefore turn input (Some k)) → IsRecord turn input r → HaveSameTable (views_before (Some k) (length r.past)) (open_views r) → SharesTable (state_at turn h.input_before (length r.past)) r.state
 shares_open turn input k r h made same =
     let s = length r.past in
     let taken = taken-in turn input k s h (some_taken k s 0 same.some) in
@@ -97,11 +97,11 @@ shares_open turn input k r h made same =
 -- What is known where turns end as those of the run before, which ended by delivery.
 pub record EndAsBefore (old : Option Run) (r : Run) (us : List OutcomeParts) : Type 0 where
   pub some : 0 < length (delivered_outcomes old (length r.past))
-  pub same_table : HaveSameTable (taken_before old (length r.past)) (open_views r)
+  pub same_table : HaveSameTable (views_before old (length r.past)) (open_views r)
   pub alike : AllEndAlike (delivered_outcomes old (length r.past)) us
 
 -- the same, of lists by other names
-pub end_as_before : (old : Option Run) (r : Run) (before now us : List OutcomeParts) → before ≡ delivered_outcomes old (length r.past) → now ≡ us → 0 < length before → HaveSameTable (taken_before old (length r.past)) (open_views r) → AllEndAlike before now → EndAsBefore old r us
+pub end_as_before : (old : Option Run) (r : Run) (before now us : List OutcomeParts) → before ≡ delivered_outcomes old (length r.past) → now ≡ us → 0 < length before → HaveSameTable (views_before old (length r.past)) (open_views r) → AllEndAlike before now → EndAsBefore old r us
 end_as_before old r before now us b n some same alike =
     record {
       some = subst (λ (os : List OutcomeParts). 0 < length os) b some;
@@ -174,7 +174,7 @@ knows_next_as_before turn input (Some k) r t us h made e is = λ _.
     (ap (λ (x : Run). x.state) is ∙ state-turned r us) (ap (λ (x : Run). x.past) is ∙ past-turned r us)
 
 -- A superstep that the run before took after a delivery shows what it showed after that delivery.
-taken_after : (turn : ViewParts → OutcomeParts) (input : Input) (old : Option Run) (s : ℕ) → IsBefore turn input old → 0 < length (taken_before old (s + 1)) → views_after old s ≡ taken_before old (s + 1)
+taken_after : (turn : ViewParts → OutcomeParts) (input : Input) (old : Option Run) (s : ℕ) → IsBefore turn input old → 0 < length (views_before old (s + 1)) → views_after old s ≡ views_before old (s + 1)
 taken_after turn input None s h l = absurd (nothing_taken (s + 1) 0 l)
 taken_after turn input (Some k) s h l =
     let taken = some_taken k (s + 1) 0 l in
@@ -195,9 +195,9 @@ knows_delivered turn input old r t q us known h turned delivered next = λ _.
     let same : after_delivery t ≡ q = sym delivered in
     let steps : length t.past ≡ s = ap (λ (x : Run). length x.past) turned ∙ ap (λ (xs : List Superstep). length xs) (past-turned r us) in
     let long : length q.past ≡ s + 1 = ap (λ (x : Run). length x.past) (delivered ∙ ap after_delivery turned) ∙ past_longer r us in
-    known_ahead (taken_before old (length q.past)) (open_views q) (views_after old (length t.past)) known
+    known_ahead (views_before old (length q.past)) (open_views q) (views_after old (length t.past)) known
     (subst (λ (x : Run). IsKnown known (views_after old (length t.past)) (open_views x)) same next)
-    (λ l. ap (views_after old) steps ∙ taken_after turn input old s h (subst (λ n. 0 < length (taken_before old n)) long l) ∙ ap (taken_before old) (sym long))
+    (λ l. ap (views_after old) steps ∙ taken_after turn input old s h (subst (λ n. 0 < length (views_before old n)) long l) ∙ ap (views_before old) (sym long))
 
 -- A superstep that ends the run leaves none open.
 pub knows_ended : (old : Option Run) (r t : Run) (us : List OutcomeParts) (known : KnownTable) → t ≡ after_turns r us → KnowsTable old t known
@@ -213,6 +213,6 @@ knows_taken turn j old r q k h made is = λ _ l.
     let long : length q.past ≡ s + 1 = ap (λ (x : Run). length x.past) is ∙ past_longer r (map turn (open_views r)) in
     let seen = same_after turn k.input_before j s h.some h.many (h.seen ∙ open_views-in turn j r h.made) in
     let views : open_views q ≡ views_in turn j (s + 1) = open_views-in turn j q made ∙ ap (views_in turn j) long in
-    let there : 0 < length (taken_before (Some old) (s + 1)) = subst (λ n. 0 < length (taken_before (Some old) n)) long l in
+    let there : 0 < length (views_before (Some old) (s + 1)) = subst (λ n. 0 < length (views_before (Some old) n)) long l in
     let taken = taken-in turn j old (s + 1) k (some_taken old (s + 1) 0 there) in
-    same_table (taken_before (Some old) (length q.past)) (open_views q) l (ap (taken_before (Some old)) long ∙ taken ∙ seen ∙ sym views)
+    same_table (views_before (Some old) (length q.past)) (open_views q) l (ap (views_before (Some old)) long ∙ taken ∙ seen ∙ sym views)

@@ -3,9 +3,10 @@ use Rattle.std.proofs.Common.{◌≡◌, ◌≢◌, ◌<◌, ℕ, zero, suc, Boo
 use Rattle.std.specs.Prelude.{filter, slice_set, ◌&&◌, ◌||◌}
 use Rattle.std.specs.List.{Contains, range_with_len}
 use Rattle.std.proofs.lemmas.List.{get_or_default, get_or-replicate, length-replicate}
+use Rattle.std.proofs.lemmas.List.Elements.{filter_passes}
 use Rattle.std.proofs.lemmas.List.FromFn.{fill_by_all, get_or-map-range_with_len, length-map-range_with_len}
 use Rattle.bsp_model.specs.ProcessSet.{processes_in, union}
-use Rattle.bsp_model.proofs.ProcessSets.{processes_are, processes_known}
+use Rattle.bsp_model.proofs.ProcessSets.{member_within, processes_are, processes_known}
 use Rattle.bsp_model.proofs.Replaced.{length-replaced}
 use Rattle.bsp_deliver.specs.Requests.{each_below}
 use Rattle.bsp_incr.specs.Inside.Changes.{processes_where}
@@ -46,6 +47,9 @@ pub passed_over : (test : ℕ → Bool) (set : List Bool) (p : ℕ) (later : Lis
 passed_over test set p later e = ap (λ b. patched (λ _. true) set (cond b (p ∷ filter test later) (filter test later))) (sym e)
 
 -- where these are the members
+pub are_members : (set : List Bool) (ps : List ℕ) → ps ≡ processes_in set → All (λ p. get_or set p false ≡ true) ps
+are_members set ps is = subst (All (λ p. get_or set p false ≡ true)) (sym is) (filter_passes (λ p. get_or set p false) (range_with_len 0 (length set)))
+
 pub members_known : (set : List Bool) (n : ℕ) (ps : List ℕ) → length set ≡ n → ps ≡ processes_in set → All (λ p. p < n) ps
 members_known set n ps long is = subst (All (λ p. p < n)) (sym is) (subst (λ k. All (λ p. p < k) (processes_in set)) long (processes_known set))
 
@@ -58,12 +62,21 @@ pub none_of : (set : List Bool) (p : ℕ) (ps : List ℕ) → p < length set →
 none_of set p ps l is none =
     get_or_default set p true false l ∙ is_not (get_or set p false) (λ t. none (subst (λ (qs : List ℕ). Contains qs p) (sym is) ((processes_are set p).1 t)))
 
--- the first of those that are left, and those that are left after it
+-- what is known of each of those that are left is known of the first, and of those that are left after it
+pub first_has : (P : ℕ → Type 0) (q : ℕ) (later left : List ℕ) → left ≡ q ∷ later → All P left → P q
+first_has P q later left is all = subst (All P) is all 0 0 (omega arith)
+
+pub later_have : (P : ℕ → Type 0) (q : ℕ) (later left : List ℕ) → left ≡ q ∷ later → All P left → All P later
+later_have P q later left is all = λ k d l. subst (All P) is all (suc k) d (omega (arith, l))
+
+pub first_within : (set : List Bool) (q : ℕ) (later left : List ℕ) → left ≡ q ∷ later → All (λ p. get_or set p false ≡ true) left → q < length set
+first_within set q later left is all = member_within set q (first_has (λ p. get_or set p false ≡ true) q later left is all)
+
 pub first_known : (n q : ℕ) (later left : List ℕ) → left ≡ q ∷ later → All (λ p. p < n) left → q < n
-first_known n q later left is known = subst (All (λ p. p < n)) is known 0 0 (omega arith)
+first_known n q later left is known = first_has (λ p. p < n) q later left is known
 
 pub later_known : (n q : ℕ) (later left : List ℕ) → left ≡ q ∷ later → All (λ p. p < n) left → All (λ p. p < n) later
-later_known n q later left is known = λ k d l. subst (All (λ p. p < n)) is known (suc k) d (omega (arith, l))
+later_known n q later left is known = later_have (λ p. p < n) q later left is known
 
 -- what comes neither first nor later
 neither : (q : ℕ) (later : List ℕ) (p : ℕ) → p ≢ q → (Contains later p → ⊥) → Contains (q ∷ later) p → ⊥
@@ -82,6 +95,9 @@ nothing_left left p is = λ among. nothing_in p (subst (λ (ps : List ℕ). Cont
 
 pub no_members : (set : List Bool) (p : ℕ) → processes_in set ≡ [] → p < length set → get_or set p true ≡ false
 no_members set p none l = none_of set p [] l (sym none) (nothing_left [] p refl)
+
+pub nobody_marked : (set : List Bool) (p : ℕ) → processes_in set ≡ [] → get_or set p false ≡ true → ⊥
+nobody_marked set p none t = nothing_left (processes_in set) p none ((processes_are set p).1 t)
 
 -- The empty set with all members of a set is that set.
 pub copied : (n : ℕ) (set : List Bool) → length set ≡ n → union (replicate n false) set ≡ set

@@ -1,18 +1,19 @@
 -- What is known of a run that is made again.
-use Rattle.std.proofs.Common.{◌≡◌, ◌≤◌, ◌<◌, ◌+◌, ℕ, Bool, true, false, List, [], ◌∷◌, ◌++◌, Option, None, Some, map, length, get_or, arith, refl, sym, ap, ◌∙◌, subst, length-append}
+use Rattle.std.proofs.Common.{◌≡◌, ◌≤◌, ◌<◌, ◌+◌, ◌-◌, ℕ, Bool, true, false, List, [], ◌∷◌, ◌++◌, Option, None, Some, map, length, get_or, arith, refl, sym, ap, ◌∙◌, subst, length-append, ◌⊎◌, inl, inr}
 use Rattle.std.specs.Prelude.{◌||◌}
 use Rattle.std.proofs.lemmas.Bool.{false≢true}
-use Rattle.std.proofs.lemmas.List.{length-map, get_or-map, get_or_default}
+use Rattle.std.proofs.lemmas.List.{length-map, get_or-map, get_or_default, get_or-append_right}
 use Rattle.std.proofs.lemmas.List.FromFn.{get_or-map-range_with_len, length-map-range_with_len}
 use Rattle.bsp_model.specs.declared.input.Input.{Input}
 use Rattle.bsp_model.specs.ProcessSet.{union}
+use Rattle.bsp_model.proofs.ProcessSets.{member_within}
 use Rattle.bsp_step.specs.ViewParts.{ViewParts}
 use Rattle.bsp_step.specs.OutcomeParts.{OutcomeParts, outcome_of, no_outcome}
 use Rattle.bsp_deliver.specs.Requests.{each_below}
 use Rattle.bsp_deliver.specs.Delivery.{delivery_parts}
 use Rattle.bsp_run.specs.declared.superstep.Superstep.{Superstep}
 use Rattle.bsp_run.specs.Run.{Run, start, open_views, after_turns, after_delivery}
-use Rattle.bsp_run.specs.Supersteps.{supersteps_of}
+use Rattle.bsp_run.specs.Supersteps.{supersteps_of, superstep_at, no_superstep}
 use Rattle.bsp_run.specs.Law.{views_in, outcomes_in}
 use Rattle.bsp_run.specs.Inside.Record.{IsRecord}
 use Rattle.bsp_run.specs.Condition.{no_view, is_open, is_turned}
@@ -22,7 +23,7 @@ use Rattle.bsp_incr.specs.declared.reply.Update.{Update}
 use Rattle.bsp_incr.specs.Inside.Marks.{AreMarked, AreAlikeButForTable, ViewsDifferAtMost, OutcomesDifferAtMost}
 use Rattle.bsp_incr.specs.Inside.Changes.{differ, differ_in, touched, touched_in, is_touched, update_of}
 use Rattle.bsp_incr.specs.Exact.{supersteps_before, delivered_before}
-use Rattle.bsp_incr.specs.Inside.Before.{taken_before, delivered_outcomes, IsBefore, HasSameArgs, AreArgsMarked, AreFirstMarked, HasSameMemory, IsUnderWay}
+use Rattle.bsp_incr.specs.Inside.Before.{views_before, delivered_outcomes, IsBefore, HasSameArgs, AreArgsMarked, AreFirstMarked, HasSameMemory, IsReached, IsUnderWay}
 use Rattle.bsp_incr.proofs.Updating.{same_update, updated_turned, updated_delivered}
 use Rattle.bsp_incr.proofs.Propagation.{propagated, first_alike, untouched_is}
 use Rattle.bsp_incr.proofs.RunBefore.{args_before, memory_before, taken-in, some_taken, nothing_taken, delivered-in, some_delivered, nothing_delivered}
@@ -31,7 +32,7 @@ use Rattle.bsp_incr.proofs.RunBefore.{args_before, memory_before, taken-in, some
 unchanged_by : (turn : ViewParts → OutcomeParts) (vs ws : List ViewParts) (p : ℕ) → p < length vs → p < length ws → get_or vs p no_view ≡ get_or ws p no_view → outcome_of (map turn vs) p ≡ outcome_of (map turn ws) p
 unchanged_by turn vs ws p l m e = get_or-map turn vs p no_view no_outcome l ∙ ap turn e ∙ sym (get_or-map turn ws p no_view no_outcome m)
 
-pub unchanged_among : (turn : ViewParts → OutcomeParts) (input : Input) (old : Option Run) (s : ℕ) (ws : List ViewParts) (set : List Bool) → IsBefore turn input old → ws ≡ views_in turn input s → ViewsDifferAtMost (taken_before old s) ws set → OutcomesDifferAtMost (delivered_outcomes old s) (map turn ws) set
+pub unchanged_among : (turn : ViewParts → OutcomeParts) (input : Input) (old : Option Run) (s : ℕ) (ws : List ViewParts) (set : List Bool) → IsBefore turn input old → ws ≡ views_in turn input s → ViewsDifferAtMost (views_before old s) ws set → OutcomesDifferAtMost (delivered_outcomes old s) (map turn ws) set
 unchanged_among turn input None s ws set h is k =
     record { count = k.count ∙ sym (length-map ws turn); same = λ p l m t. absurd (nothing_delivered s p l) }
 unchanged_among turn input (Some o) s ws set h is k =
@@ -42,12 +43,12 @@ unchanged_among turn input (Some o) s ws set h is k =
           let here : p < length ws = omega (arith, m, length-map ws turn) in
           let seen = k.same p here t in
           let taken = taken-in turn input o s h (some_taken o s p seen.0) in
-          let old : delivered_outcomes (Some o) s ≡ map turn (taken_before (Some o) s) = delivered-in turn input o s h past ∙ ap (map turn) (sym taken) in
-          ap (λ (os : List OutcomeParts). outcome_of os p) old ∙ unchanged_by turn (taken_before (Some o) s) ws p seen.0 here seen.1;
+          let old : delivered_outcomes (Some o) s ≡ map turn (views_before (Some o) s) = delivered-in turn input o s h past ∙ ap (map turn) (sym taken) in
+          ap (λ (os : List OutcomeParts). outcome_of os p) old ∙ unchanged_by turn (views_before (Some o) s) ws p seen.0 here seen.1;
     }
 
 -- A superstep that the run before took had the same processes.
-pub count_taken : (turn : ViewParts → OutcomeParts) (input : Input) (old : Option Run) (s : ℕ) (ws : List ViewParts) → IsBefore turn input old → ws ≡ views_in turn input s → 0 < length (taken_before old s) → length (taken_before old s) ≡ length ws
+pub count_taken : (turn : ViewParts → OutcomeParts) (input : Input) (old : Option Run) (s : ℕ) (ws : List ViewParts) → IsBefore turn input old → ws ≡ views_in turn input s → 0 < length (views_before old s) → length (views_before old s) ≡ length ws
 count_taken turn input None s ws h is l = absurd (nothing_taken s 0 l)
 count_taken turn input (Some k) s ws h is l =
     ap (λ (vs : List ViewParts). length vs) (taken-in turn input k s h (some_taken k s 0 l)) ∙ count-views_in turn h.input_before s ∙ h.stands
@@ -57,8 +58,8 @@ or_false : (a b : Bool) → (a || b) ≡ false → (a ≡ false) × (b ≡ false
 or_false true b e = cc
 or_false false b e = (refl, e)
 
-clean_after : (turn : ViewParts → OutcomeParts) (input : Input) (old : Option Run) (s p : ℕ) → IsBefore turn input old → p < length input.mems → p < length (taken_before old (s + 1)) → HasSameArgs old input p → p < length (delivered_outcomes old s) → delivery_parts (delivered_outcomes old s) p ≡ delivery_parts (outcomes_in turn input s) p
-    → AreAlikeButForTable (get_or (taken_before old (s + 1)) p no_view) (get_or (views_in turn input (s + 1)) p no_view)
+clean_after : (turn : ViewParts → OutcomeParts) (input : Input) (old : Option Run) (s p : ℕ) → IsBefore turn input old → p < length input.mems → p < length (views_before old (s + 1)) → HasSameArgs old input p → p < length (delivered_outcomes old s) → delivery_parts (delivered_outcomes old s) p ≡ delivery_parts (outcomes_in turn input s) p
+    → AreAlikeButForTable (get_or (views_before old (s + 1)) p no_view) (get_or (views_in turn input (s + 1)) p no_view)
 clean_after turn input None s p h l m same there e = absurd (nothing_delivered s p there)
 clean_after turn input (Some k) s p h l m same there e =
     let os = delivered-in turn input k s h (some_delivered k s p there) in
@@ -69,7 +70,7 @@ clean_after turn input (Some k) s p h l m same there e =
 -- A process that is not marked after the deliveries sees next what it saw in the run before.
 marked_next : (turn : ViewParts → OutcomeParts) (input : Input) (old : Option Run) (s : ℕ) (always marks : List Bool) → IsBefore turn input old → AreArgsMarked old input always
     → marks ≡ union (each_below (length (outcomes_in turn input s)) (is_touched (delivered_outcomes old s) (outcomes_in turn input s))) always
-    → AreMarked (taken_before old (s + 1)) (views_in turn input (s + 1)) marks
+    → AreMarked (views_before old (s + 1)) (views_in turn input (s + 1)) marks
 marked_next turn input old s always marks h a m =
     let us = outcomes_in turn input s in
     let touched : ℕ → Bool = is_touched (delivered_outcomes old s) us in
@@ -90,6 +91,30 @@ marked_next turn input old s always marks h a m =
           clean_after turn input old s p h (omega arith) l (a.clean p (omega arith) unmarked) same.0 same.1;
     }
 
+or_true : (a b : Bool) → (a || b) ≡ true → (a ≡ true) ⊎ (b ≡ true)
+or_true true b e = inl refl
+or_true false b e = inr e
+
+-- A process that is marked after the deliveries has been reached.
+reached_next : (old : Option Run) (input : Input) (next : Run) (s : ℕ) (us : List OutcomeParts) (always marks : List Bool) → AreArgsMarked old input always → length us ≡ length input.mems
+    → length next.past ≡ s + 1 → (superstep_at next.past s).outcomes ≡ us
+    → marks ≡ union (each_below (length us) (is_touched (delivered_outcomes old s) us)) always
+    → (p : ℕ) → get_or marks p false ≡ true → IsReached old input next p
+reached_next old input next s us always marks a many long last m p t =
+    let touched : ℕ → Bool = is_touched (delivered_outcomes old s) us in
+    let some : List Bool = each_below (length us) touched in
+    let mark : ℕ → Bool = λ d. get_or some d false || get_or always d false in
+    let count : length some ≡ length us = length-map-range_with_len touched 0 (length us) in
+    let marked : get_or (union some always) p false ≡ true = sym (ap (λ (bs : List Bool). get_or bs p false) m) ∙ t in
+    let here : p < length some = omega (arith, member_within (union some always) p marked, length-map-range_with_len mark 0 (length some)) in
+    let at : mark p ≡ true = sym (get_or-map-range_with_len mark 0 (length some) p p false here (omega arith)) ∙ marked in
+    elim (or_true (get_or some p false) (get_or always p false) at) [
+      | inl delivered ↦
+          let now : touched p ≡ true = sym (get_or-map-range_with_len touched 0 (length us) p p false (omega (arith, here, count)) (omega arith)) ∙ delivered in
+          inr (inl (record { step = s; before = long; touched = ap (λ (os : List OutcomeParts). is_touched (delivered_outcomes old s) os p) last ∙ now }))
+      | inr other ↦ inl (a.other p (omega (arith, here, count, many)) other)
+    ]
+
 pub outcomes-turned : (r : Run) (os : List OutcomeParts) → (after_turns r os).outcomes ≡ os
 unfolding after_turns
 outcomes-turned r os = refl
@@ -100,7 +125,7 @@ turns-in turn input r h = ap (map turn) (open_views-in turn input r h)
 
 -- A superstep that ends the run keeps what is known.
 pub under_way_turned : (turn : ViewParts → OutcomeParts) (looks : ViewParts → ℕ → Bool) (old : Option Run) (input : Input) (r q : Run) (marks : List Bool) (u v : Update) → is_open r.phase ≡ true → IsUnderWay turn looks old input r marks u → q ≡ after_turns r (map turn (open_views r))
-    → v.executed ≡ u.executed ++ differ_in looks (length r.past) (taken_before old (length r.past)) (open_views r) → v.redelivered ≡ u.redelivered → IsUnderWay turn looks old input q marks v
+    → v.executed ≡ u.executed ++ differ_in looks (length r.past) (views_before old (length r.past)) (open_views r) → v.redelivered ≡ u.redelivered → IsUnderWay turn looks old input q marks v
 under_way_turned turn looks old input r q marks u v o h is k l =
     let e = open_phase r.phase o in
     let us = map turn (open_views r) in
@@ -108,13 +133,14 @@ under_way_turned turn looks old input r q marks u v o h is k l =
     record {
       made = IsRecord-turned turn input r h.made e;
       marked = λ t. absurd (false≢true (sym (turns_closed r us) ∙ t));
+      reached = λ t. absurd (false≢true (sym (turns_closed r us) ∙ t));
       updated = updated_turned looks old r us u v e h.updated k l;
     }
 
 -- So does one that ends by delivery.
 pub under_way_delivered : (turn : ViewParts → OutcomeParts) (looks : ViewParts → ℕ → Bool) (old : Option Run) (input : Input) (always : List Bool) (r q : Run) (m marks : List Bool) (u v : Update) → is_open r.phase ≡ true → is_turned (after_turns r (map turn (open_views r))).phase ≡ true → IsBefore turn input old → AreArgsMarked old input always → IsUnderWay turn looks old input r m u → q ≡ after_delivery (after_turns r (map turn (open_views r)))
     → marks ≡ union (each_below (length (map turn (open_views r))) (is_touched (delivered_outcomes old (length r.past)) (map turn (open_views r)))) always
-    → v.executed ≡ u.executed ++ differ_in looks (length r.past) (taken_before old (length r.past)) (open_views r) → v.redelivered ≡ u.redelivered ++ touched_in (length r.past) (delivered_outcomes old (length r.past)) (map turn (open_views r)) → IsUnderWay turn looks old input q marks v
+    → v.executed ≡ u.executed ++ differ_in looks (length r.past) (views_before old (length r.past)) (open_views r) → v.redelivered ≡ u.redelivered ++ touched_in (length r.past) (delivered_outcomes old (length r.past)) (map turn (open_views r)) → IsUnderWay turn looks old input q marks v
 under_way_delivered turn looks old input always r q m marks u v o t b a h is n k l =
     let e = open_phase r.phase o in
     let us = map turn (open_views r) in
@@ -123,17 +149,22 @@ under_way_delivered turn looks old input always r q m marks u v o t b a h is n k
     let made : IsRecord turn input next = IsRecord-goes_on turn input r h.made e t in
     let long : length next.past ≡ s + 1 = ap (λ (xs : List Superstep). length xs) (past-delivered r us) ∙ length-append r.past (superstep (open_views r) us ∷ []) in
     let views : open_views next ≡ views_in turn input (s + 1) = open_views-in turn input next made ∙ ap (views_in turn input) long in
+    let none : s - s ≡ 0 = omega arith in
     let all : List OutcomeParts → List Bool = λ os. union (each_below (length os) (is_touched (delivered_outcomes old s) os)) always in
     let marked = marked_next turn input old s always marks b a (n ∙ ap all (turns-in turn input r h.made)) in
+    let many : length us ≡ length input.mems = ap (λ (os : List OutcomeParts). length os) (turns-in turn input r h.made) ∙ count-outcomes_in turn input s in
+    let last : (superstep_at next.past s).outcomes ≡ us =
+    ap (λ (xs : List Superstep). (superstep_at xs s).outcomes) (past-delivered r us) ∙ ap (λ (x : Superstep). x.outcomes) (get_or-append_right r.past (superstep (open_views r) us ∷ []) s s no_superstep refl (omega arith) ∙ ap (λ k. get_or (superstep (open_views r) us ∷ []) k no_superstep) none) in
     subst (λ (x : Run). IsUnderWay turn looks old input x marks v) (sym is)
     record {
       made = made;
-      marked = λ _. subst (λ i. AreMarked (taken_before old i) (open_views next) marks) (sym long) (subst (λ (vs : List ViewParts). AreMarked (taken_before old (s + 1)) vs marks) (sym views) marked);
+      marked = λ _. subst (λ i. AreMarked (views_before old i) (open_views next) marks) (sym long) (subst (λ (vs : List ViewParts). AreMarked (views_before old (s + 1)) vs marks) (sym views) marked);
+      reached = λ _. reached_next old input next s us always marks a many long last n;
       updated = updated_delivered looks old r us u v e h.updated k l;
     }
 
-first_clean : (turn : ViewParts → OutcomeParts) (input : Input) (old : Option Run) (p : ℕ) → IsBefore turn input old → p < length input.mems → p < length (taken_before old 0) → HasSameMemory old input p → HasSameArgs old input p
-    → AreAlikeButForTable (get_or (taken_before old 0) p no_view) (get_or (views_in turn input 0) p no_view)
+first_clean : (turn : ViewParts → OutcomeParts) (input : Input) (old : Option Run) (p : ℕ) → IsBefore turn input old → p < length input.mems → p < length (views_before old 0) → HasSameMemory old input p → HasSameArgs old input p
+    → AreAlikeButForTable (get_or (views_before old 0) p no_view) (get_or (views_in turn input 0) p no_view)
 first_clean turn input None p h m l memory same = absurd (nothing_taken 0 p l)
 first_clean turn input (Some k) p h m l memory same =
     subst (λ (vs : List ViewParts). AreAlikeButForTable (get_or vs p no_view) (get_or (views_in turn input 0) p no_view)) (sym (taken-in turn input k 0 h (some_taken k 0 p l)))
@@ -151,21 +182,30 @@ no_past : (input : Input) → length (start input).past ≡ 0
 unfolding start
 no_past input = refl
 
+-- A process that is marked for superstep 0 has been reached.
+first_reached : (old : Option Run) (input : Input) (marks : List Bool) → AreFirstMarked old input marks → (p : ℕ) → get_or marks p false ≡ true → IsReached old input (start input) p
+first_reached old input marks m p t =
+    elim (m.other p (omega (arith, member_within marks p t, m.count)) t) [
+      | inl memory ↦ inr (inr (no_past input, memory))
+      | inr args ↦ inl args
+    ]
+
 -- before superstep 0
 pub under_way_start : (turn : ViewParts → OutcomeParts) (looks : ViewParts → ℕ → Bool) (old : Option Run) (input : Input) (r : Run) (marks : List Bool) (u : Update) → r ≡ start input → 1 ≤ input.limit → IsBefore turn input old → AreFirstMarked old input marks → u.executed ≡ [] → u.redelivered ≡ [] → IsUnderWay turn looks old input r marks u
 under_way_start turn looks old input r marks u is some h m e d =
     let made = IsRecord-start turn input some in
     let views : open_views (start input) ≡ views_in turn input 0 = open_views-in turn input (start input) made ∙ ap (views_in turn input) (no_past input) in
     let count : length (open_views (start input)) ≡ length input.mems = ap (λ (vs : List ViewParts). length vs) views ∙ count-views_in turn input 0 in
-    let marked : AreMarked (taken_before old 0) (open_views (start input)) marks = record {
+    let marked : AreMarked (views_before old 0) (open_views (start input)) marks = record {
       count = m.count ∙ sym count;
       clean = λ p l n c.
           let here : p < length input.mems = omega arith in
-          subst (λ (vs : List ViewParts). AreAlikeButForTable (get_or (taken_before old 0) p no_view) (get_or vs p no_view)) (sym views) (first_clean turn input old p h here l (m.memory p here c) (m.args p here c));
+          subst (λ (vs : List ViewParts). AreAlikeButForTable (get_or (views_before old 0) p no_view) (get_or vs p no_view)) (sym views) (first_clean turn input old p h here l (m.memory p here c) (m.args p here c));
     } in
     subst (λ (x : Run). IsUnderWay turn looks old input x marks u) (sym is)
     record {
       made = made;
-      marked = λ o. subst (λ n. AreMarked (taken_before old n) (open_views (start input)) marks) (sym (no_past input)) marked;
+      marked = λ o. subst (λ n. AreMarked (views_before old n) (open_views (start input)) marks) (sym (no_past input)) marked;
+      reached = λ o p t. first_reached old input marks m p t;
       updated = same_update u (update_of looks old (start input)) (e ∙ sym (nothing_executed looks old input)) (d ∙ sym (nothing_redelivered old input));
     }

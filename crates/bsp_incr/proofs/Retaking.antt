@@ -28,7 +28,7 @@ pub not_false : (b : Bool) → not b ≡ false → b ≡ true
 not_false true h = refl
 not_false false h = cc
 
--- where the old run has no view of the process
+-- where the run before has no view of the process
 pub differs-none : (looks : ViewParts → ℕ → Bool) (old new : List ViewParts) (p : ℕ) → length old ≤ p → differs looks old new p ≡ true
 differs-none looks old new p l =
     let none : slice_get old p ≡ None = slice_get_past old p l in
@@ -47,7 +47,7 @@ unneeded_if : (looks : ViewParts → ℕ → Bool) (o : Option ViewParts) (w : V
 unneeded_if looks None w h = cc
 unneeded_if looks (Some v) w h = (v, refl, not_false (serves looks v w) h)
 
--- where no turn is needed, the old run has a view that serves
+-- where no turn is needed, the run before has a view that serves
 pub unneeded : (looks : ViewParts → ℕ → Bool) (old new : List ViewParts) (p : ℕ) → differs looks old new p ≡ false → (p < length old) × (serves looks (get_or old p no_view) (get_or new p no_view) ≡ true)
 unneeded looks old new p h =
     let some = unneeded_if looks (slice_get old p) (get_or new p no_view) h in
@@ -128,7 +128,7 @@ turns_in_place turn looks old new set os us ws served needed h long recorded ser
     ∙ patched_is f d count first no_outcome (length-replaced os (processes_where count kept) (map f (processes_where count kept)) ∙ many) there
     ∙ turns_of-all turn new
 
--- Where the old run has no such superstep, every turn is needed.
+-- Where the run before has no such superstep, every turn is needed.
 pub turns_of_none : (turn : ViewParts → OutcomeParts) (looks : ViewParts → ℕ → Bool) (old new : List ViewParts) (needed : List ℕ) (ws : List OutcomeParts) → length old ≡ 0 → needed ≡ processes_where (length new) (differs looks old new) → ws ≡ turns_of turn new needed → ws ≡ map turn new
 turns_of_none turn looks old new needed ws none n w =
     w ∙ ap (turns_of turn new) (n ∙ all_where (length new) (differs looks old new) (λ p l. differs-none looks old new p (omega (arith, none)))) ∙ turns_of-all turn new

@@ -25,7 +25,7 @@ use Rattle.bsp_run.proofs.OneRun.{one_run}
 use Rattle.bsp_run.proofs.Laws.{superstep_at-past_end, taken-opened, taken_outcomes}
 use Rattle.bsp_incr.specs.Inside.Marks.{HaveOneTable, AreDelivered}
 use Rattle.bsp_incr.specs.Exact.{supersteps_before}
-use Rattle.bsp_incr.specs.Inside.Before.{taken_before, outcomes_before, delivered_outcomes, views_after, first_view_before, IsBefore, IsBeforeEdits, HasSameArgs, HasSameMemory, AreArgsMarked}
+use Rattle.bsp_incr.specs.Inside.Before.{views_before, outcomes_before, delivered_outcomes, views_after, first_view_before, IsBefore, IsBeforeEdits, HasSameArgs, HasSameMemory, AreArgsMarked}
 use Rattle.bsp_incr.specs.Inside.Changes.{processes_where}
 use Rattle.bsp_incr.specs.declared.edit.Edit.{Edit}
 use Rattle.bsp_incr.proofs.Lawful.{edited_count}
@@ -73,21 +73,21 @@ args_in_place turn input k always others h lawful marked listed =
 pub memory_before : (turn : ViewParts → OutcomeParts) (input : Input) (k : Run) (p : ℕ) (h : IsBefore turn input (Some k)) → p < length input.mems → HasSameMemory (Some k) input p → get_or h.input_before.mems p [] ≡ get_or input.mems p []
 memory_before turn input k p h l same = sym (first_memory turn h.input_before p) ∙ sym (ap (λ (v : ViewParts). v.memory) (first_view turn input k p h l)) ∙ same k refl
 
-pub taken-in : (turn : ViewParts → OutcomeParts) (input : Input) (k : Run) (s : ℕ) (h : IsBefore turn input (Some k)) → s < length (supersteps_of k) → taken_before (Some k) s ≡ views_in turn h.input_before s
+pub taken-in : (turn : ViewParts → OutcomeParts) (input : Input) (k : Run) (s : ℕ) (h : IsBefore turn input (Some k)) → s < length (supersteps_of k) → views_before (Some k) s ≡ views_in turn h.input_before s
 taken-in turn input k s h l = let taken = taken-opened k s l in ap (λ (x : Superstep). x.views) taken.1 ∙ (record_of_law turn h.input_before k h.lawful h.law).views s taken.0
 
-pub none_taken : (old : Option Run) (s : ℕ) → length (supersteps_before old) ≤ s → length (taken_before old s) ≡ 0
+pub none_taken : (old : Option Run) (s : ℕ) → length (supersteps_before old) ≤ s → length (views_before old s) ≡ 0
 none_taken old s l = ap (λ (x : Superstep). length x.views) (superstep_at-past_end (supersteps_before old) s l)
 
 -- a view that there was is one of a superstep that was taken
-pub some_taken : (k : Run) (s p : ℕ) → p < length (taken_before (Some k) s) → s < length (supersteps_of k)
+pub some_taken : (k : Run) (s p : ℕ) → p < length (views_before (Some k) s) → s < length (supersteps_of k)
 some_taken k s p l =
     elim (cases_lt s (length (supersteps_of k))) [
       | inl w ↦ w
       | inr w ↦ let none = none_taken (Some k) s w in absurd (omega arith)
     ]
 
-pub nothing_taken : (s p : ℕ) → p < length (taken_before None s) → ⊥
+pub nothing_taken : (s p : ℕ) → p < length (views_before None s) → ⊥
 nothing_taken s p l = let none = none_taken None s (omega arith) in omega arith
 
 pub delivered-in : (turn : ViewParts → OutcomeParts) (input : Input) (k : Run) (s : ℕ) (h : IsBefore turn input (Some k)) → s < length k.past → delivered_outcomes (Some k) s ≡ outcomes_in turn h.input_before s
@@ -110,7 +110,7 @@ no_table : HaveOneTable []
 no_table = record { table = λ p l. absurd (omega arith); tag_size = λ p l. absurd (omega arith) }
 
 -- its processes see one table in each superstep
-pub table_before : (turn : ViewParts → OutcomeParts) (input : Input) (old : Option Run) (s : ℕ) → IsBefore turn input old → HaveOneTable (taken_before old s)
+pub table_before : (turn : ViewParts → OutcomeParts) (input : Input) (old : Option Run) (s : ℕ) → IsBefore turn input old → HaveOneTable (views_before old s)
 table_before turn input None s h = subst (λ (x : Superstep). HaveOneTable x.views) (sym (superstep_at-past_end [] s (omega arith))) no_table
 table_before turn input (Some k) s h =
     elim (cases_lt s (length (supersteps_of k))) [
@@ -122,7 +122,7 @@ pub open_table : (turn : ViewParts → OutcomeParts) (input : Input) (r : Run) �
 open_table turn input r h = subst HaveOneTable (sym (open_views-in turn input r h)) (one_table turn input (length r.past))
 
 -- its outcomes are the turns of its views
-pub turns_before : (turn : ViewParts → OutcomeParts) (input : Input) (old : Option Run) (s : ℕ) → IsBefore turn input old → outcomes_before old s ≡ map turn (taken_before old s)
+pub turns_before : (turn : ViewParts → OutcomeParts) (input : Input) (old : Option Run) (s : ℕ) → IsBefore turn input old → outcomes_before old s ≡ map turn (views_before old s)
 turns_before turn input None s h = subst (λ (x : Superstep). x.outcomes ≡ map turn x.views) (sym (superstep_at-past_end [] s (omega arith))) refl
 turns_before turn input (Some k) s h = taken_outcomes turn (supersteps_of k) s (record_of_law turn h.input_before k h.lawful h.law).turns
 

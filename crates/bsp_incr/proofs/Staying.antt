@@ -31,8 +31,8 @@ use Rattle.bsp_incr.specs.declared.reply.Place.{Place}
 use Rattle.bsp_incr.specs.declared.reply.Update.{Update}
 use Rattle.bsp_incr.specs.Inside.Changes.{differ_in, touched_in}
 use Rattle.bsp_incr.specs.Inside.Marks.{AreMarked, AreAlikeButForTable, ViewsDifferAtMost}
-use Rattle.bsp_incr.specs.Inside.Before.{taken_before, delivered_outcomes, IsBefore, IsUnderWay}
-use Rattle.bsp_incr.proofs.Members.{no_members}
+use Rattle.bsp_incr.specs.Inside.Before.{views_before, delivered_outcomes, IsBefore, IsUnderWay}
+use Rattle.bsp_incr.proofs.Members.{no_members, nobody_marked}
 use Rattle.bsp_incr.proofs.Propagation.{view-in}
 use Rattle.bsp_incr.proofs.RunBefore.{record_of_law, taken-in, some_taken}
 use Rattle.bsp_incr.proofs.Unchanged.{nothing-differs, nothing-touched}
@@ -156,10 +156,10 @@ alike v w e =
       queue = ap (λ (x : ViewParts). x.queue) e;
     }
 
--- What is known of the run that is made again stays, marks and update too.
-pub under_way_taken : (turn : ViewParts → OutcomeParts) (looks : ViewParts → ℕ → Bool) (j : Input) (old r q : Run) (marks : List Bool) (u : Update) (k : IsBefore turn j (Some old)) → IsStaying turn k.input_before j old r → IsUnderWay turn looks (Some old) j r marks u → q ≡ after_delivery (after_turns r (map turn (open_views r)))
+-- What is known of the run that is made again stays, marks and update too, where nobody is marked.
+pub under_way_taken : (turn : ViewParts → OutcomeParts) (looks : ViewParts → ℕ → Bool) (j : Input) (old r q : Run) (marks : List Bool) (u : Update) (k : IsBefore turn j (Some old)) → processes_in marks ≡ [] → IsStaying turn k.input_before j old r → IsUnderWay turn looks (Some old) j r marks u → q ≡ after_delivery (after_turns r (map turn (open_views r)))
     → IsUnderWay turn looks (Some old) j q marks u
-under_way_taken turn looks j old r q marks u k h under is =
+under_way_taken turn looks j old r q marks u k none h under is =
     let i = k.input_before in
     let s = length r.past in
     let us = map turn (open_views r) in
@@ -171,39 +171,40 @@ under_way_taken turn looks j old r q marks u k h under is =
     let same = same_after turn i j s h.some h.many (h.seen ∙ open_views-in turn j r h.made) in
     let count : length (open_views r) ≡ length (open_views next) =
     ap (λ (vs : List ViewParts). length vs) (open_views-in turn j r h.made) ∙ count-views_in turn j s ∙ sym (count-views_in turn j (s + 1)) ∙ sym (ap (λ (vs : List ViewParts). length vs) views) in
-    let marked : AreMarked (taken_before (Some old) (s + 1)) (open_views next) marks = record {
+    let marked : AreMarked (views_before (Some old) (s + 1)) (open_views next) marks = record {
       count = (under.marked h.started).count ∙ count;
-      clean = λ p l n c. alike (get_or (taken_before (Some old) (s + 1)) p no_view) (get_or (open_views next) p no_view)
+      clean = λ p l n c. alike (get_or (views_before (Some old) (s + 1)) p no_view) (get_or (open_views next) p no_view)
           (ap (λ (vs : List ViewParts). get_or vs p no_view) (taken-in turn j old (s + 1) k (some_taken old (s + 1) p l) ∙ same ∙ sym views));
     } in
-    let taken : taken_before (Some old) s ≡ open_views r = taken-in turn j old s k (some_before old s h.past) ∙ h.seen in
+    let taken : views_before (Some old) s ≡ open_views r = taken-in turn j old s k (some_before old s h.past) ∙ h.seen in
     let delivered : delivered_outcomes (Some old) s ≡ us = left turn i j old r h in
-    let executed : u.executed ≡ u.executed ++ differ_in looks s (taken_before (Some old) s) (open_views r) =
+    let executed : u.executed ≡ u.executed ++ differ_in looks s (views_before (Some old) s) (open_views r) =
     sym (append-nil u.executed) ∙ ap (λ (xs : List Place). u.executed ++ xs) (sym (ap (λ (vs : List ViewParts). differ_in looks s vs (open_views r)) taken ∙ nothing-differs looks s (open_views r))) in
     let redelivered : u.redelivered ≡ u.redelivered ++ touched_in s (delivered_outcomes (Some old) s) us =
     sym (append-nil u.redelivered) ∙ ap (λ (xs : List Place). u.redelivered ++ xs) (sym (ap (λ (os : List OutcomeParts). touched_in s os us) delivered ∙ nothing-touched s us)) in
     subst (λ (x : Run). IsUnderWay turn looks (Some old) j x marks u) (sym is)
     record {
       made = made;
-      marked = λ _. subst (λ n. AreMarked (taken_before (Some old) n) (open_views next) marks) (sym long) marked;
+      marked = λ _. subst (λ n. AreMarked (views_before (Some old) n) (open_views next) marks) (sym long) marked;
+      reached = λ _ p t. absurd (nobody_marked marks p none t);
       updated = updated_delivered looks (Some old) r us u u phase under.updated executed redelivered;
     }
 
 -- where nobody sees something else, the open superstep stays
-pub staying : (turn : ViewParts → OutcomeParts) (j : Input) (old r : Run) (set : List Bool) (k : IsBefore turn j (Some old)) → IsRecord turn j r → is_open r.phase ≡ true → 0 < length j.mems → length r.past < length old.past → ViewsDifferAtMost (taken_before (Some old) (length r.past)) (open_views r) set → processes_in set ≡ []
+pub staying : (turn : ViewParts → OutcomeParts) (j : Input) (old r : Run) (set : List Bool) (k : IsBefore turn j (Some old)) → IsRecord turn j r → is_open r.phase ≡ true → 0 < length j.mems → length r.past < length old.past → ViewsDifferAtMost (views_before (Some old) (length r.past)) (open_views r) set → processes_in set ≡ []
     → IsStaying turn k.input_before j old r
 staying turn j old r set k made started some past differ none =
     let s = length r.past in
     let taken = taken-in turn j old s k (some_before old s past) in
-    let count : length (taken_before (Some old) s) ≡ length (open_views r) =
+    let count : length (views_before (Some old) s) ≡ length (open_views r) =
     ap (λ (vs : List ViewParts). length vs) taken ∙ count-views_in turn k.input_before s ∙ k.stands ∙ sym (count-views_in turn j s) ∙ sym (ap (λ (vs : List ViewParts). length vs) (open_views-in turn j r made)) in
-    record { before = record_of_law turn k.input_before old k.lawful k.law; made = made; many = k.stands; some = some; started = started; past = past; seen = sym taken ∙ same_views (taken_before (Some old) s) (open_views r) set differ none count }
+    record { before = record_of_law turn k.input_before old k.lawful k.law; made = made; many = k.stands; some = some; started = started; past = past; seen = sym taken ∙ same_views (views_before (Some old) s) (open_views r) set differ none count }
 
 -- the same, from what the code knows
 pub staying_whole : (turn : ViewParts → OutcomeParts) (j : Input) (before : Option Run) (old r : Run) (step : ℕ) (olds news : List ViewParts) (set : List Bool) → IsBefore turn j before → (processes_in set ≡ []) × (step < length old.past) × (before ≡ Some old) → IsRecord turn j r → is_open r.phase ≡ true → 0 < length j.mems
-    → step ≡ length r.past → olds ≡ taken_before before step → news ≡ open_views r → ViewsDifferAtMost olds news set → (k : IsBefore turn j (Some old)) × IsStaying turn k.input_before j old r
+    → step ≡ length r.past → olds ≡ views_before before step → news ≡ open_views r → ViewsDifferAtMost olds news set → (k : IsBefore turn j (Some old)) × IsStaying turn k.input_before j old r
 staying_whole turn j before old r step olds news set h whole made started some steps there here differ =
     let k : IsBefore turn j (Some old) = subst (IsBefore turn j) whole.2 h in
     let past : length r.past < length old.past = subst (λ n. n < length old.past) steps whole.1 in
-    let taken : olds ≡ taken_before (Some old) (length r.past) = there ∙ (λ i. taken_before (whole.2 i) (steps i)) in
+    let taken : olds ≡ views_before (Some old) (length r.past) = there ∙ (λ i. views_before (whole.2 i) (steps i)) in
     (k, staying turn j old r set k made started some past (subst (λ (vs : List ViewParts). ViewsDifferAtMost vs (open_views r) set) taken (subst (λ (vs : List ViewParts). ViewsDifferAtMost olds vs set) here differ)) whole.0)

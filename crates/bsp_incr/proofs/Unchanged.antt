@@ -1,4 +1,4 @@
--- Nothing has to be done for a run that is the old run.
+-- Nothing has to be done for a run that is the run before.
 use Rattle.std.proofs.Common.{◌≡◌, ◌<◌, ◌+◌, ℕ, zero, suc, Bool, false, cond, List, [], ◌∷◌, ◌++◌, Some, All, length, get_or, arith, refl, sym, ap, ◌∙◌, not}
 use Rattle.std.specs.Prelude.{filter, slice_set}
 use Rattle.std.proofs.lemmas.List.{set-get_or}
@@ -73,7 +73,7 @@ touched-itself : (all : List Superstep) → touched all all ≡ []
 unfolding touched
 touched-itself all = touched_from-itself 0 all all (λ k l. ap (superstep_at all) (omega arith))
 
--- A run that is the old run needs nothing anew.
+-- A run that is the run before needs nothing anew.
 pub no-update : (looks : ViewParts → ℕ → Bool) (r : Run) (u : Update) → u.executed ≡ [] → u.redelivered ≡ [] → u ≡ update_of looks (Some r) r
 no-update looks r u e d = same_update u (update_of looks (Some r) r) (e ∙ sym (differ-itself looks (supersteps_of r))) (d ∙ sym (touched-itself r.past))
 

@@ -12,7 +12,7 @@ use Rattle.bsp_incr.specs.declared.reply.Place.{Place}
 use Rattle.bsp_incr.specs.declared.reply.Update.{Update}
 use Rattle.bsp_incr.specs.Inside.Changes.{differ, differ_in, differ_from, touched, touched_in, touched_from, update_of}
 use Rattle.bsp_incr.specs.Exact.{supersteps_before, delivered_before}
-use Rattle.bsp_incr.specs.Inside.Before.{taken_before, delivered_outcomes}
+use Rattle.bsp_incr.specs.Inside.Before.{views_before, delivered_outcomes}
 
 -- one superstep more
 differ_from-push : (looks : ViewParts → ℕ → Bool) (n m : ℕ) (olds xs : List Superstep) (x : Superstep) → n + length xs ≡ m → differ_from looks n olds (xs ++ x ∷ []) ≡ differ_from looks n olds xs ++ differ_in looks m (superstep_at olds m).views x.views
@@ -42,10 +42,10 @@ unfolding touched
 touched-push olds xs x = touched_from-push 0 (length xs) olds xs x (omega arith)
 
 executed_more : (looks : ViewParts → ℕ → Bool) (old : Option Run) (r : Run) (os : List OutcomeParts) (before after : List Place) (all : List Superstep) → r.phase ≡ Open → all ≡ r.past ++ superstep (open_views r) os ∷ [] → before ≡ differ looks (supersteps_before old) (supersteps_of r)
-    → after ≡ before ++ differ_in looks (length r.past) (taken_before old (length r.past)) (open_views r) → after ≡ differ looks (supersteps_before old) all
+    → after ≡ before ++ differ_in looks (length r.past) (views_before old (length r.past)) (open_views r) → after ≡ differ looks (supersteps_before old) all
 executed_more looks old r os before after all e is h k =
     let olds = supersteps_before old in
-    k ∙ ap (λ (xs : List Place). xs ++ differ_in looks (length r.past) (taken_before old (length r.past)) (open_views r)) (h ∙ ap (differ looks olds) (supersteps-open r e))
+    k ∙ ap (λ (xs : List Place). xs ++ differ_in looks (length r.past) (views_before old (length r.past)) (open_views r)) (h ∙ ap (differ looks olds) (supersteps-open r e))
     ∙ sym (differ-push looks olds r.past (superstep (open_views r) os)) ∙ ap (differ looks olds) (sym is)
 
 -- updates with equal lists
@@ -53,14 +53,14 @@ pub same_update : (u v : Update) → u.executed ≡ v.executed → u.redelivered
 same_update u v e d = λ i. record { executed = e i; redelivered = d i }
 
 -- the update after the turns of a superstep that ends the run
-pub updated_turned : (looks : ViewParts → ℕ → Bool) (old : Option Run) (r : Run) (os : List OutcomeParts) (u v : Update) → r.phase ≡ Open → u ≡ update_of looks old r → v.executed ≡ u.executed ++ differ_in looks (length r.past) (taken_before old (length r.past)) (open_views r) → v.redelivered ≡ u.redelivered → v ≡ update_of looks old (after_turns r os)
+pub updated_turned : (looks : ViewParts → ℕ → Bool) (old : Option Run) (r : Run) (os : List OutcomeParts) (u v : Update) → r.phase ≡ Open → u ≡ update_of looks old r → v.executed ≡ u.executed ++ differ_in looks (length r.past) (views_before old (length r.past)) (open_views r) → v.redelivered ≡ u.redelivered → v ≡ update_of looks old (after_turns r os)
 updated_turned looks old r os u v e h k l =
     same_update v (update_of looks old (after_turns r os))
     (executed_more looks old r os u.executed v.executed (supersteps_of (after_turns r os)) e (supersteps-turned r os) (ap (λ (x : Update). x.executed) h) k)
     (l ∙ ap (λ (x : Update). x.redelivered) h ∙ ap (touched (delivered_before old)) (sym (past-turned r os)))
 
 -- the update after its deliveries
-pub updated_delivered : (looks : ViewParts → ℕ → Bool) (old : Option Run) (r : Run) (os : List OutcomeParts) (u v : Update) → r.phase ≡ Open → u ≡ update_of looks old r → v.executed ≡ u.executed ++ differ_in looks (length r.past) (taken_before old (length r.past)) (open_views r)
+pub updated_delivered : (looks : ViewParts → ℕ → Bool) (old : Option Run) (r : Run) (os : List OutcomeParts) (u v : Update) → r.phase ≡ Open → u ≡ update_of looks old r → v.executed ≡ u.executed ++ differ_in looks (length r.past) (views_before old (length r.past)) (open_views r)
     → v.redelivered ≡ u.redelivered ++ touched_in (length r.past) (delivered_outcomes old (length r.past)) os → v ≡ update_of looks old (after_delivery (after_turns r os))
 updated_delivered looks old r os u v e h k l =
     same_update v (update_of looks old (after_delivery (after_turns r os)))

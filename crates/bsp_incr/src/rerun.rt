@@ -17,7 +17,7 @@ mod opening;
 mod under_way;
 mod workers;
 
-use crate::compare::{Marks, marks_of_edits};
+use crate::compare::{Marks, count_unmarked, marks_of_edits};
 use crate::edit::{make_edits, restore};
 use crate::rerun::finishing::finished;
 use crate::rerun::opening::opened;
@@ -95,6 +95,7 @@ fn rerun_from_edits<P: Program, G: Gate, R: Threads + Sync>(
     ensures update { IfOk result (λ r. r.1 ≡ update_of (P.looks executor.now.program.now) (Some old.now) r.0) }
 {
     let marks = marks_of_edits(executor.alloc, old, input, edits)?;
+    count_unmarked(executor.alloc, edits, &marks, counts)?;
     rerun(executor, Some(old), input, marks, counts)
 }
 

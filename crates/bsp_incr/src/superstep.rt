@@ -6,8 +6,8 @@ ghost use Rattle.bsp_run.specs.Run.{after_turns, open_views, advance};
 ghost use Rattle.bsp_run.specs.Condition.{AreOutcomesOf, is_open, is_turned};
 ghost use Rattle.bsp_run.specs.Inside.Record.{IsRecord};
 ghost use Rattle.bsp_incr.specs.Inside.Changes.{differ_in};
-ghost use Rattle.bsp_incr.specs.Inside.Given.{turn_by, taken_beside, IsMidway};
-ghost use Rattle.bsp_incr.specs.Inside.Known.{AreDoubtful, IsKnown, KnowsTable, KnowsNextTable};
+ghost use Rattle.bsp_incr.specs.Inside.Given.{turn_by, views_beside, IsMidway};
+ghost use Rattle.bsp_incr.specs.Inside.Known.{AreDoubtful, AreMarkedAlone, IsKnown, KnowsTable, KnowsNextTable};
 ghost use Rattle.bsp_incr.specs.Inside.Marks.{AreMarked, ViewsDifferAtMost};
 
 mod deliveries;
@@ -39,7 +39,7 @@ fn end_turns<P: Program, G: Gate, R: Threads + Sync>(
 ) -> Result<Option<KnownTable>, OutOfMemory>
     requires open { is_open tape.old.phase ≡ true }
     requires made { IsRecord (turn_by P.Program given.now.program) given.now.input tape.old }
-    requires doubtful { AreDoubtful (taken_beside given.now tape.old) (open_views tape.old) doubtful.now }
+    requires doubtful { AreDoubtful (views_beside given.now tape.old) (open_views tape.old) doubtful.now }
     requires turns { outcomes ≡ map (turn_by P.Program given.now.program) (open_views tape.old) }
     requires within { AreOutcomesOf (open_views tape.old) outcomes }
     ensures turned { OnOk result (tape.new ≡ after_turns tape.old outcomes) }
@@ -68,13 +68,13 @@ fn take_turns<P: Program, G: Gate, R: Threads + Sync>(
 ) -> Result<Option<KnownTable>, OutOfMemory>
     requires open { is_open tape.old.phase ≡ true }
     requires made { IsRecord (turn_by P.Program given.now.program) given.now.input tape.old }
-    requires doubtful { AreDoubtful (taken_beside given.now tape.old) (open_views tape.old) doubtful.now }
+    requires doubtful { AreDoubtful (views_beside given.now tape.old) (open_views tape.old) doubtful.now }
     ensures turned { OnOk result (tape.new
         ≡ after_turns tape.old (map (turn_by P.Program given.now.program) (open_views tape.old))) }
     ensures answer { IfOk result (λ next. is_some next ≡ is_turned tape.new.phase) }
     ensures known { IfOk result (λ next. IfSome next (KnowsNextTable given.now.before tape.new)) }
     ensures executed { OnOk result (executed.new ≡ executed.old
-        ++ differ_in (P.looks given.now.program) (length tape.old.past) (taken_beside given.now tape.old)
+        ++ differ_in (P.looks given.now.program) (length tape.old.past) (views_beside given.now tape.old)
         (open_views tape.old)) }
 {
     let superstep = open_superstep(given, tape);
@@ -90,7 +90,9 @@ fn make_again<P: Program, G: Gate, R: Threads + Sync>(
     under_way: &mut UnderWay,
 ) -> Result<(), OutOfMemory>
     requires open { is_open tape.old.phase ≡ true }
-    requires doubtful { AreDoubtful (taken_beside given.now tape.old) (open_views tape.old) doubtful.now }
+    requires doubtful { AreDoubtful (views_beside given.now tape.old) (open_views tape.old) doubtful.now }
+    requires few { AreMarkedAlone (views_beside given.now tape.old) (open_views tape.old)
+        under_way.old.marks doubtful.now }
     requires under_way { IsMidway P.Program given.now tape.old under_way.old }
     ensures tape { OnOk result (tape.new ≡ advance (turn_by P.Program given.now.program) tape.old) }
     ensures under_way { OnOk result (IsMidway P.Program given.now tape.new under_way.new) }

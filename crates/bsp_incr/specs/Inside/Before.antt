@@ -15,11 +15,11 @@ use Rattle.bsp_incr.specs.Edits.{edited}
 use Rattle.bsp_run.specs.Inside.Record.{IsRecord}
 use Rattle.bsp_incr.specs.Inside.Marks.{AreMarked}
 use Rattle.bsp_incr.specs.Exact.{supersteps_before, delivered_before}
-use Rattle.bsp_incr.specs.Inside.Changes.{update_of}
+use Rattle.bsp_incr.specs.Inside.Changes.{is_touched, update_of}
 
 -- the superstep that the run before took under this number, and the outcomes of the one that it delivered
-abbrev pub taken_before : Option Run → ℕ → List ViewParts
-taken_before old s = (superstep_at (supersteps_before old) s).views
+abbrev pub views_before : Option Run → ℕ → List ViewParts
+views_before old s = (superstep_at (supersteps_before old) s).views
 
 abbrev pub outcomes_before : Option Run → ℕ → List OutcomeParts
 outcomes_before old s = (superstep_at (supersteps_before old) s).outcomes
@@ -74,12 +74,6 @@ pub record AreArgsMarked (old : Option Run) (input : Input) (marks : List Bool) 
   pub clean : (p : ℕ) → p < length input.mems → slice_index_or marks p true ≡ false → HasSameArgs old input p
   pub other : (p : ℕ) → p < length input.mems → slice_index_or marks p false ≡ true → HasOtherArgs old input p
 
--- Between the supersteps of the new run: its record, the marks of its open superstep, and the update so far.
-pub record IsUnderWay (turn : ViewParts → OutcomeParts) (looks : ViewParts → ℕ → Bool) (old : Option Run) (input : Input) (r : Run) (marks : List Bool) (update : Update) : Type 0 where
-  pub made : IsRecord turn input r
-  pub marked : is_open r.phase ≡ true → AreMarked (taken_before old (length r.past)) (open_views r) marks
-  pub updated : update ≡ update_of looks old r
-
 -- a process has the memory that it had in the run before, if there was one
 abbrev pub HasSameMemory : Option Run → Input → ℕ → Type 0
 HasSameMemory old input p = ForSome old (λ r. (first_view_before r p).memory ≡ slice_index_or input.mems p [])
@@ -95,3 +89,23 @@ pub record AreFirstMarked (old : Option Run) (input : Input) (marks : List Bool)
   pub memory : (p : ℕ) → p < length input.mems → slice_index_or marks p true ≡ false → HasSameMemory old input p
   pub args : (p : ℕ) → p < length input.mems → slice_index_or marks p true ≡ false → HasSameArgs old input p
   pub other : (p : ℕ) → p < length input.mems → slice_index_or marks p false ≡ true → HasOtherMemory old input p ⊎ HasOtherArgs old input p
+
+-- What the superstep before the open one delivered to a process depends on something else than in the run before, or that run delivered nothing there.
+pub record IsRedelivered (old : Option Run) (r : Run) (p : ℕ) : Type 0 where
+  pub step : ℕ
+  pub before : length r.past ≡ step + 1
+  pub touched : is_touched (delivered_outcomes old step) (superstep_at r.past step).outcomes p ≡ true
+
+-- Something has reached a process before the open superstep (this profile): it has other arguments than in the run before, something was delivered to it
+-- anew, or the open superstep is the first and it begins with another memory.
+abbrev pub IsReached : Option Run → Input → Run → ℕ → Type 0
+IsReached old input r p =
+    HasOtherArgs old input p ⊎ (IsRedelivered old r p ⊎ ((length r.past ≡ 0) × HasOtherMemory old input p))
+
+-- Between the supersteps of the new run: its record, the marks of its open superstep, and the update so far. Who is not marked sees what it saw, the table
+-- and the tag size aside, and something has reached each who is.
+pub record IsUnderWay (turn : ViewParts → OutcomeParts) (looks : ViewParts → ℕ → Bool) (old : Option Run) (input : Input) (r : Run) (marks : List Bool) (update : Update) : Type 0 where
+  pub made : IsRecord turn input r
+  pub marked : is_open r.phase ≡ true → AreMarked (views_before old (length r.past)) (open_views r) marks
+  pub reached : is_open r.phase ≡ true → (p : ℕ) → slice_index_or marks p false ≡ true → IsReached old input r p
+  pub updated : update ≡ update_of looks old r

@@ -32,12 +32,12 @@ abbrev pub differ_from : (ViewParts → ℕ → Bool) → ℕ → List Superstep
 differ_from looks step olds [] = []
 differ_from looks step olds (s ∷ later) = differ_in looks step (superstep_at olds step).views s.views ++ differ_from looks (step + 1) olds later
 
--- The places whose turn has to be taken (this profile), by superstep, then process: the old run has no such superstep, or a view of the process that does
+-- The places whose turn has to be taken (this profile), by superstep, then process: the run before has no such superstep, or a view of the process that does
 -- not serve.
 unfoldable pub differ : (ViewParts → ℕ → Bool) → List Superstep → List Superstep → List Place
 differ looks olds news = differ_from looks 0 olds news
 
--- The delivery to d has to be made: the old run has none, or one that depends on something else.
+-- The delivery to d has to be made: the run before has none, or one that depends on something else.
 abbrev pub is_touched : List OutcomeParts → List OutcomeParts → ℕ → Bool
 is_touched old new d = not (nat_lt d (length old) && same_delivery (delivery_parts old d) (delivery_parts new d))
 

@@ -9,7 +9,7 @@ use Rattle.bsp_step.specs.OutcomeParts.{OutcomeParts}
 use Rattle.bsp_step.specs.Turn.{turn_of}
 use Rattle.bsp_run.specs.Run.{Run}
 use Rattle.bsp_incr.specs.declared.rerun.under_way.UnderWay.{UnderWay}
-use Rattle.bsp_incr.specs.Inside.Before.{taken_before, delivered_outcomes, AreArgsMarked, IsBefore, IsUnderWay}
+use Rattle.bsp_incr.specs.Inside.Before.{views_before, delivered_outcomes, AreArgsMarked, IsBefore, IsUnderWay}
 
 -- what a turn of a program leaves at a view
 abbrev pub turn_by : {P : Type 0} → Ghosts P → P → ViewParts → OutcomeParts
@@ -30,8 +30,8 @@ pub record IsMaking {P : Type 0} (laws : Ghosts P) (making : Making P) : Type 0 
   pub others : AreArgsMarked making.before making.input making.others
 
 -- of the superstep with the number of the open one: what the run before saw in it, and what it delivered
-abbrev pub taken_beside : {P : Type 0} → Making P → Run → List ViewParts
-taken_beside making r = taken_before making.before (length r.past)
+abbrev pub views_beside : {P : Type 0} → Making P → Run → List ViewParts
+views_beside making r = views_before making.before (length r.past)
 
 abbrev pub delivered_beside : {P : Type 0} → Making P → Run → List OutcomeParts
 delivered_beside making r = delivered_outcomes making.before (length r.past)

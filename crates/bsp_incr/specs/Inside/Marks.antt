@@ -1,4 +1,4 @@
--- Which views of an open superstep may differ from those of the old run: what the private functions of this crate ask and promise.
+-- Which views of an open superstep may differ from those of the run before: what the private functions of this crate ask and promise.
 use Rattle.std.specs.Prelude.{◌≡◌, ◌<◌, ℕ, Bool, true, false, List, length, slice_index_or}
 use Rattle.bsp_step.specs.ViewParts.{ViewParts}
 use Rattle.bsp_step.specs.OutcomeParts.{OutcomeParts, outcome_of}
@@ -15,12 +15,12 @@ pub record AreAlikeButForTable (v w : ViewParts) : Type 0 where
   pub memory : v.memory ≡ w.memory
   pub queue : v.queue ≡ w.queue
 
--- A process that is not marked sees what it saw in the old run, the table and the tag size aside. If the old run has no such superstep, nothing is asked.
+-- A process that is not marked sees what it saw in the run before, the table and the tag size aside. If the run before has no such superstep, nothing is asked.
 pub record AreMarked (old new : List ViewParts) (marks : List Bool) : Type 0 where
   pub count : length marks ≡ length new
   pub clean : (p : ℕ) → p < length old → p < length new → slice_index_or marks p true ≡ false → AreAlikeButForTable (slice_index_or old p no_view) (slice_index_or new p no_view)
 
--- The views of two supersteps differ at most at the processes of a set: every other one sees what it saw in the old run.
+-- The views of two supersteps differ at most at the processes of a set: every other one sees what it saw in the run before.
 pub record ViewsDifferAtMost (old new : List ViewParts) (set : List Bool) : Type 0 where
   pub count : length set ≡ length new
   pub same : (p : ℕ) → p < length new → slice_index_or set p true ≡ false → (p < length old) × (slice_index_or old p no_view ≡ slice_index_or new p no_view)

@@ -2,15 +2,15 @@
 
 ghost use Rattle.std.specs.Prelude.{◌≡◌, ◌<◌, [], IfNone, IfSome, Some, length, option_map};
 ghost use Rattle.bsp_deliver.specs.Condition.{AreDeliverable};
-ghost use Rattle.bsp_incr.specs.Inside.Before.{taken_before, outcomes_if_any, outcomes_before, delivered_outcomes, views_after};
+ghost use Rattle.bsp_incr.specs.Inside.Before.{views_before, outcomes_if_any, outcomes_before, delivered_outcomes, views_after};
 ghost use Rattle.bsp_incr.specs.Inside.Before.{first_views_before};
 
 use bsp_run::{History, Views, ViewsRef};
 use bsp_step::Outcomes;
 
 /// The views of a superstep of the run before; none where it took no turns of such a superstep.
-pub fn taken_before<'a>(old: Option<&'a History>, step: usize) -> ViewsRef<'a>
-    ensures { result ≡ taken_before (option_map (λ k. k.now) old.entry) step }
+pub fn views_before<'a>(old: Option<&'a History>, step: usize) -> ViewsRef<'a>
+    ensures { result ≡ views_before (option_map (λ k. k.now) old.entry) step }
 {
     match old {
         Some(history) if step < history.steps() => match history.views(step as u64) {

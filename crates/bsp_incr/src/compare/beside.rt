@@ -6,10 +6,10 @@ ghost use Rattle.bsp_run.specs.Run.{open_views};
 ghost use Rattle.bsp_run.specs.Condition.{is_open};
 ghost use Rattle.bsp_run.specs.Inside.Record.{IsRecord};
 ghost use Rattle.bsp_incr.specs.Inside.Before.{outcomes_if_any};
-ghost use Rattle.bsp_incr.specs.Inside.Given.{turn_by, taken_beside};
+ghost use Rattle.bsp_incr.specs.Inside.Given.{turn_by, views_beside};
 ghost use Rattle.bsp_incr.specs.Inside.Marks.{HaveOneTable};
 
-use crate::compare::before::{outcomes_before, taken_before};
+use crate::compare::before::{outcomes_before, views_before};
 use crate::rerun::Given;
 use bsp_run::{Tape, Views, ViewsRef};
 use bsp_step::{Outcomes, Program};
@@ -42,7 +42,7 @@ pub fn open_superstep<'old, 'new, P: Program, R, G>(
     ensures step { result.step ≡ length tape.now.past }
     ensures views { result.views.now ≡ open_views tape.now }
     ensures limits { All IsView result.views.now }
-    ensures old_views { result.old_views ≡ taken_beside given.now tape.now }
+    ensures old_views { result.old_views ≡ views_beside given.now tape.now }
     ensures recorded { outcomes_if_any (option_map (λ o. o.now) result.old_outcomes)
         ≡ map (turn_by P.Program given.now.program) result.old_views }
 {
@@ -51,7 +51,7 @@ pub fn open_superstep<'old, 'new, P: Program, R, G>(
         step: step as u64,
         views: tape.open_views(),
         like: tape.outcomes_before(),
-        old_views: taken_before(given.old, step),
+        old_views: views_before(given.old, step),
         old_outcomes: outcomes_before(given.old, step),
     }
 }

@@ -1,15 +1,14 @@
 //! Who may see something else in a superstep than in the run before.
 
-ghost use Rattle.std.specs.Prelude.{◌≡◌, ◌<◌, [], IfOk, length, true};
+ghost use Rattle.std.specs.Prelude.{◌≡◌, ◌↔◌, [], IfOk, IsTrue, true};
 ghost use Rattle.bsp_model.specs.ProcessSet.{processes_in};
 ghost use Rattle.bsp_incr.specs.Inside.Marks.{AreMarked, ViewsDifferAtMost};
-ghost use Rattle.bsp_incr.specs.Inside.Known.{AreDoubtful, HaveSameTable, IsKnown};
+ghost use Rattle.bsp_incr.specs.Inside.Known.{AreDoubtful, AreMarkedAlone, HaveSameTable, IsKnown};
 
 use crate::compare::beside::OpenSuperstep;
 use crate::compare::known_table::KnownTable;
-use crate::compare::looking::have_same_table;
+use crate::compare::looking::has_table;
 use bsp_model::{OutOfMemory, ProcessSet};
-use bsp_run::{Views, ViewsRef};
 use std::alloc::Global;
 
 /// What may be another in a superstep than in the run before.
@@ -21,17 +20,20 @@ pub struct Doubtful {
     pub same_table: bool,
 }
 
-/// Whether the processes of two supersteps see the same table and tag size. False where one of them has no process.
-fn is_same_table(old: &ViewsRef<'_>, new: &Views, known: KnownTable) -> bool
-    requires { IsKnown known old.now new.now }
-    ensures { result ≡ true → HaveSameTable old.now new.now }
+/// Whether all see the table and the tag size that they saw in the run before. False where it took no turns of such a superstep.
+fn is_same_table(superstep: &OpenSuperstep<'_, '_>, known: KnownTable) -> bool
+    requires { IsKnown known superstep.now.old_views superstep.now.views.now }
+    ensures { IsTrue result ↔ HaveSameTable superstep.now.old_views superstep.now.views.now }
 {
-    if old.is_empty() || new.is_empty() {
+    if superstep.old_views.is_empty() {
         return false;
     }
     match known {
         KnownTable::AsBefore => true,
-        KnownTable::Unknown => have_same_table(&old.get(0), &new.get(0)),
+        KnownTable::Unknown => {
+            let now = superstep.views.get(0);
+            has_table(&superstep.old_views.get(0), now.table, now.tag_size)
+        }
     }
 }
 
@@ -46,7 +48,7 @@ pub fn all_see_the_same(
     ensures none { result ≡ true → processes_in marks.now ≡ [] }
     ensures same { result ≡ true → ViewsDifferAtMost superstep.now.old_views superstep.now.views.now marks.now }
 {
-    marks.is_empty() && is_same_table(&superstep.old_views, superstep.views, known)
+    marks.is_empty() && is_same_table(superstep, known)
 }
 
 /// The same set.
@@ -68,9 +70,10 @@ impl Doubtful {
     ) -> Result<Doubtful, OutOfMemory>
         requires marks { AreMarked superstep.now.old_views superstep.now.views.now marks.now }
         requires known { IsKnown known superstep.now.old_views superstep.now.views.now }
-        ensures { IfOk result (AreDoubtful superstep.now.old_views superstep.now.views.now) }
+        ensures doubtful { IfOk result (AreDoubtful superstep.now.old_views superstep.now.views.now) }
+        ensures few { IfOk result (AreMarkedAlone superstep.now.old_views superstep.now.views.now marks.now) }
     {
-        let same_table = is_same_table(&superstep.old_views, superstep.views, known);
+        let same_table = is_same_table(superstep, known);
         let processes = if same_table {
             copy_of(alloc, marks)?
         } else {

@@ -11,18 +11,9 @@ use bsp_table::Table;
 
 /// Whether a view has this table and this tag size.
 pub fn has_table(view: &View<'_>, table: &Table, tag_size: u64) -> bool
-    ensures table { result ≡ true → view.now.table ≡ table.now }
-    ensures tag_size { result ≡ true → view.now.tag_size ≡ tag_size }
+    ensures { IsTrue result ↔ ((view.now.table ≡ table.now) × (view.now.tag_size ≡ tag_size)) }
 {
     view.table.same(table) && view.tag_size == tag_size
-}
-
-/// Whether two views have the same table and the same tag size.
-pub fn have_same_table(old: &View<'_>, new: &View<'_>) -> bool
-    ensures table { result ≡ true → old.now.table ≡ new.now.table }
-    ensures tag_size { result ≡ true → old.now.tag_size ≡ new.now.tag_size }
-{
-    has_table(old, new.table, new.tag_size)
 }
 
 /// Whether two views are equal but for the words of their memories. The tables need not be compared where they are known to be the same.

@@ -1,6 +1,7 @@
 //! What the opening and the updates of a session cost, for the tests of this crate.
 
-/// How many places were looked at (a view was compared or a turn was taken, once for each place and update), and how many deliveries were made.
+/// How many places were looked at (what a process sees or begins with was compared, or its turn was taken, once for each place and update), and how many
+/// deliveries were made.
 #[derive(Clone, Copy, Debug, PartialEq, Eq)]
 pub struct Counts {
     pub looked_at: u64,

@@ -22,8 +22,8 @@ fn args_again(
 ) -> Result<Arguments, OutOfMemory>
     requires known { length others.now ≡ length input.now }
     requires count { length old.now ≡ length input.now }
-    ensures { IfOk result (λ args. args
-        ≡ replaced old.now (processes_in others.now) (map (λ p. slice_index_or input.now p []) (processes_in others.now))) }
+    ensures { IfOk result (λ args. args ≡ replaced old.now (processes_in others.now)
+        (map (λ p. slice_index_or input.now p []) (processes_in others.now))) }
 {
     if others.is_empty() {
         return old.copy();

@@ -21,16 +21,16 @@ use bsp_run::{TurnRows, wide_turns};
 use bsp_step::{OutcomeRows, Outcomes, Program};
 use std::thread::Threads;
 
-/// Whether the turn of a process has to be taken. The tables are not compared where all processes are known to see the same.
+/// Whether the turn of a process has to be taken, which may be asked of the doubtful ones alone. The tables are not compared where all processes are known
+/// to see the same.
 fn needs_turn<P: Program>(
     program: &P,
     superstep: &OpenSuperstep<'_, '_>,
+    doubtful: &Doubtful,
     p: usize,
-    same_table: bool,
 ) -> bool
-    requires place { p < length superstep.now.views.now }
-    requires same { same_table ≡ true → (slice_index_or superstep.now.old_views 0 no_view).table
-        ≡ (slice_index_or superstep.now.views.now 0 no_view).table }
+    requires doubtful { AreDoubtful superstep.now.old_views superstep.now.views.now doubtful.now }
+    requires place { slice_index_or doubtful.now.processes p false ≡ true }
     ensures { result ≡ differs_now (P.looks program.now) superstep.now p }
 {
     if p >= superstep.old_views.len() {
@@ -40,7 +40,7 @@ fn needs_turn<P: Program>(
         program,
         &superstep.old_views.get(p),
         &superstep.views.get(p),
-        same_table,
+        doubtful.same_table,
     )
 }
 
@@ -62,7 +62,7 @@ fn needed_turns<P: Program, R, G>(
     let mut served = ProcessSet::none(given.alloc, doubtful.processes.count())?;
     for process in doubtful.processes.iter() {
         counts.look();
-        if needs_turn(given.program, superstep, process, doubtful.same_table) {
+        if needs_turn(given.program, superstep, doubtful, process) {
             needed.insert(process);
         } else {
             served.insert(process);

@@ -20,7 +20,7 @@ const OVERWRITTEN_WORD: Row = Row {
     }],
     executed: &[],
     redelivered: &[(0, 2), (1, 2)],
-    most_places: 3,
+    places: 3,
     total: 32,
 };
 
@@ -46,7 +46,7 @@ const SUCCESSORS: [Row; 2] = [
         }],
         executed: &[(1, 0)],
         redelivered: &[(0, 0)],
-        most_places: 8,
+        places: 2,
         total: 10,
     },
     Row {
@@ -77,7 +77,7 @@ const SUCCESSORS: [Row; 2] = [
             (2, 2),
             (2, 3),
         ],
-        most_places: 16,
+        places: 10,
         total: 56,
     },
 ];
@@ -102,7 +102,7 @@ const EVEN_BLOCKS: Row = Row {
     }],
     executed: &[(0, 1), (1, 1), (2, 0), (2, 1)],
     redelivered: &[(1, 0), (1, 1)],
-    most_places: 6,
+    places: 4,
     total: 30,
 };
 

@@ -16,7 +16,7 @@ const LAST_WORD: Row = Row {
     }],
     executed: &[(2, 3), (3, 3)],
     redelivered: &[(0, 3), (1, 3), (2, 3)],
-    most_places: 4,
+    places: 4,
     total: 40,
 };
 
@@ -33,7 +33,7 @@ const FIRST_WORD: Row = Row {
     }],
     executed: &[(1, 0), (2, 0), (2, 1), (3, 0), (3, 1), (3, 2), (3, 3)],
     redelivered: &[(0, 0), (1, 0), (1, 1), (2, 0), (2, 1), (2, 2), (2, 3)],
-    most_places: 8,
+    places: 8,
     total: 40,
 };
 
@@ -72,7 +72,7 @@ const SAME_WORDS: [Row; 3] = [
         }],
         executed: &[],
         redelivered: &[],
-        most_places: 1,
+        places: 0,
         total: 40,
     },
     Row {
@@ -90,7 +90,7 @@ const SAME_WORDS: [Row; 3] = [
         ],
         executed: &[],
         redelivered: &[],
-        most_places: 1,
+        places: 1,
         total: 40,
     },
     Row {
@@ -130,7 +130,7 @@ const LONGER_RUN: Row = Row {
         (3, 3),
     ],
     redelivered: &[(2, 0), (2, 1), (2, 2), (2, 3)],
-    most_places: 16,
+    places: 8,
     total: 40,
 };
 
@@ -145,14 +145,14 @@ const CUT_AND_LONGER: [Row; 3] = [
         batch: &[Edit::Limit(2)],
         executed: &[],
         redelivered: &[],
-        most_places: 16,
+        places: 0,
         total: 24,
     },
     Row {
         batch: &[Edit::Prices { g: 1, l: 0 }],
         executed: &[],
         redelivered: &[],
-        most_places: 16,
+        places: 0,
         total: 1,
     },
     Row {
@@ -192,7 +192,7 @@ const LAST_ONE: Row = Row {
         (5, 63),
         (6, 63),
     ],
-    most_places: 8,
+    places: 8,
     total: 100,
 };
 

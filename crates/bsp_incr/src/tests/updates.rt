@@ -24,8 +24,8 @@ pub struct Row {
     pub batch: &'static [Edit],
     pub executed: &'static [At],
     pub redelivered: &'static [At],
-    /// The largest number of places that it may look at.
-    pub most_places: u64,
+    /// How many places it looks at.
+    pub places: u64,
     /// The cost of the whole run then.
     pub total: u64,
 }
@@ -50,12 +50,9 @@ fn is_update(update: &Update, row: &Row) -> bool {
         && are_places(update.redelivered.as_slice(), row.redelivered)
 }
 
-/// Whether the counts are those of the row: each delivery of the update, and no fewer places than were executed, some of them where anything changed.
+/// Whether the counts are those of the row: its places, and each delivery of the update.
 fn are_counts(counts: &Counts, row: &Row) -> bool {
-    let some = row.redelivered.is_empty() || counts.looked_at > 0;
-    some && counts.looked_at >= row.executed.len() as u64
-        && counts.looked_at <= row.most_places
-        && counts.delivered == row.redelivered.len() as u64
+    counts.looked_at == row.places && counts.delivered == row.redelivered.len() as u64
 }
 
 /// Whether the row's batch is put by 3 workers, and its update, its counts and the total are the row's. As many turns are taken, and as many

@@ -10,7 +10,7 @@ use Rattle.bsp_run.proofs.Laws.{IsBspRun-run}
 use Rattle.bsp_run.proofs.Runs.{LeadsTo, supersteps_left, start-leads, advance-leads, fewer_left, closed-leads}
 use Rattle.bsp_incr.specs.declared.reply.Update.{Update}
 use Rattle.bsp_incr.specs.Inside.Changes.{update_of}
-use Rattle.bsp_incr.specs.Inside.Before.{IsBefore, AreFirstMarked, taken_before}
+use Rattle.bsp_incr.specs.Inside.Before.{IsBefore, AreFirstMarked, views_before}
 use Rattle.bsp_incr.specs.Inside.Known.{IsKnown}
 use Rattle.bsp_incr.specs.declared.compare.known_table.KnownTable.{KnownTable}
 use Rattle.bsp_incr.specs.Inside.Stays.{LinesStayBut}
@@ -31,7 +31,7 @@ loop-given-init g c =
       leads = subst (λ (r : Run). LeadsTo turn r (run turn input)) (sym opened) (start-leads turn input some);
       under_way = under_way_start turn (g.P.Program.looks c.args.executor.now.program.now) old input tape begun.result.marks begun.result.update opened some c.requires.before
           (subst (AreFirstMarked old input) (sym begun.ensures.marks) c.requires.first) begun.ensures.executed begun.ensures.redelivered;
-      table = λ _. subst (λ (k : KnownTable). IsKnown k (taken_before old (length tape.past)) (open_views tape)) (sym begun.ensures.table) tt;
+      table = λ _. subst (λ (k : KnownTable). IsKnown k (views_before old (length tape.past)) (open_views tape)) (sym begun.ensures.table) tt;
     }
 
 pub loop-given-preserved : goal.loop-given-preserved

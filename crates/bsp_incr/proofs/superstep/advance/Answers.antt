@@ -5,7 +5,7 @@ use Rattle.bsp_run.specs.Run.{Run, after_turns, after_delivery}
 use Rattle.bsp_run.proofs.Runs.{open_phase, advance-closed, advance-delivers}
 use Rattle.bsp_incr.specs.Inside.Given.{Making, IsMaking, turn_by}
 use Rattle.bsp_incr.specs.Inside.Marks.{AreMarked}
-use Rattle.bsp_incr.specs.Inside.Before.{taken_before}
+use Rattle.bsp_incr.specs.Inside.Before.{views_before}
 use Rattle.bsp_incr.specs.declared.compare.known_table.KnownTable.TheVariants.{AsBefore}
 use Rattle.bsp_incr.specs.Inside.Before.{IsUnderWay}
 use Rattle.bsp_incr.specs.Inside.Known.{IsKnown, KnowsTable}
@@ -27,7 +27,7 @@ taken_whole-requires-clause-marks g c =
     let now = c.open_superstep-superstep.ensures.views in
     let marks = c.args.under_way.now.marks in
     subst (λ (vs : List ViewParts). AreMarked vs c.open_superstep-superstep.result.views.now marks) (sym before)
-    (subst (λ (vs : List ViewParts). AreMarked (taken_before old (length r.past)) vs marks) (sym now) (c.requires.under_way.marked (sym c.if-not-is_open.ensures)))
+    (subst (λ (vs : List ViewParts). AreMarked (views_before old (length r.past)) vs marks) (sym now) (c.requires.under_way.marked (sym c.if-not-is_open.ensures)))
 
 pub taken_whole-requires-clause-known : goal.taken_whole-requires-clause-known
 taken_whole-requires-clause-known g c =
@@ -36,7 +36,7 @@ taken_whole-requires-clause-known g c =
     let before = c.open_superstep-superstep.ensures.old_views in
     let now = c.open_superstep-superstep.ensures.views in
     subst (λ (vs : List ViewParts). IsKnown c.args.under_way.now.table vs c.open_superstep-superstep.result.views.now) (sym before)
-    (subst (λ (vs : List ViewParts). IsKnown c.args.under_way.now.table (taken_before old (length r.past)) vs) (sym now) (c.requires.table (sym c.if-not-is_open.ensures)))
+    (subst (λ (vs : List ViewParts). IsKnown c.args.under_way.now.table (views_before old (length r.past)) vs) (sym now) (c.requires.table (sym c.if-not-is_open.ensures)))
 
 pub take_over-requires : goal.take_over-requires
 take_over-requires g c =
@@ -91,7 +91,7 @@ returns-in-Some-clause-under_way g c =
     refl c.open_superstep-superstep.ensures.old_views now c.in-Some.ensures.same in
     let made = c.in_ok-take_over.ensures.ok ∙ ap (λ (os : List OutcomeParts). after_delivery (after_turns r os)) (left turn stays.0.input_before j old r stays.1) in
     subst (λ before. IsUnderWay turn (g.P.Program.looks c.args.given.now.program) before j c.take_over.new.self c.args.under_way.now.marks c.args.under_way.now.update) (sym same)
-    (under_way_taken turn (g.P.Program.looks c.args.given.now.program) j old r c.take_over.new.self c.args.under_way.now.marks c.args.under_way.now.update stays.0 stays.1 (subst (λ before. IsUnderWay turn (g.P.Program.looks c.args.given.now.program) before j r c.args.under_way.now.marks c.args.under_way.now.update) same c.requires.under_way) made)
+    (under_way_taken turn (g.P.Program.looks c.args.given.now.program) j old r c.take_over.new.self c.args.under_way.now.marks c.args.under_way.now.update stays.0 c.in-Some.ensures.none stays.1 (subst (λ before. IsUnderWay turn (g.P.Program.looks c.args.given.now.program) before j r c.args.under_way.now.marks c.args.under_way.now.update) same c.requires.under_way) made)
 
 pub returns-in-Some-clause-table : goal.returns-in-Some-clause-table
 returns-in-Some-clause-table g c =
@@ -109,5 +109,5 @@ returns-in-Some-clause-table g c =
     let stays = staying_whole turn j c.args.given.now.before old r (length r.past) c.open_superstep-superstep.result.old_views c.open_superstep-superstep.result.views.now c.args.under_way.now.marks known.before (c.in-Some.ensures.none, past, same) c.requires.under_way.made started (lawful_input c.args.given.now.input known.lawful).some_process
     refl c.open_superstep-superstep.ensures.old_views now c.in-Some.ensures.same in
     let made = c.in_ok-take_over.ensures.ok ∙ ap (λ (os : List OutcomeParts). after_delivery (after_turns r os)) (left turn stays.0.input_before j old r stays.1) in
-    let under = under_way_taken turn (g.P.Program.looks c.args.given.now.program) j old r c.take_over.new.self c.args.under_way.now.marks c.args.under_way.now.update stays.0 stays.1 (subst (λ before. IsUnderWay turn (g.P.Program.looks c.args.given.now.program) before j r c.args.under_way.now.marks c.args.under_way.now.update) same c.requires.under_way) made in
+    let under = under_way_taken turn (g.P.Program.looks c.args.given.now.program) j old r c.take_over.new.self c.args.under_way.now.marks c.args.under_way.now.update stays.0 c.in-Some.ensures.none stays.1 (subst (λ before. IsUnderWay turn (g.P.Program.looks c.args.given.now.program) before j r c.args.under_way.now.marks c.args.under_way.now.update) same c.requires.under_way) made in
     subst (λ before. KnowsTable before c.take_over.new.self AsBefore) (sym same) (knows_taken turn j old r c.take_over.new.self stays.0 stays.1 under.made made)

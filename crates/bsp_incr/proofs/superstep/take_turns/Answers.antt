@@ -3,7 +3,7 @@ use Rattle.bsp_step.specs.ViewParts.{ViewParts}
 use Rattle.bsp_run.specs.Run.{Run}
 use Rattle.bsp_run.specs.Condition.{AreOutcomesOf}
 use Rattle.bsp_run.proofs.Turns.{AreOutcomesOf-turns}
-use Rattle.bsp_incr.specs.Inside.Before.{taken_before}
+use Rattle.bsp_incr.specs.Inside.Before.{views_before}
 use Rattle.bsp_incr.specs.Inside.Known.{AreDoubtful}
 use Rattle.bsp_incr.proofs.superstep.take_turns.Goals as goal
 
@@ -13,7 +13,7 @@ turns_again-requires-clause-doubtful g c κs within =
     let r : Run = c.args.tape.now in
     let opened = c.open_superstep-superstep in
     subst (λ (vs : List ViewParts). AreDoubtful vs opened.result.views.now c.args.doubtful.now) (sym opened.ensures.old_views)
-    (subst (λ (vs : List ViewParts). AreDoubtful (taken_before old (length r.past)) vs c.args.doubtful.now) (sym opened.ensures.views) c.requires.doubtful)
+    (subst (λ (vs : List ViewParts). AreDoubtful (views_before old (length r.past)) vs c.args.doubtful.now) (sym opened.ensures.views) c.requires.doubtful)
 
 pub end_turns-requires-clause-within : goal.end_turns-requires-clause-within
 end_turns-requires-clause-within g c κs within =

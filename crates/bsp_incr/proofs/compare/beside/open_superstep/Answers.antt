@@ -3,7 +3,7 @@ use Rattle.bsp_step.specs.ViewParts.{ViewParts}
 use Rattle.bsp_run.specs.Run.{Run}
 use Rattle.bsp_run.proofs.Records.{open_views-in}
 use Rattle.bsp_run.proofs.Runs.{open_phase}
-use Rattle.bsp_incr.specs.Inside.Before.{taken_before, outcomes_before}
+use Rattle.bsp_incr.specs.Inside.Before.{views_before, outcomes_before}
 use Rattle.bsp_incr.specs.Inside.Given.{Making, IsMaking, turn_by}
 use Rattle.bsp_incr.specs.Inside.Marks.{HaveOneTable}
 use Rattle.bsp_incr.proofs.Remaking.{count_taken}
@@ -17,7 +17,7 @@ invariant_of-result g c =
     let old : Option Run = c.args.given.now.before in
     let r : Run = c.args.tape.now in
     let known = subst (IsMaking g.P.Program) c.given.view_is c.given.invariant in
-    let before = c.taken_before.ensures ∙ ap (λ (m : Making _). taken_before m.before c.step-step.result) c.given.view_is ∙ ap (taken_before old) c.step-step.ensures in
+    let before = c.views_before.ensures ∙ ap (λ (m : Making _). views_before m.before c.step-step.result) c.given.view_is ∙ ap (views_before old) c.step-step.ensures in
     let now = c.open_views.ensures.views in
     record {
       count = subst (λ (vs : List ViewParts). 0 < length vs → length vs ≡ length c.open_views.result.now) (sym before)
@@ -31,7 +31,7 @@ returns-clause-limits g c = c.open_views.ensures.limits (open_phase c.args.tape.
 
 pub returns-clause-old_views : goal.returns-clause-old_views
 returns-clause-old_views g c =
-    c.taken_before.ensures ∙ ap (λ (m : Making _). taken_before m.before c.step-step.result) c.given.view_is ∙ ap (taken_before c.args.given.now.before) c.step-step.ensures
+    c.views_before.ensures ∙ ap (λ (m : Making _). views_before m.before c.step-step.result) c.given.view_is ∙ ap (views_before c.args.given.now.before) c.step-step.ensures
 
 pub returns-clause-recorded : goal.returns-clause-recorded
 returns-clause-recorded g c =
@@ -40,4 +40,4 @@ returns-clause-recorded g c =
     let known = subst (IsMaking g.P.Program) c.given.view_is c.given.invariant in
     c.outcomes_before-2.ensures ∙ ap (λ (m : Making _). outcomes_before m.before c.step-step.result) c.given.view_is
     ∙ turns_before turn c.args.given.now.input old c.step-step.result known.before
-    ∙ ap (map turn) (sym (c.taken_before.ensures ∙ ap (λ (m : Making _). taken_before m.before c.step-step.result) c.given.view_is))
+    ∙ ap (map turn) (sym (c.views_before.ensures ∙ ap (λ (m : Making _). views_before m.before c.step-step.result) c.given.view_is))

@@ -27,5 +27,5 @@ returns-then-has_table-clause-known c = λ _.
     let first = c.get-first.ensures in
     let next = c.in_ok-setting-in-Unknown.ensures in
     known_of_next r c.args.old_next.now c.requires.some c.requires.processes
-    (sym (ap (λ (v : ViewParts). v.table) first) ∙ c.has_table.ensures.table c.if-has_table.true ∙ ap (λ (s : Setting). s.table) next)
-    (sym (ap (λ (v : ViewParts). v.tag_size) first) ∙ c.has_table.ensures.tag_size c.if-has_table.true ∙ ap (λ (s : Setting). s.tag_size) next)
+    (sym (ap (λ (v : ViewParts). v.table) first) ∙ (c.has_table.ensures.0 c.if-has_table.true).0 ∙ ap (λ (s : Setting). s.table) next)
+    (sym (ap (λ (v : ViewParts). v.tag_size) first) ∙ (c.has_table.ensures.0 c.if-has_table.true).1 ∙ ap (λ (s : Setting). s.tag_size) next)

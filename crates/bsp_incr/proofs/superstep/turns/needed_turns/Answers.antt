@@ -1,10 +1,10 @@
-use Rattle.std.proofs.Common.{◌≡◌, ◌∙◌, ℕ, Bool, true, false, List, not, length, replicate, arith, ap, sym, refl}
+use Rattle.std.proofs.Common.{◌≡◌, ◌∙◌, ℕ, Bool, true, false, List, not, get_or, length, replicate, arith, ap, sym}
 use Rattle.std.specs.Prelude.{filter}
 use Rattle.std.proofs.Math.ListN.{length-set}
 use Rattle.std.proofs.lemmas.List.{length-replicate}
 use Rattle.bsp_incr.specs.Inside.Changes.{differs}
 use Rattle.bsp_incr.specs.Inside.Given.{Making}
-use Rattle.bsp_incr.proofs.Members.{first_known, later_known, members_known, passed_over, put_first}
+use Rattle.bsp_incr.proofs.Members.{are_members, first_has, first_within, later_have, passed_over, put_first}
 use Rattle.bsp_incr.proofs.Patching.{patched}
 use Rattle.bsp_incr.proofs.Retaking.{needed_among, served_among}
 use Rattle.bsp_incr.proofs.superstep.turns.needed_turns.Goals as goal
@@ -22,21 +22,21 @@ loop-process-init g c =
       served = λ i. patched (λ _. true) (served i) (filter stays (all i));
       count_needed = ap (λ (s : List Bool). length s) needed ∙ length-replicate (length set) false;
       count_served = ap (λ (s : List Bool). length s) served ∙ length-replicate (length set) false;
-      known = members_known set (length set) c.into_iter-process-iterator.result refl all;
+      members = are_members set c.into_iter-process-iterator.result all;
     }
 
 pub insert-requires : goal.insert-requires
 insert-requires g c =
-    omega (arith, first_known (length c.args.doubtful.now.processes) c.in-Some.process c.next.new.self c.loop-process.process-iterator c.in-Some.ensures.steps c.loop-process.invariant.known, c.loop-process.invariant.count_needed)
+    omega (arith, first_within c.args.doubtful.now.processes c.in-Some.process c.next.new.self c.loop-process.process-iterator c.in-Some.ensures.steps c.loop-process.invariant.members, c.loop-process.invariant.count_needed)
 
 pub insert-requires-else-needs_turn : goal.insert-requires-else-needs_turn
 insert-requires-else-needs_turn g c =
-    omega (arith, first_known (length c.args.doubtful.now.processes) c.in-Some.process c.next.new.self c.loop-process.process-iterator c.in-Some.ensures.steps c.loop-process.invariant.known, c.loop-process.invariant.count_served)
+    omega (arith, first_within c.args.doubtful.now.processes c.in-Some.process c.next.new.self c.loop-process.process-iterator c.in-Some.ensures.steps c.loop-process.invariant.members, c.loop-process.invariant.count_served)
 
 -- one more is put into one of the sets
 pub loop-process-preserved-then-needs_turn : goal.loop-process-preserved-then-needs_turn
 loop-process-preserved-then-needs_turn g c =
-    let n = length c.args.doubtful.now.processes in
+    let set : List Bool = c.args.doubtful.now.processes in
     let goes : ℕ → Bool = differs (g.P.Program.looks c.args.given.now.program) c.args.superstep.now.old_views c.args.superstep.now.views.now in
     let stays : ℕ → Bool = λ p. not (goes p) in
     let p = c.in-Some.process in
@@ -53,12 +53,12 @@ loop-process-preserved-then-needs_turn g c =
       served = passed_over stays served p later (ap not here) ∙ ap (λ (ps : List ℕ). patched (λ _. true) served (filter stays ps)) (sym rest) ∙ kept.served;
       count_needed = ap (λ (s : List Bool). length s) c.insert.ensures ∙ length-set needed p true ∙ kept.count_needed;
       count_served = kept.count_served;
-      known = later_known n p later left rest kept.known;
+      members = later_have (λ q. get_or set q false ≡ true) p later left rest kept.members;
     }
 
 pub loop-process-preserved : goal.loop-process-preserved
 loop-process-preserved g c =
-    let n = length c.args.doubtful.now.processes in
+    let set : List Bool = c.args.doubtful.now.processes in
     let goes : ℕ → Bool = differs (g.P.Program.looks c.args.given.now.program) c.args.superstep.now.old_views c.args.superstep.now.views.now in
     let stays : ℕ → Bool = λ p. not (goes p) in
     let p = c.in-Some.process in
@@ -75,12 +75,12 @@ loop-process-preserved g c =
       served = ap (λ (s : List Bool). patched (λ _. true) s (filter stays later)) c.insert-else-needs_turn.ensures ∙ put_first stays served p later (ap not here) ∙ ap (λ (ps : List ℕ). patched (λ _. true) served (filter stays ps)) (sym rest) ∙ kept.served;
       count_needed = kept.count_needed;
       count_served = ap (λ (s : List Bool). length s) c.insert-else-needs_turn.ensures ∙ length-set served p true ∙ kept.count_served;
-      known = later_known n p later left rest kept.known;
+      members = later_have (λ q. get_or set q false ≡ true) p later left rest kept.members;
     }
 
 pub needs_turn-requires-clause-place : goal.needs_turn-requires-clause-place
 needs_turn-requires-clause-place g c κs within =
-    omega (arith, first_known (length c.args.doubtful.now.processes) c.in-Some.process c.next.new.self c.loop-process.process-iterator c.in-Some.ensures.steps c.loop-process.invariant.known, c.requires.doubtful.processes.count)
+    first_has (λ p. get_or c.args.doubtful.now.processes p false ≡ true) c.in-Some.process c.next.new.self c.loop-process.process-iterator c.in-Some.ensures.steps c.loop-process.invariant.members
 
 pub returns-clause-needed : goal.returns-clause-needed
 returns-clause-needed g c =

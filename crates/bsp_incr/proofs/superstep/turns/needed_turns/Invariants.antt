@@ -1,4 +1,4 @@
-use Rattle.std.proofs.Common.{◌≡◌, ◌<◌, All, false, length, not, replicate, true}
+use Rattle.std.proofs.Common.{◌≡◌, All, false, get_or, length, not, replicate, true}
 use Rattle.std.specs.Prelude.{filter}
 use Rattle.bsp_model.specs.ProcessSet.{processes_in}
 use Rattle.bsp_incr.specs.Inside.Changes.{differs}
@@ -14,5 +14,5 @@ invariant-loop-process g l = record {
       ≡ patched (λ _. true) (replicate (length l.doubtful.processes) false) (filter (λ p. not (differs (g.P.Program.looks l.given.program) l.superstep.old_views l.superstep.views.now p)) (processes_in l.doubtful.processes));
   count_needed : length l.needed ≡ length l.doubtful.processes;
   count_served : length l.served ≡ length l.doubtful.processes;
-  known : All (λ p. p < length l.doubtful.processes) l.process-iterator;
+  members : All (λ p. get_or l.doubtful.processes p false ≡ true) l.process-iterator;
 }

@@ -1,4 +1,5 @@
 use Rattle.std.proofs.Common.{◌<◌, ◌∙◌, ap, sym, not, length, get_or, arith}
+use Rattle.bsp_model.proofs.ProcessSets.{member_within}
 use Rattle.bsp_step.specs.ViewParts.{ViewParts}
 use Rattle.bsp_run.specs.Condition.{no_view}
 use Rattle.bsp_incr.specs.Inside.Reuse.{serves}
@@ -24,4 +25,5 @@ serves-requires-after_bounds g c κs within =
     let here : p < length old = omega arith in
     let v = c.get.ensures in
     let w = c.get-2.ensures in
-    λ t. ap (λ (x : ViewParts). x.table) v ∙ c.args.superstep.now.old_table.table p here ∙ c.requires.same t ∙ sym (c.args.superstep.now.table.table p c.requires.place) ∙ sym (ap (λ (x : ViewParts). x.table) w)
+    let within_new : p < length new = omega (arith, member_within c.args.doubtful.now.processes p c.requires.place, c.requires.doubtful.processes.count) in
+    λ t. ap (λ (x : ViewParts). x.table) v ∙ c.args.superstep.now.old_table.table p here ∙ (c.requires.doubtful.same_table t).table ∙ sym (c.args.superstep.now.table.table p within_new) ∙ sym (ap (λ (x : ViewParts). x.table) w)
