@@ -14,7 +14,8 @@ use Rattle.bsp_incr.specs.declared.edit.Edit.{Edit}
 use Rattle.bsp_incr.specs.declared.edit.Edit.TheVariants.{Word, Arg, Limit, Prices}
 use Rattle.bsp_run.specs.State.{first_state, view_of}
 use Rattle.bsp_incr.specs.Edits.{edited_by, edited, with_number}
-use Rattle.bsp_incr.specs.Inside.Before.{first_views_before, first_view_before, IsBeforeEdits, HasSameArgs, HasSameMemory, HasOtherArgs, AreArgsMarked, AreFirstMarked}
+use Rattle.bsp_incr.specs.Inside.Before.{first_views_before, first_view_before, IsBeforeEdits, HasSameArgs, HasSameMemory, HasOtherArgs}
+use Rattle.bsp_incr.specs.Inside.Marks.{AreArgsMarked, AreFirstMarked}
 use Rattle.bsp_incr.proofs.EditParts.{same_length}
 use Rattle.bsp_incr.proofs.Lawful.{edited_count}
 use Rattle.bsp_incr.proofs.FirstViews.{first_views, first_views_of}

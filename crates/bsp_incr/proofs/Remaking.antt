@@ -20,10 +20,11 @@ use Rattle.bsp_run.specs.Condition.{no_view, is_open, is_turned}
 use Rattle.bsp_run.proofs.Runs.{open_phase, turns_closed}
 use Rattle.bsp_run.proofs.Records.{superstep, past-delivered, open_views-in, count-views_in, count-outcomes_in, IsRecord-turned, IsRecord-goes_on, IsRecord-start}
 use Rattle.bsp_incr.specs.declared.reply.Update.{Update}
-use Rattle.bsp_incr.specs.Inside.Marks.{AreMarked, AreAlikeButForTable, ViewsDifferAtMost, OutcomesDifferAtMost}
+use Rattle.bsp_incr.specs.Inside.Marks.{AreMarked, AreAlikeButForTable, ViewsDifferAtMost, OutcomesDifferAtMost, AreArgsMarked, AreFirstMarked, IsReached}
 use Rattle.bsp_incr.specs.Inside.Changes.{differ, differ_in, touched, touched_in, is_touched, update_of}
 use Rattle.bsp_incr.specs.Exact.{supersteps_before, delivered_before}
-use Rattle.bsp_incr.specs.Inside.Before.{views_before, delivered_outcomes, IsBefore, HasSameArgs, AreArgsMarked, AreFirstMarked, HasSameMemory, IsReached, IsUnderWay}
+use Rattle.bsp_incr.specs.Inside.Before.{views_before, delivered_outcomes, IsBefore, HasSameArgs, HasSameMemory}
+use Rattle.bsp_incr.specs.Inside.UnderWay.{IsUnderWay}
 use Rattle.bsp_incr.proofs.Updating.{same_update, updated_turned, updated_delivered}
 use Rattle.bsp_incr.proofs.Propagation.{propagated, first_alike, untouched_is}
 use Rattle.bsp_incr.proofs.RunBefore.{args_before, memory_before, taken-in, some_taken, nothing_taken, delivered-in, some_delivered, nothing_delivered}
@@ -68,14 +69,14 @@ clean_after turn input (Some k) s p h l m same there e =
     (propagated turn h.input_before input s p h.stands l (args_before turn input k p h l same) (ap (λ (xs : List OutcomeParts). delivery_parts xs p) (sym os) ∙ e))
 
 -- A process that is not marked after the deliveries sees next what it saw in the run before.
-marked_next : (turn : ViewParts → OutcomeParts) (input : Input) (old : Option Run) (s : ℕ) (always marks : List Bool) → IsBefore turn input old → AreArgsMarked old input always
-    → marks ≡ union (each_below (length (outcomes_in turn input s)) (is_touched (delivered_outcomes old s) (outcomes_in turn input s))) always
+marked_next : (turn : ViewParts → OutcomeParts) (input : Input) (old : Option Run) (s : ℕ) (others marks : List Bool) → IsBefore turn input old → AreArgsMarked old input others
+    → marks ≡ union (each_below (length (outcomes_in turn input s)) (is_touched (delivered_outcomes old s) (outcomes_in turn input s))) others
     → AreMarked (views_before old (s + 1)) (views_in turn input (s + 1)) marks
-marked_next turn input old s always marks h a m =
+marked_next turn input old s others marks h a m =
     let us = outcomes_in turn input s in
     let touched : ℕ → Bool = is_touched (delivered_outcomes old s) us in
     let some : List Bool = each_below (length us) touched in
-    let mark : ℕ → Bool = λ d. get_or some d false || get_or always d false in
+    let mark : ℕ → Bool = λ d. get_or some d false || get_or others d false in
     let many = count-outcomes_in turn input s in
     let count = count-views_in turn input (s + 1) in
     let long : length some ≡ length us = length-map-range_with_len touched 0 (length us) in
@@ -84,10 +85,10 @@ marked_next turn input old s always marks h a m =
       clean = λ p l n c.
           let here : p < length us = omega arith in
           let at : get_or marks p true ≡ mark p = ap (λ (bs : List Bool). get_or bs p true) m ∙ get_or-map-range_with_len mark 0 (length some) p p true (omega arith) (omega arith) in
-          let both = or_false (get_or some p false) (get_or always p false) (sym at ∙ c) in
+          let both = or_false (get_or some p false) (get_or others p false) (sym at ∙ c) in
           let clean : touched p ≡ false = sym (get_or-map-range_with_len touched 0 (length us) p p false here (omega arith)) ∙ both.0 in
           let same = untouched_is (delivered_outcomes old s) us p clean in
-          let unmarked : get_or always p true ≡ false = get_or_default always p true false (omega (arith, a.count)) ∙ both.1 in
+          let unmarked : get_or others p true ≡ false = get_or_default others p true false (omega (arith, a.count)) ∙ both.1 in
           clean_after turn input old s p h (omega arith) l (a.clean p (omega arith) unmarked) same.0 same.1;
     }
 
@@ -96,19 +97,19 @@ or_true true b e = inl refl
 or_true false b e = inr e
 
 -- A process that is marked after the deliveries has been reached.
-reached_next : (old : Option Run) (input : Input) (next : Run) (s : ℕ) (us : List OutcomeParts) (always marks : List Bool) → AreArgsMarked old input always → length us ≡ length input.mems
+reached_next : (old : Option Run) (input : Input) (next : Run) (s : ℕ) (us : List OutcomeParts) (others marks : List Bool) → AreArgsMarked old input others → length us ≡ length input.mems
     → length next.past ≡ s + 1 → (superstep_at next.past s).outcomes ≡ us
-    → marks ≡ union (each_below (length us) (is_touched (delivered_outcomes old s) us)) always
+    → marks ≡ union (each_below (length us) (is_touched (delivered_outcomes old s) us)) others
     → (p : ℕ) → get_or marks p false ≡ true → IsReached old input next p
-reached_next old input next s us always marks a many long last m p t =
+reached_next old input next s us others marks a many long last m p t =
     let touched : ℕ → Bool = is_touched (delivered_outcomes old s) us in
     let some : List Bool = each_below (length us) touched in
-    let mark : ℕ → Bool = λ d. get_or some d false || get_or always d false in
+    let mark : ℕ → Bool = λ d. get_or some d false || get_or others d false in
     let count : length some ≡ length us = length-map-range_with_len touched 0 (length us) in
-    let marked : get_or (union some always) p false ≡ true = sym (ap (λ (bs : List Bool). get_or bs p false) m) ∙ t in
-    let here : p < length some = omega (arith, member_within (union some always) p marked, length-map-range_with_len mark 0 (length some)) in
+    let marked : get_or (union some others) p false ≡ true = sym (ap (λ (bs : List Bool). get_or bs p false) m) ∙ t in
+    let here : p < length some = omega (arith, member_within (union some others) p marked, length-map-range_with_len mark 0 (length some)) in
     let at : mark p ≡ true = sym (get_or-map-range_with_len mark 0 (length some) p p false here (omega arith)) ∙ marked in
-    elim (or_true (get_or some p false) (get_or always p false) at) [
+    elim (or_true (get_or some p false) (get_or others p false) at) [
       | inl delivered ↦
           let now : touched p ≡ true = sym (get_or-map-range_with_len touched 0 (length us) p p false (omega (arith, here, count)) (omega arith)) ∙ delivered in
           inr (inl (record { step = s; before = long; touched = ap (λ (os : List OutcomeParts). is_touched (delivered_outcomes old s) os p) last ∙ now }))
@@ -138,10 +139,10 @@ under_way_turned turn looks old input r q marks u v o h is k l =
     }
 
 -- So does one that ends by delivery.
-pub under_way_delivered : (turn : ViewParts → OutcomeParts) (looks : ViewParts → ℕ → Bool) (old : Option Run) (input : Input) (always : List Bool) (r q : Run) (m marks : List Bool) (u v : Update) → is_open r.phase ≡ true → is_turned (after_turns r (map turn (open_views r))).phase ≡ true → IsBefore turn input old → AreArgsMarked old input always → IsUnderWay turn looks old input r m u → q ≡ after_delivery (after_turns r (map turn (open_views r)))
-    → marks ≡ union (each_below (length (map turn (open_views r))) (is_touched (delivered_outcomes old (length r.past)) (map turn (open_views r)))) always
+pub under_way_delivered : (turn : ViewParts → OutcomeParts) (looks : ViewParts → ℕ → Bool) (old : Option Run) (input : Input) (others : List Bool) (r q : Run) (m marks : List Bool) (u v : Update) → is_open r.phase ≡ true → is_turned (after_turns r (map turn (open_views r))).phase ≡ true → IsBefore turn input old → AreArgsMarked old input others → IsUnderWay turn looks old input r m u → q ≡ after_delivery (after_turns r (map turn (open_views r)))
+    → marks ≡ union (each_below (length (map turn (open_views r))) (is_touched (delivered_outcomes old (length r.past)) (map turn (open_views r)))) others
     → v.executed ≡ u.executed ++ differ_in looks (length r.past) (views_before old (length r.past)) (open_views r) → v.redelivered ≡ u.redelivered ++ touched_in (length r.past) (delivered_outcomes old (length r.past)) (map turn (open_views r)) → IsUnderWay turn looks old input q marks v
-under_way_delivered turn looks old input always r q m marks u v o t b a h is n k l =
+under_way_delivered turn looks old input others r q m marks u v o t b a h is n k l =
     let e = open_phase r.phase o in
     let us = map turn (open_views r) in
     let s = length r.past in
@@ -150,8 +151,8 @@ under_way_delivered turn looks old input always r q m marks u v o t b a h is n k
     let long : length next.past ≡ s + 1 = ap (λ (xs : List Superstep). length xs) (past-delivered r us) ∙ length-append r.past (superstep (open_views r) us ∷ []) in
     let views : open_views next ≡ views_in turn input (s + 1) = open_views-in turn input next made ∙ ap (views_in turn input) long in
     let none : s - s ≡ 0 = omega arith in
-    let all : List OutcomeParts → List Bool = λ os. union (each_below (length os) (is_touched (delivered_outcomes old s) os)) always in
-    let marked = marked_next turn input old s always marks b a (n ∙ ap all (turns-in turn input r h.made)) in
+    let all : List OutcomeParts → List Bool = λ os. union (each_below (length os) (is_touched (delivered_outcomes old s) os)) others in
+    let marked = marked_next turn input old s others marks b a (n ∙ ap all (turns-in turn input r h.made)) in
     let many : length us ≡ length input.mems = ap (λ (os : List OutcomeParts). length os) (turns-in turn input r h.made) ∙ count-outcomes_in turn input s in
     let last : (superstep_at next.past s).outcomes ≡ us =
     ap (λ (xs : List Superstep). (superstep_at xs s).outcomes) (past-delivered r us) ∙ ap (λ (x : Superstep). x.outcomes) (get_or-append_right r.past (superstep (open_views r) us ∷ []) s s no_superstep refl (omega arith) ∙ ap (λ k. get_or (superstep (open_views r) us ∷ []) k no_superstep) none) in
@@ -159,7 +160,7 @@ under_way_delivered turn looks old input always r q m marks u v o t b a h is n k
     record {
       made = made;
       marked = λ _. subst (λ i. AreMarked (views_before old i) (open_views next) marks) (sym long) (subst (λ (vs : List ViewParts). AreMarked (views_before old (s + 1)) vs marks) (sym views) marked);
-      reached = λ _. reached_next old input next s us always marks a many long last n;
+      reached = λ _. reached_next old input next s us others marks a many long last n;
       updated = updated_delivered looks old r us u v e h.updated k l;
     }
 

@@ -23,9 +23,9 @@ use Rattle.bsp_run.specs.Inside.Record.{IsRecord}
 use Rattle.bsp_run.proofs.Records.{opened-past, open_views-in, count-views_in, count-outcomes_in, IsRecord-run}
 use Rattle.bsp_run.proofs.OneRun.{one_run}
 use Rattle.bsp_run.proofs.Laws.{superstep_at-past_end, taken-opened, taken_outcomes}
-use Rattle.bsp_incr.specs.Inside.Marks.{HaveOneTable, AreDelivered}
+use Rattle.bsp_incr.specs.Inside.Marks.{HaveOneTable, AreDelivered, AreArgsMarked}
 use Rattle.bsp_incr.specs.Exact.{supersteps_before}
-use Rattle.bsp_incr.specs.Inside.Before.{views_before, outcomes_before, delivered_outcomes, views_after, first_view_before, IsBefore, IsBeforeEdits, HasSameArgs, HasSameMemory, AreArgsMarked}
+use Rattle.bsp_incr.specs.Inside.Before.{views_before, outcomes_before, delivered_outcomes, views_after, first_view_before, IsBefore, IsBeforeEdits, HasSameArgs, HasSameMemory}
 use Rattle.bsp_incr.specs.Inside.Changes.{processes_where}
 use Rattle.bsp_incr.specs.declared.edit.Edit.{Edit}
 use Rattle.bsp_incr.proofs.Lawful.{edited_count}

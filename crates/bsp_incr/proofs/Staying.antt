@@ -31,7 +31,8 @@ use Rattle.bsp_incr.specs.declared.reply.Place.{Place}
 use Rattle.bsp_incr.specs.declared.reply.Update.{Update}
 use Rattle.bsp_incr.specs.Inside.Changes.{differ_in, touched_in}
 use Rattle.bsp_incr.specs.Inside.Marks.{AreMarked, AreAlikeButForTable, ViewsDifferAtMost}
-use Rattle.bsp_incr.specs.Inside.Before.{views_before, delivered_outcomes, IsBefore, IsUnderWay}
+use Rattle.bsp_incr.specs.Inside.Before.{views_before, delivered_outcomes, IsBefore}
+use Rattle.bsp_incr.specs.Inside.UnderWay.{IsUnderWay}
 use Rattle.bsp_incr.proofs.Members.{no_members, nobody_marked}
 use Rattle.bsp_incr.proofs.Propagation.{view-in}
 use Rattle.bsp_incr.proofs.RunBefore.{record_of_law, taken-in, some_taken}

@@ -2,8 +2,9 @@ pub mod Formers
 pub mod Comparing
 pub mod Reuse
 pub mod Changes
-pub mod Marks
 pub mod Before
+pub mod Marks
+pub mod UnderWay
 pub mod Replies
 pub mod Marking
 pub mod Alike

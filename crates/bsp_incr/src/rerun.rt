@@ -6,7 +6,8 @@ ghost use Rattle.bsp_run.specs.Run.{run};
 ghost use Rattle.bsp_run.specs.Law.{IsBspRun};
 ghost use Rattle.bsp_incr.specs.Inside.Changes.{update_of};
 ghost use Rattle.bsp_incr.specs.Edits.{refusal_of, edited};
-ghost use Rattle.bsp_incr.specs.Inside.Before.{IsBefore, IsBeforeEdits, AreArgsMarked, AreFirstMarked};
+ghost use Rattle.bsp_incr.specs.Inside.Before.{IsBefore, IsBeforeEdits};
+ghost use Rattle.bsp_incr.specs.Inside.Marks.{AreArgsMarked, AreFirstMarked};
 ghost use Rattle.bsp_incr.specs.Inside.Given.{turn_by};
 
 mod counts;

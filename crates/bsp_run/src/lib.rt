@@ -32,7 +32,7 @@ pub use copying::copied;
 pub use history::History;
 pub use law::one_run;
 pub use phase::Phase;
-pub use plain::{run_plain, run_result};
+pub use plain::{lawful_result, run_plain, run_result};
 pub use process_lines::Lines;
 pub use result::{ProcessFault, RunError, RunResult, Status};
 pub use setting::Setting;

@@ -13,6 +13,7 @@ ghost use Rattle.bsp_run.specs.RunErrors.{input_fault_of};
 
 use crate::ending::end_of;
 use crate::supersteps::run_by;
+use crate::tape::checked;
 use crate::unrecorded::{ended, ended_at_limit, go_on, open_unrecorded};
 use crate::wide::turns_by_one;
 use crate::{History, RunError, RunResult, TurnRows, Views};
@@ -82,15 +83,14 @@ fn all_turns<P: Program>(
     Ok((rows.share()?, spare))
 }
 
-/// What the run of a program on an input gives, superstep by superstep.
-fn unrecorded_result<P: Program>(
+/// What `run_result` answers, where the input is known to be lawful.
+pub fn lawful_result<P: Program>(
     alloc: Global,
     program: &P,
     input: &Input,
-) -> Result<RunResult, RunError>
-    ensures lawful { OnOk result (input_fault input.now ≡ None) }
-    ensures result { IfOk result (λ r. r ≡ result_of (run (turn_of (P.acts program.now) (P.ending program.now)) input.now)) }
-    ensures input { IfErr result (λ e. input_fault input.now ≡ input_fault_of e) }
+) -> Result<RunResult, OutOfMemory>
+    requires lawful { input_fault input.now ≡ None }
+    ensures { IfOk result (λ r. r ≡ result_of (run (turn_of (P.acts program.now) (P.ending program.now)) input.now)) }
 {
     let mut kept = open_unrecorded(alloc, input)?;
     let mut before = Outcomes::new();
@@ -119,6 +119,7 @@ pub fn run_result<P: Program>(
     ensures law { IfOk result (λ r. IsBspResult (turn_of (P.acts program.now) (P.ending program.now)) input.now r) }
     ensures input { IfErr result (λ e. input_fault input.now ≡ input_fault_of e) }
 {
-    let result = unrecorded_result(alloc, program, input)?;
+    checked(input)?;
+    let result = lawful_result(alloc, program, input)?;
     Ok(result)
 }

@@ -1,6 +1,6 @@
 //! A run of which no record is kept: what its reply needs, superstep by superstep.
 
-ghost use Rattle.std.specs.Prelude.{◌≡◌, ◌<◌, ◌≤◌, ◌+◌, ◌^◌, ◌++◌, ◌∷◌, ℕ, [], All, None, IfOk, IfErr, OnOk, length, map};
+ghost use Rattle.std.specs.Prelude.{◌≡◌, ◌<◌, ◌≤◌, ◌+◌, ◌^◌, ◌++◌, ◌∷◌, ℕ, [], All, None, IfOk, length, map};
 ghost use Rattle.std.specs.List.{range_with_len};
 ghost use Rattle.bsp_model.specs.Input.{input_fault};
 ghost use Rattle.bsp_deliver.specs.Requests.{each_below};
@@ -12,7 +12,6 @@ ghost use Rattle.bsp_run.specs.Inside.Opening.{CanOpen};
 ghost use Rattle.bsp_run.specs.Condition.{deliveries_of};
 ghost use Rattle.bsp_run.specs.Inside.Condition.{CanSync};
 ghost use Rattle.bsp_run.specs.Result.{cost_of_delivery, cost_of_end, total_of, IsSmall};
-ghost use Rattle.bsp_run.specs.RunErrors.{input_fault_of};
 ghost use Rattle.bsp_run.specs.Inside.Unrecorded.{lines_and, lines_in, state_after, AreLinesAnd};
 ghost use Rattle.bsp_run.specs.Inside.IsUnrecorded.{IsUnrecorded};
 
@@ -22,8 +21,7 @@ use crate::keeping::next_table;
 use crate::opening::{first_cells, shared_args};
 use crate::printed::{add_printed, lines_and_last, lines_printed};
 use crate::supersteps::numbers;
-use crate::tape::checked;
-use crate::{Arguments, RunError, RunResult, Setting, Status, Views};
+use crate::{Arguments, RunResult, Setting, Status, Views};
 use bsp_deliver::{Cells, deliver_all, next_tag_size};
 use bsp_model::limits::{HIGHEST_PRICE, MOST_SUPERSTEPS};
 use bsp_model::{CostRow, Input, LineColumn, OutOfMemory, Seq, TryCopy};
@@ -44,13 +42,11 @@ pub(crate) struct Unrecorded {
     pub(crate) costs: Seq<CostRow>,
 }
 
-/// What is kept before the first superstep. `Input(f)` exactly where the input's check answers f, or `OutOfMemory`.
-pub(crate) fn open_unrecorded(alloc: Global, input: &Input) -> Result<Unrecorded, RunError>
-    ensures kept { IfOk result (λ kept. IsUnrecorded input.now (start input.now) kept) }
-    ensures lawful { OnOk result (input_fault input.now ≡ None) }
-    ensures input { IfErr result (λ e. input_fault input.now ≡ input_fault_of e) }
+/// What is kept before the first superstep.
+pub(crate) fn open_unrecorded(alloc: Global, input: &Input) -> Result<Unrecorded, OutOfMemory>
+    requires lawful { input_fault input.now ≡ None }
+    ensures { IfOk result (λ kept. IsUnrecorded input.now (start input.now) kept) }
 {
-    checked(input)?;
     let args = shared_args(&input.args)?;
     let cells = first_cells(alloc, input.mems.as_slice())?;
     let processes = numbers(alloc, cells.len())?;

@@ -9,7 +9,9 @@ use Rattle.bsp_step.specs.OutcomeParts.{OutcomeParts}
 use Rattle.bsp_step.specs.Turn.{turn_of}
 use Rattle.bsp_run.specs.Run.{Run}
 use Rattle.bsp_incr.specs.declared.rerun.under_way.UnderWay.{UnderWay}
-use Rattle.bsp_incr.specs.Inside.Before.{views_before, delivered_outcomes, AreArgsMarked, IsBefore, IsUnderWay}
+use Rattle.bsp_incr.specs.Inside.Before.{views_before, delivered_outcomes, IsBefore}
+use Rattle.bsp_incr.specs.Inside.Marks.{AreArgsMarked}
+use Rattle.bsp_incr.specs.Inside.UnderWay.{IsUnderWay}
 
 -- what a turn of a program leaves at a view
 abbrev pub turn_by : {P : Type 0} → Ghosts P → P → ViewParts → OutcomeParts

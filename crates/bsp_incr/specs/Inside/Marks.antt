@@ -1,10 +1,15 @@
--- Which views of an open superstep may differ from those of the run before: what the private functions of this crate ask and promise.
-use Rattle.std.specs.Prelude.{◌≡◌, ◌<◌, ℕ, Bool, true, false, List, length, slice_index_or}
+-- Who may see something else in an open superstep than in the run before: what the private functions of this crate ask and promise.
+use Rattle.std.specs.Prelude.{◌≡◌, ◌<◌, ◌⊎◌, ℕ, ◌+◌, Bool, true, false, List, Option, length, slice_index_or}
+use Rattle.bsp_model.specs.declared.input.Input.{Input}
 use Rattle.bsp_step.specs.ViewParts.{ViewParts}
 use Rattle.bsp_step.specs.OutcomeParts.{OutcomeParts, outcome_of}
 use Rattle.bsp_deliver.specs.Delivery.{delivery_parts, next_memory, next_queue}
 use Rattle.bsp_deliver.specs.Condition.{AreDeliverable}
+use Rattle.bsp_run.specs.Run.{Run}
+use Rattle.bsp_run.specs.Supersteps.{superstep_at}
 use Rattle.bsp_run.specs.Condition.{no_view}
+use Rattle.bsp_incr.specs.Inside.Before.{delivered_outcomes, HasSameArgs, HasOtherArgs, HasSameMemory, HasOtherMemory}
+use Rattle.bsp_incr.specs.Inside.Changes.{is_touched}
 
 -- views that are equal but for the table and the tag size
 pub record AreAlikeButForTable (v w : ViewParts) : Type 0 where
@@ -46,3 +51,29 @@ pub record AreComparable (os us : List OutcomeParts) : Type 0 where
   pub count : 0 < length os → length os ≡ length us
   pub before : 0 < length os → AreDeliverable os
   pub after : AreDeliverable us
+
+-- A process whose arguments are not marked has those of the run before, and one whose arguments are marked has others.
+pub record AreArgsMarked (old : Option Run) (input : Input) (marks : List Bool) : Type 0 where
+  pub count : length marks ≡ length input.mems
+  pub clean : (p : ℕ) → p < length input.mems → slice_index_or marks p true ≡ false → HasSameArgs old input p
+  pub other : (p : ℕ) → p < length input.mems → slice_index_or marks p false ≡ true → HasOtherArgs old input p
+
+-- A process that is not marked for superstep 0 has the memory and the arguments of the run before, and one that is marked has another memory or other
+-- arguments.
+pub record AreFirstMarked (old : Option Run) (input : Input) (marks : List Bool) : Type 0 where
+  pub count : length marks ≡ length input.mems
+  pub memory : (p : ℕ) → p < length input.mems → slice_index_or marks p true ≡ false → HasSameMemory old input p
+  pub args : (p : ℕ) → p < length input.mems → slice_index_or marks p true ≡ false → HasSameArgs old input p
+  pub other : (p : ℕ) → p < length input.mems → slice_index_or marks p false ≡ true → HasOtherMemory old input p ⊎ HasOtherArgs old input p
+
+-- What the superstep before the open one delivered to a process depends on something else than in the run before, or that run delivered nothing there.
+pub record IsRedelivered (old : Option Run) (r : Run) (p : ℕ) : Type 0 where
+  pub step : ℕ
+  pub before : length r.past ≡ step + 1
+  pub touched : is_touched (delivered_outcomes old step) (superstep_at r.past step).outcomes p ≡ true
+
+-- Something has reached a process before the open superstep (this profile): it has other arguments than in the run before, something was delivered to it
+-- anew, or the open superstep is the first and it begins with another memory.
+abbrev pub IsReached : Option Run → Input → Run → ℕ → Type 0
+IsReached old input r p =
+    HasOtherArgs old input p ⊎ (IsRedelivered old r p ⊎ ((length r.past ≡ 0) × HasOtherMemory old input p))

@@ -1,7 +1,8 @@
 //! Which processes have another memory or other arguments than in the run before.
 
 ghost use Rattle.std.specs.Prelude.{◌≡◌, IfOk, None, Some};
-ghost use Rattle.bsp_incr.specs.Inside.Before.{IsBeforeEdits, AreArgsMarked, AreFirstMarked};
+ghost use Rattle.bsp_incr.specs.Inside.Before.{IsBeforeEdits};
+ghost use Rattle.bsp_incr.specs.Inside.Marks.{AreArgsMarked, AreFirstMarked};
 ghost use Rattle.bsp_incr.specs.Inside.Marking.{word_before, word_now, arg_before, arg_now, word_place, arg_place};
 ghost use Rattle.bsp_incr.specs.Inside.Marking.{marked_if, marked_at, all_marked};
 

@@ -4,7 +4,7 @@ ghost use Rattle.std.specs.Prelude.{◌≡◌, IfOk, length, map, slice_index_or
 ghost use Rattle.bsp_model.specs.ProcessSet.{processes_in};
 ghost use Rattle.bsp_model.specs.Replaced.{replaced};
 ghost use Rattle.bsp_run.specs.Run.{start};
-ghost use Rattle.bsp_incr.specs.Inside.Before.{AreFirstMarked};
+ghost use Rattle.bsp_incr.specs.Inside.Marks.{AreFirstMarked};
 
 use crate::compare::with_first_views;
 use crate::rerun::given::Given;

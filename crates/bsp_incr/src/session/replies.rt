@@ -16,7 +16,7 @@ use crate::rerun::Workers;
 use crate::{Batch, EditError, Reply, Session, Update};
 use bsp_model::{Input, OutOfMemory};
 use bsp_pool::Gate;
-use bsp_run::{History, RunError, run_result};
+use bsp_run::{History, RunError, lawful_result};
 use bsp_step::Program;
 use std::alloc::{AllocError, Global};
 use std::thread::Threads;
@@ -110,14 +110,17 @@ pub fn session_run<P: Program + Drop, R: Threads + Sync, G: Gate>(
     Ok(all_replies(&workers, alloc, &mut session, update, batches)?)
 }
 
-/// The reply that gives the run of an input, made afresh.
-fn scratch_done<P: Program>(alloc: Global, program: &P, input: &Input) -> Result<Reply, RunError>
-    ensures reply { IfOk result
+/// The reply that gives the run of a lawful input, made afresh.
+fn scratch_done<P: Program>(
+    alloc: Global,
+    program: &P,
+    input: &Input,
+) -> Result<Reply, OutOfMemory>
+    requires lawful { input_fault input.now ≡ None }
+    ensures { IfOk result
         (λ reply. reply ≡ Reply.Done (result_of (run (turn_by P.Program program.now) input.now)) None) }
-    ensures lawful { OnOk result (input_fault input.now ≡ None) }
-    ensures input { IfErr result (λ e. input_fault input.now ≡ input_fault_of e) }
 {
-    let result = run_result(alloc, program, input)?;
+    let result = lawful_result(alloc, program, input)?;
     Ok(Reply::Done {
         result,
         update: None,
@@ -142,11 +145,8 @@ fn scratch_reply<P: Program>(
         None => {}
     }
     let _formers = make_edits(alloc, input, batch.as_slice())?;
-    match scratch_done(alloc, program, input) {
-        Ok(reply) => Ok(reply),
-        Err(RunError::OutOfMemory) => Err(AllocError),
-        Err(RunError::Input(_)) => unreachable!(),
-    }
+    let reply = scratch_done(alloc, program, input)?;
+    Ok(reply)
 }
 
 /// The opening's reply, and those to the batches.
@@ -185,6 +185,10 @@ pub fn scratch_run<P: Program>(
     ensures lawful { OnOk result (input_fault input ≡ None) }
     ensures input { IfErr result (λ e. input_fault input ≡ input_fault_of e) }
 {
+    match input.check() {
+        Ok(()) => {}
+        Err(fault) => return Err(RunError::Input(fault)),
+    }
     let opening = scratch_done(alloc, program, &input)?;
     Ok(all_scratch_replies(alloc, program, opening, input, batches)?)
 }

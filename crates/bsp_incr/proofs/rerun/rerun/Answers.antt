@@ -10,7 +10,8 @@ use Rattle.bsp_run.proofs.Laws.{IsBspRun-run}
 use Rattle.bsp_run.proofs.Runs.{LeadsTo, supersteps_left, start-leads, advance-leads, fewer_left, closed-leads}
 use Rattle.bsp_incr.specs.declared.reply.Update.{Update}
 use Rattle.bsp_incr.specs.Inside.Changes.{update_of}
-use Rattle.bsp_incr.specs.Inside.Before.{IsBefore, AreFirstMarked, views_before}
+use Rattle.bsp_incr.specs.Inside.Before.{IsBefore, views_before}
+use Rattle.bsp_incr.specs.Inside.Marks.{AreFirstMarked}
 use Rattle.bsp_incr.specs.Inside.Known.{IsKnown}
 use Rattle.bsp_incr.specs.declared.compare.known_table.KnownTable.{KnownTable}
 use Rattle.bsp_incr.specs.Inside.Stays.{LinesStayBut}

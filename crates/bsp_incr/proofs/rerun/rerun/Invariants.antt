@@ -2,7 +2,7 @@ use Rattle.std.specs.Prelude.{option_map}
 use Rattle.bsp_step.specs.Turn.{turn_of}
 use Rattle.bsp_run.specs.Run.{run}
 use Rattle.bsp_run.proofs.Runs.{LeadsTo, supersteps_left}
-use Rattle.bsp_incr.specs.Inside.Before.{IsUnderWay}
+use Rattle.bsp_incr.specs.Inside.UnderWay.{IsUnderWay}
 use Rattle.bsp_incr.specs.Inside.Known.{KnowsTable}
 use Rattle.bsp_incr.proofs.rerun.rerun.Given as goal
 

@@ -7,7 +7,7 @@ use Rattle.bsp_incr.specs.Inside.Given.{Making, IsMaking, turn_by}
 use Rattle.bsp_incr.specs.Inside.Marks.{AreMarked}
 use Rattle.bsp_incr.specs.Inside.Before.{views_before}
 use Rattle.bsp_incr.specs.declared.compare.known_table.KnownTable.TheVariants.{AsBefore}
-use Rattle.bsp_incr.specs.Inside.Before.{IsUnderWay}
+use Rattle.bsp_incr.specs.Inside.UnderWay.{IsUnderWay}
 use Rattle.bsp_incr.specs.Inside.Known.{IsKnown, KnowsTable}
 use Rattle.bsp_incr.proofs.KnownTables.{knows_taken}
 use Rattle.bsp_incr.proofs.Staying.{staying_whole, left, goes_on, can_take_over, under_way_taken}

@@ -8,6 +8,6 @@ returns-clause-law g c =
     let turn = turn_of (g.P.Program.acts c.args.program.now) (g.P.Program.ending c.args.program.now) in
     record {
       run = run turn c.args.input.now;
-      law = IsBspRun-run turn c.args.input.now c.in_ok-result.ensures.lawful;
-      gives = c.in_ok-result.ensures.result;
+      law = IsBspRun-run turn c.args.input.now c.in_ok-checked.ensures.ok;
+      gives = c.in_ok-result.ensures;
     }

@@ -10,15 +10,15 @@ use Rattle.bsp_run.proofs.unrecorded.open_unrecorded.Goals as goal
 pub open-requires : goal.open-requires
 open-requires c =
     let input = c.args.input.now in
-    let h = lawful_input input c.in_ok-checked.ensures.ok in
+    let h = lawful_input input c.requires.lawful in
     let cells = c.in_ok-cells.ensures ∙ ap (map (λ m. (m, no_messages m))) c.as_slice.ensures in
     let setting = c.in_ok-setting.ensures ∙ (λ i. record { step = 0; args = c.in_ok-args.ensures i; table = []; tag_size = 0 }) in
     opens_first input c.in_ok-setting.setting c.in_ok-cells.cells h setting cells
 
-pub returns-clause-kept : goal.returns-clause-kept
-returns-clause-kept c =
+pub returns : goal.returns
+returns c =
     let input = c.args.input.now in
-    let h = lawful_input input c.in_ok-checked.ensures.ok in
+    let h = lawful_input input c.requires.lawful in
     let cells = c.in_ok-cells.ensures ∙ ap (map (λ m. (m, no_messages m))) c.as_slice.ensures in
     let setting = c.in_ok-setting.ensures ∙ (λ i. record { step = 0; args = c.in_ok-args.ensures i; table = []; tag_size = 0 }) in
     let views = c.in_ok-views.ensures ∙ views_first input c.in_ok-setting.setting c.in_ok-cells.cells setting cells in

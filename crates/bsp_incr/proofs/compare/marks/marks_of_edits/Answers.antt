@@ -1,6 +1,6 @@
 use Rattle.std.proofs.Common.{◌∙◌, ℕ, Bool, List, Some, false, ap, sym, subst}
 use Rattle.std.specs.Prelude.{replicate}
-use Rattle.bsp_incr.specs.Inside.Before.{AreArgsMarked, AreFirstMarked}
+use Rattle.bsp_incr.specs.Inside.Marks.{AreArgsMarked, AreFirstMarked}
 use Rattle.bsp_incr.specs.Inside.Marking.{word_before, word_now, arg_before, arg_now, word_place, arg_place, all_marked}
 use Rattle.bsp_incr.proofs.Marking.{args_marked, first_marked}
 use Rattle.bsp_incr.proofs.compare.marks.marks_of_edits.Goals as goal

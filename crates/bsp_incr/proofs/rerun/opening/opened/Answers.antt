@@ -8,7 +8,8 @@ use Rattle.bsp_run.specs.Run.{Run}
 use Rattle.bsp_run.specs.State.{cell_of, first_cell}
 use Rattle.bsp_incr.specs.Inside.Changes.{processes_where}
 use Rattle.bsp_incr.specs.Inside.Given.{Making, turn_by}
-use Rattle.bsp_incr.specs.Inside.Before.{AreArgsMarked, AreFirstMarked, IsBefore}
+use Rattle.bsp_incr.specs.Inside.Before.{IsBefore}
+use Rattle.bsp_incr.specs.Inside.Marks.{AreArgsMarked, AreFirstMarked}
 use Rattle.bsp_incr.proofs.Gathering.{listed_below, processes_where-ascending}
 use Rattle.bsp_incr.proofs.FirstViews.{first_cells_in_place}
 use Rattle.bsp_incr.proofs.RunBefore.{args_in_place, count_args}

@@ -9,6 +9,6 @@ returns-clause-law g c =
     let looks = g.P.Program.looks c.args.program.now in
     record {
       whole = replies looks turn c.args.input c.args.batches.now;
-      are = law_of_replies looks turn c.args.input c.args.batches.now c.in_ok-opening.ensures.lawful;
+      are = law_of_replies looks turn c.args.input c.args.batches.now c.in-Ok.ensures.ok;
       without = c.in_ok-all_scratch_replies.ensures;
     }

@@ -1,18 +1,15 @@
 use Rattle.std.proofs.Common.{◌≡◌, ◌∙◌, ◌+◌, ◌-◌, suc, List, None, Some, ap, sym, refl, arith}
 use Rattle.bsp_model.specs.declared.input.Input.{Input}
-use Rattle.bsp_model.specs.Input.{input_fault}
 use Rattle.bsp_model.proofs.Inputs.{lawful_input}
 use Rattle.bsp_step.specs.OutcomeParts.{OutcomeParts}
 use Rattle.bsp_step.specs.Turn.{turn_of}
-use Rattle.bsp_run.specs.RunErrors.{input_fault_of}
-use Rattle.bsp_run.proofs.RunErrors.{lawful_input_refused}
 use Rattle.bsp_run.proofs.UnrecordedRuns.{IsUnderway, underway_start, turns_are, processes_are, some_turns, slots_are, goes_on, unrecorded_delivered, step_is, underway_next, result_ended, result_at_limit, few_rows, rows_at_limit, end_is}
-use Rattle.bsp_run.proofs.plain.unrecorded_result.Goals as goal
+use Rattle.bsp_run.proofs.plain.lawful_result.Goals as goal
 
 pub loop-step-init : goal.loop-step-init
 loop-step-init g c =
     let input : Input = c.args.input.now in
-    underway_start (turn_of (g.P.Program.acts c.args.program.now) (g.P.Program.ending c.args.program.now)) input (input.limit - 0) c.in_ok-kept.kept (omega arith) (lawful_input input c.in_ok-kept.ensures.lawful).some_superstep c.in_ok-kept.ensures.kept
+    underway_start (turn_of (g.P.Program.acts c.args.program.now) (g.P.Program.ending c.args.program.now)) input (input.limit - 0) c.in_ok-kept.kept (omega arith) (lawful_input input c.requires.lawful).some_superstep c.in_ok-kept.ensures
 
 pub end_of-requires-clause-some : goal.end_of-requires-clause-some
 end_of-requires-clause-some g c =
@@ -43,8 +40,8 @@ ended-requires-clause-small g c =
     let u : IsUnderway (turn_of (g.P.Program.acts c.args.program.now) (g.P.Program.ending c.args.program.now)) c.args.input.now (c.args.input.now.limit - c.loop-step.step) c.loop-step.kept = c.loop-step.invariant in
     u.same.small
 
-pub returns-in-Some-clause-result : goal.returns-in-Some-clause-result
-returns-in-Some-clause-result g c =
+pub returns-in-Some : goal.returns-in-Some
+returns-in-Some g c =
     let input : Input = c.args.input.now in
     let u : IsUnderway (turn_of (g.P.Program.acts c.args.program.now) (g.P.Program.ending c.args.program.now)) c.args.input.now (c.args.input.now.limit - c.loop-step.step) c.loop-step.kept = c.loop-step.invariant in
     let os : List OutcomeParts = c.in_ok-outcomes.outcomes in
@@ -130,13 +127,9 @@ ended_at_limit-requires-clause-small g c =
     let u : IsUnderway (turn_of (g.P.Program.acts c.args.program.now) (g.P.Program.ending c.args.program.now)) c.args.input.now (c.args.input.now.limit - c.loop-step.step) c.loop-step.kept = c.loop-step.invariant in
     u.same.small
 
-pub returns-clause-result : goal.returns-clause-result
-returns-clause-result g c =
+pub returns : goal.returns
+returns g c =
     let input : Input = c.args.input.now in
     let u : IsUnderway (turn_of (g.P.Program.acts c.args.program.now) (g.P.Program.ending c.args.program.now)) c.args.input.now (c.args.input.now.limit - c.loop-step.step) c.loop-step.kept = c.loop-step.invariant in
     let full : input.limit - c.loop-step.step ≡ 0 = omega (arith, c.loop-step-test.false) in
     c.in_ok-ended_at_limit.ensures ∙ result_at_limit (turn_of (g.P.Program.acts c.args.program.now) (g.P.Program.ending c.args.program.now)) input (input.limit - c.loop-step.step) c.loop-step.kept u full
-
-pub returns-in_err-status-clause-input : goal.returns-in_err-status-clause-input
-returns-in_err-status-clause-input g c =
-    lawful_input_refused _ c.from_residual-in_err-status.result (input_fault c.args.input.now) c.in_ok-kept.ensures.lawful (λ e out. ap input_fault_of out) c.from_residual-in_err-status.ensures.1
