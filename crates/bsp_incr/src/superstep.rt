@@ -83,7 +83,7 @@ fn take_turns<P: Program, G: Gate, R: Threads + Sync>(
 }
 
 /// The turns and the deliveries of the open superstep, in which the others than the doubtful processes see what they saw in the run before.
-fn make_again<P: Program, G: Gate, R: Threads + Sync>(
+fn remake_superstep<P: Program, G: Gate, R: Threads + Sync>(
     given: &Given<'_, P, R, G>,
     tape: &mut Tape,
     doubtful: &Doubtful,
@@ -154,5 +154,5 @@ pub fn advance<P: Program, G: Gate, R: Threads + Sync>(
         return Ok(());
     }
     let doubtful = Doubtful::among(given.alloc, &superstep, marks, under_way.table)?;
-    make_again(given, tape, &doubtful, under_way)
+    remake_superstep(given, tape, &doubtful, under_way)
 }

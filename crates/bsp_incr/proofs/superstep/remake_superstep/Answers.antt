@@ -15,7 +15,7 @@ use Rattle.bsp_incr.specs.Inside.Marks.{OutcomesDifferAtMost}
 use Rattle.bsp_incr.specs.Inside.Before.{delivered_outcomes}
 use Rattle.bsp_incr.proofs.KnownTables.{knows_delivered, knows_ended}
 use Rattle.bsp_incr.proofs.Remaking.{turns-in, unchanged_among, outcomes-turned, under_way_turned, under_way_delivered}
-use Rattle.bsp_incr.proofs.superstep.make_again.Goals as goal
+use Rattle.bsp_incr.proofs.superstep.remake_superstep.Goals as goal
 
 pub make_deliveries-requires-clause-many : goal.make_deliveries-requires-clause-many
 make_deliveries-requires-clause-many g c κs within =
