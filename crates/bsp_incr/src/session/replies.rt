@@ -111,11 +111,7 @@ pub fn session_run<P: Program + Drop, R: Threads + Sync, G: Gate>(
 }
 
 /// The reply that gives the run of a lawful input, made afresh.
-fn scratch_done<P: Program>(
-    alloc: Global,
-    program: &P,
-    input: &Input,
-) -> Result<Reply, OutOfMemory>
+fn scratch_done<P: Program>(alloc: Global, program: &P, input: &Input) -> Result<Reply, OutOfMemory>
     requires lawful { input_fault input.now ≡ None }
     ensures { IfOk result
         (λ reply. reply ≡ Reply.Done (result_of (run (turn_by P.Program program.now) input.now)) None) }
