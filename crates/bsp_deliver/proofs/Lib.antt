@@ -1,3 +1,4 @@
+pub mod AllProcesses
 pub mod Writes
 pub mod Senders
 pub mod Queues

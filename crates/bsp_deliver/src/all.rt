@@ -39,6 +39,24 @@ fn write_and_count(
     Ok(sums)
 }
 
+/// The memories of all processes after delivery, in the room of others, and the words of all requests.
+fn memories_and_sums(
+    alloc: Global,
+    outcomes: &Outcomes,
+    processes: &[usize],
+    room: Memories,
+) -> Result<(Memories, Sums), OutOfMemory>
+    requires deliverable { AreDeliverable outcomes.now }
+    requires processes { processes.now ≡ range_with_len 0 (length outcomes.now) }
+    ensures memories { IfOk result (λ all. all.0 ≡ map (λ d. next_memory (delivery_parts outcomes.now d)) processes.now) }
+    ensures sums { IfOk result (λ all. all.1 ≡ fold counted no_words (transfers_from 0 outcomes.now)) }
+    ensures room { IfOk result (λ all. HasRoom all.1 0) }
+{
+    let mut memories = memories_with_gets(alloc, outcomes, processes, room)?;
+    let sums = write_and_count(&mut memories, processes, outcomes)?;
+    Ok((memories, sums))
+}
+
 /// What `deliver` answers for each process, and what `h_of` answers: the words of the puts are counted as they are written. What the processes get
 /// is gathered in the room of others, which are no longer needed. `processes` are the numbers of all, in order.
 pub fn deliver_all(
@@ -54,8 +72,7 @@ pub fn deliver_all(
     ensures h { IfOk result (λ all. IsHRelation outcomes.now all.1) }
 {
     let (old_memories, old_queues) = room.into_parts();
-    let mut memories = memories_with_gets(alloc, outcomes, processes, old_memories)?;
-    let sums = write_and_count(&mut memories, processes, outcomes)?;
+    let (memories, sums) = memories_and_sums(alloc, outcomes, processes, old_memories)?;
     let queues = queues_after(alloc, outcomes, processes, old_queues)?;
     let h = h_from(&sums, outcomes);
     Ok((Cells::from_parts(memories, queues), h))

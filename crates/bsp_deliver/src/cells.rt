@@ -52,10 +52,12 @@ impl Cells {
     fn with_room_of(alloc: Global, like: &Cells) -> Result<Cells, OutOfMemory>
         ensures { IfOk result (λ cells. cells ≡ []) }
     {
-        Ok(Cells {
+        let mut cells = Cells {
             memories: Memories::with_room_of(alloc, &like.memories, Share::whole())?,
-            queues: MessageColumn::with_room_of(alloc, &like.queues, Share::whole())?,
-        })
+            queues: MessageColumn::new(alloc),
+        };
+        cells.queues.make_room_like(&like.queues, Share::whole())?;
+        Ok(cells)
     }
 
     /// Takes all processes away. The room stays.
@@ -132,8 +134,16 @@ impl Cells {
         ensures err { OnErr result (self.new ≡ self.old) }
     {
         let mut memory = memory;
-        self.queues.put(self.memories.len(), &queue.as_ref())?;
-        self.memories.push_from(&mut memory)?;
+        self.push_from(&mut memory, &queue.as_ref())
+    }
+
+    /// The same, where the words of the memory are taken out of it.
+    fn push_from(&mut self, memory: &mut Memory, queue: &MessagesRef<'_>) -> Result<(), OutOfMemory>
+        ensures ok { OnOk result (self.new ≡ self.old ++ (memory.old, queue.now) ∷ []) }
+        ensures err { OnErr result (self.new ≡ self.old) }
+    {
+        self.queues.put(self.memories.len(), queue)?;
+        self.memories.push_from(memory)?;
         Ok(())
     }
 
@@ -148,6 +158,19 @@ impl Cells {
     {
         self.queues.put(self.memories.len(), queue)?;
         self.memories.push_copy(memory)?;
+        Ok(())
+    }
+
+    /// Adds copies of the memories and queues that `more` has from `from` on, and before `to`. After `OutOfMemory` nothing has changed.
+    fn append_range(&mut self, more: &Cells, from: usize, to: usize) -> Result<(), OutOfMemory>
+        requires order { from ≤ to }
+        requires inside { to ≤ length more.now }
+        ensures ok { OnOk result (self.new ≡ self.old ++ slice_range more.now from to) }
+        ensures err { OnErr result (self.new ≡ self.old) }
+    {
+        self.queues
+            .take_range(self.memories.len(), &more.queues, from, to)?;
+        self.memories.append_range(&more.memories, from, to)?;
         Ok(())
     }
 
@@ -181,12 +204,8 @@ impl ByProcess for Cells {
     }
 
     fn with_range(self, more: &Cells, from: usize, to: usize) -> Result<Cells, OutOfMemory> {
-        let Cells {
-            memories,
-            mut queues,
-        } = self;
-        queues.take_range(memories.len(), &more.queues, from, to)?;
-        let memories = memories.with_range(&more.memories, from, to)?;
-        Ok(Cells { memories, queues })
+        let mut all = self;
+        all.append_range(more, from, to)?;
+        Ok(all)
     }
 }

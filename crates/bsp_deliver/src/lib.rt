@@ -27,6 +27,3 @@ pub use inboxes::Inbox;
 pub use same::{answers_same, parcel_same};
 pub use sorting::{SortedRequests, deliver_sorted, sort_requests};
 pub use touched::touched_by_changes;
-
-#[cfg(test)]
-mod tests;

@@ -5,16 +5,27 @@ use Rattle.std.proofs.lemmas.Bool.{cases_lt}
 use Rattle.std.proofs.lemmas.List.{get_or_past}
 use Rattle.std.proofs.lemmas.List.Edits.{length-between, get_or-between}
 use Rattle.bsp_model.specs.declared.request.Put.{Put}
-use Rattle.bsp_model.specs.declared.puts.PutHead.{PutHead}
+use Rattle.bsp_model.specs.declared.block.PutHead.{PutHead}
 use Rattle.bsp_model.specs.Columns.{row_at}
 use Rattle.bsp_model.specs.PutsTo.{AreToNone}
-use Rattle.bsp_model.specs.Inside.Columns.{pair_at, paired, puts_of}
-use Rattle.bsp_model.specs.Inside.HeadedRows.{rows_from}
-use Rattle.bsp_model.specs.Inside.Issued.{put_of}
+use Rattle.bsp_model.specs.Inside.Blocks.{blocks_of}
+use Rattle.bsp_model.specs.Inside.Columns.{pair_at, paired}
+use Rattle.bsp_model.specs.Inside.Blocks.{rows_from}
 use Rattle.bsp_model.specs.Inside.Rows.{rows_of, AreEnds}
-use Rattle.bsp_model.proofs.PairedColumns.{no_puts, row_from-pair}
+use Rattle.bsp_model.proofs.BlocksOf.{no_blocks}
+use Rattle.bsp_model.proofs.PairedColumns.{row_from-pair}
 use Rattle.bsp_model.proofs.RowsOf.{end-within, get_or-rows_of, length-rows_of}
 use Rattle.bsp_model.proofs.RowsBetween.{start_at, start_at-below}
+
+-- the put of a head and its words
+abbrev pub put_of : PutHead × (List ℕ) → Put
+put_of row = record { target = row.0.target; start = row.0.start; words = row.1 }
+
+abbrev pub puts_of : List (PutHead × ℕ) → List ℕ → List Put
+puts_of heads words = blocks_of put_of heads words
+
+no_puts : puts_of [] [] ≡ []
+no_puts = no_blocks put_of []
 
 -- a put is to the process of its head
 
@@ -25,7 +36,7 @@ length-puts start (head ∷ heads) words = ap suc (length-puts head.1 heads word
 
 target-put : (start : ℕ) (heads : List (PutHead × ℕ)) (words : List ℕ) (i : ℕ) (d : Put) (h : PutHead × ℕ) → i < length heads
     → (get_or (map put_of (rows_from start heads words)) i d).target ≡ (get_or heads i h).0.target
-unfolding rows_from put_of
+unfolding rows_from
 target-put start [] words i d h within = absurd (omega arith)
 target-put start (head ∷ heads) words zero d h within = refl
 target-put start (head ∷ heads) words (suc i) d h within = target-put head.1 heads words i d h (omega arith)

@@ -1,7 +1,7 @@
+pub mod BlocksOf
 pub mod FirstBits
 pub mod HeadsTo
 pub mod Inputs
-pub mod IssuedRows
 pub mod MadeAgain
 pub mod PagedMemories
 pub mod Pages
@@ -9,7 +9,6 @@ pub mod PairedColumns
 pub mod ProcessSets
 pub mod Ranges
 pub mod SetBits
-pub mod ShownRows
 pub mod Replaced
 pub mod Rests
 pub mod RowReplaced

@@ -4,22 +4,7 @@ use Rattle.std.specs.Prelude.{◌&&◌, length, nat_eq}
 use Rattle.std.proofs.lemmas.Bool.{cases_lt}
 use Rattle.std.proofs.lemmas.Bool.Decides.{nat_tests}
 use Rattle.bsp_model.specs.Columns.{row_at, AreCut, IsPut, AreTaken}
-use Rattle.bsp_model.specs.Inside.Columns.{pair_at, paired, puts_of, sends_of, AreSends}
-use Rattle.bsp_model.specs.Inside.HeadedRows.{rows_from}
-
--- two rows without items
-
-pub no_puts : puts_of [] [] ≡ []
-unfolding rows_from
-no_puts = refl
-
-pub no_sends : sends_of [] [] ≡ []
-unfolding rows_from
-no_sends = refl
-
-pub AreSends-none : AreSends [] []
-unfolding rows_from
-AreSends-none = (refl, λ k d within. absurd (omega (arith, within)))
+use Rattle.bsp_model.specs.Inside.Columns.{pair_at, paired}
 
 -- what the two rows of a process stand for
 row_at-paired : {A B X : Type 0} (f : List A → List B → List X) (firsts : List (List A)) (seconds : List (List B)) (k : ℕ) → f [] [] ≡ [] → row_at (paired f firsts seconds) k ≡ f (row_at firsts k) (row_at seconds k)

@@ -29,10 +29,10 @@ end-within start (end ∷ ends) count (suc i) are within = end-within end ends c
 
 -- more rows behind
 
-range-before : {X : Type 0} (items more : List X) (i j : ℕ) → j ≤ length items → slice_range (items ++ more) i j ≡ slice_range items i j
+pub range-before : {X : Type 0} (items more : List X) (i j : ℕ) → j ≤ length items → slice_range (items ++ more) i j ≡ slice_range items i j
 range-before items more i j within = same_lists _ _ (search (rules, places)) (λ k d l. grind (arith, places))
 
-range-behind : {X : Type 0} (items more : List X) (i j : ℕ) → slice_range (items ++ more) (length items + i) (length items + j) ≡ slice_range more i j
+pub range-behind : {X : Type 0} (items more : List X) (i j : ℕ) → slice_range (items ++ more) (length items + i) (length items + j) ≡ slice_range more i j
 range-behind items more i j =
     let long : (length items + j) - (length items + i) ≡ j - i = omega arith in
     ap (λ (n : ℕ). take n (drop (length items + i) (items ++ more))) long ∙ ap (take (j - i)) (drop-append-add items more i)

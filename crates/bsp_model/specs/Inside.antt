@@ -1,13 +1,12 @@
 pub mod Beside
 pub mod Bits
+pub mod Blocks
 pub mod Columns
 pub mod Cut
-pub mod HeadedRows
-pub mod Issued
 pub mod LawfulInput
 pub mod Memories
-pub mod Messages
 pub mod Pages
 pub mod Ranges
 pub mod Rows
 pub mod Shared
+pub mod Tagged

@@ -1,27 +1,25 @@
 //! The words, memories, input and requests of a BSP computation.
 #![tactic(auto)]
 
+mod block;
+mod blocks;
 mod by_process;
 mod columns;
 mod copying;
 mod cost;
 mod fault;
-mod headed_rows;
 mod input;
 pub mod limits;
 mod memories;
 mod memory;
 mod memory_ref;
-mod messages;
 mod page;
 mod paging;
 mod places;
 mod process_set;
-mod puts;
 mod request;
 mod row_ends;
 mod rows;
-mod sends;
 mod seq;
 mod share;
 mod shared;
@@ -30,10 +28,10 @@ mod stores;
 mod stores_ref;
 mod words;
 
+pub use block::{Block, LineHead, MessageHead, PutHead, SendHead};
+pub use blocks::{Blocks, BlocksRef, MessageView, PutView, SendView};
 pub use by_process::{ByProcess, replaced_in};
-pub use columns::{
-    Column, LineColumn, MessageColumn, PutColumn, SendColumn, SharedColumn, StoreColumn,
-};
+pub use columns::{BlockColumn, Column, SharedColumn, StoreColumn};
 pub use copying::{Same, TryCopy};
 pub use cost::CostRow;
 pub use fault::{End, Fault, InputFault, SyncFault};
@@ -41,13 +39,10 @@ pub use input::Input;
 pub use memories::Memories;
 pub use memory::Memory;
 pub use memory_ref::MemoryRef;
-pub use messages::{MessageView, Messages, MessagesRef};
 pub use places::{are_among, are_few, place_among};
 pub use process_set::{Members, ProcessSet};
-pub use puts::{PutView, Puts, PutsRef};
 pub use request::{Get, Message, Put, Send, Store};
-pub use rows::{Rows, RowsRef};
-pub use sends::{SendView, Sends, SendsRef};
+pub(crate) use rows::{Rows, RowsRef};
 pub use seq::{Seq, are_same};
 pub use share::Share;
 pub use shared::Shared;
@@ -59,3 +54,39 @@ pub use words::are_same_words;
 
 /// A list of 64-bit words.
 pub type Words = Seq<u64>;
+
+/// Puts in the order in which they were issued.
+pub type Puts = Blocks<Put>;
+
+/// Puts in the order in which they were issued, read where they lie.
+pub type PutsRef<'a> = BlocksRef<'a, Put>;
+
+/// For each process puts in the order in which they were issued.
+pub type PutColumn = BlockColumn<Put>;
+
+/// Messages in the order in which they were sent.
+pub type Sends = Blocks<Send>;
+
+/// Messages in the order in which they were sent, read where they lie.
+pub type SendsRef<'a> = BlocksRef<'a, Send>;
+
+/// For each process the messages that it sends, in the order in which they were issued.
+pub type SendColumn = BlockColumn<Send>;
+
+/// The messages of a queue, in its order.
+pub type Messages = Blocks<Message>;
+
+/// The messages of a queue, read where they lie.
+pub type MessagesRef<'a> = BlocksRef<'a, Message>;
+
+/// For each process the messages of its queue.
+pub type MessageColumn = BlockColumn<Message>;
+
+/// Printed lines, in order.
+pub type PrintedLines = Blocks<Words>;
+
+/// Printed lines, read where they lie.
+pub type PrintedLinesRef<'a> = BlocksRef<'a, Words>;
+
+/// For each process the lines that it printed, in order.
+pub type LineColumn = BlockColumn<Words>;

@@ -5,9 +5,6 @@ ghost use Rattle.bsp_model.specs.Columns.{row_at};
 ghost use Rattle.bsp_model.specs.Memory.{memory_written};
 ghost use Rattle.bsp_model.specs.Replaced.{replaced, IsAscending};
 
-#[cfg(test)]
-mod tests;
-
 use crate::page::{Page, WORDS_OF_A_PAGE};
 use crate::paging::{cut_write, is_within, shared_pages, take_pages, write_row};
 use crate::{
@@ -176,6 +173,28 @@ impl Memories {
         Ok(())
     }
 
+    /// Adds copies of the memories that `more` has from `from` on, and before `to`, which share the pages that are full. After `OutOfMemory` nothing
+    /// has changed.
+    pub fn append_range(
+        &mut self,
+        more: &Memories,
+        from: usize,
+        to: usize,
+    ) -> Result<(), OutOfMemory>
+        requires order { from ≤ to }
+        requires inside { to ≤ length more.now }
+        ensures ok { OnOk result (self.new ≡ self.old ++ slice_range more.now from to) }
+        ensures err { OnErr result (self.new ≡ self.old) }
+    {
+        if from == to {
+            return Ok(());
+        }
+        self.pages
+            .take_range(self.lasts.len(), &more.pages, from, to)?;
+        self.lasts.append_range(&more.lasts.as_ref(), from, to)?;
+        Ok(())
+    }
+
     /// Makes `words` the words of a process's memory from `start` on. False, and nothing changes, where they pass the end; after `OutOfMemory`
     /// nothing has changed. Other copies of the memory stay as they are.
     #[inline]
@@ -227,13 +246,9 @@ impl ByProcess for Memories {
     }
 
     fn with_range(self, more: &Memories, from: usize, to: usize) -> Result<Memories, OutOfMemory> {
-        if from == to {
-            return Ok(self);
-        }
-        let Memories { pages, mut lasts } = self;
-        let pages = pages.with_range(lasts.len(), &more.pages, from, to)?;
-        lasts.append_range(&more.lasts.as_ref(), from, to)?;
-        Ok(Memories { pages, lasts })
+        let mut all = self;
+        all.append_range(more, from, to)?;
+        Ok(all)
     }
 }
 

@@ -1,11 +1,8 @@
 //! The memory of a process.
 
-ghost use Rattle.std.specs.Prelude.{◌≡◌, ◌+◌, [], length, IfOk, nat_lt, nat_le, slice_set, slice_get, take, drop, OnErr, OnOk};
+ghost use Rattle.std.specs.Prelude.{◌≡◌, ◌+◌, ◌-◌, ◌/◌, [], length, IfOk, nat_lt, nat_le, slice_set, slice_get, take, drop, OnErr, OnOk};
 ghost use Rattle.std.specs.Bool.{OnTrue, OnFalse};
-ghost use Rattle.bsp_model.specs.Memory.{memory_written, rest_of_page};
-
-#[cfg(test)]
-mod tests;
+ghost use Rattle.bsp_model.specs.Memory.{memory_written};
 
 use crate::page::{Page, WORDS_OF_A_PAGE};
 use crate::paging::{cut_write, full_pages, is_within, load_pages, write_pages};
@@ -97,12 +94,15 @@ impl Memory {
         self.as_ref().len()
     }
 
-    /// Whether there is no word.
-    #[inline]
-    pub fn is_empty(&self) -> bool
-        ensures { result ≡ nat_le (length self.now) 0 }
+    /// The number of pages in which the words stand: each has 64, the last one possibly fewer (this profile).
+    pub fn count_of_pages(&self) -> usize
+        ensures { result ≡ (length self.now + (WORDS_OF_A_PAGE - 1)) / WORDS_OF_A_PAGE }
     {
-        self.as_ref().is_empty()
+        if self.last.is_empty() {
+            self.pages.len()
+        } else {
+            self.pages.len() + 1
+        }
     }
 
     /// The word at `address`, if there is one.
@@ -111,14 +111,6 @@ impl Memory {
         ensures { result ≡ slice_get self.now address }
     {
         self.as_ref().load(address)
-    }
-
-    /// The words from `address` on, to the end of the page that they are in: at least one, but none past the end of the memory.
-    #[inline]
-    pub fn words_from(&self, address: u64) -> &[u64]
-        ensures { result.now ≡ rest_of_page self.now address }
-    {
-        self.as_ref().words_from(address)
     }
 
     /// Copies the words from `start` on to `words`. False, and nothing is copied, where they pass the end.

@@ -71,14 +71,6 @@ impl<'a> MemoryRef<'a> {
         self.len
     }
 
-    /// Whether there is no word.
-    #[inline]
-    pub fn is_empty(&self) -> bool
-        ensures { result ≡ nat_le (length self.now) 0 }
-    {
-        self.len == 0
-    }
-
     /// The word at `address`, if there is one.
     #[inline]
     pub fn load(&self, address: u64) -> Option<u64>

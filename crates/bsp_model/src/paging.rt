@@ -99,12 +99,12 @@ pub fn shared_pages(alloc: Global, pages: &[Page]) -> Result<SharedSeq<Page>, Ou
     if pages.is_empty() {
         return Ok(SharedSeq::new());
     }
-    share_some_pages(alloc, pages)
+    share_copies(alloc, pages)
 }
 
 /// The same, where there are pages.
 #[inline(never)]
-fn share_some_pages(alloc: Global, pages: &[Page]) -> Result<SharedSeq<Page>, OutOfMemory>
+fn share_copies(alloc: Global, pages: &[Page]) -> Result<SharedSeq<Page>, OutOfMemory>
     ensures { IfOk result (λ new. new ≡ pages.now) }
 {
     SharedSeq::from_vec(copied_pages(alloc, pages)?)
@@ -143,12 +143,12 @@ pub fn take_pages(pages: &mut Vec<Page>) -> Result<SharedSeq<Page>, OutOfMemory>
     if pages.is_empty() {
         return Ok(SharedSeq::new());
     }
-    take_some_pages(pages)
+    take_all_pages(pages)
 }
 
 /// The same, where there are pages.
 #[inline(never)]
-fn take_some_pages(pages: &mut Vec<Page>) -> Result<SharedSeq<Page>, OutOfMemory>
+fn take_all_pages(pages: &mut Vec<Page>) -> Result<SharedSeq<Page>, OutOfMemory>
     ensures taken { IfOk result (λ taken. taken ≡ pages.old.items) }
     ensures rest { pages.new.items ≡ [] }
 {

@@ -5,9 +5,6 @@ ghost use Rattle.std.specs.Iterator.{YieldsFirst, item_count};
 ghost use Rattle.bsp_model.specs.ProcessSet.{processes_from, processes_in, union};
 ghost use Rattle.bsp_model.specs.Inside.Bits.{HasNoBitFrom, IsFirstBitFrom};
 
-#[cfg(test)]
-mod tests;
-
 use crate::OutOfMemory;
 use std::alloc::Global;
 use std::marker::Model;

@@ -1,19 +1,19 @@
 //! A list of rows, kept in two lists.
 
-ghost use Rattle.std.specs.Prelude.{◌≡◌, ◌<◌, ◌≤◌, ◌+◌, ◌^◌, ◌++◌, ◌∷◌, [], ℕ, drop, length, map, nat_eq, ◌-◌, option_map, slice_get, slice_index, slice_index_or, slice_range, slice_set, take, EachIndex, IfOk, OnErr, OnOk, vec_capacity, vec_len};
+ghost use Rattle.std.specs.Prelude.{◌≡◌, ◌<◌, ◌≤◌, ◌+◌, ◌^◌, ◌++◌, ◌∷◌, [], ℕ, drop, length, map, nat_eq, ◌-◌, slice_index, slice_index_or, slice_range, slice_set, take, EachIndex, IfOk, OnErr, OnOk, vec_capacity, vec_len};
 ghost use Rattle.bsp_model.specs.Columns.{row_at};
 
 mod room;
 
+use crate::OutOfMemory;
 use crate::row_ends::{add_ends, bounds_of, start_of};
-use crate::seq::{append_items, are_same, replace_items};
-use crate::{OutOfMemory, Same, TryCopy};
+use crate::seq::{append_items, replace_items};
 use std::alloc::Global;
 use std::marker::Model;
 
-/// A list of rows, such as printed lines. The items of all rows lie one behind the other in one list, and a second list says where each row ends.
+/// A list of rows, such as the last words of each memory. The items of all rows lie one behind the other in one list, and a second list says where each row ends.
 #[derive(Debug, Drop)]
-pub struct Rows<T> {
+pub(crate) struct Rows<T> {
     items: Vec<T>,
     ends: Vec<usize>,
 }
@@ -31,7 +31,7 @@ impl<T> Model for Rows<T> {
 
 /// A list of rows, read where they lie.
 #[derive(Drop)]
-pub struct RowsRef<'a, T> {
+pub(crate) struct RowsRef<'a, T> {
     /// The items of all rows.
     pub(crate) items: &'a [T],
     /// Where each row ends.
@@ -94,16 +94,6 @@ impl<T> Rows<T> {
         ensures { result.now ≡ slice_index_or self.now number [] }
     {
         self.as_ref().row(number)
-    }
-
-    /// The items of the row at a place, if there is one.
-    pub fn get(&self, number: usize) -> Option<&[T]>
-        ensures { option_map (λ row. row.now) result ≡ slice_get self.now number }
-    {
-        if number >= self.len() {
-            return None;
-        }
-        Some(self.row(number))
     }
 }
 
@@ -206,18 +196,6 @@ impl<T: Copy> Rows<T> {
         replace_items(self.items.as_mut_slice(), start, items);
     }
 
-    /// Puts the rows of another list at the end. After `OutOfMemory` nothing has changed.
-    #[inline(always)]
-    pub fn append(&mut self, more: &RowsRef<'_, T>) -> Result<(), OutOfMemory>
-        ensures ok { OnOk result (self.new ≡ self.old ++ more.now) }
-        ensures err { OnErr result (self.new ≡ self.old) }
-    {
-        if more.is_empty() {
-            return Ok(());
-        }
-        self.append_range(more, 0, more.len())
-    }
-
     /// Puts the rows of another list from `from` on, and before `to`, at the end. After `OutOfMemory` nothing has changed.
     pub(crate) fn append_range(
         &mut self,
@@ -240,35 +218,5 @@ impl<T: Copy> Rows<T> {
         self.items.extend_from_slice(&more.items[start..end])?;
         add_ends(&mut self.ends, before, start, &ends[from..to]);
         Ok(())
-    }
-}
-
-impl<'a, T: Copy> RowsRef<'a, T> {
-    /// Rows of their own, equal to these, or `OutOfMemory`.
-    pub fn to_rows(&self, alloc: Global) -> Result<Rows<T>, OutOfMemory>
-        ensures { IfOk result (λ rows. rows ≡ self.now) }
-    {
-        let mut items = Vec::new(alloc);
-        items.extend_from_slice(self.items)?;
-        let ends = self.ends.to_vec(alloc)?;
-        Ok(Rows { items, ends })
-    }
-}
-
-impl<T: Copy> TryCopy for Rows<T> {
-    fn copy(&self) -> Result<Rows<T>, OutOfMemory> {
-        self.as_ref().to_rows(*self.items.allocator())
-    }
-}
-
-impl<'a, T: Same> Same for RowsRef<'a, T> {
-    fn same(&self, other: &RowsRef<'a, T>) -> bool {
-        are_same(self.ends, other.ends) && are_same(self.items, other.items)
-    }
-}
-
-impl<T: Same> Same for Rows<T> {
-    fn same(&self, other: &Rows<T>) -> bool {
-        self.as_ref().same(&other.as_ref())
     }
 }

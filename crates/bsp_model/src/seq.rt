@@ -1,6 +1,6 @@
 //! A list of values, kept in a `Vec`.
 
-ghost use Rattle.std.specs.Prelude.{◌≡◌, ◌≤◌, ◌+◌, ◌++◌, ◌-◌, ◌∷◌, [], drop, length, take, IfOk, OnErr, OnOk, nat_eq, option_to_list, slice_set, IsTrue, ◌↔◌};
+ghost use Rattle.std.specs.Prelude.{◌≡◌, ◌≤◌, ◌+◌, ◌++◌, ◌∷◌, [], drop, length, take, IfOk, OnErr, OnOk, nat_eq, slice_set, IsTrue, ◌↔◌};
 
 use crate::{OutOfMemory, Same, SharedSeq, TryCopy};
 use std::alloc::Global;
@@ -109,26 +109,11 @@ impl<T: Drop> Seq<T> {
         }
     }
 
-    /// Takes the last item away, if there is one, and answers it.
-    pub fn pop(&mut self) -> Option<T>
-        ensures item { self.old ≡ self.new ++ option_to_list result }
-        ensures rest { self.new ≡ take (length self.old - 1) self.old }
-    {
-        self.items.pop()
-    }
-
     /// Takes all items away. Their room stays.
     pub fn clear(&mut self)
         ensures { self.new ≡ [] }
     {
         self.items.clear();
-    }
-
-    /// Keeps the first `len` items alone, or all where there are no more.
-    pub fn truncate(&mut self, len: usize)
-        ensures { self.new ≡ take len self.old }
-    {
-        self.items.truncate(len);
     }
 }
 

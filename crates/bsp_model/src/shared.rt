@@ -2,9 +2,6 @@
 
 ghost use Rattle.std.specs.Prelude.{◌≡◌, IfErr, IfOk};
 
-#[cfg(test)]
-mod tests;
-
 use crate::{OutOfMemory, Same, TryCopy};
 use std::alloc::{AllocError, Global};
 use std::marker::Model;

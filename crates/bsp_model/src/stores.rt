@@ -5,8 +5,6 @@ ghost use Rattle.bsp_model.specs.Memory.{memory_written};
 ghost use Rattle.bsp_model.specs.Stores.{records};
 
 pub(crate) mod range;
-#[cfg(test)]
-mod tests;
 
 use crate::{Memory, MemoryRef, OutOfMemory, Same, Store, StoresRef, TryCopy};
 use range::{Range, add_words};
@@ -113,7 +111,11 @@ impl Stores {
 
 impl TryCopy for Stores {
     fn copy(&self) -> Result<Stores, OutOfMemory> {
-        self.as_ref().to_stores(*self.values.allocator())
+        let alloc = *self.values.allocator();
+        let mut ranges = Vec::new(alloc);
+        ranges.extend_from_slice(self.ranges.as_slice())?;
+        let values = self.values.as_slice().to_vec(alloc)?;
+        Ok(Stores { ranges, values })
     }
 }
 

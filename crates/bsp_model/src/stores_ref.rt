@@ -7,7 +7,7 @@ ghost use Rattle.bsp_model.specs.Inside.Ranges.{stores_of, AreRanges};
 
 use crate::seq::are_same;
 use crate::stores::range::Range;
-use crate::{Memory, MemoryRef, OutOfMemory, Same, Stores, are_same_words};
+use crate::{Memory, MemoryRef, OutOfMemory, Same, are_same_words};
 use std::alloc::Global;
 use std::marker::Model;
 
@@ -189,16 +189,6 @@ impl<'a> StoresRef<'a> {
             Some(range) => write_range(memory, &self.memory, range),
             None => write_ranges(memory, self.ranges, self.values),
         }
-    }
-
-    /// Stores of their own, equal to these, or `OutOfMemory`.
-    pub fn to_stores(&self, alloc: Global) -> Result<Stores, OutOfMemory>
-        ensures { IfOk result (λ stores. stores ≡ self.now) }
-    {
-        let mut ranges = Vec::new(alloc);
-        ranges.extend_from_slice(self.ranges)?;
-        let values = self.to_words(alloc)?;
-        Ok(Stores { ranges, values })
     }
 }
 

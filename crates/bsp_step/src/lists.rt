@@ -86,55 +86,26 @@ impl Lists {
         }
     }
 
-    /// No lists for any process, with room for what each of so many may leave, but for what few turns leave. Or `OutOfMemory`.
-    pub(crate) fn with_room(alloc: Global, count: usize) -> Result<Lists, OutOfMemory> {
-        let mut lists = Lists::new(alloc);
-        lists.stores = StoreColumn::with_room(alloc, count)?;
-        lists.puts = PutColumn::with_room(alloc, count)?;
-        lists.pushes = Column::with_room(alloc, count)?;
-        lists.lines = LineColumn::with_room(alloc, count)?;
-        Ok(lists)
+    /// Empties all lists, and makes room in those that most turns fill for one item of each of `count` turns.
+    pub(crate) fn make_room(&mut self, count: usize) -> Result<(), OutOfMemory> {
+        self.clear();
+        self.stores.make_room(count)?;
+        self.puts.make_room(count)?;
+        self.pushes.make_room(count)?;
+        self.lines.make_room(count)
     }
 
-    /// No lists for any process, with a share of the room that these take, or `OutOfMemory`.
-    pub(crate) fn with_room_of(
-        alloc: Global,
-        like: &Lists,
-        share: Share,
-    ) -> Result<Lists, OutOfMemory> {
-        let mut lists = Lists::new(alloc);
-        lists.make_room_for_requests(alloc, like, share)?;
-        lists.make_room_for_others(alloc, like, share)?;
-        Ok(lists)
-    }
-
-    /// Empties the requests, and makes a share of the room for them that others take, or `OutOfMemory`.
-    fn make_room_for_requests(
-        &mut self,
-        alloc: Global,
-        like: &Lists,
-        share: Share,
-    ) -> Result<(), OutOfMemory> {
-        self.puts = PutColumn::with_room_of(alloc, &like.puts, share)?;
-        self.gets = Column::with_room_of(alloc, &like.gets, share)?;
-        self.sends = SendColumn::with_room_of(alloc, &like.sends, share)?;
-        self.pops = Column::with_room_of(alloc, &like.pops, share)?;
-        self.pushes = Column::with_room_of(alloc, &like.pushes, share)?;
-        Ok(())
-    }
-
-    /// Empties the lists that are no requests, and makes a share of the room for them that others take, or `OutOfMemory`.
-    fn make_room_for_others(
-        &mut self,
-        alloc: Global,
-        like: &Lists,
-        share: Share,
-    ) -> Result<(), OutOfMemory> {
-        self.faults = Column::with_room_of(alloc, &like.faults, share)?;
-        self.stores = StoreColumn::with_room_of(alloc, &like.stores, share)?;
-        self.tags = Column::with_room_of(alloc, &like.tags, share)?;
-        self.lines = LineColumn::with_room_of(alloc, &like.lines, share)?;
-        Ok(())
+    /// Empties all lists, and makes a share of the room that those of `like` take.
+    pub(crate) fn make_room_like(&mut self, like: &Lists, share: Share) -> Result<(), OutOfMemory> {
+        self.faults.make_room_like(&like.faults, share)?;
+        self.stores.make_room_like(&like.stores, share)?;
+        self.puts.make_room_like(&like.puts, share)?;
+        self.gets.make_room_like(&like.gets, share)?;
+        self.sends.make_room_like(&like.sends, share)?;
+        self.pops.make_room_like(&like.pops, share)?;
+        self.pushes.make_room_like(&like.pushes, share)?;
+        self.tags.make_room_like(&like.tags, share)?;
+        self.lines.make_room_like(&like.lines, share)
     }
 
     /// Leaves no lists for any process. Their room stays.
@@ -199,7 +170,7 @@ impl Lists {
         ensures rest { KeepsRest self.old self.new }
     {
         if rare.is_used() {
-            return self.put_used(place, rare);
+            return self.copy_rare(place, rare);
         }
         self.gets.cut(place);
         self.sends.cut(place);
@@ -209,9 +180,9 @@ impl Lists {
         Ok(())
     }
 
-    /// The same, where there may be some.
+    /// The same, where the flag of `rare` is up.
     #[inline(never)]
-    fn put_used(&mut self, place: usize, rare: &RareLists) -> Result<(), OutOfMemory>
+    fn copy_rare(&mut self, place: usize, rare: &RareLists) -> Result<(), OutOfMemory>
         ensures before { (k : ℕ) → k < place → AreSameLists self.old k self.new k }
         ensures there { OnOk result (HasRare self.new place rare.now) }
         ensures rest { KeepsRest self.old self.new }

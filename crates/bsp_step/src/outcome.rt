@@ -83,7 +83,14 @@ impl Outcome {
 
 impl TryCopy for Outcome {
     fn copy(&self) -> Result<Outcome, OutOfMemory> {
-        self.as_ref().to_outcome(self.lists.rare.allocator())
+        let lists: &TurnLists = &self.lists;
+        Ok(Outcome {
+            fault: self.fault,
+            ended: self.ended,
+            lists: Box::new(lists.rare.allocator(), lists.copy()?)?,
+            tag: self.tag,
+            work: self.work,
+        })
     }
 }
 

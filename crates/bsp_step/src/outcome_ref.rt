@@ -1,14 +1,12 @@
 //! What a turn leaves, read where it lies.
 
-ghost use Rattle.std.specs.Prelude.{◌≡◌, ◌↔◌, IfOk, IsTrue, length};
+ghost use Rattle.std.specs.Prelude.{◌↔◌, IsTrue};
 
-use crate::{Ended, Outcome, RareLists, TurnLists};
+use crate::Ended;
 use bsp_model::{
-    Fault, Get, Memory, MemoryRef, OutOfMemory, PutsRef, RowsRef, Same, SendsRef, Seq, StoresRef,
-    are_same,
+    Fault, Get, MemoryRef, PrintedLinesRef, PutsRef, Same, SendsRef, StoresRef, are_same,
 };
 use bsp_table::Area;
-use std::alloc::Global;
 use std::marker::Model;
 
 /// What a turn leaves (Hill et al. 1998; stores, lines, work and faults are this profile's), wherever its parts lie.
@@ -35,7 +33,7 @@ pub struct OutcomeRef<'a> {
     /// The choice of the next tag size, if one was made.
     pub tag: Option<u64>,
     /// The printed lines, in order.
-    pub lines: RowsRef<'a, u64>,
+    pub lines: PrintedLinesRef<'a>,
     /// The work that was charged.
     pub work: u64,
 }
@@ -50,46 +48,6 @@ impl<'a> Model for OutcomeRef<'a> {
     ghost view = { outcome_parts };
 
     ghost invariant = { IsLawful };
-}
-
-impl<'a> OutcomeRef<'a> {
-    /// An outcome with this memory, of as many words, and with copies of all other parts, or `OutOfMemory`.
-    pub(crate) fn with_memory(&self, alloc: Global, memory: Memory) -> Result<Outcome, OutOfMemory>
-        requires { length memory ≡ length self.now.memory }
-        ensures { IfOk result (λ o. o ≡ record self.now { memory = memory }) }
-    {
-        let mut gets = Vec::new(alloc);
-        gets.extend_from_slice(self.gets)?;
-        let mut pushes = Vec::new(alloc);
-        pushes.extend_from_slice(self.pushes)?;
-        let lists = TurnLists {
-            memory,
-            stores: self.stores.to_stores(alloc)?,
-            puts: self.puts.to_puts(alloc)?,
-            rare: RareLists::of(
-                Seq::from_vec(gets),
-                self.sends.to_sends(alloc)?,
-                Seq::from_vec(self.pops.to_vec(alloc)?),
-                Seq::from_vec(pushes),
-                self.lines.to_rows(alloc)?,
-            ),
-        };
-        Ok(Outcome {
-            fault: self.fault,
-            ended: self.ended,
-            lists: Box::new(alloc, lists)?,
-            tag: self.tag,
-            work: self.work,
-        })
-    }
-
-    /// A copy with lists of its own, or `OutOfMemory`.
-    pub fn to_outcome(&self, alloc: Global) -> Result<Outcome, OutOfMemory>
-        ensures { IfOk result (λ o. o ≡ self.now) }
-    {
-        let memory = self.memory.to_memory()?;
-        self.with_memory(alloc, memory)
-    }
 }
 
 impl<'a> OutcomeRef<'a> {

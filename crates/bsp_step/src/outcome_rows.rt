@@ -53,11 +53,13 @@ impl OutcomeRows {
     pub(crate) fn with_room(alloc: Global, count: usize) -> Result<OutcomeRows, OutOfMemory>
         ensures { IfOk result (λ o. o ≡ []) }
     {
-        Ok(OutcomeRows {
+        let mut rows = OutcomeRows {
             ends: Vec::with_capacity(alloc, count)?,
             memories: Memories::with_capacity(alloc, count)?,
-            lists: Box::new(alloc, Lists::with_room(alloc, count)?)?,
-        })
+            lists: Box::new(alloc, Lists::new(alloc))?,
+        };
+        rows.lists.make_room(count)?;
+        Ok(rows)
     }
 
     /// No outcomes, with a share of the room that these take, or `OutOfMemory`.
@@ -68,11 +70,13 @@ impl OutcomeRows {
     ) -> Result<OutcomeRows, OutOfMemory>
         ensures { IfOk result (λ o. o ≡ []) }
     {
-        Ok(OutcomeRows {
+        let mut rows = OutcomeRows {
             ends: Vec::with_capacity(alloc, share.part(like.ends.len()))?,
             memories: Memories::with_room_of(alloc, &like.memories, share)?,
-            lists: Box::new(alloc, Lists::with_room_of(alloc, &like.lists, share)?)?,
-        })
+            lists: Box::new(alloc, Lists::new(alloc))?,
+        };
+        rows.lists.make_room_like(&like.lists, share)?;
+        Ok(rows)
     }
 
     /// Takes all outcomes away. Their room stays.
@@ -117,14 +121,13 @@ impl OutcomeRows {
         Ok(self.memories.replaced_into(processes, &new.memories, room)?)
     }
 
-    /// Copies of the lines of all processes, in the room of others, or `OutOfMemory`.
-    pub(crate) fn lines(&self, room: LineColumn) -> Result<LineColumn, OutOfMemory>
-        ensures { IfOk result (λ lines. (p : ℕ) → row_at lines p ≡ (outcome_of self.now p).lines) }
+    /// Makes the lines of all processes the column `lines`, or `OutOfMemory`.
+    pub(crate) fn copy_lines(&self, lines: &mut LineColumn) -> Result<(), OutOfMemory>
+        ensures { OnOk result ((p : ℕ) → row_at lines.new p ≡ (outcome_of self.now p).lines) }
     {
-        let mut lines = room;
         let lists: &Lists = &self.lists;
         lines.take_range(0, &lists.lines, 0, self.len())?;
-        Ok(lines)
+        Ok(())
     }
 
     /// The allocator that the lists keep.
@@ -213,13 +216,26 @@ impl OutcomeRows {
         ensures err { OnErr result (self.new ≡ self.old) }
     {
         let mut memory = memory;
+        self.push_over_from(outcome, &mut memory)
+    }
+
+    /// The same, where the words of the other memory are taken out of it.
+    fn push_over_from(
+        &mut self,
+        outcome: &OutcomeRef<'_>,
+        memory: &mut Memory,
+    ) -> Result<(), OutOfMemory>
+        requires { length memory.old ≡ length outcome.now.memory }
+        ensures ok { OnOk result (self.new ≡ self.old ++ record outcome.now { memory = memory.old } ∷ []) }
+        ensures err { OnErr result (self.new ≡ self.old) }
+    {
         let end = TurnEnd {
             ended: outcome.ended,
             work: outcome.work as u32,
         };
         self.lists.put(self.ends.len(), outcome, &memory.as_ref())?;
         self.ends.reserve(1)?;
-        self.memories.push_from(&mut memory)?;
+        self.memories.push_from(memory)?;
         self.ends.push_reserved(end);
         Ok(())
     }

@@ -5,7 +5,7 @@ ghost use Rattle.std.specs.Bool.{OnTrue};
 ghost use Rattle.bsp_model.specs.PutsTo.{AreToNone};
 ghost use Rattle.bsp_model.specs.Replaced.{replaced, IsAscending};
 ghost use Rattle.bsp_step.specs.OutcomeParts.{IsOutcome, outcome_of};
-ghost use Rattle.bsp_step.specs.Inside.Others.{rows_of, IsBelow};
+ghost use Rattle.bsp_step.specs.Inside.Others.{rows_of, with_others, AreOthers, IsBelow};
 ghost use Rattle.bsp_step.specs.ListKind.{IsWithout};
 
 mod others;
@@ -14,7 +14,8 @@ mod room;
 
 use crate::{ListKind, OutcomeRef, OutcomeRows};
 use bsp_model::{
-    Get, MemoryRef, OutOfMemory, ProcessSet, PutsRef, RowsRef, SendsRef, Shared, TryCopy, are_few,
+    Get, MemoryRef, OutOfMemory, PrintedLinesRef, ProcessSet, PutsRef, SendsRef, Shared, TryCopy,
+    are_few,
 };
 use others::Others;
 use std::alloc::Global;
@@ -188,15 +189,16 @@ impl Outcomes {
 
     /// The lines that the turn of a process printed.
     #[inline(always)]
-    pub fn lines(&self, pid: usize) -> RowsRef<'_, u64>
+    pub fn lines(&self, pid: usize) -> PrintedLinesRef<'_>
         requires { pid < length self.now }
         ensures { result ≡ (outcome_of self.now pid).lines }
     {
         self.get(pid).lines
     }
 
-    /// Outcomes of which new ones for these processes make what they make of these. None of them lies apart.
-    fn rows_below(
+    /// The rows over which new outcomes of `processes` are laid: those of all, where `processes` has every process whose outcome lies apart. Else
+    /// copies, with the outcomes that lie apart in their places.
+    fn base_rows(
         &self,
         alloc: Global,
         processes: &[usize],
@@ -208,7 +210,7 @@ impl Outcomes {
     {
         let rows = rows_there(&self.rows);
         match &self.others {
-            Some(others) => Ok(others.rows_below(alloc, rows, processes)?),
+            Some(others) => Ok(others.base_rows(alloc, rows, processes)?),
             None => Ok(rows.copy()?),
         }
     }
@@ -228,14 +230,27 @@ impl Outcomes {
         if processes.is_empty() {
             return self.copy();
         }
-        let rows = self.rows_below(alloc, processes.as_slice())?;
-        if !are_few(processes.len(), self.len()) {
-            return rows.replaced(alloc, processes.as_slice(), &new)?.share();
-        }
+        let rows = self.base_rows(alloc, processes.as_slice())?;
         let others = Others {
             processes,
             rows: new,
         };
+        Outcomes::with(alloc, rows, others)
+    }
+
+    /// The outcomes in `rows`, but for those of `others`. Where these are few they lie apart.
+    fn with(
+        alloc: Global,
+        rows: Shared<OutcomeRows>,
+        others: Others,
+    ) -> Result<Outcomes, OutOfMemory>
+        requires { AreOthers rows others }
+        ensures { IfOk result (λ o. o ≡ with_others rows others) }
+    {
+        let processes = others.processes.as_slice();
+        if !are_few(processes.len(), rows.len()) {
+            return rows.replaced(alloc, processes, &others.rows)?.share();
+        }
         Ok(Outcomes {
             rows: Some(rows),
             others: Some(Shared::new(alloc, others)?),

@@ -4,7 +4,7 @@ ghost use Rattle.std.specs.Prelude.{◌≡◌, ◌+◌, ◌++◌, ◌∷◌, [],
 ghost use Rattle.std.specs.Bool.{OnFalse};
 ghost use Rattle.bsp_step.specs.Inside.RareLists.{nothing_rare};
 
-use bsp_model::{Get, OutOfMemory, Rows, RowsRef, Sends, SendsRef, Seq};
+use bsp_model::{Get, OutOfMemory, PrintedLines, PrintedLinesRef, Sends, SendsRef, Seq, TryCopy};
 use bsp_table::Area;
 use std::alloc::Global;
 use std::marker::Model;
@@ -19,7 +19,7 @@ pub struct RareLists {
     sends: Sends,
     pops: Seq<usize>,
     pushes: Seq<Area>,
-    lines: Rows<u64>,
+    lines: PrintedLines,
 }
 
 impl Model for RareLists {
@@ -45,7 +45,7 @@ impl RareLists {
             sends: Sends::new(alloc),
             pops: Seq::new(alloc),
             pushes: Seq::new(alloc),
-            lines: Rows::new(alloc),
+            lines: PrintedLines::new(alloc),
         }
     }
 
@@ -55,7 +55,7 @@ impl RareLists {
         sends: Sends,
         pops: Seq<usize>,
         pushes: Seq<Area>,
-        lines: Rows<u64>,
+        lines: PrintedLines,
     ) -> RareLists
         ensures { result ≡ record { gets = gets; sends = sends; pops = pops; pushes = pushes; lines = lines } }
     {
@@ -131,7 +131,7 @@ impl RareLists {
 
     /// The printed lines, in order.
     #[inline(always)]
-    pub fn lines(&self) -> RowsRef<'_, u64>
+    pub fn lines(&self) -> PrintedLinesRef<'_>
         ensures { result ≡ self.now.lines }
     {
         self.lines.as_ref()
@@ -192,5 +192,18 @@ impl RareLists {
         self.used = true;
         self.lines.push(words)?;
         Ok(())
+    }
+}
+
+impl TryCopy for RareLists {
+    fn copy(&self) -> Result<RareLists, OutOfMemory> {
+        Ok(RareLists {
+            used: self.used,
+            gets: self.gets.copy()?,
+            sends: self.sends.copy()?,
+            pops: self.pops.copy()?,
+            pushes: self.pushes.copy()?,
+            lines: self.lines.copy()?,
+        })
     }
 }

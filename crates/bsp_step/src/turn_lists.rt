@@ -1,10 +1,10 @@
 //! The lists that a turn leaves.
 
-ghost use Rattle.std.specs.Prelude.{◌≡◌, [], OnOk};
+ghost use Rattle.std.specs.Prelude.{◌≡◌, ◌≤◌, ◌+◌, ◌++◌, ◌∷◌, [], drop, length, take, OnErr, OnOk};
 ghost use Rattle.bsp_step.specs.Inside.TurnLists.{no_lists};
 
 use crate::RareLists;
-use bsp_model::{Memory, MemoryRef, OutOfMemory, Puts, Stores};
+use bsp_model::{Memory, MemoryRef, OutOfMemory, Puts, Stores, TryCopy};
 use std::alloc::Global;
 
 /// The lists that a turn leaves, its memory first. They lie in a box, so that an outcome and a context that move take few words with them.
@@ -43,5 +43,36 @@ impl TurnLists {
         self.puts.clear();
         self.rare.clear();
         self.memory.load_from(memory)
+    }
+
+    /// Adds a put to `start` of process `pid`: of `len` words of the memory, from `from` on. After `OutOfMemory` nothing has changed.
+    pub(crate) fn put_own_words(
+        &mut self,
+        alloc: Global,
+        pid: u64,
+        start: u64,
+        from: u64,
+        len: u64,
+    ) -> Result<(), OutOfMemory>
+        requires { from + len ≤ length self.old.memory }
+        ensures ok { let own = take len (drop from self.old.memory) in
+            OnOk result (self.new ≡ record self.old { puts = self.old.puts ++ record { target = pid; start = start; words = own } ∷ [] }) }
+        ensures err { OnErr result (self.new ≡ self.old) }
+    {
+        let mut words = vec![in alloc; 0; len as usize]?;
+        self.memory.read(from, words.as_mut_slice());
+        self.puts.push(pid, start, words.as_slice())?;
+        Ok(())
+    }
+}
+
+impl TryCopy for TurnLists {
+    fn copy(&self) -> Result<TurnLists, OutOfMemory> {
+        Ok(TurnLists {
+            memory: self.memory.copy()?,
+            stores: self.stores.copy()?,
+            puts: self.puts.copy()?,
+            rare: self.rare.copy()?,
+        })
     }
 }

@@ -1,6 +1,6 @@
 //! For each process a row of items.
 
-ghost use Rattle.std.specs.Prelude.{◌≡◌, [], IfOk, OnErr, OnOk, length, nat_eq};
+ghost use Rattle.std.specs.Prelude.{◌≡◌, [], OnErr, OnOk, length, nat_eq};
 ghost use Rattle.bsp_model.specs.Columns.{row_at, AreCut, AreTaken, IsPut};
 
 use crate::{OutOfMemory, Rows, RowsRef, Share};
@@ -58,26 +58,18 @@ impl<T> Column<T> {
 }
 
 impl<T: Copy> Column<T> {
-    /// Empty rows alone, with room for so many rows of one item, or `OutOfMemory`.
-    pub fn with_room(alloc: Global, count: usize) -> Result<Column<T>, OutOfMemory>
-        ensures { IfOk result (λ c. c ≡ []) }
+    /// Takes all rows away, and makes room for `count` rows of one item.
+    pub fn make_room(&mut self, count: usize) -> Result<(), OutOfMemory>
+        ensures { self.new ≡ [] }
     {
-        let mut rows = Rows::new(alloc);
-        rows.make_room(count, count)?;
-        Ok(Column { rows })
+        self.rows.make_room(count, count)
     }
 
-    /// Empty rows alone, with a share of the room that these take, or `OutOfMemory`.
-    pub fn with_room_of(
-        alloc: Global,
-        like: &Column<T>,
-        share: Share,
-    ) -> Result<Column<T>, OutOfMemory>
-        ensures { IfOk result (λ c. c ≡ []) }
+    /// Takes all rows away, and makes a share of the room that the rows of `like` take.
+    pub fn make_room_like(&mut self, like: &Column<T>, share: Share) -> Result<(), OutOfMemory>
+        ensures { self.new ≡ [] }
     {
-        Ok(Column {
-            rows: Rows::with_room_of(alloc, &like.rows, share)?,
-        })
+        self.rows.make_room_like(&like.rows, share)
     }
 
     /// Takes all rows away. Their room stays.
@@ -109,12 +101,12 @@ impl<T: Copy> Column<T> {
             self.rows.push(row)?;
             return Ok(());
         }
-        self.put_there(place, row)
+        self.put_elsewhere(place, row)
     }
 
     /// The same, where the row does not go on behind the last that stands.
     #[inline(never)]
-    fn put_there(&mut self, place: usize, row: &[T]) -> Result<(), OutOfMemory>
+    fn put_elsewhere(&mut self, place: usize, row: &[T]) -> Result<(), OutOfMemory>
         ensures ok { OnOk result (IsPut [] (row_at self.old) place row.now (row_at self.new)) }
         ensures err { OnErr result (AreCut [] (row_at self.old) place (row_at self.new)) }
     {

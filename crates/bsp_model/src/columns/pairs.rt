@@ -1,6 +1,6 @@
 //! For each process two rows.
 
-ghost use Rattle.std.specs.Prelude.{◌≡◌, ◌&&◌, [], IfOk, OnErr, OnOk, length, nat_eq};
+ghost use Rattle.std.specs.Prelude.{◌≡◌, ◌&&◌, [], OnErr, OnOk, length, nat_eq};
 ghost use Rattle.bsp_model.specs.Columns.{AreCut, AreTaken, IsPut};
 ghost use Rattle.bsp_model.specs.Inside.Columns.{pair_at};
 
@@ -11,7 +11,7 @@ use std::marker::Model;
 
 /// For each process, by its number, two rows, whose items lie in two lists.
 #[derive(Debug, Drop)]
-pub(crate) struct Pairs<A, B> {
+pub struct Pairs<A, B> {
     firsts: Column<A>,
     seconds: Column<B>,
 }
@@ -45,7 +45,7 @@ impl<A, B> Pairs<A, B> {
 
     /// The first rows, to be read where they lie.
     #[inline(always)]
-    pub fn firsts(&self) -> RowsRef<'_, A>
+    pub(crate) fn firsts(&self) -> RowsRef<'_, A>
         ensures { result ≡ self.now.0 }
     {
         self.firsts.as_ref()
@@ -53,7 +53,7 @@ impl<A, B> Pairs<A, B> {
 
     /// The rows of a process.
     #[inline(always)]
-    pub fn get(&self, place: usize) -> (&[A], &[B])
+    pub(crate) fn pair(&self, place: usize) -> (&[A], &[B])
         ensures { (result.0.now, result.1.now) ≡ pair_at self.now place }
     {
         (self.firsts.row(place), self.seconds.row(place))
@@ -61,28 +61,22 @@ impl<A, B> Pairs<A, B> {
 }
 
 impl<A: Copy, B: Copy> Pairs<A, B> {
-    /// Empty rows alone, with room for so many rows of one item, or `OutOfMemory`.
-    pub fn with_room(alloc: Global, count: usize) -> Result<Pairs<A, B>, OutOfMemory>
-        ensures { IfOk result (λ c. c ≡ ([], [])) }
+    /// Takes all rows away, and makes room for `count` rows of one item in each list.
+    pub fn make_room(&mut self, count: usize) -> Result<(), OutOfMemory>
+        ensures { self.new ≡ ([], []) }
     {
-        Ok(Pairs {
-            firsts: Column::with_room(alloc, count)?,
-            seconds: Column::with_room(alloc, count)?,
-        })
+        self.clear();
+        self.firsts.make_room(count)?;
+        self.seconds.make_room(count)
     }
 
-    /// Empty rows alone, with a share of the room that these take, or `OutOfMemory`.
-    pub fn with_room_of(
-        alloc: Global,
-        like: &Pairs<A, B>,
-        share: Share,
-    ) -> Result<Pairs<A, B>, OutOfMemory>
-        ensures { IfOk result (λ c. c ≡ ([], [])) }
+    /// Takes all rows away, and makes a share of the room that the rows of `like` take.
+    pub fn make_room_like(&mut self, like: &Pairs<A, B>, share: Share) -> Result<(), OutOfMemory>
+        ensures { self.new ≡ ([], []) }
     {
-        Ok(Pairs {
-            firsts: Column::with_room_of(alloc, &like.firsts, share)?,
-            seconds: Column::with_room_of(alloc, &like.seconds, share)?,
-        })
+        self.clear();
+        self.firsts.make_room_like(&like.firsts, share)?;
+        self.seconds.make_room_like(&like.seconds, share)
     }
 
     /// Leaves the rows from a process on out.
@@ -104,7 +98,12 @@ impl<A: Copy, B: Copy> Pairs<A, B> {
 
     /// Makes these the rows of a process, and leaves those behind it out. After `OutOfMemory` its own are left out too.
     #[inline(always)]
-    pub fn put(&mut self, place: usize, first: &[A], second: &[B]) -> Result<(), OutOfMemory>
+    pub(crate) fn put_pair(
+        &mut self,
+        place: usize,
+        first: &[A],
+        second: &[B],
+    ) -> Result<(), OutOfMemory>
         ensures ok { OnOk result (IsPut ([], []) (pair_at self.old) place (first.now, second.now) (pair_at self.new)) }
         ensures err { OnErr result (AreCut ([], []) (pair_at self.old) place (pair_at self.new)) }
     {

@@ -1,6 +1,6 @@
 //! For each process a list that its copies share.
 
-ghost use Rattle.std.specs.Prelude.{◌≡◌, ◌≤◌, ◌++◌, ℕ, [], length, IfOk, OnErr, OnOk};
+ghost use Rattle.std.specs.Prelude.{◌≡◌, ◌<◌, ◌≤◌, ◌++◌, ℕ, [], length, OnErr, OnOk};
 ghost use Rattle.bsp_model.specs.Columns.{row_at, AreCut, AreTaken, IsPut};
 
 use crate::{OutOfMemory, Share, SharedSeq, TryCopy};
@@ -39,7 +39,8 @@ fn add_copies<T: Drop>(
     rows: &mut Vec<SharedSeq<T>>,
     more: &[SharedSeq<T>],
 ) -> Result<(), OutOfMemory>
-    ensures { OnOk result (rows.new.items ≡ rows.old.items ++ more.now) }
+    ensures ok { OnOk result (rows.new.items ≡ rows.old.items ++ more.now) }
+    ensures before { (k : ℕ) → k < length rows.old.items → row_at rows.new.items k ≡ row_at rows.old.items k }
 {
     for row in more {
         rows.push(row.copy()?)?;
@@ -105,12 +106,12 @@ impl<T: Drop> SharedColumn<T> {
         if row.is_empty() && self.rows.len() <= place {
             return Ok(());
         }
-        self.put_there(place, row)
+        self.put_elsewhere(place, row)
     }
 
     /// The same, where the column may change.
     #[inline(never)]
-    fn put_there(&mut self, place: usize, row: SharedSeq<T>) -> Result<(), OutOfMemory>
+    fn put_elsewhere(&mut self, place: usize, row: SharedSeq<T>) -> Result<(), OutOfMemory>
         ensures ok { OnOk result (IsPut [] (row_at self.old) place row (row_at self.new)) }
         ensures err { OnErr result (AreCut [] (row_at self.old) place (row_at self.new)) }
     {
@@ -123,25 +124,24 @@ impl<T: Drop> SharedColumn<T> {
         Ok(())
     }
 
-    /// The lists of the processes before `place`, and from there on those that another column has from `from` on, and before `to`, or
-    /// `OutOfMemory`. Copies share their items.
-    pub fn with_range(
-        self,
+    /// Makes copies of the lists that `more` has from `from` on, and before `to`, those of the processes from `place` on, behind which none stand
+    /// any more. Copies share their items. After `OutOfMemory` some of the copies stand.
+    pub fn take_range(
+        &mut self,
         place: usize,
         more: &SharedColumn<T>,
         from: usize,
         to: usize,
-    ) -> Result<SharedColumn<T>, OutOfMemory>
-        ensures { IfOk result (λ c. AreTaken [] (row_at self) place (row_at more.now) from to (row_at c)) }
+    ) -> Result<(), OutOfMemory>
+        ensures ok { OnOk result (AreTaken [] (row_at self.old) place (row_at more.now) from to (row_at self.new)) }
+        ensures before { (k : ℕ) → k < place → row_at self.new k ≡ row_at self.old k }
     {
-        let SharedColumn { mut rows } = self;
-        rows.truncate(place);
+        self.rows.truncate(place);
         let to = to.min(more.rows.len());
         if to <= from {
-            return Ok(SharedColumn { rows });
+            return Ok(());
         }
-        fill(&mut rows, place)?;
-        add_copies(&mut rows, &more.rows[from..to])?;
-        Ok(SharedColumn { rows })
+        fill(&mut self.rows, place)?;
+        add_copies(&mut self.rows, &more.rows[from..to])
     }
 }

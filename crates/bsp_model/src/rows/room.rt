@@ -1,9 +1,8 @@
 //! Room for rows.
 
-ghost use Rattle.std.specs.Prelude.{◌≡◌, [], IfOk};
+ghost use Rattle.std.specs.Prelude.{◌≡◌, []};
 
 use crate::{OutOfMemory, Rows, Share};
-use std::alloc::Global;
 
 impl<T: Copy> Rows<T> {
     /// Takes all rows away, and makes room for so many rows and so many items in all.
@@ -21,19 +20,5 @@ impl<T: Copy> Rows<T> {
         ensures { self.new ≡ [] }
     {
         self.make_room(share.part(like.ends.len()), share.part(like.items.len()))
-    }
-
-    /// No rows, with a share of the room that these take, or `OutOfMemory`.
-    pub(crate) fn with_room_of(
-        alloc: Global,
-        like: &Rows<T>,
-        share: Share,
-    ) -> Result<Rows<T>, OutOfMemory>
-        ensures { IfOk result (λ r. r ≡ []) }
-    {
-        Ok(Rows {
-            items: Vec::with_capacity(alloc, share.part(like.items.len()))?,
-            ends: Vec::with_capacity(alloc, share.part(like.ends.len()))?,
-        })
     }
 }

@@ -74,9 +74,7 @@ impl<'v> Ctx<'v> {
             return Ok(None);
         }
         let start = self.resolve(pid, area, offset, len)?;
-        let mut words = vec![in self.alloc; 0; len as usize]?;
-        self.lists.memory.read(from, words.as_mut_slice());
-        self.lists.puts.push(pid, start, words.as_slice())?;
+        self.lists.put_own_words(self.alloc, pid, start, from, len)?;
         Ok(Some(()))
     }
 }

@@ -48,8 +48,9 @@ impl Others {
         }
     }
 
-    /// Outcomes of which new ones for these processes make what they make of `rows` with these in it.
-    pub fn rows_below(
+    /// The rows over which new outcomes of `processes` are laid: `rows`, where `processes` has every process whose outcome lies apart. Else copies of
+    /// `rows`, with the outcomes that lie apart in their places.
+    pub fn base_rows(
         &self,
         alloc: Global,
         rows: &Shared<OutcomeRows>,

@@ -1,6 +1,6 @@
 //! Room for the outcomes and the memories of another superstep, and copies of what all turns left.
 
-ghost use Rattle.std.specs.Prelude.{◌≡◌, ◌<◌, ℕ, [], All, IfOk, IfSome, length, map};
+ghost use Rattle.std.specs.Prelude.{◌≡◌, ◌<◌, ◌++◌, ℕ, [], All, IfOk, IfSome, OnOk, length, map};
 ghost use Rattle.bsp_model.specs.Columns.{row_at};
 ghost use Rattle.bsp_model.specs.Replaced.{IsAscending};
 ghost use Rattle.bsp_step.specs.OutcomeParts.{outcome_of};
@@ -94,23 +94,41 @@ impl Outcomes {
             return self.memories(room);
         }
         let mut memories = room.into_room(processes.len())?;
+        self.push_memories(processes, &mut memories)?;
+        Ok(memories)
+    }
+
+    /// Adds copies of the memories of some processes to `memories`. After `OutOfMemory` some of them are added.
+    fn push_memories(&self, processes: &[usize], memories: &mut Memories) -> Result<(), OutOfMemory>
+        requires { All (λ p. p < length self.now) processes.now }
+        ensures { OnOk result (memories.new ≡ memories.old ++ map (λ p. (outcome_of self.now p).memory) processes.now) }
+    {
         for process in processes {
             memories.push_copy(&self.memory(*process))?;
         }
-        Ok(memories)
+        Ok(())
     }
 
     /// Copies of the lines of all processes; where none lies apart, they are copied in one piece. Or `OutOfMemory`.
     pub fn all_lines(&self, alloc: Global) -> Result<LineColumn, OutOfMemory>
         ensures { IfOk result (λ lines. (p : ℕ) → row_at lines p ≡ (outcome_of self.now p).lines) }
     {
-        let mut lines = LineColumn::with_room(alloc, self.len())?;
+        let mut lines = LineColumn::new(alloc);
+        self.copy_lines(&mut lines)?;
+        Ok(lines)
+    }
+
+    /// Makes the lines of all processes the column `lines`, or `OutOfMemory`.
+    fn copy_lines(&self, lines: &mut LineColumn) -> Result<(), OutOfMemory>
+        ensures { OnOk result ((p : ℕ) → row_at lines.new p ≡ (outcome_of self.now p).lines) }
+    {
+        lines.make_room(self.len())?;
         if let Some(rows) = self.all_rows() {
-            return Ok(rows.lines(lines)?);
+            return rows.copy_lines(lines);
         }
         for pid in 0..self.len() {
             lines.put(pid, &self.lines(pid))?;
         }
-        Ok(lines)
+        Ok(())
     }
 }

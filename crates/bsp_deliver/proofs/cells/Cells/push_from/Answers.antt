@@ -1,0 +1,21 @@
+use Rattle.std.proofs.Common.{[], length, arith}
+use Rattle.std.proofs.lemmas.Result.{MatchResult-from_err}
+use Rattle.bsp_model.specs.Columns.{row_at, IsPut}
+use Rattle.bsp_deliver.proofs.CellsOf.{cells_of-same, cells_of-push}
+use Rattle.bsp_deliver.proofs.cells.Cells.push_from.Goals as goal
+
+pub returns-in_err-put-clause-err : goal.returns-in_err-put-clause-err
+returns-in_err-put-clause-err c =
+    MatchResult-from_err _ _ _ c.from_residual.ensures.0
+    (λ _. cells_of-same c.self.inside.memories c.self.inside.queues c.put.new.self c.args.self.now c.self.view_is (λ k within. c.in_err-put.ensures.err.before k (omega (arith, within, c.len.ensures))))
+
+pub returns-in_err-push_from-clause-err : goal.returns-in_err-push_from-clause-err
+returns-in_err-push_from-clause-err c =
+    MatchResult-from_err _ _ _ c.from_residual-in_err-push_from.ensures.0
+    (λ _. rw c.in_err-push_from.ensures.err
+    (cells_of-same c.self.inside.memories c.self.inside.queues c.put.new.self c.args.self.now c.self.view_is (λ k within. c.in_ok-put.ensures.ok.before k (omega (arith, within, c.len.ensures)))))
+
+pub returns-clause-ok : goal.returns-clause-ok
+returns-clause-ok c =
+    let put : IsPut [] (row_at c.self.inside.queues) (length c.self.inside.memories) c.args.queue.now (row_at c.put.new.self) = rw c.len.ensures at c.in_ok-put.ensures.ok in
+    rw c.in_ok-push_from.ensures.ok (cells_of-push c.self.inside.memories c.self.inside.queues c.put.new.self c.args.self.now _ c.args.queue.now c.self.view_is put)

@@ -1,6 +1,0 @@
-use Rattle.bsp_model.specs.Inside.Columns.{puts_of}
-use Rattle.bsp_model.proofs.PairedColumns.{no_puts, row_from-pair}
-use Rattle.bsp_model.proofs.columns.puts.PutColumn.get.Goals as goal
-
-pub returns : goal.returns
-returns c = row_from-pair puts_of c.self.inside.pairs c.args.self.now c.args.place (c.get.result.0.now, c.get.result.1.now) no_puts c.self.view_is c.get.ensures

@@ -1,6 +1,0 @@
-use Rattle.bsp_model.specs.Inside.Columns.{AreSends}
-use Rattle.bsp_model.proofs.PairedColumns.{AreSends-none, none_law}
-use Rattle.bsp_model.proofs.columns.sends.SendColumn.with_room_of.Goals as goal
-
-pub invariant_of-result : goal.invariant_of-result
-invariant_of-result c = none_law AreSends c.in_ok-with_room_of.field-0 AreSends-none c.in_ok-with_room_of.ensures

@@ -1,0 +1,59 @@
+//! Puts in two lists.
+
+ghost use Rattle.std.specs.Prelude.{◌≡◌, ◌<◌, ◌++◌, ◌∷◌, [], length, Some, OnErr, OnOk, IfOk, slice_get};
+
+use crate::block::PutHead;
+use crate::{Blocks, BlocksRef, OutOfMemory, Put, Words};
+use std::alloc::Global;
+
+/// A put that stands in a list of puts.
+#[derive(Clone, Copy, Debug)]
+pub struct PutView<'a> {
+    /// The process that is written to.
+    pub target: u64,
+    /// The address of the first word there.
+    pub start: u64,
+    /// The words, copied when the put was issued.
+    pub words: &'a [u64],
+}
+
+impl Blocks<Put> {
+    /// Adds a put. After `OutOfMemory` nothing has changed.
+    #[inline]
+    pub fn push(&mut self, target: u64, start: u64, words: &[u64]) -> Result<(), OutOfMemory>
+        ensures ok { OnOk result (self.new ≡ self.old ++ record { target = target; start = start; words = words.now } ∷ []) }
+        ensures err { OnErr result (self.new ≡ self.old) }
+    {
+        self.add(PutHead { target, start }, &[], words)?;
+        Ok(())
+    }
+}
+
+impl<'a> BlocksRef<'a, Put> {
+    /// The put at a place.
+    #[inline]
+    pub fn at(&self, place: usize) -> PutView<'a>
+        requires { place < length self.now }
+        ensures { slice_get self.now place ≡ Some (record { target = result.target; start = result.start; words = result.words.now }) }
+    {
+        let (head, words) = self.parts(place);
+        PutView {
+            target: head.target,
+            start: head.start,
+            words,
+        }
+    }
+
+    /// A copy of the put at a place, with words of its own.
+    pub fn copy_at(&self, alloc: Global, place: usize) -> Result<Put, OutOfMemory>
+        requires { place < length self.now }
+        ensures { IfOk result (λ put. slice_get self.now place ≡ Some put) }
+    {
+        let put = self.at(place);
+        Ok(Put {
+            target: put.target,
+            start: put.start,
+            words: Words::from_slice(alloc, put.words)?,
+        })
+    }
+}

@@ -1,0 +1,113 @@
+//! For each process blocks.
+
+ghost use Rattle.std.specs.Prelude.{◌≡◌, [], OnErr, OnOk, length, nat_eq};
+ghost use Rattle.bsp_model.specs.Columns.{row_at, AreCut, AreTaken, IsPut};
+
+mod next_to;
+
+use super::pairs::Pairs;
+use crate::block::Block;
+use crate::{BlocksRef, OutOfMemory, Share};
+use std::alloc::Global;
+use std::marker::Model;
+
+/// For each process, by its number, blocks in order; all lie in four lists. A process at which no blocks were put has none.
+#[derive(Debug, Drop)]
+pub struct BlockColumn<X: Block> {
+    pairs: Pairs<(X::Head, usize), u64>,
+}
+
+impl<X: Block> Model for BlockColumn<X> {
+    ghost use Rattle.std.specs.Prelude.{List, ℕ};
+    ghost use Rattle.bsp_model.specs.Inside.Blocks.{blocks_of, AreBlocks};
+    ghost use Rattle.bsp_model.specs.Inside.Columns.{paired, pair_at};
+
+    ghost Value = { List (List X) };
+
+    ghost view = { λ c. paired (blocks_of X.of) c.pairs.0 c.pairs.1 };
+
+    ghost invariant = { λ c. (k : ℕ) → AreBlocks X.IsKept (pair_at c.pairs k).0 (pair_at c.pairs k).1 };
+}
+
+impl<X: Block> BlockColumn<X> {
+    /// No blocks for any process. They take no memory.
+    pub fn new(alloc: Global) -> BlockColumn<X>
+        ensures { result ≡ [] }
+    {
+        BlockColumn {
+            pairs: Pairs::new(alloc),
+        }
+    }
+
+    /// Takes all blocks away, and makes room for one block of one word for each of `count` processes.
+    pub fn make_room(&mut self, count: usize) -> Result<(), OutOfMemory>
+        ensures { self.new ≡ [] }
+    {
+        self.pairs.make_room(count)
+    }
+
+    /// Takes all blocks away, and makes a share of the room that the blocks of `like` take.
+    pub fn make_room_like(&mut self, like: &BlockColumn<X>, share: Share) -> Result<(), OutOfMemory>
+        ensures { self.new ≡ [] }
+    {
+        self.pairs.make_room_like(&like.pairs, share)
+    }
+
+    /// Takes all blocks away. Their room stays.
+    pub fn clear(&mut self)
+        ensures { self.new ≡ [] }
+    {
+        self.pairs.clear();
+    }
+
+    /// Takes away the blocks of the processes from `place` on.
+    #[inline(always)]
+    pub fn cut(&mut self, place: usize)
+        ensures { AreCut [] (row_at self.old) place (row_at self.new) }
+    {
+        self.pairs.cut(place);
+    }
+
+    /// Whether no process has blocks, for sure: where it is false, all may still have none.
+    #[inline(always)]
+    pub fn is_empty(&self) -> bool
+        ensures { result ≡ nat_eq (length self.now) 0 }
+    {
+        self.pairs.is_empty()
+    }
+
+    /// The blocks of a process, to be read where they lie.
+    #[inline(always)]
+    pub fn get(&self, place: usize) -> BlocksRef<'_, X>
+        ensures { result ≡ row_at self.now place }
+    {
+        let (heads, words) = self.pairs.pair(place);
+        BlocksRef { heads, words }
+    }
+
+    /// Makes `blocks` those of a process, and takes away those of the processes behind it. After `OutOfMemory` it has none either.
+    #[inline(always)]
+    pub fn put(&mut self, place: usize, blocks: &BlocksRef<'_, X>) -> Result<(), OutOfMemory>
+        ensures ok { OnOk result (IsPut [] (row_at self.old) place blocks.now (row_at self.new)) }
+        ensures err { OnErr result (AreCut [] (row_at self.old) place (row_at self.new)) }
+    {
+        self.pairs.put_pair(place, blocks.heads, blocks.words)?;
+        Ok(())
+    }
+
+    /// Gives the processes from `place` on what `more` has from the process `from` on, and before `to`. The processes behind them have none. After
+    /// `OutOfMemory` those from `place` on have none either.
+    pub fn take_range(
+        &mut self,
+        place: usize,
+        more: &BlockColumn<X>,
+        from: usize,
+        to: usize,
+    ) -> Result<(), OutOfMemory>
+        ensures ok { OnOk result (AreTaken [] (row_at self.old) place (row_at more.now) from to (row_at self.new)) }
+        ensures err { OnErr result (AreCut [] (row_at self.old) place (row_at self.new)) }
+    {
+        self.pairs.take_range(place, &more.pairs, from, to)?;
+        Ok(())
+    }
+}
