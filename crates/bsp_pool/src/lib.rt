@@ -28,6 +28,3 @@ pub use row::Row;
 pub use share::{Run, Share, run_from};
 pub use std::alloc::AllocError as OutOfMemory;
 pub use work::{Gate, Gathering, Open, Timed, Work};
-
-#[cfg(test)]
-mod tests;

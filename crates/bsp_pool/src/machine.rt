@@ -1,10 +1,12 @@
 //! The round machine.
 
-ghost use Rattle.std.specs.Prelude.{◌≡◌, ◌<◌, ◌≤◌, List, [], All, IfOk, length, map, slice_index_or, take};
+ghost use Rattle.std.specs.Prelude.{◌≡◌, ◌<◌, ◌≤◌, ◌+◌, List, [], All, IfOk, length, map, slice_index_or, take};
+ghost use Rattle.std.specs.Vec.{vec_capacity};
 ghost use Rattle.bsp_pool.specs.declared.event.Event.{Event};
 ghost use Rattle.bsp_pool.specs.EventLists.{KeepsRounds};
-ghost use Rattle.bsp_pool.specs.Rounds.{Applies};
-ghost use Rattle.bsp_pool.specs.Machine.{starting, step, round_step, IsSound};
+ghost use Rattle.bsp_pool.specs.Rounds.{Applies, opened};
+ghost use Rattle.bsp_pool.specs.Machine.{starting, step, round_step, inputs_of, IsSound};
+ghost use Rattle.bsp_pool.specs.Inside.Turning.{missing_of};
 
 use crate::OutOfMemory;
 use crate::event::{CoreRefusal, Event};
@@ -29,6 +31,15 @@ pub struct Core<W: Work> {
     phases: Vec<Row<W::In>>,
     committed: Vec<Row<W::Out>>,
     round: Round<W::Out>,
+}
+
+/// What a Turn puts in the place of the open round: the outputs of the numbers for which none was kept, a list with room for those of all, and the round of
+/// the next phase.
+#[derive(Drop)]
+struct Turning<T> {
+    row: Vec<T>,
+    made: Vec<Option<T>>,
+    next: Round<T>,
 }
 
 impl<W: Work> Model for Core<W> {
@@ -128,6 +139,23 @@ impl<W: Work + Drop> Core<W> {
         self.round.leave(worker)
     }
 
+    /// All that a Turn takes memory for.
+    fn turning(&self) -> Result<Turning<W::Out>, OutOfMemory>
+        ensures made { IfOk result (λ t. t.made.items ≡ missing_of (W.does self.now.work) (inputs_of self.now) self.now.round.outputs) }
+        ensures row { IfOk result (λ t. t.row.items ≡ []) }
+        ensures room { IfOk result (λ t. length (inputs_of self.now) ≤ vec_capacity t.row) }
+        ensures next { IfOk result (λ t. t.next
+            ≡ opened (length (slice_index_or self.now.phases (length self.now.committed + 1) [])) (length self.now.round.workers)) }
+    {
+        let inputs = inputs_at(self.phases.as_slice(), self.committed.len());
+        let next_inputs = inputs_at(self.phases.as_slice(), self.committed.len() + 1);
+        Ok(Turning {
+            next: Round::open(self.alloc, next_inputs.len(), self.round.workers())?,
+            made: missing(self.alloc, &self.work, inputs, self.round.outputs())?,
+            row: Vec::with_capacity(self.alloc, inputs.len())?,
+        })
+    }
+
     /// What may be refused memory comes first, so that nothing has changed where it is.
     fn turn(&mut self) -> Result<(), CoreRefusal>
         requires { length self.old.committed < length self.old.phases }
@@ -136,12 +164,8 @@ impl<W: Work + Drop> Core<W> {
         if !self.round.is_over() {
             return Err(CoreRefusal::NotNow);
         }
-        let inputs = inputs_at(self.phases.as_slice(), self.committed.len());
-        let made = missing(self.alloc, &self.work, inputs, self.round.outputs())?;
-        let row = Vec::with_capacity(self.alloc, inputs.len())?;
-        let next = inputs_at(self.phases.as_slice(), self.committed.len() + 1);
-        let next = Round::open(self.alloc, next.len(), self.round.workers())?;
         self.committed.reserve(1)?;
+        let Turning { row, made, next } = self.turning()?;
         let ended = mem::replace(&mut self.round, next);
         self.committed
             .push_reserved(Row::from_vec(ended.into_row(row, made)));
