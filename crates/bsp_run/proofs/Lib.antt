@@ -13,6 +13,7 @@ pub mod Shares
 pub mod NextViews
 pub mod KeptCosts
 pub mod TakingOver
+pub mod Settings
 pub mod UnrecordedRuns
 pub mod ViewsWithin
 pub mod SameLines

@@ -27,7 +27,7 @@ abbrev pub state_seen : List ViewParts → List (List Area) → ℕ → State
 state_seen vs table tag = record { memories = map (λ (v : ViewParts). v.memory) vs; queues = map (λ (v : ViewParts). v.queue) vs; table = table; tag_size = tag }
 
 -- what is read off each view is what it was made of
-part_of_views : {X : Type 0} (of : ViewParts → X) (args : List (List ℕ)) (step : ℕ) (s : State) (xs : List X) (d : X) → length xs ≡ length s.memories → ((p : ℕ) → of (view_of args step s p) ≡ get_or xs p d) → map of (views_of args step s) ≡ xs
+pub part_of_views : {X : Type 0} (of : ViewParts → X) (args : List (List ℕ)) (step : ℕ) (s : State) (xs : List X) (d : X) → length xs ≡ length s.memories → ((p : ℕ) → of (view_of args step s p) ≡ get_or xs p d) → map of (views_of args step s) ≡ xs
 unfolding views_of
 part_of_views of args step s xs d long each =
     sym (map_twice of (view_of args step s) (range_with_len 0 (length s.memories)))

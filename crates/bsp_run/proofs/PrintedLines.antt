@@ -5,7 +5,7 @@ use Rattle.bsp_model.specs.Columns.{row_at}
 use Rattle.bsp_step.specs.ListKind.{IsWithout}
 use Rattle.bsp_step.specs.declared.list_kind.ListKind.TheVariants.{Lines}
 use Rattle.bsp_step.specs.OutcomeParts.{OutcomeParts, outcome_of, no_outcome}
-use Rattle.bsp_run.specs.Inside.Unrecorded.{lines_in, AreLinesAnd}
+use Rattle.bsp_run.specs.Inside.Printed.{lines_in, AreLinesAnd}
 
 -- where no turn left a line
 none_left : (os : List OutcomeParts) (p : ℕ) → All (IsWithout Lines) os → (outcome_of os p).lines ≡ []

@@ -2,11 +2,13 @@ pub mod Tape
 pub mod History
 pub mod Opening
 pub mod Record
-pub mod Unrecorded
+pub mod Printed
 pub mod IsUnrecorded
+pub mod Settings
 pub mod Condition
 pub mod Lines
 pub mod SharedCells
 pub mod Views
 pub mod ViewsRef
 pub mod WorkerRows
+pub mod Turns

@@ -11,3 +11,4 @@ pub mod Shares
 pub mod TakingOver
 pub mod SameLines
 pub mod Setting
+pub mod TurnBy

@@ -1,9 +1,9 @@
 //! What workers hand over, put in the order of the processes.
 
 ghost use Rattle.std.specs.Prelude.{◌≡◌, ◌<◌, ◌≤◌, [], All, IfOk, length, take};
-ghost use Rattle.bsp_step.specs.Turn.{turn_of};
 ghost use Rattle.bsp_pool.specs.Shares.{AreShares};
-ghost use Rattle.bsp_run.specs.Shares.{turns_of, deliveries_to};
+ghost use Rattle.bsp_run.specs.Shares.{deliveries_to};
+ghost use Rattle.bsp_run.specs.Inside.Turns.{turns_in};
 ghost use Rattle.bsp_run.specs.Inside.WorkerRows.{outcomes_of, cells_of};
 
 use crate::TurnRows;
@@ -25,10 +25,10 @@ fn with_next_turns<P: Program>(
     place: usize,
 ) -> Result<(OutcomeRows, usize), OutOfMemory>
     requires processes { All (λ p. p < length turns.now.views.now) processes.now }
-    requires shares { AreShares outcomes_of (turns_of (turn_of (P.acts turns.now.program.now) (P.ending turns.now.program.now)) turns.now.views.now processes.now) shares.now }
+    requires shares { AreShares outcomes_of (turns_in P.Program turns.now processes.now) shares.now }
     requires place { place < length processes.now }
-    requires rows { rows ≡ take place (turns_of (turn_of (P.acts turns.now.program.now) (P.ending turns.now.program.now)) turns.now.views.now processes.now) }
-    ensures rows { IfOk result (λ next. next.0 ≡ take next.1 (turns_of (turn_of (P.acts turns.now.program.now) (P.ending turns.now.program.now)) turns.now.views.now processes.now)) }
+    requires rows { rows ≡ take place (turns_in P.Program turns.now processes.now) }
+    ensures rows { IfOk result (λ next. next.0 ≡ take next.1 (turns_in P.Program turns.now processes.now)) }
     ensures further { IfOk result (λ next. place < next.1) }
     ensures inside { IfOk result (λ next. next.1 ≤ length processes.now) }
 {
@@ -57,8 +57,8 @@ pub(crate) fn turns_in_order<P: Program>(
 ) -> Result<OutcomeRows, OutOfMemory>
     requires empty { rows ≡ [] }
     requires processes { All (λ p. p < length turns.now.views.now) processes.now }
-    requires shares { AreShares outcomes_of (turns_of (turn_of (P.acts turns.now.program.now) (P.ending turns.now.program.now)) turns.now.views.now processes.now) shares.now }
-    ensures { IfOk result (λ all. all ≡ turns_of (turn_of (P.acts turns.now.program.now) (P.ending turns.now.program.now)) turns.now.views.now processes.now) }
+    requires shares { AreShares outcomes_of (turns_in P.Program turns.now processes.now) shares.now }
+    ensures { IfOk result (λ all. all ≡ turns_in P.Program turns.now processes.now) }
 {
     let mut rows = rows;
     let mut place = 0;

@@ -23,7 +23,7 @@ pub fn phase_after(end: Option<Status>) -> Phase
     }
 }
 
-/// What comes after the delivery of so many supersteps.
+/// What comes after the delivery of so many supersteps. The limit is looked at here alone, so a lower limit cuts the run behind that delivery.
 pub fn phase_at(steps: u64, limit: u64) -> Phase
     ensures { result ≡ (if steps == limit then Phase.Ended Status.Limit else Phase.Open) }
 {

@@ -21,6 +21,7 @@ mod shared_cells;
 mod superstep;
 mod supersteps;
 mod taking_over;
+mod tally;
 mod tape;
 mod turn_rows;
 mod unrecorded;

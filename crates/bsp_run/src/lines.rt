@@ -9,7 +9,9 @@ ghost use Rattle.bsp_run.specs.Result.{lines_of_process};
 ghost use Rattle.bsp_run.specs.Inside.Lines.{is_taken, lines_from, AreGathered, AreLinesUnlessMarked};
 
 use crate::{Lines, Superstep};
-use bsp_model::{LineColumn, OutOfMemory, ProcessSet, Rows, RowsRef, Shared, SharedSeq, TryCopy};
+use bsp_model::{
+    LineColumn, OutOfMemory, PrintedLines, PrintedLinesRef, ProcessSet, Shared, SharedSeq, TryCopy,
+};
 use bsp_step::{ListKind, Outcomes};
 use std::alloc::Global;
 
@@ -24,7 +26,7 @@ fn may_have_lines(outcomes: &Outcomes, pid: usize) -> bool
 
 /// Puts the lines of a process in one superstep behind the others.
 #[inline]
-fn add_lines(lines: &mut Rows<u64>, outcomes: &Outcomes, pid: usize) -> Result<(), OutOfMemory>
+fn add_lines(lines: &mut PrintedLines, outcomes: &Outcomes, pid: usize) -> Result<(), OutOfMemory>
     ensures { OnOk result (lines.new ≡ lines.old ++ (outcome_of outcomes.now pid).lines) }
 {
     if !may_have_lines(outcomes, pid) {
@@ -34,8 +36,8 @@ fn add_lines(lines: &mut Rows<u64>, outcomes: &Outcomes, pid: usize) -> Result<(
     lines.append(&own)
 }
 
-/// Makes these the lines of a process in these supersteps.
-fn take_lines(lines: &mut Rows<u64>, turns: &[&Outcomes], pid: usize) -> Result<(), OutOfMemory>
+/// Puts the lines of a process, superstep by superstep, in the place of the former rows.
+fn take_lines(lines: &mut PrintedLines, turns: &[&Outcomes], pid: usize) -> Result<(), OutOfMemory>
     ensures { OnOk result (lines.new ≡ lines_of_process (map (λ o. o.now) turns.now) pid) }
 {
     lines.clear();
@@ -46,7 +48,7 @@ fn take_lines(lines: &mut Rows<u64>, turns: &[&Outcomes], pid: usize) -> Result<
 }
 
 /// The place behind more lines in a list, if they stand there from a place on.
-fn place_behind(lines: &RowsRef<'_, u64>, at: usize, more: &RowsRef<'_, u64>) -> Option<usize>
+fn place_behind(lines: &PrintedLinesRef<'_>, at: usize, more: &PrintedLinesRef<'_>) -> Option<usize>
     requires { at ≤ length lines.now }
     ensures inside { IfSome result (λ behind. behind ≤ length lines.now) }
     ensures same { IfSome result (λ behind. take behind lines.now ≡ take at lines.now ++ more.now) }
@@ -64,7 +66,7 @@ fn place_behind(lines: &RowsRef<'_, u64>, at: usize, more: &RowsRef<'_, u64>) ->
 
 /// The same for the lines of a process in one superstep.
 fn place_behind_printed(
-    lines: &RowsRef<'_, u64>,
+    lines: &PrintedLinesRef<'_>,
     at: usize,
     outcomes: &Outcomes,
     pid: usize,
@@ -82,7 +84,7 @@ fn place_behind_printed(
 }
 
 /// Whether these are the lines of a process. It takes no memory.
-fn are_lines_of(lines: &RowsRef<'_, u64>, turns: &[&Outcomes], pid: usize) -> bool
+fn are_lines_of(lines: &PrintedLinesRef<'_>, turns: &[&Outcomes], pid: usize) -> bool
     ensures { result ≡ true → lines.now ≡ lines_of_process (map (λ o. o.now) turns.now) pid }
 {
     let mut at = 0;
@@ -166,7 +168,7 @@ fn gathered(
         (map (λ o. o.now) turns.now) nprocs all) }
 {
     let mut all = LineColumn::new(alloc);
-    let mut lines = Rows::new(alloc);
+    let mut lines = PrintedLines::new(alloc);
     for pid in 0..nprocs {
         if !is_taken(before, marks, pid) {
             take_lines(&mut lines, turns, pid)?;

@@ -1,6 +1,6 @@
 //! A run on one thread.
 
-ghost use Rattle.std.specs.Prelude.{◌≡◌, ◌<◌, All, None, IfOk, IfErr, IfSome, OnOk, length, map};
+ghost use Rattle.std.specs.Prelude.{◌≡◌, ◌<◌, All, None, IfOk, IfErr, IfSome, OnOk, length};
 ghost use Rattle.bsp_model.specs.Input.{input_fault};
 ghost use Rattle.bsp_step.specs.Turn.{turn_of};
 ghost use Rattle.bsp_deliver.specs.Condition.{AreDeliverable, IsAscending};
@@ -11,16 +11,15 @@ ghost use Rattle.bsp_run.specs.Result.{result_of};
 ghost use Rattle.bsp_run.specs.Law.{IsBspRun, IsBspResult};
 ghost use Rattle.bsp_run.specs.RunErrors.{input_fault_of};
 
-use crate::ending::end_of;
 use crate::supersteps::run_by;
 use crate::tape::checked;
-use crate::unrecorded::{ended, ended_at_limit, go_on, open_unrecorded};
+use crate::unrecorded::{Taken, Unrecorded, all_turns};
 use crate::wide::turns_by_one;
 use crate::{History, RunError, RunResult, TurnRows, Views};
 use bsp_deliver::{Cells, Delivered, deliver_some};
 use bsp_model::{Input, OutOfMemory};
 use bsp_pool::Open;
-use bsp_step::{Outcome, Outcomes, Program, turn_reusing};
+use bsp_step::{Outcomes, Program};
 use std::alloc::Global;
 
 /// The run of a program on an input, on one thread: every process from its first superstep, up to the superstep limit. `law` says what it is in
@@ -63,24 +62,26 @@ pub fn run_plain<P: Program>(alloc: Global, program: &P, input: &Input) -> Resul
     )
 }
 
-/// The turns of all processes, gathered in the room of outcomes that are no longer needed, and an outcome whose lists may serve again, as those
-/// of `spare` do here.
-fn all_turns<P: Program>(
+/// What `lawful_result` answers. The turns are taken in the room of those that are handed in.
+fn result_in_room<P: Program>(
     alloc: Global,
     program: &P,
-    views: &Views,
-    before: Outcomes,
-    spare: Outcome,
-) -> Result<(Outcomes, Outcome), OutOfMemory>
-    ensures { IfOk result (λ all. all.0 ≡ map (turn_of (P.acts program.now) (P.ending program.now)) views.now) }
+    input: &Input,
+    taken: &mut Taken,
+) -> Result<RunResult, OutOfMemory>
+    requires lawful { input_fault input.now ≡ None }
+    ensures { IfOk result (λ r. r ≡ result_of (run (turn_of (P.acts program.now) (P.ending program.now)) input.now)) }
 {
-    let mut rows = before.into_room(alloc, views.len())?;
-    let mut spare = spare;
-    for pid in 0..views.len() {
-        let outcome = turn_reusing(alloc, program, &views.get(pid), spare)?;
-        spare = rows.push(outcome)?;
+    let mut kept = Unrecorded::open(alloc, input)?;
+    for step in 0..input.limit {
+        let processes = kept.processes.as_slice();
+        all_turns(alloc, program, processes, &kept.views, taken)?;
+        if let Some(status) = kept.end(alloc, &taken.outcomes)? {
+            return kept.ended(alloc, status, &taken.outcomes);
+        }
+        kept = kept.go_on(alloc, &taken.outcomes)?;
     }
-    Ok((rows.share()?, spare))
+    kept.ended_at_limit(alloc)
 }
 
 /// What `run_result` answers, where the input is known to be lawful.
@@ -92,19 +93,7 @@ pub fn lawful_result<P: Program>(
     requires lawful { input_fault input.now ≡ None }
     ensures { IfOk result (λ r. r ≡ result_of (run (turn_of (P.acts program.now) (P.ending program.now)) input.now)) }
 {
-    let mut kept = open_unrecorded(alloc, input)?;
-    let mut before = Outcomes::new();
-    let mut spare = Outcome::new(alloc)?;
-    for step in 0..input.limit {
-        let (outcomes, rest) = all_turns(alloc, program, &kept.views, before, spare)?;
-        if let Some(status) = end_of(alloc, step, &kept.table, &outcomes)? {
-            return Ok(ended(alloc, kept, status, &outcomes)?);
-        }
-        kept = go_on(alloc, input, step + 1, kept, &outcomes)?;
-        before = outcomes;
-        spare = rest;
-    }
-    Ok(ended_at_limit(alloc, kept)?)
+    result_in_room(alloc, program, input, &mut Taken::none())
 }
 
 /// What the run of a program on an input gives. It keeps no record of the run: beside the lines and the costs, memory for one superstep.

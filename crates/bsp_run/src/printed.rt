@@ -1,14 +1,13 @@
 //! The lines of a run of which no record is kept.
 
-ghost use Rattle.std.specs.Prelude.{◌≡◌, ◌<◌, ℕ, length, IfOk, OnOk};
+ghost use Rattle.std.specs.Prelude.{◌≡◌, ◌<◌, ℕ, IfOk, OnOk};
 ghost use Rattle.bsp_model.specs.Columns.{row_at};
-ghost use Rattle.bsp_step.specs.OutcomeParts.{outcome_of};
 ghost use Rattle.bsp_deliver.specs.Requests.{each_below};
-ghost use Rattle.bsp_run.specs.Inside.Unrecorded.{lines_and, lines_in, AreLinesAnd};
+ghost use Rattle.bsp_run.specs.Inside.Printed.{lines_in, AreLinesAnd};
 
 use crate::Lines;
 use crate::lines::each_lines;
-use bsp_model::{LineColumn, OutOfMemory, ProcessSet, Rows, Shared, SharedSeq};
+use bsp_model::{LineColumn, OutOfMemory, PrintedLines, ProcessSet, Shared, SharedSeq};
 use bsp_step::{ListKind, Outcomes};
 use std::alloc::Global;
 
@@ -28,9 +27,9 @@ pub fn add_printed(
     Ok(())
 }
 
-/// Makes these the lines of a process in these supersteps.
+/// Puts the lines of a process, superstep by superstep, in the place of the former rows.
 fn take_printed(
-    lines: &mut Rows<u64>,
+    lines: &mut PrintedLines,
     printed: &[LineColumn],
     pid: usize,
 ) -> Result<(), OutOfMemory>
@@ -43,12 +42,12 @@ fn take_printed(
     Ok(())
 }
 
-/// The lines of each process in these supersteps, in one column.
+/// The lines of each process, superstep by superstep, in one column.
 fn gathered(alloc: Global, printed: &[LineColumn], nprocs: usize) -> Result<LineColumn, OutOfMemory>
     ensures { IfOk result (λ all. (p : ℕ) → p < nprocs → row_at all p ≡ lines_in printed.now p) }
 {
     let mut all = LineColumn::new(alloc);
-    let mut lines = Rows::new(alloc);
+    let mut lines = PrintedLines::new(alloc);
     for pid in 0..nprocs {
         take_printed(&mut lines, printed, pid)?;
         all.put(pid, &lines.as_ref())?;
@@ -56,7 +55,7 @@ fn gathered(alloc: Global, printed: &[LineColumn], nprocs: usize) -> Result<Line
     Ok(all)
 }
 
-/// The same. Those of one superstep alone stay where they are.
+/// The same column. The lines of one superstep alone stay where they are.
 fn in_one_column(
     alloc: Global,
     mut printed: Vec<LineColumn>,
@@ -73,7 +72,7 @@ fn in_one_column(
     }
 }
 
-/// The lines of each process in these supersteps.
+/// The lines of each process, superstep by superstep.
 pub fn lines_printed(
     alloc: Global,
     printed: Vec<LineColumn>,
@@ -85,16 +84,4 @@ pub fn lines_printed(
     let all = Shared::new(alloc, all)?;
     let none = ProcessSet::new(alloc);
     Ok(each_lines(alloc, &[], &none, &all, nprocs)?)
-}
-
-/// The same, with the lines of the superstep that ended the run.
-pub fn lines_and_last(
-    alloc: Global,
-    mut printed: Vec<LineColumn>,
-    outcomes: &Outcomes,
-) -> Result<SharedSeq<Lines>, OutOfMemory>
-    ensures { IfOk result (λ each. each ≡ each_below (length outcomes.now) (lines_and printed.items outcomes.now)) }
-{
-    add_printed(alloc, &mut printed, outcomes)?;
-    Ok(lines_printed(alloc, printed, outcomes.len())?)
 }

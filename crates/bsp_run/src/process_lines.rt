@@ -3,7 +3,7 @@
 ghost use Rattle.std.specs.Prelude.{◌≡◌, ◌<◌, [], length, nat_eq, option_map, slice_get, slice_index_or, IfOk};
 ghost use Rattle.bsp_model.specs.Columns.{row_at};
 
-use bsp_model::{LineColumn, OutOfMemory, RowsRef, Same, Shared, TryCopy};
+use bsp_model::{LineColumn, OutOfMemory, PrintedLinesRef, Same, Shared, TryCopy};
 use std::marker::Model;
 
 /// The lines that a process printed, in order. They lie among those of other processes, in a column that its copies share, so that a copy takes no
@@ -36,7 +36,7 @@ impl Lines {
 
     /// These lines, to be read where they lie.
     #[inline(always)]
-    pub fn as_ref(&self) -> RowsRef<'_, u64>
+    pub fn as_ref(&self) -> PrintedLinesRef<'_>
         ensures { result ≡ self.now }
     {
         self.all.get(self.place)

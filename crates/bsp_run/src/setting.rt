@@ -1,10 +1,14 @@
 //! What all processes of a superstep see alike.
 
-ghost use Rattle.std.specs.Prelude.{◌≡◌, ◌≤◌, [], IfOk};
+ghost use Rattle.std.specs.Prelude.{◌≡◌, ◌≤◌, ◌<◌, [], IfOk};
+ghost use Rattle.bsp_run.specs.Inside.Condition.{CanSync};
 
 use crate::Arguments;
-use bsp_model::limits::MOST_PROCESSES;
-use bsp_model::{OutOfMemory, TryCopy};
+use crate::keeping::next_table;
+use bsp_deliver::next_tag_size;
+use bsp_model::OutOfMemory;
+use bsp_model::limits::{MOST_PROCESSES, MOST_SUPERSTEPS};
+use bsp_step::Outcomes;
 use bsp_table::Table;
 use std::alloc::Global;
 
@@ -22,21 +26,38 @@ pub struct Setting {
 }
 
 impl Setting {
+    ghost use Rattle.bsp_run.specs.Inside.Settings.{setting_after};
+
     /// That of superstep 0: no slots, and tag size 0.
     pub(crate) fn first(
         alloc: Global,
-        args: &Arguments,
+        args: Arguments,
         nprocs: usize,
     ) -> Result<Setting, OutOfMemory>
         requires some { 1 ≤ nprocs }
         requires few { nprocs ≤ MOST_PROCESSES }
-        ensures { IfOk result (λ s. s ≡ record { step = 0; args = args.now; table = []; tag_size = 0 }) }
+        ensures { IfOk result (λ s. s ≡ record { step = 0; args = args; table = []; tag_size = 0 }) }
     {
         Ok(Setting {
             step: 0,
-            args: args.copy()?,
+            args,
             table: Table::new(alloc, nprocs)?,
             tag_size: 0,
+        })
+    }
+
+    /// That of the next superstep, where this one ends by delivery.
+    pub(crate) fn after(self, outcomes: &Outcomes) -> Result<Setting, OutOfMemory>
+        requires sync { CanSync self.table outcomes.now }
+        requires step { self.step < MOST_SUPERSTEPS }
+        ensures { IfOk result (λ s. s ≡ setting_after self outcomes.now) }
+    {
+        let table = next_table(&self.table, outcomes)?;
+        Ok(Setting {
+            step: self.step + 1,
+            args: self.args,
+            table,
+            tag_size: next_tag_size(self.tag_size, outcomes),
         })
     }
 }

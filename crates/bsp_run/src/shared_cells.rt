@@ -51,7 +51,7 @@ impl OtherCells {
         }
     }
 
-    /// Cells of which new ones for these processes make what they make of `cells` with these in them.
+    /// Cells in which new cells of the processes give the same list as in `cells` with the other cells. None of them lies apart.
     fn cells_below(
         &self,
         alloc: Global,
@@ -117,7 +117,7 @@ impl SharedCells {
         }
     }
 
-    /// Cells of which new ones for these processes make what they make of these. None of them lies apart.
+    /// Cells in which new cells of the processes give the same list as in this one. None of them lies apart.
     fn cells_below(&self, alloc: Global, processes: &[usize]) -> Result<Shared<Cells>, OutOfMemory>
         requires ascending { IsAscending processes.now }
         ensures count { IfOk result (λ cells. length cells ≡ length self.now) }

@@ -6,8 +6,8 @@ ghost use Rattle.bsp_model.specs.Input.{input_fault};
 ghost use Rattle.bsp_step.specs.Turn.{turn_of};
 ghost use Rattle.bsp_deliver.specs.Condition.{AreDeliverable, IsAscending};
 ghost use Rattle.bsp_deliver.specs.Cost.{IsHRelation};
-ghost use Rattle.bsp_run.specs.Run.{advance, run};
-ghost use Rattle.bsp_run.specs.Condition.{is_open};
+ghost use Rattle.bsp_run.specs.Run.{start, advance, run};
+ghost use Rattle.bsp_run.specs.Condition.{is_open, is_ended};
 ghost use Rattle.bsp_run.specs.Shares.{turns_of, deliveries_to};
 ghost use Rattle.bsp_run.specs.Law.{IsBspRun};
 ghost use Rattle.bsp_run.specs.RunErrors.{input_fault_of};
@@ -58,8 +58,41 @@ fn advance<
     Ok(())
 }
 
+/// All supersteps of a run that has just been opened.
+fn run_to_end<
+    P: Program,
+    T: Fn(&P, &Views, &[usize], &Outcomes) -> Result<Outcomes, OutOfMemory>,
+    D: Fn(&Outcomes, &[usize]) -> Result<Delivered, OutOfMemory>,
+>(
+    alloc: Global,
+    program: &P,
+    input: &Input,
+    turns: &T,
+    deliveries: &D,
+    tape: &mut Tape,
+) -> Result<(), OutOfMemory>
+    requires lawful { input_fault input.now ≡ None }
+    requires started { tape.old ≡ start input.now }
+    requires turn { (p : _) (views : _) (ps : _) (like : _) → All (λ k. k < length views.now) ps.now → T.pre turns.now p views ps like }
+    requires turns { (p : _) (views : _) (ps : _) (like : _) (r : _) → T.post turns.now p views ps like r
+        → IfOk r (λ all. all ≡ turns_of (turn_of (P.acts p.now) (P.ending p.now)) views.now ps.now) }
+    requires deliver { (os : _) (ds : _) → AreDeliverable os.now → All (λ d. d < length os.now) ds.now → IsAscending ds.now → D.pre deliveries.now os ds }
+    requires cells { (os : _) (ds : _) (r : _) → D.post deliveries.now os ds r
+        → IfOk r (λ made. made.cells ≡ deliveries_to os.now ds.now) }
+    requires h { (os : _) (ds : _) (r : _) → D.post deliveries.now os ds r
+        → IfOk r (λ made. IfSome made.h (IsHRelation os.now)) }
+    ensures ended { OnOk result (is_ended tape.new.phase ≡ true) }
+    ensures run { OnOk result (tape.new ≡ run (turn_of (P.acts program.now) (P.ending program.now)) input.now) }
+{
+    while tape.is_open() {
+        advance(alloc, program, turns, deliveries, tape)?;
+    }
+    Ok(())
+}
+
 /// The run of a program on an input: every process from its first superstep, up to the superstep limit. `turns` takes the turns of the
-/// processes that it is given, for whose outcomes it may take as much room as those have that it is given too, and `deliveries` makes the deliveries to those that it is given, in ascending order.
+/// processes that it is given, and may take as much room for their outcomes as the given ones have. `deliveries` makes the deliveries to the processes
+/// that it is given, in ascending order.
 pub(crate) fn run_by<
     P: Program,
     T: Fn(&P, &Views, &[usize], &Outcomes) -> Result<Outcomes, OutOfMemory>,
@@ -79,8 +112,6 @@ pub(crate) fn run_by<
     ensures input { IfErr result (λ e. input_fault input.now ≡ input_fault_of e) }
 {
     let mut tape = Tape::open(alloc, input)?;
-    while tape.is_open() {
-        advance(alloc, program, turns, deliveries, &mut tape)?;
-    }
+    run_to_end(alloc, program, input, turns, deliveries, &mut tape)?;
     Ok(tape.finish()?)
 }

@@ -55,8 +55,8 @@ impl Tape {
         Ok(())
     }
 
-    /// Takes the outcomes of the open superstep, one for each view, which are known to end it by delivery: how it ends is not asked again. After
-    /// `OutOfMemory` nothing has changed.
+    /// Takes the outcomes of the open superstep, one for each view. They are known to end it by delivery, so that nobody is asked for a fault again.
+    /// After `OutOfMemory` nothing has changed.
     pub fn turned_to_deliver(&mut self, outcomes: Outcomes) -> Result<(), OutOfMemory>
         requires open { self.old.phase ≡ Phase.Open }
         requires turns { AreOutcomesOf (open_views self.old) outcomes }

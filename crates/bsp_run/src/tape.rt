@@ -18,7 +18,7 @@ use crate::costs::{cost_of_delivery, cost_with_h};
 use crate::ending::end_of;
 use crate::keeping::{keep_superstep, phase_after, phase_at};
 use crate::next::table_seen;
-use crate::opening::{first_cells, first_cells_of, shared_args};
+use crate::opening::{first_cells_of, shared_args};
 use crate::{Arguments, Phase, RunError, Setting, Status, Superstep, Views, ViewsRef};
 use bsp_deliver::Delivered;
 use bsp_model::{CostRow, Input, OutOfMemory, Shared, SharedSeq, TryCopy};
@@ -81,9 +81,7 @@ impl Tape {
         ensures { IfOk result (λ tape. tape ≡ start input.now) }
     {
         let args = shared_args(&input.args)?;
-        let cells = first_cells(alloc, input.mems.as_slice())?;
-        let setting = Setting::first(alloc, &args, cells.len())?;
-        let views = Views::open(alloc, setting, cells)?;
+        let views = Views::first(alloc, input, args.copy()?)?;
         Tape::open_with(alloc, input, args, views)
     }
 
@@ -105,7 +103,7 @@ impl Tape {
     {
         let mems = input.mems.as_slice();
         let cells = first_cells_of(alloc, mems, processes.as_slice())?;
-        let setting = Setting::first(alloc, &args, mems.len())?;
+        let setting = Setting::first(alloc, args.copy()?, mems.len())?;
         let views = like.replaced(alloc, setting, processes, cells)?;
         Tape::open_with(alloc, input, args, views)
     }
@@ -203,8 +201,8 @@ impl Tape {
         Ok(goes_on)
     }
 
-    /// Takes the next memory and queue of each process, and the h-relation where it is known. True where the next superstep opens; else the limit has
-    /// ended the run. After `OutOfMemory` nothing has changed.
+    /// Takes the next memory and queue of each process, and the h-relation where it is known. The messages that nobody took are discarded with the
+    /// former queues. True where the next superstep opens; else the limit has ended the run. After `OutOfMemory` nothing has changed.
     pub fn delivered(&mut self, made: Delivered) -> Result<bool, OutOfMemory>
         requires turned { self.old.phase ≡ Phase.Turned }
         requires cells { made.cells ≡ deliveries_of self.old.outcomes }

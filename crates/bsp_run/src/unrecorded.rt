@@ -1,186 +1,177 @@
 //! A run of which no record is kept: what its reply needs, superstep by superstep.
 
-ghost use Rattle.std.specs.Prelude.{◌≡◌, ◌<◌, ◌≤◌, ◌+◌, ◌^◌, ◌++◌, ◌∷◌, ℕ, [], All, None, IfOk, length, map};
+ghost use Rattle.std.specs.Prelude.{◌≡◌, IfOk, None, OnOk, false, length, map};
 ghost use Rattle.std.specs.List.{range_with_len};
 ghost use Rattle.bsp_model.specs.Input.{input_fault};
-ghost use Rattle.bsp_deliver.specs.Requests.{each_below};
-ghost use Rattle.bsp_deliver.specs.Condition.{AreDeliverable};
+ghost use Rattle.bsp_step.specs.Turn.{turn_of};
 ghost use Rattle.bsp_deliver.specs.Cost.{IsHRelation};
-ghost use Rattle.bsp_run.specs.Run.{start};
-ghost use Rattle.bsp_run.specs.State.{views_of};
-ghost use Rattle.bsp_run.specs.Inside.Opening.{CanOpen};
-ghost use Rattle.bsp_run.specs.Condition.{deliveries_of};
-ghost use Rattle.bsp_run.specs.Inside.Condition.{CanSync};
-ghost use Rattle.bsp_run.specs.Result.{cost_of_delivery, cost_of_end, total_of, IsSmall};
-ghost use Rattle.bsp_run.specs.Inside.Unrecorded.{lines_and, lines_in, state_after, AreLinesAnd};
-ghost use Rattle.bsp_run.specs.Inside.IsUnrecorded.{IsUnrecorded};
+ghost use Rattle.bsp_run.specs.Ending.{end_of};
+ghost use Rattle.bsp_run.specs.Run.{Run, start, after_delivery, is_limit};
+ghost use Rattle.bsp_run.specs.Setting.{next_views};
+ghost use Rattle.bsp_run.specs.Result.{result_of};
+ghost use Rattle.bsp_run.specs.Inside.Settings.{AreTurned};
+ghost use Rattle.bsp_run.specs.Inside.IsUnrecorded.{IsUnrecorded, IsUnrecordedIn, HaveTurns};
 
-use crate::costs::{cost_of_end, cost_with_h, total_of};
+use crate::ending::end_of;
 use crate::history::{memories_of_outcomes, memories_of_views};
-use crate::keeping::next_table;
-use crate::opening::{first_cells, shared_args};
-use crate::printed::{add_printed, lines_and_last, lines_printed};
+use crate::opening::shared_args;
 use crate::supersteps::numbers;
-use crate::{Arguments, RunResult, Setting, Status, Views};
-use bsp_deliver::{Cells, deliver_all, next_tag_size};
-use bsp_model::limits::{HIGHEST_PRICE, MOST_SUPERSTEPS};
-use bsp_model::{CostRow, Input, LineColumn, OutOfMemory, Seq, TryCopy};
-use bsp_step::Outcomes;
-use bsp_table::Table;
+use crate::tally::Tally;
+use crate::wide::turns_by_one;
+use crate::{Phase, RunResult, Status, TurnRows, Views};
+use bsp_deliver::deliver_all;
+use bsp_model::{Input, OutOfMemory};
+use bsp_pool::Open;
+use bsp_step::{Outcome, Outcomes, Program};
 use std::alloc::Global;
+use std::mem;
 
-/// What is kept of a run: what the processes see, their numbers, and the lines and the costs so far.
+/// The outcomes of a superstep, and an outcome whose lists serve the turns of the next, if there is one.
+#[derive(Drop)]
+pub(crate) struct Taken {
+    pub(crate) outcomes: Outcomes,
+    pub(crate) spare: Option<Outcome>,
+}
+
+impl Taken {
+    /// Before the first turn.
+    pub(crate) fn none() -> Taken {
+        Taken {
+            outcomes: Outcomes::new(),
+            spare: None,
+        }
+    }
+}
+
+/// What is kept of a run: the numbers of the processes, their views, and what is added up so far.
 #[derive(Drop)]
 pub(crate) struct Unrecorded {
-    pub(crate) args: Arguments,
     pub(crate) processes: Vec<usize>,
     pub(crate) views: Views,
-    pub(crate) table: Table,
-    pub(crate) tag_size: u64,
-    /// The lines of each process, superstep by superstep, without those in which nobody printed.
-    pub(crate) lines: Vec<LineColumn>,
-    pub(crate) costs: Seq<CostRow>,
+    pub(crate) tally: Tally,
 }
 
-/// What is kept before the first superstep.
-pub(crate) fn open_unrecorded(alloc: Global, input: &Input) -> Result<Unrecorded, OutOfMemory>
-    requires lawful { input_fault input.now ≡ None }
-    ensures { IfOk result (λ kept. IsUnrecorded input.now (start input.now) kept) }
-{
-    let args = shared_args(&input.args)?;
-    let cells = first_cells(alloc, input.mems.as_slice())?;
-    let processes = numbers(alloc, cells.len())?;
-    let table = Table::new(alloc, cells.len())?;
-    let setting = Setting::first(alloc, &args, cells.len())?;
-    let views = Views::open(alloc, setting, cells)?;
-    Ok(Unrecorded {
-        args,
-        processes,
-        views,
-        table,
-        tag_size: 0,
-        lines: Vec::new(alloc),
-        costs: Seq::new(alloc),
-    })
-}
-
-/// The next memory and queue of each process, in the room of others, and the h-relation.
-#[tactic(auto, unfolding(crate::specs::Condition::deliveries_of))]
-fn all_deliveries(
+/// The turns of all processes, gathered in the room of the turns that were taken before.
+pub(crate) fn all_turns<P: Program>(
     alloc: Global,
-    outcomes: &Outcomes,
+    program: &P,
     processes: &[usize],
-    room: Cells,
-) -> Result<(Cells, u64), OutOfMemory>
-    requires deliverable { AreDeliverable outcomes.now }
+    views: &Views,
+    taken: &mut Taken,
+) -> Result<(), OutOfMemory>
+    requires all { processes.now ≡ range_with_len 0 (length views.now) }
+    ensures { OnOk result (taken.new.outcomes
+        ≡ map (turn_of (P.acts program.now) (P.ending program.now)) views.now) }
+{
+    let before = mem::replace(&mut taken.outcomes, Outcomes::new());
+    let room = before.into_room(alloc, processes.len())?;
+    let rows = TurnRows::new(room, taken.spare.take());
+    let rows = turns_by_one(alloc, rows, program, views, processes, &Open)?;
+    taken.spare = rows.spare;
+    taken.outcomes = rows.outcomes.share()?;
+    Ok(())
+}
+
+/// The views of the next superstep, gathered in the room of the present ones, and the h-relation. Messages that nobody took are discarded here.
+fn next_views(
+    alloc: Global,
+    views: Views,
+    processes: &[usize],
+    outcomes: &Outcomes,
+) -> Result<(Views, u64), OutOfMemory>
+    requires turned { (r : Run) × AreTurned r views outcomes.now }
     requires processes { processes.now ≡ range_with_len 0 (length outcomes.now) }
-    ensures cells { IfOk result (λ all. all.0 ≡ deliveries_of outcomes.now) }
-    ensures h { IfOk result (λ all. IsHRelation outcomes.now all.1) }
+    ensures views { (r : Run) → AreTurned r views outcomes.now → IfOk result (λ next. next.0 ≡ next_views r) }
+    ensures h { IfOk result (λ next. IsHRelation outcomes.now next.1) }
 {
-    deliver_all(alloc, outcomes, processes, room)
+    let (setting, room) = views.into_parts(alloc);
+    let setting = setting.after(outcomes)?;
+    let (cells, h) = deliver_all(alloc, outcomes, processes, room)?;
+    Ok((Views::open(alloc, setting, cells)?, h))
 }
 
-/// What is kept in the next superstep, whose number is `step`. What the processes see there is gathered in the room of what they saw before.
-pub(crate) fn go_on(
-    alloc: Global,
-    input: &Input,
-    step: u64,
-    kept: Unrecorded,
-    outcomes: &Outcomes,
-) -> Result<Unrecorded, OutOfMemory>
-    requires small_g { input.now.g ≤ HIGHEST_PRICE }
-    requires small_l { input.now.l ≤ HIGHEST_PRICE }
-    requires processes { kept.processes.items ≡ range_with_len 0 (length outcomes.now) }
-    requires sync { CanSync kept.table outcomes.now }
-    requires deliverable { AreDeliverable outcomes.now }
-    requires opens { CanOpen kept.args (state_after kept.table kept.tag_size outcomes.now) }
-    requires small { All IsSmall kept.costs }
-    ensures args { IfOk result (λ next. next.args ≡ kept.args) }
-    ensures processes { IfOk result (λ next. next.processes.items ≡ kept.processes.items) }
-    ensures views { IfOk result (λ next. next.views
-        ≡ views_of kept.args step (state_after kept.table kept.tag_size outcomes.now)) }
-    ensures table { IfOk result (λ next. next.table ≡ (state_after kept.table kept.tag_size outcomes.now).table) }
-    ensures tag_size { IfOk result (λ next. next.tag_size ≡ (state_after kept.table kept.tag_size outcomes.now).tag_size) }
-    ensures lines { IfOk result (λ next. AreLinesAnd kept.lines.items outcomes.now next.lines.items) }
-    ensures costs { IfOk result (λ next. next.costs
-        ≡ kept.costs ++ cost_of_delivery input.now.g input.now.l outcomes.now ∷ []) }
-    ensures small { IfOk result (λ next. All IsSmall next.costs) }
-{
-    let mut kept = kept;
-    let room = kept.views.into_room(alloc);
-    let (cells, h) = all_deliveries(alloc, outcomes, kept.processes.as_slice(), room)?;
-    kept.table = next_table(&kept.table, outcomes)?;
-    kept.tag_size = next_tag_size(kept.tag_size, outcomes);
-    let setting = Setting {
-        step,
-        args: kept.args.copy()?,
-        table: kept.table.copy()?,
-        tag_size: kept.tag_size,
-    };
-    kept.views = Views::open(alloc, setting, cells)?;
-    add_printed(alloc, &mut kept.lines, outcomes)?;
-    let row = cost_with_h(input.g, input.l, outcomes, h);
-    kept.costs.push(row)?;
-    Ok(kept)
-}
+impl Unrecorded {
+    /// What is kept before the first superstep.
+    pub(crate) fn open(alloc: Global, input: &Input) -> Result<Unrecorded, OutOfMemory>
+        requires lawful { input_fault input.now ≡ None }
+        ensures { IfOk result (IsUnrecorded (start input.now)) }
+    {
+        let views = Views::first(alloc, input, shared_args(&input.args)?)?;
+        let processes = numbers(alloc, views.len())?;
+        Ok(Unrecorded {
+            processes,
+            views,
+            tally: Tally::new(alloc, input),
+        })
+    }
 
-/// What a run gives that ended so, with the lines and the costs before its last superstep.
-pub(crate) fn ended(
-    alloc: Global,
-    kept: Unrecorded,
-    status: Status,
-    outcomes: &Outcomes,
-) -> Result<RunResult, OutOfMemory>
-    requires few { length kept.costs + 1 ≤ MOST_SUPERSTEPS }
-    requires small { All IsSmall kept.costs }
-    ensures { IfOk result (λ r. r ≡ record {
-      status = status;
-      memories = map (λ o. o.memory) outcomes.now;
-      lines = each_below (length outcomes.now) (lines_and kept.lines.items outcomes.now);
-      costs = kept.costs ++ cost_of_end outcomes.now ∷ [];
-      total = total_of (kept.costs ++ cost_of_end outcomes.now ∷ []);
-    }) }
-{
-    let Unrecorded {
-        args: _,
-        processes: _,
-        views: _,
-        table: _,
-        tag_size: _,
-        lines,
-        mut costs,
-    } = kept;
-    costs.push(cost_of_end(outcomes))?;
-    let total = total_of(costs.as_slice());
-    Ok(RunResult {
-        status,
-        memories: memories_of_outcomes(alloc, outcomes)?,
-        lines: lines_and_last(alloc, lines, outcomes)?,
-        costs: costs.share()?,
-        total,
-    })
-}
+    /// How a superstep of these outcomes ends the run, or none where it ends by delivery.
+    pub(crate) fn end(
+        &self,
+        alloc: Global,
+        outcomes: &Outcomes,
+    ) -> Result<Option<Status>, OutOfMemory>
+        requires turns { (r : Run) × HaveTurns r self.now.views outcomes.now }
+        ensures { (r : Run) → HaveTurns r self.now.views outcomes.now
+            → IfOk result (λ end. end ≡ end_of (length r.past) r.state.table outcomes.now) }
+    {
+        let setting = self.views.setting();
+        end_of(alloc, setting.step, &setting.table, outcomes)
+    }
 
-/// What a run gives that ended at the limit.
-pub(crate) fn ended_at_limit(alloc: Global, kept: Unrecorded) -> Result<RunResult, OutOfMemory>
-    requires few { length kept.costs ≤ MOST_SUPERSTEPS }
-    requires small { All IsSmall kept.costs }
-    ensures { IfOk result (λ r. r ≡ record {
-      status = Status.Limit;
-      memories = map (λ v. v.memory) kept.views;
-      lines = each_below (length kept.views) (lines_in kept.lines.items);
-      costs = kept.costs;
-      total = total_of kept.costs;
-    }) }
-{
-    let total = total_of(kept.costs.as_slice());
-    let memories = memories_of_views(alloc, &kept.views)?;
-    let nprocs = kept.views.len();
-    Ok(RunResult {
-        status: Status::Limit,
-        memories,
-        lines: lines_printed(alloc, kept.lines, nprocs)?,
-        costs: kept.costs.share()?,
-        total,
-    })
+    /// What is kept after the deliveries of these outcomes.
+    pub(crate) fn go_on(self, alloc: Global, outcomes: &Outcomes) -> Result<Unrecorded, OutOfMemory>
+        requires turned { (r : Run) × IsUnrecordedIn Phase.Turned r self outcomes.now }
+        ensures { (r : Run) → IsUnrecordedIn Phase.Turned r self outcomes.now
+            → IfOk result (IsUnrecorded (after_delivery r)) }
+    {
+        let Unrecorded {
+            processes,
+            views,
+            mut tally,
+        } = self;
+        let (views, h) = next_views(alloc, views, processes.as_slice(), outcomes)?;
+        tally.add_delivery(alloc, outcomes, h)?;
+        Ok(Unrecorded {
+            processes,
+            views,
+            tally,
+        })
+    }
+
+    /// What was added up.
+    fn into_tally(self) -> Tally
+        ensures { result ≡ self.tally }
+    {
+        self.tally
+    }
+
+    /// What the run gives that ended so with these outcomes.
+    pub(crate) fn ended(
+        self,
+        alloc: Global,
+        status: Status,
+        outcomes: &Outcomes,
+    ) -> Result<RunResult, OutOfMemory>
+        requires ended { (r : Run) × IsUnrecordedIn (Phase.Ended status) r self outcomes.now }
+        requires before { is_limit (Phase.Ended status) ≡ false }
+        ensures { (r : Run) → IsUnrecordedIn (Phase.Ended status) r self outcomes.now
+            → IfOk result (λ given. given ≡ result_of r) }
+    {
+        let mut tally = self.into_tally();
+        tally.add_end(alloc, outcomes)?;
+        let memories = memories_of_outcomes(alloc, outcomes)?;
+        tally.into_result(alloc, status, memories)
+    }
+
+    /// What the run gives that ended at the limit.
+    pub(crate) fn ended_at_limit(self, alloc: Global) -> Result<RunResult, OutOfMemory>
+        requires ended { (r : Run) × IsUnrecordedIn (Phase.Ended Status.Limit) r self r.outcomes }
+        ensures { (r : Run) → IsUnrecordedIn (Phase.Ended Status.Limit) r self r.outcomes
+            → IfOk result (λ given. given ≡ result_of r) }
+    {
+        let memories = memories_of_views(alloc, &self.views)?;
+        let tally = self.into_tally();
+        tally.into_result(alloc, Status::Limit, memories)
+    }
 }

@@ -1,15 +1,19 @@
 //! What the processes see in a superstep.
 
-ghost use Rattle.std.specs.Prelude.{◌≡◌, ◌<◌, [], All, IfNone, IfOk, IfSome, length, map, nat_eq, slice_index_or};
+ghost use Rattle.std.specs.Prelude.{◌≡◌, ◌<◌, [], All, None, IfNone, IfOk, IfSome, length, map, nat_eq, slice_index_or};
+ghost use Rattle.bsp_model.specs.Input.{input_fault};
 ghost use Rattle.bsp_model.specs.Replaced.{replaced, IsAscending};
 ghost use Rattle.bsp_run.specs.State.{cell_of, views_of};
+ghost use Rattle.bsp_run.specs.Run.{start, open_views};
 ghost use Rattle.bsp_run.specs.Condition.{no_view};
 ghost use Rattle.bsp_run.specs.Inside.Opening.{CanOpen, state_of};
+ghost use Rattle.bsp_run.specs.Inside.Settings.{IsSettingOf};
 
+use crate::opening::first_cells;
 use crate::shared_cells::SharedCells;
 use crate::{Arguments, Setting};
 use bsp_deliver::Cells;
-use bsp_model::OutOfMemory;
+use bsp_model::{Input, OutOfMemory};
 use bsp_step::View;
 use std::alloc::Global;
 use std::marker::Model;
@@ -68,12 +72,31 @@ impl Views {
         })
     }
 
-    /// No memories and queues, in the room of these where no copy shares it.
-    pub(crate) fn into_room(self, alloc: Global) -> Cells
-        ensures { result ≡ [] }
+    /// The views of superstep 0, with the arguments of the input.
+    pub(crate) fn first(alloc: Global, input: &Input, args: Arguments) -> Result<Views, OutOfMemory>
+        requires lawful { input_fault input.now ≡ None }
+        requires args { args ≡ input.now.args }
+        ensures { IfOk result (λ views. views ≡ open_views (start input.now)) }
     {
-        let Views { setting: _, cells } = self;
-        cells.into_room(alloc)
+        let cells = first_cells(alloc, input.mems.as_slice())?;
+        let setting = Setting::first(alloc, args, cells.len())?;
+        Views::open(alloc, setting, cells)
+    }
+
+    /// What all processes see alike.
+    pub(crate) fn setting(&self) -> &Setting
+        ensures { IsSettingOf self.now result.now }
+    {
+        &self.setting
+    }
+
+    /// What all processes see alike, and no cells in the room of these, where no copy shares it.
+    pub(crate) fn into_parts(self, alloc: Global) -> (Setting, Cells)
+        ensures setting { IsSettingOf self result.0 }
+        ensures room { result.1 ≡ [] }
+    {
+        let Views { setting, cells } = self;
+        (setting, cells.into_room(alloc))
     }
 
     /// The number of processes.

@@ -1,25 +1,40 @@
 -- What is kept of a run so far whose record is not.
-use Rattle.std.specs.Prelude.{◌≡◌, ℕ, map, length, All}
+use Rattle.std.specs.Prelude.{◌≡◌, ℕ, List, map, length}
 use Rattle.std.specs.List.{range_with_len}
-use Rattle.bsp_model.specs.declared.input.Input.{Input}
+use Rattle.bsp_step.specs.ViewParts.{ViewParts}
+use Rattle.bsp_step.specs.OutcomeParts.{OutcomeParts}
+use Rattle.bsp_run.specs.declared.phase.Phase.{Phase}
+use Rattle.bsp_run.specs.declared.phase.Phase.TheVariants.{Open}
+use Rattle.bsp_run.specs.declared.tally.Tally.{Tally}
 use Rattle.bsp_run.specs.declared.unrecorded.Unrecorded.{Unrecorded}
 use Rattle.bsp_run.specs.Run.{Run, open_views}
-use Rattle.bsp_run.specs.Condition.{IsRun}
+use Rattle.bsp_run.specs.Condition.{AreOutcomesOf, IsRun}
 use Rattle.bsp_run.specs.Supersteps.{outcomes_of}
-use Rattle.bsp_run.specs.Result.{lines_of_process, cost_of_delivery, IsSmall}
-use Rattle.bsp_run.specs.Inside.Unrecorded.{lines_in}
+use Rattle.bsp_run.specs.Result.{lines_of_process, cost_of_delivery}
+use Rattle.bsp_run.specs.Inside.Printed.{lines_in}
 
--- What is kept is what the run sees now, and what its result would add up of the supersteps that ended by delivery.
-pub record IsUnrecorded (input : Input) (r : Run) (kept : Unrecorded) : Type 0 where
+-- What is kept is what the processes of the run see, and what its result adds up of the supersteps that ended by delivery.
+pub record AreKept (r : Run) (ps : List ℕ) (vs : List ViewParts) (sums : Tally) : Type 0 where
   pub run : IsRun r
-  pub limit : r.limit ≡ input.limit
-  pub g : r.g ≡ input.g
-  pub l : r.l ≡ input.l
-  pub args : kept.args ≡ r.args
-  pub processes : kept.processes.items ≡ range_with_len 0 (length r.state.memories)
-  pub views : kept.views ≡ open_views r
-  pub table : kept.table ≡ r.state.table
-  pub tag_size : kept.tag_size ≡ r.state.tag_size
-  pub lines : (p : ℕ) → lines_in kept.lines.items p ≡ lines_of_process (outcomes_of r.past) p
-  pub costs : kept.costs ≡ map (cost_of_delivery r.g r.l) (outcomes_of r.past)
-  pub small : All IsSmall kept.costs
+  pub processes : ps ≡ range_with_len 0 (length r.state.memories)
+  pub views : vs ≡ open_views r
+  pub g : sums.g ≡ r.g
+  pub l : sums.l ≡ r.l
+  pub lines : (p : ℕ) → lines_in sums.lines.items p ≡ lines_of_process (outcomes_of r.past) p
+  pub costs : sums.costs ≡ map (cost_of_delivery r.g r.l) (outcomes_of r.past)
+
+abbrev pub IsUnrecorded : Run → Unrecorded → Type 0
+IsUnrecorded r kept = AreKept r kept.processes.items kept.views kept.tally
+
+-- The open superstep of a run, in which the processes see these views, and the outcomes of its turns.
+pub record HaveTurns (r : Run) (vs : List ViewParts) (os : List OutcomeParts) : Type 0 where
+  pub run : IsRun r
+  pub phase : r.phase ≡ Open
+  pub views : vs ≡ open_views r
+  pub turns : AreOutcomesOf (open_views r) os
+
+-- What is kept of a run that is in this phase, and the outcomes of its last turns.
+pub record IsUnrecordedIn (comes : Phase) (r : Run) (kept : Unrecorded) (os : List OutcomeParts) : Type 0 where
+  pub same : IsUnrecorded r kept
+  pub phase : r.phase ≡ comes
+  pub outcomes : r.outcomes ≡ os

@@ -1,6 +1,6 @@
 use Rattle.std.proofs.Common.{◌≡◌, ◌<◌, ℕ}
 use Rattle.bsp_model.specs.Columns.{row_at}
-use Rattle.bsp_run.specs.Inside.Unrecorded.{lines_in}
+use Rattle.bsp_run.specs.Inside.Printed.{lines_in}
 use Rattle.bsp_run.proofs.printed.gathered.Given as goal
 
 abbrev pub invariant-loop-pid : goal.invariant-loop-pid

@@ -2,7 +2,7 @@ use Rattle.std.proofs.Common.{◌∙◌, ℕ, Bool, List, [], ap}
 use Rattle.bsp_model.specs.Columns.{row_at}
 use Rattle.bsp_deliver.specs.Requests.{each_below}
 use Rattle.bsp_run.specs.Inside.Lines.{lines_from}
-use Rattle.bsp_run.specs.Inside.Unrecorded.{lines_in}
+use Rattle.bsp_run.specs.Inside.Printed.{lines_in}
 use Rattle.bsp_run.proofs.Lists.{each_below-agree}
 use Rattle.bsp_run.proofs.Gathered.{lines_from_none}
 use Rattle.bsp_run.proofs.printed.lines_printed.Goals as goal

@@ -1,5 +1,5 @@
 use Rattle.std.proofs.Common.{◌≡◌, take}
-use Rattle.bsp_run.specs.Inside.Unrecorded.{lines_in}
+use Rattle.bsp_run.specs.Inside.Printed.{lines_in}
 use Rattle.bsp_run.proofs.printed.take_printed.Given as goal
 
 abbrev pub invariant-loop-superstep : goal.invariant-loop-superstep

@@ -1,7 +1,7 @@
 use Rattle.std.proofs.Common.{◌-◌}
 use Rattle.bsp_step.specs.Turn.{turn_of}
 use Rattle.bsp_run.proofs.UnrecordedRuns.{IsUnderway}
-use Rattle.bsp_run.proofs.plain.lawful_result.Given as goal
+use Rattle.bsp_run.proofs.plain.result_in_room.Given as goal
 
 -- what is kept is that of the run so far, and the supersteps that are left make it the run
 abbrev pub invariant-loop-step : goal.invariant-loop-step

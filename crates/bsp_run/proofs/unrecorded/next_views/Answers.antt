@@ -1,0 +1,51 @@
+use Rattle.std.proofs.Common.{◌∙◌, List, ap, sym, subst, length, refl, arith}
+use Rattle.bsp_step.specs.OutcomeParts.{OutcomeParts}
+use Rattle.bsp_table.specs.declared.area.Area.{Area}
+use Rattle.bsp_deliver.specs.Condition.{AreDeliverable}
+use Rattle.bsp_run.specs.Run.{Run}
+use Rattle.bsp_run.specs.Condition.{IsTurned, deliveries_of}
+use Rattle.bsp_run.specs.Inside.Condition.{CanSync}
+use Rattle.bsp_run.specs.Inside.Settings.{AreTurned}
+use Rattle.bsp_run.proofs.Conditions.{AreDeliverable-from_turns}
+use Rattle.bsp_run.proofs.NextViews.{opens_next, views_next}
+use Rattle.bsp_run.proofs.Phases.{can_sync, is_turned_run}
+use Rattle.bsp_run.proofs.Settings.{open_setting, setting_next}
+use Rattle.bsp_run.proofs.Shares.{deliveries_made}
+use Rattle.bsp_run.proofs.unrecorded.next_views.Goals as goal
+
+pub after-requires-clause-sync : goal.after-requires-clause-sync
+after-requires-clause-sync c =
+    let r : Run = c.requires.turned.0 in
+    let t : AreTurned r c.args.views c.args.outcomes.now = c.requires.turned.1 in
+    let is = open_setting r c.args.views c.into_parts-setting.result.0 t.run t.views c.into_parts-setting.ensures.setting in
+    subst (λ (os : List OutcomeParts). CanSync c.into_parts-setting.result.0.table os) t.outcomes
+    (subst (λ (slots : List (List Area)). CanSync slots r.outcomes) (sym is.table) (can_sync r t.run (is_turned_run r t.run t.phase)))
+
+pub after-requires-clause-step : goal.after-requires-clause-step
+after-requires-clause-step c =
+    let r : Run = c.requires.turned.0 in
+    let t : AreTurned r c.args.views c.args.outcomes.now = c.requires.turned.1 in
+    let is = open_setting r c.args.views c.into_parts-setting.result.0 t.run t.views c.into_parts-setting.ensures.setting in
+    let turned : IsTurned r = is_turned_run r t.run t.phase in
+    omega (arith, is.step, turned.room, t.run.few_supersteps)
+
+pub deliver_all-requires-clause-deliverable : goal.deliver_all-requires-clause-deliverable
+deliver_all-requires-clause-deliverable c =
+    let r : Run = c.requires.turned.0 in
+    let t : AreTurned r c.args.views c.args.outcomes.now = c.requires.turned.1 in
+    let turned : IsTurned r = is_turned_run r t.run t.phase in
+    subst AreDeliverable t.outcomes (AreDeliverable-from_turns r.args (length r.past) r.state r.outcomes t.run.state turned.turns)
+
+pub open-requires : goal.open-requires
+open-requires c =
+    let r : Run = c.requires.turned.0 in
+    let t : AreTurned r c.args.views c.args.outcomes.now = c.requires.turned.1 in
+    let known = c.in_ok-setting.ensures ∙ setting_next r c.args.views c.args.outcomes.now c.into_parts-setting.result.0 t c.into_parts-setting.ensures.setting in
+    let made = deliveries_made c.args.outcomes.now (length c.args.outcomes.now) c.args.processes.now c.in_ok-cells.cells refl c.requires.processes c.in_ok-cells.ensures.cells ∙ ap deliveries_of (sym t.outcomes) in
+    opens_next r c.in_ok-setting.setting c.in_ok-cells.cells t.run t.phase known made
+
+pub returns-clause-views : goal.returns-clause-views
+returns-clause-views c = λ r t.
+    let known = c.in_ok-setting.ensures ∙ setting_next r c.args.views c.args.outcomes.now c.into_parts-setting.result.0 t c.into_parts-setting.ensures.setting in
+    let made = deliveries_made c.args.outcomes.now (length c.args.outcomes.now) c.args.processes.now c.in_ok-cells.cells refl c.requires.processes c.in_ok-cells.ensures.cells ∙ ap deliveries_of (sym t.outcomes) in
+    c.in_ok-open.ensures ∙ views_next r c.in_ok-setting.setting c.in_ok-cells.cells known made
