@@ -16,5 +16,5 @@ pub use beside::{OpenSuperstep, open_superstep};
 pub use doubtful::{Doubtful, all_see_the_same};
 pub use known_table::KnownTable;
 pub use looking::{has_table, serves};
-pub use marks::{Marks, all_marks, count_unmarked, marks_of_edits};
+pub use marks::{Marks, all_marks, marks_of_edits};
 pub use places::add_places;

@@ -11,6 +11,3 @@ mod superstep;
 pub use edit::{Batch, Edit, EditError, EditFault, EditRefusal};
 pub use reply::{Place, Reply, Update};
 pub use session::{Session, scratch_run, session_run};
-
-#[cfg(test)]
-mod tests;

@@ -1,8 +1,11 @@
 //! The replies to an input and to batches of edits.
 
+ghost use Rattle.std.specs.Prelude.{◌≡◌, []};
+
 use crate::EditRefusal;
 use bsp_model::Seq;
 use bsp_run::RunResult;
+use std::alloc::Global;
 
 /// A process in a superstep.
 #[derive(Clone, Copy, Debug, PartialEq, Eq)]
@@ -20,6 +23,19 @@ pub struct Update {
     pub executed: Seq<Place>,
     /// The deliveries that were made again, by superstep, then process.
     pub redelivered: Seq<Place>,
+}
+
+impl Update {
+    /// Nothing was done again.
+    pub(crate) fn none(alloc: Global) -> Update
+        ensures executed { result.executed ≡ [] }
+        ensures redelivered { result.redelivered ≡ [] }
+    {
+        Update {
+            executed: Seq::new(alloc),
+            redelivered: Seq::new(alloc),
+        }
+    }
 }
 
 /// The reply to an input or to a batch.

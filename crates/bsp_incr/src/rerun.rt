@@ -1,82 +1,106 @@
 //! A run that is made again, against the record of the run before.
 
-ghost use Rattle.std.specs.Prelude.{◌≡◌, IfOk, OnOk, OnErr, None, Some, option_map};
+ghost use Rattle.std.specs.Prelude.{◌≡◌, IfOk, OnOk, OnErr, None, Some, option_map, true};
 ghost use Rattle.bsp_model.specs.Input.{input_fault};
-ghost use Rattle.bsp_run.specs.Run.{run};
+ghost use Rattle.bsp_run.specs.Run.{start, run};
+ghost use Rattle.bsp_run.specs.Condition.{is_ended};
 ghost use Rattle.bsp_run.specs.Law.{IsBspRun};
 ghost use Rattle.bsp_incr.specs.Inside.Changes.{update_of};
 ghost use Rattle.bsp_incr.specs.Edits.{refusal_of, edited};
 ghost use Rattle.bsp_incr.specs.Inside.Before.{IsBefore, IsBeforeEdits};
 ghost use Rattle.bsp_incr.specs.Inside.Marks.{AreArgsMarked, AreFirstMarked};
-ghost use Rattle.bsp_incr.specs.Inside.Given.{turn_by};
+ghost use Rattle.bsp_run.specs.TurnBy.{turn_by};
+ghost use Rattle.bsp_incr.specs.Inside.Given.{IsMidway};
+ghost use Rattle.bsp_incr.specs.Inside.Known.{KnowsTable};
 
-mod counts;
-mod executor;
 mod finishing;
 mod given;
 mod opening;
 mod under_way;
 mod workers;
 
-use crate::compare::{Marks, count_unmarked, marks_of_edits};
+use crate::compare::{Marks, marks_of_edits};
 use crate::edit::{make_edits, restore};
 use crate::rerun::finishing::finished;
 use crate::rerun::opening::opened;
 use crate::superstep::advance;
 use crate::{Edit, Update};
-use bsp_model::{Input, OutOfMemory};
+use bsp_model::{Input, OutOfMemory, ProcessSet};
 use bsp_pool::Gate;
-use bsp_run::History;
+use bsp_run::{History, Tape};
 use bsp_step::Program;
-pub use counts::Counts;
-pub use executor::Executor;
 pub use given::Given;
 use std::thread::Threads;
-pub use under_way::{TurnTaking, UnderWay};
+pub use under_way::UnderWay;
 pub use workers::Workers;
+
+/// Supersteps of a run that has just been opened, until it has ended.
+fn remake_all<P: Program, G: Gate, R: Threads + Sync>(
+    given: &Given<'_, P, R, G>,
+    tape: &mut Tape,
+    under_way: &mut UnderWay,
+) -> Result<(), OutOfMemory>
+    requires started { tape.old ≡ start given.now.input }
+    requires under_way { IsMidway P.Program given.now tape.old under_way.old }
+    requires table { KnowsTable given.now.before tape.old under_way.old.table }
+    ensures ended { OnOk result (is_ended tape.new.phase ≡ true) }
+    ensures run { OnOk result (tape.new ≡ run (turn_by P.Program given.now.program) given.now.input) }
+    ensures update { OnOk result (under_way.new.update
+        ≡ update_of (P.looks given.now.program) given.now.before tape.new) }
+{
+    // That the input is lawful is known where it is read.
+    let _input = given.input;
+    while tape.is_open() {
+        advance(given, tape, under_way)?;
+    }
+    Ok(())
+}
+
+/// The run of a program that is made again, and what was done for it. The processes in `first` begin with something else than in the run before.
+fn remade<P: Program, G: Gate, R: Threads + Sync>(
+    given: &Given<'_, P, R, G>,
+    first: ProcessSet,
+) -> Result<(Tape, Update), OutOfMemory>
+    requires first { AreFirstMarked given.now.before given.now.input first }
+    ensures ended { IfOk result (λ r. is_ended r.0.phase ≡ true) }
+    ensures run { IfOk result (λ r. r.0 ≡ run (turn_by P.Program given.now.program) given.now.input) }
+    ensures update { IfOk result (λ r. r.1 ≡ update_of (P.looks given.now.program) given.now.before r.0) }
+{
+    // That the input is lawful is known where it is read.
+    let _input = given.input;
+    let mut tape = opened(given, &first)?;
+    let mut under_way = UnderWay::new(given.workers.alloc, first);
+    remake_all(given, &mut tape, &mut under_way)?;
+    Ok((tape, under_way.into_update()))
+}
 
 /// The run of a program on a lawful input, made against the run before, if there was one, of the same program and as many processes: a turn is
 /// taken only where the recorded one does not serve, and a delivery is made only where it depends on something else.
 pub fn rerun<P: Program, G: Gate, R: Threads + Sync>(
-    executor: &Executor<'_, P, R, G>,
+    workers: Workers<'_, R, G>,
+    program: &P,
     old: Option<&History>,
     input: &Input,
     marks: Marks,
-    counts: &mut Counts,
 ) -> Result<(History, Update), OutOfMemory>
     requires lawful { input_fault input.now ≡ None }
     requires args { AreArgsMarked (option_map (λ k. k.now) old) input.now marks.args }
     requires first { AreFirstMarked (option_map (λ k. k.now) old) input.now marks.first }
-    requires before { IsBefore (turn_by P.Program executor.now.program.now) input.now (option_map (λ k. k.now) old) }
-    ensures run { IfOk result (λ r. r.0 ≡ run (turn_by P.Program executor.now.program.now) input.now) }
+    requires before { IsBefore (turn_by P.Program program.now) input.now (option_map (λ k. k.now) old) }
+    ensures run { IfOk result (λ r. r.0 ≡ run (turn_by P.Program program.now) input.now) }
     ensures update { IfOk result
-        (λ r. r.1 ≡ update_of (P.looks executor.now.program.now) (option_map (λ k. k.now) old.entry) r.0) }
+        (λ r. r.1 ≡ update_of (P.looks program.now) (option_map (λ k. k.now) old.entry) r.0) }
 {
-    let alloc = executor.alloc;
-    let Marks {
-        args: other_args,
-        first,
-    } = marks;
+    let alloc = workers.alloc;
+    let Marks { args, first } = marks;
     let given = Given {
-        workers: executor.workers,
-        alloc,
-        program: executor.program,
+        workers,
+        program,
         input,
         old,
-        other_args: &other_args,
+        other_args: &args,
     };
-    let mut tape = opened(&given, &first)?;
-    let mut under_way = UnderWay::new(alloc, first, *counts);
-    while tape.is_open() {
-        advance(&given, &mut tape, &mut under_way)?;
-    }
-    let UnderWay {
-        marks: _,
-        table: _,
-        update,
-        taking,
-    } = under_way;
-    *counts = taking.counts;
+    let (tape, update) = remade(&given, first)?;
     let executed = update.executed.as_slice();
     let history = finished(alloc, old, tape, input.mems.len(), executed)?;
     Ok((history, update))
@@ -84,41 +108,40 @@ pub fn rerun<P: Program, G: Gate, R: Threads + Sync>(
 
 /// The run of an edited input, made against the run of the input as it was.
 fn rerun_from_edits<P: Program, G: Gate, R: Threads + Sync>(
-    executor: &Executor<'_, P, R, G>,
+    workers: Workers<'_, R, G>,
+    program: &P,
     old: &History,
     input: &Input,
     edits: &[Edit],
-    counts: &mut Counts,
 ) -> Result<(History, Update), OutOfMemory>
     requires lawful { input_fault input.now ≡ None }
-    requires before { IsBeforeEdits (turn_by P.Program executor.now.program.now) edits.now input.now old.now }
-    ensures run { IfOk result (λ r. r.0 ≡ run (turn_by P.Program executor.now.program.now) input.now) }
-    ensures update { IfOk result (λ r. r.1 ≡ update_of (P.looks executor.now.program.now) (Some old.now) r.0) }
+    requires before { IsBeforeEdits (turn_by P.Program program.now) edits.now input.now old.now }
+    ensures run { IfOk result (λ r. r.0 ≡ run (turn_by P.Program program.now) input.now) }
+    ensures update { IfOk result (λ r. r.1 ≡ update_of (P.looks program.now) (Some old.now) r.0) }
 {
-    let marks = marks_of_edits(executor.alloc, old, input, edits)?;
-    count_unmarked(executor.alloc, edits, &marks, counts)?;
-    rerun(executor, Some(old), input, marks, counts)
+    let marks = marks_of_edits(workers.alloc, old, input, edits)?;
+    rerun(workers, program, Some(old), input, marks)
 }
 
 /// Edits an input and makes its run again, against the run of the input as it was. After `OutOfMemory` the input is as before.
 pub fn rerun_edited<P: Program, G: Gate, R: Threads + Sync>(
-    executor: &Executor<'_, P, R, G>,
+    workers: Workers<'_, R, G>,
+    program: &P,
     old: &History,
     input: &mut Input,
     edits: &[Edit],
-    counts: &mut Counts,
 ) -> Result<(History, Update), OutOfMemory>
     requires lawful { input_fault input.old ≡ None }
     requires accepted { refusal_of input.old edits.now ≡ None }
-    requires before { IsBspRun (turn_by P.Program executor.now.program.now) input.old old.now }
+    requires before { IsBspRun (turn_by P.Program program.now) input.old old.now }
     ensures given { OnOk result (input.new ≡ edited input.old edits.now) }
     ensures run { IfOk result
-        (λ r. r.0 ≡ run (turn_by P.Program executor.now.program.now) (edited input.old edits.now)) }
-    ensures update { IfOk result (λ r. r.1 ≡ update_of (P.looks executor.now.program.now) (Some old.now) r.0) }
+        (λ r. r.0 ≡ run (turn_by P.Program program.now) (edited input.old edits.now)) }
+    ensures update { IfOk result (λ r. r.1 ≡ update_of (P.looks program.now) (Some old.now) r.0) }
     ensures err { OnErr result (input.new ≡ input.old) }
 {
-    let formers = make_edits(executor.alloc, input, edits)?;
-    match rerun_from_edits(executor, old, input, edits, counts) {
+    let formers = make_edits(workers.alloc, input, edits)?;
+    match rerun_from_edits(workers, program, old, input, edits) {
         Ok(done) => Ok(done),
         Err(error) => {
             restore(input, formers);

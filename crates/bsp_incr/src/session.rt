@@ -4,9 +4,9 @@ mod replies;
 
 use crate::compare::all_marks;
 use crate::edit::{are_there, refusal_of};
-use crate::rerun::{Counts, Executor, Workers, rerun, rerun_edited};
+use crate::rerun::{Workers, rerun, rerun_edited};
 use crate::{Edit, EditError, Update};
-use bsp_model::{Input, Seq};
+use bsp_model::{Input, OutOfMemory};
 use bsp_pool::Gate;
 use bsp_run::{History, RunError};
 use bsp_step::Program;
@@ -21,8 +21,6 @@ pub struct Session<P: Program> {
     program: P,
     input: Input,
     history: History,
-    /// For the tests of this crate.
-    pub(crate) counts: Counts,
 }
 
 impl<P: Program> Model for Session<P> {
@@ -44,7 +42,6 @@ impl<P: Program + Drop> Session<P> {
     ghost use Rattle.bsp_run.specs.RunErrors.{input_fault_of};
     ghost use Rattle.bsp_incr.specs.Edits.{refusal_of, edited};
     ghost use Rattle.bsp_incr.specs.Exact.{IsExact};
-    ghost use Rattle.bsp_incr.specs.Reused.{AreReused};
     ghost use Rattle.bsp_incr.specs.Replies.{refusal_in};
 
     /// A session with the run of the input, whose turns and deliveries are shared by 1 to 16 workers. The update has every process of every
@@ -71,22 +68,16 @@ impl<P: Program + Drop> Session<P> {
         }
         let workers = Workers {
             rt,
+            alloc,
             count: workers,
             gate,
         };
-        let executor = Executor {
-            program: &program,
-            alloc,
-            workers: &workers,
-        };
-        let mut counts = Counts::new();
         let marks = all_marks(alloc, &input)?;
-        let (history, update) = rerun(&executor, None, &input, marks, &mut counts)?;
+        let (history, update) = rerun(workers, &program, None, &input, marks)?;
         let session = Session {
             program,
             input,
             history,
-            counts,
         };
         Ok((session, update))
     }
@@ -128,7 +119,6 @@ impl<P: Program + Drop> Session<P> {
             self.new.input self.new.history) }
         ensures exact { IfOk result (λ u. IsExact (P.looks self.old.program)
             (Some self.old.history) self.new.history u) }
-        ensures reused { OnOk result (AreReused (P.looks self.old.program) (Some self.old.history) self.new.history) }
         ensures err { OnErr result (self.new ≡ self.old) }
     {
         match refusal_of(&self.input, edits) {
@@ -136,27 +126,38 @@ impl<P: Program + Drop> Session<P> {
             None => {}
         }
         if are_there(&self.input, edits) {
-            return Ok(Update {
-                executed: Seq::new(alloc),
-                redelivered: Seq::new(alloc),
-            });
+            return Ok(Update::none(alloc));
         }
         let workers = Workers {
             rt,
+            alloc,
             count: workers,
             gate,
         };
-        let executor = Executor {
-            program: &self.program,
-            alloc,
-            workers: &workers,
-        };
+        Ok(self.change(workers, edits)?)
+    }
+
+    /// Applies a batch that is accepted. After `OutOfMemory` nothing has changed.
+    fn change<R: Threads + Sync, G: Gate>(
+        &mut self,
+        workers: Workers<'_, R, G>,
+        edits: &[Edit],
+    ) -> Result<Update, OutOfMemory>
+        requires accepted { refusal_of self.old.input edits.now ≡ None }
+        ensures program { self.new.program ≡ self.old.program }
+        ensures given { OnOk result (self.new.input ≡ edited self.old.input edits.now) }
+        ensures law { OnOk result (IsBspRun (turn_of (P.acts self.old.program) (P.ending self.old.program))
+            self.new.input self.new.history) }
+        ensures exact { IfOk result (λ u. IsExact (P.looks self.old.program)
+            (Some self.old.history) self.new.history u) }
+        ensures err { OnErr result (self.new ≡ self.old) }
+    {
         let (history, update) = rerun_edited(
-            &executor,
+            workers,
+            &self.program,
             &self.history,
             &mut self.input,
             edits,
-            &mut self.counts,
         )?;
         self.history = history;
         Ok(update)

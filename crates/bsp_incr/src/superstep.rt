@@ -6,7 +6,8 @@ ghost use Rattle.bsp_run.specs.Run.{after_turns, open_views, advance};
 ghost use Rattle.bsp_run.specs.Condition.{AreOutcomesOf, is_open, is_turned};
 ghost use Rattle.bsp_run.specs.Inside.Record.{IsRecord};
 ghost use Rattle.bsp_incr.specs.Inside.Changes.{differ_in};
-ghost use Rattle.bsp_incr.specs.Inside.Given.{turn_by, views_beside, IsMidway};
+ghost use Rattle.bsp_run.specs.TurnBy.{turn_by};
+ghost use Rattle.bsp_incr.specs.Inside.Given.{views_beside, IsMidway};
 ghost use Rattle.bsp_incr.specs.Inside.Known.{AreDoubtful, AreMarkedAlone, IsKnown, KnowsTable, KnowsNextTable};
 ghost use Rattle.bsp_incr.specs.Inside.Marks.{AreMarked, ViewsDifferAtMost};
 
@@ -20,13 +21,13 @@ use crate::compare::{
     Doubtful, KnownTable, OpenSuperstep, all_see_the_same, delivered_outcomes, ends_as_before,
     open_superstep,
 };
-use crate::rerun::{Given, TurnTaking, UnderWay};
+use crate::rerun::{Given, UnderWay};
 use crate::superstep::ending::make_deliveries;
 use crate::superstep::turns::turns_again;
 use bsp_model::{OutOfMemory, ProcessSet, Seq};
 use bsp_pool::Gate;
 use bsp_run::{History, Tape};
-use bsp_step::{Outcomes, Program};
+use bsp_step::{Outcome, Outcomes, Program};
 use std::thread::Threads;
 
 /// Takes the outcomes of the open superstep. It answers what is known of the next table, or none where the run has ended. How the superstep ends is
@@ -64,7 +65,7 @@ fn take_turns<P: Program, G: Gate, R: Threads + Sync>(
     tape: &mut Tape,
     doubtful: &Doubtful,
     executed: &mut Seq<Place>,
-    taking: &mut TurnTaking,
+    spare: &mut Option<Outcome>,
 ) -> Result<Option<KnownTable>, OutOfMemory>
     requires open { is_open tape.old.phase ≡ true }
     requires made { IsRecord (turn_by P.Program given.now.program) given.now.input tape.old }
@@ -78,7 +79,7 @@ fn take_turns<P: Program, G: Gate, R: Threads + Sync>(
         (open_views tape.old)) }
 {
     let superstep = open_superstep(given, tape);
-    let outcomes = turns_again(given, &superstep, doubtful, executed, taking)?;
+    let outcomes = turns_again(given, &superstep, doubtful, executed, spare)?;
     end_turns(given, tape, doubtful, outcomes)
 }
 
@@ -101,7 +102,7 @@ fn remake_superstep<P: Program, G: Gate, R: Threads + Sync>(
     // What stands of the run before is known where it is read.
     let _before = given.old;
     let executed = &mut under_way.update.executed;
-    let Some(known) = take_turns(given, tape, doubtful, executed, &mut under_way.taking)? else {
+    let Some(known) = take_turns(given, tape, doubtful, executed, &mut under_way.spare)? else {
         return Ok(());
     };
     make_deliveries(given, tape, &doubtful.processes, known, under_way)?;
@@ -153,6 +154,6 @@ pub fn advance<P: Program, G: Gate, R: Threads + Sync>(
         under_way.table = KnownTable::AsBefore;
         return Ok(());
     }
-    let doubtful = Doubtful::among(given.alloc, &superstep, marks, under_way.table)?;
+    let doubtful = Doubtful::among(given.workers.alloc, &superstep, marks, under_way.table)?;
     remake_superstep(given, tape, &doubtful, under_way)
 }

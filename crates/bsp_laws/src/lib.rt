@@ -13,5 +13,6 @@ pub use reach::{
     no_turn_without_a_cause, out_of_reach_sees_the_same, tables_stay, updates_are_within_reach,
 };
 pub use updates::{
-    limits_and_prices_go_on, lower_limits_do_nothing, no_turn_serves_more, nothing_for_the_same_run,
+    limits_and_prices_go_on, lower_limits_do_nothing, no_turn_serves_more,
+    nothing_for_the_same_run, turns_are_reused,
 };

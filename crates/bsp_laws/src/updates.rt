@@ -1,6 +1,6 @@
 //! What an update leaves undone, and why it can't leave more.
 
-ghost use Rattle.bsp_laws.specs.Updates.{NothingForTheSameRun, LimitsAndPricesGoOn, LowerLimitsDoNothing};
+ghost use Rattle.bsp_laws.specs.Updates.{NothingForTheSameRun, LimitsAndPricesGoOn, LowerLimitsDoNothing, TurnsAreReused};
 ghost use Rattle.bsp_laws.specs.Least.{NoTurnServesMore};
 
 /// Where the run is the run before, nothing was done.
@@ -21,4 +21,9 @@ pub fn lower_limits_do_nothing()
 /// Where a turn does not serve, it may not be taken over by views and footprint alone: so no turn less could be taken.
 pub fn no_turn_serves_more()
     ensures { NoTurnServesMore }
+{}
+
+/// Where a recorded turn serves, the run after an update has that turn's outcome, with its stores made again in order on the memory that the process has now.
+pub fn turns_are_reused()
+    ensures { TurnsAreReused }
 {}

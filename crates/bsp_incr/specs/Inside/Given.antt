@@ -6,16 +6,12 @@ use Rattle.bsp_model.specs.Input.{input_fault}
 use Rattle.bsp_step.specs.declared.program.Program.{Ghosts}
 use Rattle.bsp_step.specs.ViewParts.{ViewParts}
 use Rattle.bsp_step.specs.OutcomeParts.{OutcomeParts}
-use Rattle.bsp_step.specs.Turn.{turn_of}
+use Rattle.bsp_run.specs.TurnBy.{turn_by}
 use Rattle.bsp_run.specs.Run.{Run}
 use Rattle.bsp_incr.specs.declared.rerun.under_way.UnderWay.{UnderWay}
 use Rattle.bsp_incr.specs.Inside.Before.{views_before, delivered_outcomes, IsBefore}
 use Rattle.bsp_incr.specs.Inside.Marks.{AreArgsMarked}
 use Rattle.bsp_incr.specs.Inside.UnderWay.{IsUnderWay}
-
--- what a turn of a program leaves at a view
-abbrev pub turn_by : {P : Type 0} → Ghosts P → P → ViewParts → OutcomeParts
-turn_by laws program = turn_of (laws.acts program) (laws.ending program)
 
 -- A program, its input, the run before, if there was one, and for each process whether it has other arguments than in that run.
 pub record Making (P : Type 0) : Type 0 where

@@ -78,8 +78,8 @@ pub fn all_end_alike(old: &Outcomes, new: &Outcomes, doubtful: &ProcessSet) -> b
     true
 }
 
-/// Whether a superstep is known to end by delivery and with the table and the tag size of the run before: there it opened with the same ones and ended
-/// by delivery, and all turns ended alike.
+/// True only where the superstep ends by delivery, and leaves the table and the tag size that it left in the run before. That run opened it with the
+/// same table and ended it by delivery, and all turns ended alike in both runs.
 pub fn ends_as_before(old: Option<&Outcomes>, new: &Outcomes, doubtful: &Doubtful) -> bool
     requires count { 0 < length (outcomes_if_any (option_map (λ o. o.now) old))
         → length (outcomes_if_any (option_map (λ o. o.now) old)) ≡ length new.now }

@@ -6,7 +6,8 @@ ghost use Rattle.bsp_run.specs.Run.{open_views};
 ghost use Rattle.bsp_run.specs.Condition.{is_open};
 ghost use Rattle.bsp_run.specs.Inside.Record.{IsRecord};
 ghost use Rattle.bsp_incr.specs.Inside.Before.{outcomes_if_any};
-ghost use Rattle.bsp_incr.specs.Inside.Given.{turn_by, views_beside};
+ghost use Rattle.bsp_run.specs.TurnBy.{turn_by};
+ghost use Rattle.bsp_incr.specs.Inside.Given.{views_beside};
 ghost use Rattle.bsp_incr.specs.Inside.Marks.{HaveOneTable};
 
 use crate::compare::before::{outcomes_before, views_before};

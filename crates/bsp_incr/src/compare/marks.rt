@@ -9,7 +9,6 @@ ghost use Rattle.bsp_incr.specs.Inside.Marking.{marked_if, marked_at, all_marked
 use crate::Edit;
 use crate::compare::before::first_views_before;
 use crate::edit::{arg_of, word_of};
-use crate::rerun::Counts;
 use bsp_model::{Input, OutOfMemory, ProcessSet};
 use bsp_run::History;
 use std::alloc::Global;
@@ -142,38 +141,4 @@ pub fn marks_of_edits(
     mark_args(&mut first, old, input, edits);
     mark_words(&mut first, old, input, edits);
     Ok(Marks { args, first })
-}
-
-/// Counts the places of superstep 0 at which edits compare a word or an argument with the run before, and find it as it was. Where it is another, the place
-/// is counted when its view is compared.
-pub fn count_unmarked(
-    alloc: Global,
-    edits: &[Edit],
-    marks: &Marks,
-    counts: &mut Counts,
-) -> Result<(), OutOfMemory> {
-    let mut compared = ProcessSet::none(alloc, marks.first.count())?;
-    for edit in edits {
-        match *edit {
-            Edit::Word {
-                pid,
-                addr: _,
-                value: _,
-            }
-            | Edit::Arg {
-                pid,
-                index: _,
-                value: _,
-            } => {
-                mark_if(&mut compared, pid, true);
-            }
-            _ => {}
-        }
-    }
-    for process in compared.iter() {
-        if !marks.first.contains(process) {
-            counts.look();
-        }
-    }
-    Ok(())
 }

@@ -4,12 +4,10 @@ ghost use Rattle.std.specs.Prelude.{◌≡◌, [], slice_index, slice_index_or, 
 ghost use Rattle.bsp_incr.specs.Undo.{former_of, undo_of};
 
 use crate::edit::editing::refusal_of;
-use crate::{Batch, Edit, EditError, Session, Update};
+use crate::{Batch, Edit, EditError, Session};
 use bsp_model::{Input, OutOfMemory, Seq};
-use bsp_pool::Gate;
 use bsp_step::Program;
 use std::alloc::Global;
-use std::thread::Threads;
 
 /// The word of a memory; 0 where there is none.
 pub fn word_of(input: &Input, pid: u64, addr: u64) -> u64
@@ -78,12 +76,10 @@ fn formers_of(alloc: Global, input: &Input, edits: &[Edit]) -> Result<Batch, Out
 }
 
 impl<P: Program + Drop> Session<P> {
-    ghost use Rattle.std.specs.Prelude.{◌≡◌, ◌<◌, ◌≤◌, IfOk, IfErr, OnOk, OnErr, None, Some};
+    ghost use Rattle.std.specs.Prelude.{◌≡◌, IfOk, IfErr, OnOk, None};
     ghost use Rattle.bsp_step.specs.Turn.{turn_of};
     ghost use Rattle.bsp_run.specs.Law.{IsBspRun};
     ghost use Rattle.bsp_incr.specs.Edits.{refusal_of, edited};
-    ghost use Rattle.bsp_incr.specs.Exact.{IsExact};
-    ghost use Rattle.bsp_incr.specs.Reused.{AreReused};
     ghost use Rattle.bsp_incr.specs.Undo.{undo_of, TakesBack};
     ghost use Rattle.bsp_incr.specs.Replies.{refusal_in};
 
@@ -104,36 +100,5 @@ impl<P: Program + Drop> Session<P> {
             return Err(EditError::Refused(refusal));
         }
         Ok(formers_of(alloc, input, edits)?)
-    }
-
-    /// Applies a batch, and answers beside the update the batch that takes it back. All is as by `undo_of` and then `apply`: `Refused` exactly where
-    /// the batch is not accepted, else `Ok` or `OutOfMemory`, and after every `Err` nothing has changed.
-    pub fn apply_with_undo<R: Threads + Sync, G: Gate>(
-        &mut self,
-        rt: &R,
-        alloc: Global,
-        edits: &[Edit],
-        workers: usize,
-        gate: &G,
-    ) -> Result<(Update, Batch), EditError>
-        requires workers { (0 < workers) × (workers ≤ 16) }
-        ensures accepted { OnOk result (refusal_of self.old.input edits.now ≡ None) }
-        ensures refused { IfErr result (λ e. refusal_of self.old.input edits.now ≡ refusal_in e) }
-        ensures program { self.new.program ≡ self.old.program }
-        ensures given { OnOk result (self.new.input ≡ edited self.old.input edits.now) }
-        ensures law { OnOk result (IsBspRun (turn_of (P.acts self.old.program) (P.ending self.old.program))
-            self.new.input self.new.history) }
-        ensures exact { IfOk result (λ r. IsExact (P.looks self.old.program)
-            (Some self.old.history) self.new.history r.0) }
-        ensures reused { OnOk result (AreReused (P.looks self.old.program) (Some self.old.history) self.new.history) }
-        ensures batch { IfOk result (λ r. r.1 ≡ undo_of self.old.input edits.now) }
-        ensures back { IfOk result (λ r. TakesBack self.old.input edits.now r.1) }
-        ensures before { IfOk result (λ r. IsBspRun (turn_of (P.acts self.old.program) (P.ending self.old.program))
-            (edited self.new.input r.1) self.old.history) }
-        ensures err { OnErr result (self.new ≡ self.old) }
-    {
-        let undo = self.undo_of(alloc, edits)?;
-        let update = self.apply(rt, alloc, edits, workers, gate)?;
-        Ok((update, undo))
     }
 }

@@ -4,14 +4,12 @@ use crate::rerun::workers::Workers;
 use bsp_model::{Input, ProcessSet};
 use bsp_run::History;
 use bsp_step::Program;
-use std::alloc::Global;
 use std::marker::Model;
 
 /// The program and the input of a run that is made again, the run before, and who works.
 #[derive(Drop)]
 pub struct Given<'a, P: Program, R, G> {
-    pub workers: &'a Workers<'a, R, G>,
-    pub alloc: Global,
+    pub workers: Workers<'a, R, G>,
     pub program: &'a P,
     pub input: &'a Input,
     pub old: Option<&'a History>,

@@ -47,9 +47,14 @@ pub fn opened<P: Program, R, G>(
 {
     let input = given.input;
     let Some((history, like)) = with_first_views(given.old) else {
-        return Ok(Tape::open_lawful(given.alloc, input)?);
+        return Ok(Tape::open_lawful(given.workers.alloc, input)?);
     };
-    let marked = marks.members(given.alloc)?;
-    let args = args_again(given.alloc, history.args(), &input.args, given.other_args)?;
-    Ok(Tape::open_like(given.alloc, input, args, like, marked)?)
+    let marked = marks.members(given.workers.alloc)?;
+    let args = args_again(
+        given.workers.alloc,
+        history.args(),
+        &input.args,
+        given.other_args,
+    )?;
+    Ok(Tape::open_like(given.workers.alloc, input, args, like, marked)?)
 }

@@ -5,8 +5,7 @@ ghost use Rattle.bsp_incr.specs.declared.compare.known_table.KnownTable.TheVaria
 
 use crate::Update;
 use crate::compare::KnownTable;
-use crate::rerun::counts::Counts;
-use bsp_model::{ProcessSet, Seq};
+use bsp_model::ProcessSet;
 use bsp_step::Outcome;
 use std::alloc::Global;
 
@@ -19,39 +18,30 @@ pub struct UnderWay {
     pub table: KnownTable,
     /// What was done again so far.
     pub update: Update,
-    /// What its turns are taken with.
-    pub taking: TurnTaking,
-}
-
-/// What goes on from the turns of one superstep to those of the next.
-#[derive(Drop)]
-pub struct TurnTaking {
-    /// What the update cost so far, and what all updates before it did.
-    pub counts: Counts,
     /// An outcome whose lists serve the next turn, if there is one.
     pub spare: Option<Outcome>,
 }
 
 impl UnderWay {
     /// Nothing is done yet, and nothing is known of the table.
-    pub fn new(alloc: Global, marks: ProcessSet, counts: Counts) -> UnderWay
+    pub fn new(alloc: Global, marks: ProcessSet) -> UnderWay
         ensures marks { result.marks ≡ marks }
         ensures table { result.table ≡ Unknown }
         ensures executed { result.update.executed ≡ [] }
         ensures redelivered { result.update.redelivered ≡ [] }
     {
-        let update = Update {
-            executed: Seq::new(alloc),
-            redelivered: Seq::new(alloc),
-        };
         UnderWay {
             marks,
             table: KnownTable::Unknown,
-            update,
-            taking: TurnTaking {
-                counts,
-                spare: None,
-            },
+            update: Update::none(alloc),
+            spare: None,
         }
+    }
+
+    /// What was done again.
+    pub fn into_update(self) -> Update
+        ensures { result ≡ self.update }
+    {
+        self.update
     }
 }

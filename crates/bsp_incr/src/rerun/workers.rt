@@ -2,10 +2,13 @@
 
 ghost use Rattle.std.specs.Prelude.{◌<◌, ◌≤◌};
 
-/// A runtime, how many workers it may start, and the gate that each job passes.
+use std::alloc::Global;
+
+/// A runtime, where memory comes from, how many workers may be started, and the gate that each job passes.
 #[derive(Drop)]
 pub struct Workers<'a, R, G> {
     pub rt: &'a R,
+    pub alloc: Global,
     /// 1 to 16.
     pub count: usize,
     pub gate: &'a G,

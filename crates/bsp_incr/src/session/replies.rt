@@ -8,7 +8,7 @@ ghost use Rattle.bsp_run.specs.Result.{result_of};
 ghost use Rattle.bsp_run.specs.RunErrors.{input_fault_of};
 ghost use Rattle.bsp_incr.specs.Exact.{IsExact};
 ghost use Rattle.bsp_incr.specs.Replies.{input_after, without_update, AreReplies, AreScratchReplies};
-ghost use Rattle.bsp_incr.specs.Inside.Given.{turn_by};
+ghost use Rattle.bsp_run.specs.TurnBy.{turn_by};
 ghost use Rattle.bsp_incr.specs.Inside.Replies.{reply_to, replies};
 
 use crate::edit::{make_edits, refusal_of};
@@ -35,7 +35,6 @@ fn done(history: &History, update: Update) -> Result<Reply, OutOfMemory>
 /// The reply to a batch.
 fn reply<P: Program + Drop, R: Threads + Sync, G: Gate>(
     workers: &Workers<'_, R, G>,
-    alloc: Global,
     session: &mut Session<P>,
     batch: &Batch,
 ) -> Result<Reply, OutOfMemory>
@@ -49,7 +48,7 @@ fn reply<P: Program + Drop, R: Threads + Sync, G: Gate>(
     let _history = session.history();
     match session.apply(
         workers.rt,
-        alloc,
+        workers.alloc,
         batch.as_slice(),
         workers.count,
         workers.gate,
@@ -63,7 +62,6 @@ fn reply<P: Program + Drop, R: Threads + Sync, G: Gate>(
 /// The replies to the opening of a session, and to its batches.
 fn all_replies<P: Program + Drop, R: Threads + Sync, G: Gate>(
     workers: &Workers<'_, R, G>,
-    alloc: Global,
     session: &mut Session<P>,
     update: Update,
     batches: &[Batch],
@@ -72,16 +70,31 @@ fn all_replies<P: Program + Drop, R: Threads + Sync, G: Gate>(
     ensures { IfOk result (λ all. all.items ≡ replies (P.looks session.old.program)
         (turn_by P.Program session.old.program) session.old.input batches.now) }
 {
-    let mut all = Vec::new(alloc);
+    let mut all = Vec::new(workers.alloc);
     // That the input is lawful is known where it is read.
     let _input = session.input();
     let opening = done(session.history(), update)?;
     all.push(opening)?;
     for batch in batches {
-        let reply = reply(workers, alloc, session, batch)?;
+        let reply = reply(workers, session, batch)?;
         all.push(reply)?;
     }
     Ok(all)
+}
+
+/// The replies of a session that has just been opened.
+fn session_replies<P: Program + Drop, R: Threads + Sync, G: Gate>(
+    workers: &Workers<'_, R, G>,
+    session: Session<P>,
+    update: Update,
+    batches: &[Batch],
+) -> Result<Vec<Reply>, OutOfMemory>
+    requires exact { IsExact (P.looks session.program) None session.history update }
+    ensures { IfOk result (λ all. all.items ≡ replies (P.looks session.program)
+        (turn_by P.Program session.program) session.input batches.now) }
+{
+    let mut session = session;
+    all_replies(workers, &mut session, update, batches)
 }
 
 /// The replies of a session: the opening first, then one for each batch. 1 to 16 workers share the turns and the deliveries.
@@ -101,13 +114,14 @@ pub fn session_run<P: Program + Drop, R: Threads + Sync, G: Gate>(
     ensures lawful { OnOk result (input_fault input ≡ None) }
     ensures input { IfErr result (λ e. input_fault input ≡ input_fault_of e) }
 {
-    let (mut session, update) = Session::open(rt, alloc, program, input, workers, gate)?;
+    let (session, update) = Session::open(rt, alloc, program, input, workers, gate)?;
     let workers = Workers {
         rt,
+        alloc,
         count: workers,
         gate,
     };
-    Ok(all_replies(&workers, alloc, &mut session, update, batches)?)
+    Ok(session_replies(&workers, session, update, batches)?)
 }
 
 /// The reply that gives the run of a lawful input, made afresh.

@@ -80,5 +80,5 @@ pub fn touched_beside<P: Program, R, G>(
         (is_touched (delivered_beside given.now tape.now) tape.now.outcomes)) }
 {
     let before = delivered_outcomes(given.old, tape.step());
-    touched(given.alloc, before, tape.outcomes(), doubtful)
+    touched(given.workers.alloc, before, tape.outcomes(), doubtful)
 }

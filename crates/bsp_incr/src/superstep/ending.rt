@@ -1,13 +1,14 @@
 //! How a superstep of a run that is made again ends: its deliveries, and the opening of the next.
 
 ghost use Rattle.std.specs.Prelude.{◌≡◌, ◌≤◌, ◌<◌, ◌++◌, IfOk, IfSome, OnOk, length, option_map};
-ghost use Rattle.bsp_model.specs.ProcessSet.{union};
+ghost use Rattle.bsp_model.specs.ProcessSet.{processes_in, union};
 ghost use Rattle.bsp_deliver.specs.Cost.{IsHRelation};
 ghost use Rattle.bsp_deliver.specs.Requests.{each_below};
 ghost use Rattle.bsp_run.specs.Run.{after_delivery, open_views};
 ghost use Rattle.bsp_run.specs.Setting.{next_setting};
 ghost use Rattle.bsp_run.specs.Shares.{deliveries_to};
 ghost use Rattle.bsp_run.specs.Result.{cost_of_delivery, IsSmall};
+ghost use Rattle.bsp_incr.specs.Inside.Before.{views_after};
 ghost use Rattle.bsp_incr.specs.Inside.Changes.{touched_in, is_touched, processes_where};
 ghost use Rattle.bsp_incr.specs.Inside.Marks.{OutcomesDifferAtMost};
 ghost use Rattle.bsp_incr.specs.Inside.Given.{delivered_beside};
@@ -18,7 +19,6 @@ use crate::compare::{
 };
 use crate::rerun::{Given, UnderWay};
 use crate::superstep::deliveries::{Deliveries, touched_beside};
-use bsp_deliver::Delivered;
 use bsp_model::{CostRow, OutOfMemory, ProcessSet};
 use bsp_pool::Gate;
 use bsp_run::{Phase, Setting, Tape, Views, wide_deliveries};
@@ -85,6 +85,38 @@ fn next_setting(
 
 /// Opens the next superstep, after the deliveries that were made: what the other processes see lies where it lay in the run before. It answers what
 /// is known of the table there.
+fn open_next_like<P: Program, G: Gate, R: Threads + Sync>(
+    given: &Given<'_, P, R, G>,
+    tape: &mut Tape,
+    old_next: &Views,
+    doubtful: &ProcessSet,
+    deliveries: Deliveries,
+    known: KnownTable,
+) -> Result<KnownTable, OutOfMemory>
+    requires turned { tape.old.phase ≡ Phase.Turned }
+    requires many { length tape.old.outcomes ≡ length given.now.input.mems }
+    requires some { 0 < length old_next.now }
+    requires next { old_next.now ≡ views_after given.now.before (length tape.old.past) }
+    requires processes { deliveries.processes.items ≡ processes_where (length tape.old.outcomes)
+        (is_touched (delivered_beside given.now tape.old) tape.old.outcomes) }
+    requires cells { deliveries.made.cells ≡ deliveries_to tape.old.outcomes deliveries.processes.items }
+    requires h { IfSome deliveries.made.h (IsHRelation tape.old.outcomes) }
+    requires doubtful { OutcomesDifferAtMost (delivered_beside given.now tape.old) tape.old.outcomes doubtful.now }
+    requires known { KnowsNextTable given.now.before tape.old known }
+    ensures tape { OnOk result (tape.new ≡ after_delivery tape.old) }
+    ensures known { IfOk result (KnowsNextTable given.now.before tape.old) }
+{
+    // What stands of the run before is known where it is read.
+    let _before = given.old;
+    let Deliveries { processes, made } = deliveries;
+    let row = cost(given, tape, doubtful, made.h);
+    let (setting, known) = next_setting(tape, old_next, known)?;
+    let views = tape.next_views_like(old_next, setting, processes, made.cells)?;
+    let _ = tape.delivered_as(views, row)?;
+    Ok(known)
+}
+
+/// Opens the next superstep, after the deliveries that were made. It answers what is known of the table there.
 fn open_next<P: Program, G: Gate, R: Threads + Sync>(
     given: &Given<'_, P, R, G>,
     tape: &mut Tape,
@@ -103,17 +135,38 @@ fn open_next<P: Program, G: Gate, R: Threads + Sync>(
     ensures tape { OnOk result (tape.new ≡ after_delivery tape.old) }
     ensures known { IfOk result (KnowsNextTable given.now.before tape.old) }
 {
-    let Deliveries { processes, made } = deliveries;
-    let Some(old_next) = views_after(given.old, tape.step()) else {
-        let _ = tape.delivered(made)?;
-        return Ok(KnownTable::Unknown);
-    };
-    let Delivered { cells, h } = made;
-    let (setting, known) = next_setting(tape, old_next, known)?;
-    let views = tape.next_views_like(old_next, setting, processes, cells)?;
-    let row = cost(given, tape, doubtful, h);
-    let _ = tape.delivered_as(views, row)?;
-    Ok(known)
+    match views_after(given.old, tape.step()) {
+        Some(old_next) => open_next_like(given, tape, old_next, doubtful, deliveries, known),
+        None => {
+            let _ = tape.delivered(deliveries.made)?;
+            Ok(KnownTable::Unknown)
+        }
+    }
+}
+
+/// The deliveries of the superstep whose turns are taken to the processes of a set, which the workers make.
+fn deliveries_among<P: Program, G: Gate, R: Threads + Sync>(
+    given: &Given<'_, P, R, G>,
+    tape: &Tape,
+    touched: &ProcessSet,
+) -> Result<Deliveries, OutOfMemory>
+    requires turned { tape.now.phase ≡ Phase.Turned }
+    requires many { length touched.now ≡ length tape.now.outcomes }
+    ensures processes { IfOk result (λ all. all.processes.items ≡ processes_in touched.now) }
+    ensures cells { IfOk result (λ all. all.made.cells ≡ deliveries_to tape.now.outcomes all.processes.items) }
+    ensures h { IfOk result (λ all. IfSome all.made.h (IsHRelation tape.now.outcomes)) }
+{
+    let workers = &given.workers;
+    let processes = touched.members(workers.alloc)?;
+    let made = wide_deliveries(
+        workers.rt,
+        workers.alloc,
+        tape.outcomes(),
+        processes.as_slice(),
+        workers.count,
+        workers.gate,
+    )?;
+    Ok(Deliveries { processes, made })
 }
 
 /// The deliveries of the superstep whose turns are taken, and the marks of the next.
@@ -136,24 +189,11 @@ pub fn make_deliveries<P: Program, G: Gate, R: Threads + Sync>(
     ensures redelivered { OnOk result (under_way.new.update.redelivered ≡ under_way.old.update.redelivered
         ++ touched_in (length tape.old.past) (delivered_beside given.now tape.old) tape.old.outcomes) }
 {
-    let step = tape.step();
+    let step = tape.step() as u64;
     let mut touched = touched_beside(given, tape, doubtful)?;
-    let processes = touched.members(given.alloc)?;
-    add_places(
-        &mut under_way.update.redelivered,
-        step as u64,
-        processes.as_slice(),
-    )?;
-    under_way.taking.counts.deliver(processes.len());
-    let made = wide_deliveries(
-        given.workers.rt,
-        given.alloc,
-        tape.outcomes(),
-        processes.as_slice(),
-        given.workers.count,
-        given.workers.gate,
-    )?;
-    let deliveries = Deliveries { processes, made };
+    let deliveries = deliveries_among(given, tape, &touched)?;
+    let redelivered = &mut under_way.update.redelivered;
+    add_places(redelivered, step, deliveries.processes.as_slice())?;
     under_way.table = open_next(given, tape, doubtful, deliveries, known)?;
     touched.insert_all(given.other_args);
     under_way.marks = touched;

@@ -1,24 +1,25 @@
 //! The turns of a superstep, of which those that serve from the run before are not taken again.
 
-ghost use Rattle.std.specs.Prelude.{◌≡◌, ◌<◌, ◌++◌, ◌∷◌, ◌&&◌, [], All, IfOk, OnOk, map, length, not, option_map, slice_index_or, true, false};
+ghost use Rattle.std.specs.Prelude.{◌≡◌, ◌<◌, ◌++◌, ◌∷◌, [], All, IfNone, IfOk, IfSome, OnOk, map, length, option_map, slice_index_or, true, false};
 ghost use Rattle.bsp_deliver.specs.Requests.{each_below};
 ghost use Rattle.bsp_model.specs.Replaced.{replaced, IsAscending};
 ghost use Rattle.bsp_run.specs.Condition.{no_view};
 ghost use Rattle.bsp_run.specs.Shares.{turns_of};
 ghost use Rattle.bsp_incr.specs.Inside.Before.{outcomes_if_any};
-ghost use Rattle.bsp_incr.specs.Inside.Changes.{differ_in};
-ghost use Rattle.bsp_incr.specs.Inside.Given.{turn_by};
+ghost use Rattle.bsp_incr.specs.Inside.Changes.{differ_in, processes_where};
+ghost use Rattle.bsp_run.specs.TurnBy.{turn_by};
 ghost use Rattle.bsp_incr.specs.Inside.Known.{AreDoubtful};
-ghost use Rattle.bsp_incr.specs.Inside.OpenSuperstep.{differs_now};
+ghost use Rattle.bsp_incr.specs.Inside.Marks.{ViewsDifferAtMost};
+ghost use Rattle.bsp_incr.specs.Inside.OpenSuperstep.{differs_now, stays_now};
 
 use crate::Place;
 use crate::compare::{Doubtful, OpenSuperstep, add_places, serves};
-use crate::rerun::{Counts, Given, TurnTaking};
+use crate::rerun::Given;
 use crate::superstep::reuse::reuse;
 use bsp_model::{OutOfMemory, ProcessSet, Seq, TryCopy};
 use bsp_pool::Gate;
 use bsp_run::{TurnRows, wide_turns};
-use bsp_step::{OutcomeRows, Outcomes, Program};
+use bsp_step::{Outcome, OutcomeRows, Outcomes, Program};
 use std::thread::Threads;
 
 /// Whether the turn of a process has to be taken, which may be asked of the doubtful ones alone. The tables are not compared where all processes are known
@@ -49,19 +50,16 @@ fn needed_turns<P: Program, R, G>(
     given: &Given<'_, P, R, G>,
     superstep: &OpenSuperstep<'_, '_>,
     doubtful: &Doubtful,
-    counts: &mut Counts,
 ) -> Result<(ProcessSet, ProcessSet), OutOfMemory>
     requires doubtful { AreDoubtful superstep.now.old_views superstep.now.views.now doubtful.now }
     ensures needed { IfOk result (λ r. r.0 ≡ each_below (length superstep.now.views.now)
         (differs_now (P.looks given.now.program) superstep.now)) }
     ensures served { IfOk result (λ r. r.1 ≡ each_below (length superstep.now.views.now)
-        (λ p. slice_index_or doubtful.now.processes p false
-        && not (differs_now (P.looks given.now.program) superstep.now p))) }
+        (stays_now (P.looks given.now.program) superstep.now doubtful.now.processes)) }
 {
-    let mut needed = ProcessSet::none(given.alloc, doubtful.processes.count())?;
-    let mut served = ProcessSet::none(given.alloc, doubtful.processes.count())?;
+    let mut needed = ProcessSet::none(given.workers.alloc, doubtful.processes.count())?;
+    let mut served = ProcessSet::none(given.workers.alloc, doubtful.processes.count())?;
     for process in doubtful.processes.iter() {
-        counts.look();
         if needs_turn(given.program, superstep, doubtful, process) {
             needed.insert(process);
         } else {
@@ -105,7 +103,7 @@ fn served_turns<P: Program, R, G>(
     ensures { IfOk result (λ all. all
         ≡ turns_of (turn_by P.Program given.now.program) superstep.now.views.now processes.now) }
 {
-    let mut served = OutcomeRows::with_capacity(given.alloc, processes.len())?;
+    let mut served = OutcomeRows::with_capacity(given.workers.alloc, processes.len())?;
     for process in processes {
         add_served(
             &mut served,
@@ -137,7 +135,7 @@ fn with_served_turns<P: Program, R, G>(
         return Ok(old_outcomes.copy()?);
     }
     let served = served_turns(given, superstep, old_outcomes, processes.as_slice())?;
-    Ok(old_outcomes.replaced(given.alloc, processes, served)?)
+    Ok(old_outcomes.replaced(given.workers.alloc, processes, served)?)
 }
 
 /// The turns of these processes, which the workers take, in the lists of the spare outcome.
@@ -145,25 +143,89 @@ fn taken_turns<P: Program, G: Gate, R: Threads + Sync>(
     given: &Given<'_, P, R, G>,
     superstep: &OpenSuperstep<'_, '_>,
     processes: &[usize],
-    taking: &mut TurnTaking,
+    spare: &mut Option<Outcome>,
 ) -> Result<OutcomeRows, OutOfMemory>
     requires known { All (λ p. p < length superstep.now.views.now) processes.now }
     ensures { IfOk result (λ all. all
         ≡ turns_of (turn_by P.Program given.now.program) superstep.now.views.now processes.now) }
 {
-    let room = superstep.like.room_for(given.alloc, processes.len())?;
-    let TurnRows { outcomes, spare } = wide_turns(
-        given.workers.rt,
-        given.alloc,
-        TurnRows::new(room, taking.spare.take()),
+    let workers = &given.workers;
+    let room = superstep.like.room_for(workers.alloc, processes.len())?;
+    let rows = wide_turns(
+        workers.rt,
+        workers.alloc,
+        TurnRows::new(room, spare.take()),
         given.program,
         superstep.views,
         processes,
-        given.workers.count,
-        given.workers.gate,
+        workers.count,
+        workers.gate,
     )?;
-    taking.spare = spare;
-    Ok(outcomes)
+    *spare = rows.spare;
+    Ok(rows.outcomes)
+}
+
+/// The processes of an open superstep whose turns have to be taken, and those for which the recorded turns serve, in ascending order.
+#[derive(Drop)]
+struct Needs {
+    taken: Vec<usize>,
+    served: Vec<usize>,
+}
+
+/// Who of the doubtful processes has to take a turn.
+fn needs_among<P: Program, R, G>(
+    given: &Given<'_, P, R, G>,
+    superstep: &OpenSuperstep<'_, '_>,
+    doubtful: &Doubtful,
+) -> Result<Needs, OutOfMemory>
+    requires doubtful { AreDoubtful superstep.now.old_views superstep.now.views.now doubtful.now }
+    ensures taken { IfOk result (λ needs. needs.taken.items ≡ processes_where (length superstep.now.views.now)
+        (differs_now (P.looks given.now.program) superstep.now)) }
+    ensures served { IfOk result (λ needs. needs.served.items ≡ processes_where (length superstep.now.views.now)
+        (stays_now (P.looks given.now.program) superstep.now doubtful.now.processes)) }
+{
+    let (to_take, to_serve) = needed_turns(given, superstep, doubtful)?;
+    let taken = to_take.members(given.workers.alloc)?;
+    let served = to_serve.members(given.workers.alloc)?;
+    Ok(Needs { taken, served })
+}
+
+/// The outcomes of the run before, where it took turns of such a superstep.
+fn recorded<'old>(superstep: &OpenSuperstep<'old, '_>) -> Option<&'old Outcomes>
+    requires { length superstep.now.old_views
+        ≡ length (outcomes_if_any (option_map (λ o. o.now) superstep.now.old_outcomes)) }
+    ensures some { IfSome result (λ old. old.now
+        ≡ outcomes_if_any (option_map (λ o. o.now) superstep.now.old_outcomes)) }
+    ensures views { IfSome result (λ old. 0 < length superstep.now.old_views) }
+    ensures none { IfNone result (superstep.now.old_views ≡ []) }
+{
+    if superstep.old_views.is_empty() {
+        return None;
+    }
+    superstep.old_outcomes
+}
+
+/// The recorded outcomes, with new ones of the processes whose turns were taken, and of those for which the recorded turns serve.
+fn over_recorded<P: Program, R, G>(
+    given: &Given<'_, P, R, G>,
+    superstep: &OpenSuperstep<'_, '_>,
+    old_outcomes: &Outcomes,
+    needs: Needs,
+    taken: OutcomeRows,
+) -> Result<Outcomes, OutOfMemory>
+    requires some { 0 < length superstep.now.old_views }
+    requires recorded { old_outcomes.now ≡ map (turn_by P.Program given.now.program) superstep.now.old_views }
+    requires taken { needs.taken.items ≡ processes_where (length superstep.now.views.now)
+        (differs_now (P.looks given.now.program) superstep.now) }
+    requires served { (set : _) × ((ViewsDifferAtMost superstep.now.old_views superstep.now.views.now set)
+        × (needs.served.items ≡ processes_where (length superstep.now.views.now)
+        (stays_now (P.looks given.now.program) superstep.now set))) }
+    requires turns { taken ≡ turns_of (turn_by P.Program given.now.program) superstep.now.views.now needs.taken.items }
+    ensures { IfOk result (λ all. all ≡ map (turn_by P.Program given.now.program) superstep.now.views.now) }
+{
+    let renewed = with_served_turns(given, superstep, old_outcomes, needs.served)?;
+    let all = renewed.replaced(given.workers.alloc, needs.taken, taken)?;
+    Ok(all)
 }
 
 /// The turns of a superstep: the workers take those that have to be taken, and their places are added.
@@ -172,7 +234,7 @@ pub fn turns_again<P: Program, G: Gate, R: Threads + Sync>(
     superstep: &OpenSuperstep<'_, '_>,
     doubtful: &Doubtful,
     executed: &mut Seq<Place>,
-    taking: &mut TurnTaking,
+    spare: &mut Option<Outcome>,
 ) -> Result<Outcomes, OutOfMemory>
     requires recorded { outcomes_if_any (option_map (λ o. o.now) superstep.now.old_outcomes)
         ≡ map (turn_by P.Program given.now.program) superstep.now.old_views }
@@ -181,18 +243,11 @@ pub fn turns_again<P: Program, G: Gate, R: Threads + Sync>(
     ensures executed { OnOk result (executed.new ≡ executed.old
         ++ differ_in (P.looks given.now.program) superstep.now.step superstep.now.old_views superstep.now.views.now) }
 {
-    let (to_take, to_serve) = needed_turns(given, superstep, doubtful, &mut taking.counts)?;
-    let needed = to_take.members(given.alloc)?;
-    let served = to_serve.members(given.alloc)?;
-    add_places(executed, superstep.step, needed.as_slice())?;
-    let taken = taken_turns(given, superstep, needed.as_slice(), taking)?;
-    if superstep.old_views.is_empty() {
-        return Ok(taken.share()?);
+    let needs = needs_among(given, superstep, doubtful)?;
+    add_places(executed, superstep.step, needs.taken.as_slice())?;
+    let taken = taken_turns(given, superstep, needs.taken.as_slice(), spare)?;
+    match recorded(superstep) {
+        Some(old_outcomes) => over_recorded(given, superstep, old_outcomes, needs, taken),
+        None => taken.share(),
     }
-    let Some(old_outcomes) = superstep.old_outcomes else {
-        return Ok(taken.share()?);
-    };
-    let renewed = with_served_turns(given, superstep, old_outcomes, served)?;
-    let all = renewed.replaced(given.alloc, needed, taken)?;
-    Ok(all)
 }

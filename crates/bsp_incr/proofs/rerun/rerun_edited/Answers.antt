@@ -11,6 +11,6 @@ rerun_from_edits-requires-clause-lawful g c κs within =
 
 pub rerun_from_edits-requires-clause-before : goal.rerun_from_edits-requires-clause-before
 rerun_from_edits-requires-clause-before g c κs within =
-    let turn = turn_of (g.P.Program.acts c.args.executor.now.program.now) (g.P.Program.ending c.args.executor.now.program.now) in
+    let turn = turn_of (g.P.Program.acts c.args.program.now) (g.P.Program.ending c.args.program.now) in
     let input : Input = c.args.input.now in
     record { input_before = input; lawful = c.requires.lawful; law = c.requires.before; stands = c.in_ok-formers.ensures.made }

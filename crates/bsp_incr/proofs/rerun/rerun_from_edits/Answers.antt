@@ -4,4 +4,4 @@ use Rattle.bsp_incr.proofs.rerun.rerun_from_edits.Goals as goal
 
 pub rerun-requires-clause-before : goal.rerun-requires-clause-before
 rerun-requires-clause-before g c κs within =
-    before_edits (turn_of (g.P.Program.acts c.args.executor.now.program.now) (g.P.Program.ending c.args.executor.now.program.now)) c.args.edits.now c.args.input.now c.args.old.now c.requires.before
+    before_edits (turn_of (g.P.Program.acts c.args.program.now) (g.P.Program.ending c.args.program.now)) c.args.edits.now c.args.input.now c.args.old.now c.requires.before

@@ -3,7 +3,8 @@ use Rattle.bsp_step.specs.ViewParts.{ViewParts, IsView}
 use Rattle.bsp_step.specs.OutcomeParts.{OutcomeParts}
 use Rattle.bsp_run.specs.Run.{Run, after_turns, after_delivery}
 use Rattle.bsp_run.proofs.Runs.{open_phase, advance-closed, advance-delivers}
-use Rattle.bsp_incr.specs.Inside.Given.{Making, IsMaking, turn_by}
+use Rattle.bsp_run.specs.TurnBy.{turn_by}
+use Rattle.bsp_incr.specs.Inside.Given.{Making, IsMaking}
 use Rattle.bsp_incr.specs.Inside.Marks.{AreMarked}
 use Rattle.bsp_incr.specs.Inside.Before.{views_before}
 use Rattle.bsp_incr.specs.declared.compare.known_table.KnownTable.TheVariants.{AsBefore}

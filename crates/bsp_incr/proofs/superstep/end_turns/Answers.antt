@@ -4,7 +4,8 @@ use Rattle.bsp_step.specs.OutcomeParts.{OutcomeParts}
 use Rattle.bsp_run.specs.Run.{Run, open_views}
 use Rattle.bsp_run.proofs.Records.{open_views-in}
 use Rattle.bsp_incr.specs.Inside.Before.{outcomes_if_any, delivered_outcomes}
-use Rattle.bsp_incr.specs.Inside.Given.{Making, IsMaking, turn_by}
+use Rattle.bsp_run.specs.TurnBy.{turn_by}
+use Rattle.bsp_incr.specs.Inside.Given.{Making, IsMaking}
 use Rattle.bsp_incr.specs.Inside.Marks.{OutcomesDifferAtMost}
 use Rattle.bsp_incr.proofs.KnownTables.{end_as_before, delivers_as_before, turned_as_before, knows_next_as_before}
 use Rattle.bsp_incr.proofs.Remaking.{turns-in, unchanged_among}

@@ -10,7 +10,8 @@ use Rattle.bsp_run.proofs.Runs.{open_phase, advance-delivers, advance-ends}
 use Rattle.bsp_run.proofs.Records.{past-turned, open_views-in, count-outcomes_in}
 use Rattle.bsp_incr.specs.declared.reply.Place.{Place}
 use Rattle.bsp_incr.specs.Inside.Changes.{touched_in, is_touched}
-use Rattle.bsp_incr.specs.Inside.Given.{IsMaking, turn_by}
+use Rattle.bsp_run.specs.TurnBy.{turn_by}
+use Rattle.bsp_incr.specs.Inside.Given.{IsMaking}
 use Rattle.bsp_incr.specs.Inside.Marks.{OutcomesDifferAtMost}
 use Rattle.bsp_incr.specs.Inside.Before.{delivered_outcomes}
 use Rattle.bsp_incr.proofs.KnownTables.{knows_delivered, knows_ended}

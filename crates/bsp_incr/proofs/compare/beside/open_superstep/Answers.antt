@@ -4,7 +4,8 @@ use Rattle.bsp_run.specs.Run.{Run}
 use Rattle.bsp_run.proofs.Records.{open_views-in}
 use Rattle.bsp_run.proofs.Runs.{open_phase}
 use Rattle.bsp_incr.specs.Inside.Before.{views_before, outcomes_before}
-use Rattle.bsp_incr.specs.Inside.Given.{Making, IsMaking, turn_by}
+use Rattle.bsp_run.specs.TurnBy.{turn_by}
+use Rattle.bsp_incr.specs.Inside.Given.{Making, IsMaking}
 use Rattle.bsp_incr.specs.Inside.Marks.{HaveOneTable}
 use Rattle.bsp_incr.proofs.Remaking.{count_taken}
 use Rattle.bsp_incr.proofs.RunBefore.{table_before, turns_before, open_table}

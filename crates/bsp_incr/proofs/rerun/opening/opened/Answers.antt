@@ -7,7 +7,8 @@ use Rattle.bsp_step.specs.ViewParts.{ViewParts}
 use Rattle.bsp_run.specs.Run.{Run}
 use Rattle.bsp_run.specs.State.{cell_of, first_cell}
 use Rattle.bsp_incr.specs.Inside.Changes.{processes_where}
-use Rattle.bsp_incr.specs.Inside.Given.{Making, turn_by}
+use Rattle.bsp_run.specs.TurnBy.{turn_by}
+use Rattle.bsp_incr.specs.Inside.Given.{Making}
 use Rattle.bsp_incr.specs.Inside.Before.{IsBefore}
 use Rattle.bsp_incr.specs.Inside.Marks.{AreArgsMarked, AreFirstMarked}
 use Rattle.bsp_incr.proofs.Gathering.{listed_below, processes_where-ascending}

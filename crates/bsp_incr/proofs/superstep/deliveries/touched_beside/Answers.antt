@@ -7,7 +7,8 @@ use Rattle.bsp_run.specs.Run.{Run}
 use Rattle.bsp_run.proofs.Runs.{outcomes_shown-turned}
 use Rattle.bsp_incr.specs.Inside.Before.{outcomes_if_any, delivered_outcomes}
 use Rattle.bsp_incr.specs.Inside.Changes.{is_touched}
-use Rattle.bsp_incr.specs.Inside.Given.{Making, IsMaking, turn_by, delivered_beside}
+use Rattle.bsp_run.specs.TurnBy.{turn_by}
+use Rattle.bsp_incr.specs.Inside.Given.{Making, IsMaking, delivered_beside}
 use Rattle.bsp_incr.specs.Inside.Marks.{AreComparable, OutcomesDifferAtMost}
 use Rattle.bsp_incr.proofs.RunBefore.{count_beside}
 use Rattle.bsp_incr.proofs.superstep.deliveries.touched_beside.Goals as goal

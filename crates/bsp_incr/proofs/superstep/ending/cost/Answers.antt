@@ -7,7 +7,8 @@ use Rattle.bsp_run.specs.Run.{Run}
 use Rattle.bsp_run.specs.Result.{largest_work}
 use Rattle.bsp_run.proofs.Runs.{outcomes_shown-turned}
 use Rattle.bsp_incr.specs.Inside.Before.{outcomes_if_any, delivered_outcomes}
-use Rattle.bsp_incr.specs.Inside.Given.{Making, IsMaking, turn_by}
+use Rattle.bsp_run.specs.TurnBy.{turn_by}
+use Rattle.bsp_incr.specs.Inside.Given.{Making, IsMaking}
 use Rattle.bsp_incr.proofs.RunBefore.{count_beside}
 use Rattle.bsp_incr.proofs.Likeness.{same_work, same_h}
 use Rattle.bsp_incr.proofs.superstep.ending.cost.Goals as goal

@@ -1,6 +1,6 @@
 use Rattle.std.proofs.Common.{◌≡◌, take}
 use Rattle.bsp_run.specs.Shares.{turns_of}
-use Rattle.bsp_incr.specs.Inside.Given.{turn_by}
+use Rattle.bsp_run.specs.TurnBy.{turn_by}
 use Rattle.bsp_incr.proofs.superstep.turns.served_turns.Given as goal
 
 abbrev pub invariant-loop-process : goal.invariant-loop-process

@@ -1,0 +1,53 @@
+use Rattle.std.proofs.Common.{◌≡◌, ◌<◌, ◌∙◌, true, false, sym, subst}
+use Rattle.bsp_model.specs.declared.input.Input.{Input}
+use Rattle.bsp_model.proofs.Inputs.{lawful_input}
+use Rattle.bsp_run.specs.Run.{Run, run}
+use Rattle.bsp_run.specs.Condition.{is_open}
+use Rattle.bsp_run.proofs.Runs.{LeadsTo, supersteps_left, start-leads, advance-leads, fewer_left, closed-leads}
+use Rattle.bsp_run.specs.TurnBy.{turn_by}
+use Rattle.bsp_incr.specs.Inside.Given.{IsMaking}
+use Rattle.bsp_incr.proofs.rerun.remake_all.Goals as goal
+
+pub loop-tape-init : goal.loop-tape-init
+loop-tape-init g c =
+    let turn = turn_by g.P.Program c.args.given.now.program in
+    let input : Input = c.args.given.now.input in
+    let known = subst (IsMaking g.P.Program) c.given.view_is c.given.invariant in
+    record {
+      leads = subst (λ (r : Run). LeadsTo turn r (run turn input)) (sym c.requires.started) (start-leads turn input (lawful_input input known.lawful).some_superstep);
+      under_way = c.requires.under_way;
+      table = c.requires.table;
+    }
+
+pub loop-tape-preserved : goal.loop-tape-preserved
+loop-tape-preserved g c =
+    let turn = turn_by g.P.Program c.args.given.now.program in
+    let whole : Run = run turn c.args.given.now.input in
+    let open_now : is_open c.loop-tape.tape.phase ≡ true = sym c.is_open.ensures ∙ c.loop-tape-test.true in
+    record {
+      leads = subst (λ (r : Run). LeadsTo turn r whole) (sym c.in_ok-advance.ensures.tape) (advance-leads turn c.loop-tape.tape whole c.loop-tape.invariant.leads open_now);
+      under_way = c.in_ok-advance.ensures.under_way;
+      table = c.in_ok-advance.ensures.table;
+    }
+
+pub loop-tape-smaller : goal.loop-tape-smaller
+loop-tape-smaller g c =
+    let turn = turn_by g.P.Program c.args.given.now.program in
+    let whole : Run = run turn c.args.given.now.input in
+    let open_now : is_open c.loop-tape.tape.phase ≡ true = sym c.is_open.ensures ∙ c.loop-tape-test.true in
+    subst (λ (r : Run). supersteps_left r < supersteps_left c.loop-tape.tape) (sym c.in_ok-advance.ensures.tape) (fewer_left turn c.loop-tape.tape whole c.loop-tape.invariant.leads open_now)
+
+pub returns-clause-ended : goal.returns-clause-ended
+returns-clause-ended g c =
+    let turn = turn_by g.P.Program c.args.given.now.program in
+    let closed : is_open c.loop-tape.tape.phase ≡ false = sym c.is_open.ensures ∙ c.loop-tape-test.false in
+    (closed-leads turn c.loop-tape.tape (run turn c.args.given.now.input) c.loop-tape.invariant.leads closed).0
+
+pub returns-clause-run : goal.returns-clause-run
+returns-clause-run g c =
+    let turn = turn_by g.P.Program c.args.given.now.program in
+    let closed : is_open c.loop-tape.tape.phase ≡ false = sym c.is_open.ensures ∙ c.loop-tape-test.false in
+    (closed-leads turn c.loop-tape.tape (run turn c.args.given.now.input) c.loop-tape.invariant.leads closed).1
+
+pub returns-clause-update : goal.returns-clause-update
+returns-clause-update g c = c.loop-tape.invariant.under_way.updated

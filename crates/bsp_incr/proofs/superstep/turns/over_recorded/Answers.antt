@@ -1,0 +1,63 @@
+use Rattle.std.proofs.Common.{◌≡◌, ◌<◌, ◌∙◌, List, All, ap, sym, subst, length, refl}
+use Rattle.std.proofs.lemmas.List.{length-map}
+use Rattle.bsp_model.specs.Replaced.{replaced, IsAscending}
+use Rattle.bsp_model.proofs.Replaced.{length-replaced}
+use Rattle.bsp_step.specs.OutcomeParts.{OutcomeParts}
+use Rattle.bsp_run.specs.Shares.{turns_of}
+use Rattle.bsp_run.specs.TurnBy.{turn_by}
+use Rattle.bsp_incr.specs.Inside.OpenSuperstep.{differs_now, stays_now}
+use Rattle.bsp_incr.proofs.Gathering.{listed_below, processes_where-ascending}
+use Rattle.bsp_incr.proofs.Retaking.{served_stay, turns_in_place}
+use Rattle.bsp_incr.proofs.superstep.turns.over_recorded.Goals as goal
+
+pub with_served_turns-requires-clause-known : goal.with_served_turns-requires-clause-known
+with_served_turns-requires-clause-known g c κs within =
+    let superstep = c.args.superstep.now in
+    let set = c.requires.served.0 in
+    listed_below (length superstep.views.now) (stays_now (g.P.Program.looks c.args.given.now.program) superstep set) c.args.needs.served.items c.requires.served.1.1
+
+pub with_served_turns-requires-clause-within : goal.with_served_turns-requires-clause-within
+with_served_turns-requires-clause-within g c κs within =
+    let superstep = c.args.superstep.now in
+    let set = c.requires.served.0 in
+    let long : length c.args.old_outcomes.now ≡ length superstep.views.now = ap (λ (os : List OutcomeParts). length os) c.requires.recorded ∙ length-map superstep.old_views (turn_by g.P.Program c.args.given.now.program) ∙ superstep.count c.requires.some in
+    subst (λ m. All (λ p. p < m) c.args.needs.served.items) (sym long) (listed_below (length superstep.views.now) (stays_now (g.P.Program.looks c.args.given.now.program) superstep set) c.args.needs.served.items c.requires.served.1.1)
+
+pub with_served_turns-requires-clause-ascending : goal.with_served_turns-requires-clause-ascending
+with_served_turns-requires-clause-ascending g c κs within =
+    let superstep = c.args.superstep.now in
+    let set = c.requires.served.0 in
+    subst IsAscending (sym c.requires.served.1.1) (processes_where-ascending (length superstep.views.now) (stays_now (g.P.Program.looks c.args.given.now.program) superstep set))
+
+pub with_served_turns-requires-clause-serve : goal.with_served_turns-requires-clause-serve
+with_served_turns-requires-clause-serve g c κs within =
+    let superstep = c.args.superstep.now in
+    let set = c.requires.served.0 in
+    served_stay (g.P.Program.looks c.args.given.now.program) superstep.old_views superstep.views.now set c.args.needs.served.items c.requires.served.1.1
+
+pub replaced-requires-clause-known : goal.replaced-requires-clause-known
+replaced-requires-clause-known g c =
+    let superstep = c.args.superstep.now in
+    let turn = turn_by g.P.Program c.args.given.now.program in
+    let new = superstep.views.now in
+    let long : length c.args.old_outcomes.now ≡ length new = ap (λ (os : List OutcomeParts). length os) c.requires.recorded ∙ length-map superstep.old_views turn ∙ superstep.count c.requires.some in
+    let after : length c.in_ok-renewed.renewed ≡ length new = ap (λ (os : List OutcomeParts). length os) c.in_ok-renewed.ensures ∙ length-replaced c.args.old_outcomes.now c.args.needs.served.items (turns_of turn new c.args.needs.served.items) ∙ long in
+    subst (λ m. All (λ p. p < m) c.args.needs.taken.items) (sym after) (listed_below (length new) (differs_now (g.P.Program.looks c.args.given.now.program) superstep) c.args.needs.taken.items c.requires.taken)
+
+pub replaced-requires-clause-ascending : goal.replaced-requires-clause-ascending
+replaced-requires-clause-ascending g c =
+    let superstep = c.args.superstep.now in
+    subst IsAscending (sym c.requires.taken) (processes_where-ascending (length superstep.views.now) (differs_now (g.P.Program.looks c.args.given.now.program) superstep))
+
+pub returns : goal.returns
+returns g c =
+    let superstep = c.args.superstep.now in
+    let turn = turn_by g.P.Program c.args.given.now.program in
+    let looks = g.P.Program.looks c.args.given.now.program in
+    let old = superstep.old_views in
+    let new = superstep.views.now in
+    let set = c.requires.served.0 in
+    c.in_ok-all.ensures
+    ∙ ap (λ (os : List OutcomeParts). replaced os c.args.needs.taken.items c.args.taken) c.in_ok-renewed.ensures
+    ∙ turns_in_place turn looks old new set c.args.old_outcomes.now (turns_of turn new c.args.needs.served.items) c.args.taken c.args.needs.served.items c.args.needs.taken.items
+    c.requires.served.1.0 (superstep.count c.requires.some) c.requires.recorded c.requires.served.1.1 c.requires.taken refl c.requires.turns
