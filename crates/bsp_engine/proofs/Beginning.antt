@@ -1,14 +1,19 @@
 -- A live session from its job on.
-use Rattle.std.proofs.Common.{◌≡◌, ℕ, ◌+◌, Bool, true, false, cond, List, [], ◌∷◌, ◌++◌, length, Option, None, Some, Result, Ok, Err, refl, sym, ap, subst, ◌∙◌, ◌⊎◌, inl, inr, codes}
+use Rattle.std.proofs.Common.{◌≡◌, ℕ, ◌+◌, Bool, true, false, cond, List, [], ◌∷◌, ◌++◌, length, Option, None, Some, Result, Ok, Err, refl, sym, ap, subst, ◌∙◌, ◌⊎◌, inl, inr, append_assoc, codes}
 use Rattle.std.specs.Prelude.{IfSome, IfOk, IfErr, IsOkAnd, IsSomeAnd}
 use Rattle.bsp_model.specs.declared.fault.End.{End}
+use Rattle.bsp_model.specs.Input.{input_fault}
 use Rattle.bsp_step.specs.ViewParts.{ViewParts}
 use Rattle.bsp_step.specs.Act.{Act}
 use Rattle.bsp_step.specs.Turn.{turn_of}
-use Rattle.bsp_run.specs.Run.{run}
+use Rattle.bsp_run.specs.Run.{Run, run}
+use Rattle.bsp_run.specs.Law.{IsBspRun}
+use Rattle.bsp_run.proofs.OneRun.{one_run}
 use Rattle.bsp_run.specs.Result.{result_of}
 use Rattle.bsp_incr.specs.declared.edit.Edit.{Edit}
-use Rattle.bsp_incr.specs.declared.reply.Reply.{Reply}
+use Rattle.bsp_incr.specs.declared.reply.Reply.TheVariants.{Done}
+use Rattle.bsp_incr.specs.declared.reply.Update.{Update}
+use Rattle.bsp_incr.specs.Inside.Changes.{update_of}
 use Rattle.bsp_incr.specs.Edits.{refusal_of, edited}
 use Rattle.bsp_incr.specs.Replies.{input_if}
 use Rattle.bsp_incr.specs.Inside.Replies.{done, reply_if, replies_from}
@@ -20,12 +25,11 @@ use Rattle.bsp_engine.specs.Asked.{asked_of, is_document}
 use Rattle.bsp_engine.specs.Document.{IsPrinted, WithOwnText, document_block, own_members}
 use Rattle.bsp_engine.specs.Tree.{tree_of}
 use Rattle.bsp_engine.specs.declared.attending.Attendant.{Attendant}
-use Rattle.bsp_engine.specs.Inside.DueAt.{due_at}
+use Rattle.bsp_engine.specs.Inside.DueAt.{due_at, due_from}
 use Rattle.bsp_engine.specs.Live.{LiveParts, after, after_batch, after_batches, opened, last_result, answer_to, answer_block, blocks, first_text, due_of}
-use Rattle.bsp_engine.specs.Inside.LiveReplies.{live_reply, live_replies, live_replying}
+use Rattle.bsp_engine.specs.Inside.LiveReplies.{live_reply, live_replies, live_replying, opening_block}
 use Rattle.bsp_engine.specs.Inside.Replies.{replies_of}
-use Rattle.bsp_engine.specs.Talk.{Due}
-use Rattle.bsp_engine.specs.Blocks.{reply_block, result_before, blocks_after}
+use Rattle.bsp_engine.specs.Blocks.{reply_block, result_before, blocks_after, text_of}
 
 module _ {P : Type 0} (acts : P → ViewParts → List Act) (ending : P → ViewParts → End) (looks : P → ViewParts → ℕ → Bool) where
   -- the replies of an open session are those of the job's
@@ -55,25 +59,33 @@ module _ {P : Type 0} (acts : P → ViewParts → List Act) (ending : P → View
       (ap (λ c. result_before c (last_result acts ending live) reply) (sym same) ∙ sym (last_result-next live batch))
       ∙ ap (λ (v : LiveParts P). reply_block detail.places k (last_result acts ending live) reply ++ blocks_after detail (k + 1) (last_result acts ending v) (live_replies acts ending looks v later)) (sym is)
 
-  pub first_is : (detail : Detail) (job : Job P) (live : LiveParts P) → live ≡ opened detail.changes job.program job.input
-      → (reply_block detail.places 0 None (done (looks job.program) None (run (turn_of (acts job.program) (ending job.program)) job.input)) ++ blocks_after detail 1 (last_result acts ending live) (live_replies acts ending looks live job.batches)) ++ codes "ready\n" ≡ first_text (live_replying acts ending looks) detail job
-  unfolding first_text replies_of last_result
-  first_is detail job live is =
-      let first = reply_block detail.places 0 None (done (looks job.program) None (run (turn_of (acts job.program) (ending job.program)) job.input)) in
-      ap (λ (v : LiveParts P). (first ++ blocks_after detail 1 (last_result acts ending v) (live_replies acts ending looks v job.batches)) ++ codes "ready\n") is
-      ∙ ap (λ rs. (first ++ blocks_after detail 1 (last_result acts ending (opened detail.changes job.program job.input)) rs) ++ codes "ready\n") (live_replies-from (opened detail.changes job.program job.input) job.batches)
+  -- the opening and the batches make the report
+  report_is : (detail : Detail) (job : Job P) (live : LiveParts P) → live ≡ opened detail.changes job.program job.input
+      → opening_block acts ending looks detail.places job.program job.input ++ blocks_after detail 1 (last_result acts ending live) (live_replies acts ending looks live job.batches) ≡ text_of detail (replies_of acts ending looks false job)
+  unfolding replies_of last_result
+  report_is detail job live is =
+      let first = opening_block acts ending looks detail.places job.program job.input in
+      ap (λ (v : LiveParts P). first ++ blocks_after detail 1 (last_result acts ending v) (live_replies acts ending looks v job.batches)) is
+      ∙ ap (λ rs. first ++ blocks_after detail 1 (last_result acts ending (opened detail.changes job.program job.input)) rs) (live_replies-from (opened detail.changes job.program job.input) job.batches)
 
-  pub first_text_is : (detail : Detail) (job : Job P) (live : LiveParts P) (opening : Reply) (batches : List (List Edit)) (none one two three : List ℕ) → none ≡ [] → one ≡ none ++ reply_block detail.places 0 None opening
-      → two ≡ one ++ blocks_after detail 1 (last_result acts ending live) (live_replies acts ending looks live batches) → three ≡ two ++ codes "ready\n"
-      → opening ≡ done (looks job.program) None (run (turn_of (acts job.program) (ending job.program)) job.input) → batches ≡ job.batches → live ≡ opened detail.changes job.program job.input → three ≡ first_text (live_replying acts ending looks) detail job
-  first_text_is detail job live opening batches none one two three n h i j o b l =
-      let reply = done (looks job.program) None (run (turn_of (acts job.program) (ending job.program)) job.input) in
-      let last = last_result acts ending live in
-      let first : one ≡ reply_block detail.places 0 None reply = h ∙ (ap (λ t. t ++ reply_block detail.places 0 None opening) n ∙ ap (reply_block detail.places 0 None) o) in
-      let others : two ≡ reply_block detail.places 0 None reply ++ blocks_after detail 1 last (live_replies acts ending looks live job.batches) =
-      i ∙ (ap (λ t. t ++ blocks_after detail 1 last (live_replies acts ending looks live batches)) first
-      ∙ ap (λ bs. reply_block detail.places 0 None reply ++ blocks_after detail 1 last (live_replies acts ending looks live bs)) b) in
-      j ∙ (ap (λ t. t ++ codes "ready\n") others ∙ first_is detail job live l)
+  pub begun_text : (detail : Detail) (job : Job P) (live next : LiveParts P) (zero two end : List ℕ) → live ≡ opened false job.program job.input
+      → two ≡ zero ++ opening_block acts ending looks detail.places live.program live.input ++ blocks_after detail 1 (last_result acts ending next) (live_replies acts ending looks next job.batches) ++ end
+      → next ≡ record live { changes = detail.changes } → two ≡ zero ++ text_of detail (replies_of acts ending looks false job) ++ end
+  begun_text detail job live next zero two end l t n =
+      let first = opening_block acts ending looks detail.places job.program job.input in
+      let others = blocks_after detail 1 (last_result acts ending next) (live_replies acts ending looks next job.batches) in
+      let is : next ≡ opened detail.changes job.program job.input = n ∙ ap (λ (v : LiveParts P). record v { changes = detail.changes }) l in
+      t ∙ ap (λ (v : LiveParts P). zero ++ opening_block acts ending looks detail.places v.program v.input ++ others ++ end) l
+      ∙ ap (λ u. u ++ end) (append_assoc zero first others ∙ ap (λ u. zero ++ u) (report_is detail job next is))
+
+  -- the block of an opening, of which the run was told
+  pub opening_told : (places : Bool) (live next : LiveParts P) (history : Run) (update : Update) (old new : List ℕ) → live ≡ next → input_fault live.input ≡ None
+      → IsBspRun (turn_of (acts live.program) (ending live.program)) live.input history → update ≡ update_of (looks next.program) None (run (turn_of (acts next.program) (ending next.program)) next.input)
+      → new ≡ old ++ reply_block places 0 None (Done (result_of history) (Some update)) → new ≡ old ++ opening_block acts ending looks places next.program next.input
+  opening_told places live next history update old new at lawful law done told =
+      let is : history ≡ run (turn_of (acts next.program) (ending next.program)) next.input =
+      (one_run (turn_of (acts live.program) (ending live.program)) live.input history lawful).0 law ∙ ap (λ (v : LiveParts P). run (turn_of (acts v.program) (ending v.program)) v.input) at in
+      told ∙ (λ k. old ++ reply_block places 0 None (Done (result_of (is k)) (Some (done k))))
 
   -- one line more, that asks for no document
   blocks_next : (own : List ℕ) (places : Bool) (last number : ℕ) (live next : LiveParts P) (l text : List ℕ) → is_document l ≡ false → number ≡ last + 1
@@ -110,28 +122,27 @@ module _ {P : Type 0} (acts : P → ViewParts → List Act) (ending : P → View
       ∙ (ap (λ (q : Bool). text ++ blocks acts ending (live_replying acts ending looks) a.own.items q (b.last + 1) b.live later) (sym p)
       ∙ ap (λ (w : List ℕ). text ++ blocks acts ending (live_replying acts ending looks) w b.places (b.last + 1) b.live later) (sym o)))
 
-  pub attendant_tells : (a : Attendant P) (l text : List ℕ) → is_document l ≡ true → text ≡ document_block a.own.items a.live.input
-      → (later : List (List ℕ)) → due_at acts ending looks a (l ∷ later) ≡ text ++ due_at acts ending looks a later
+  pub attendant_tells : (a b : Attendant P) (l text : List ℕ) → is_document l ≡ true → text ≡ document_block a.own.items a.live.input → a.own.items ≡ b.own.items → a.places ≡ b.places → a.last ≡ b.last → a.live ≡ b.live
+      → (later : List (List ℕ)) → due_at acts ending looks a (l ∷ later) ≡ text ++ due_at acts ending looks b later
   unfolding due_at
-  attendant_tells a l text d t later = document_next a.own.items a.places (a.last + 1) a.live l text d t later
+  attendant_tells a b l text d t own places last live later =
+      document_next a.own.items a.places (a.last + 1) a.live l text d t later
+      ∙ (λ k. text ++ blocks acts ending (live_replying acts ending looks) (own k) (places k) (last k + 1) (live k) later)
 
   pub due_at-none : (a : Attendant P) → due_at acts ending looks a [] ≡ []
   unfolding due_at blocks
   due_at-none a = refl
 
-  -- what is known of the session that was begun is known of the job's
-  pub job_due : (X : Due → Type 0) (detail : Detail) (own : List ℕ) (job : Job P) (first : List ℕ) (a : Attendant P) → a.places ≡ detail.places → a.own.items ≡ own → first ≡ first_text (live_replying acts ending looks) detail job → a.last ≡ length job.batches
-      → a.live ≡ after_batches (opened detail.changes job.program job.input) job.batches → X (λ lines. first ++ due_at acts ending looks a lines) → X (due_of acts ending (live_replying acts ending looks) detail own job)
+  pub first_text_is : (detail : Detail) (job : Job P) (zero text : List ℕ) → zero ≡ [] → text ≡ zero ++ text_of detail (replies_of acts ending looks false job) ++ codes "ready\n" → text ≡ first_text (live_replying acts ending looks) detail job
+  unfolding first_text
+  first_text_is detail job zero text none is = is ∙ ap (λ t. t ++ text_of detail (replies_of acts ending looks false job) ++ codes "ready\n") none
+
+  -- what is due from whoever answers the lines of a job's session
+  pub due_from_job : (detail : Detail) (own : List ℕ) (job : Job P) (a : Attendant P) → a.places ≡ detail.places → a.own.items ≡ own → a.text.items ≡ first_text (live_replying acts ending looks) detail job → a.last ≡ length job.batches
+      → a.live ≡ after_batches (opened detail.changes job.program job.input) job.batches → due_from acts ending looks a ≡ due_of acts ending (live_replying acts ending looks) detail own job
   unfolding due_of due_at
-  job_due X detail own job first a q o f n v x =
-      let last = a.last in
-      let live = a.live in
-      let end = after_batches (opened detail.changes job.program job.input) job.batches in
-      subst (λ (t : List ℕ). X (λ lines. t ++ blocks acts ending (live_replying acts ending looks) own detail.places (length job.batches + 1) end lines)) f
-      (subst (λ (k : ℕ). X (λ lines. first ++ blocks acts ending (live_replying acts ending looks) own detail.places (k + 1) end lines)) n
-      (subst (λ (w : LiveParts P). X (λ lines. first ++ blocks acts ending (live_replying acts ending looks) own detail.places (last + 1) w lines)) v
-      (subst (λ (b : Bool). X (λ lines. first ++ blocks acts ending (live_replying acts ending looks) own b (last + 1) live lines)) q
-      (subst (λ (w : List ℕ). X (λ lines. first ++ blocks acts ending (live_replying acts ending looks) w a.places (last + 1) live lines)) o x))))
+  due_from_job detail own job a places is_own text last live =
+      λ k lines. text k ++ blocks acts ending (live_replying acts ending looks) (is_own k) (places k) (last k + 1) (live k) lines
 
 -- what is known of the bytes that were read is known of all that the source had
 pub when_read : (source : Option (List ℕ)) (slice bytes : List ℕ) (F : List ℕ → Type 0) → slice ≡ bytes → IfSome source (λ all. bytes ≡ all) → F slice → IfSome source F

@@ -1,22 +1,27 @@
 -- Conversations that go on: what was heard and said, piece by piece.
 use Rattle.std.proofs.Common.{◌≡◌, ℕ, ◌+◌, ◌<◌, length, get_or, add-one, drop-cons, arith, true, false, cond, List, [], ◌∷◌, ◌++◌, drop, Option, Result, Ok, Err, refl, sym, ap, subst, ◌∙◌, inl, inr, append_assoc}
 use Rattle.std.proofs.lemmas.Bool.Decides.{nat_tests}
-use Rattle.std.specs.Prelude.{◌==◌, IfErr, IsErrAnd}
+use Rattle.std.specs.Prelude.{◌==◌, IfErr, IsErrAnd, OnErr, OnOk}
 use Rattle.std.proofs.lemmas.List.{append-nil}
 use Rattle.bsp_engine.specs.declared.errors.EngineError.{EngineError}
 use Rattle.bsp_engine.specs.declared.errors.EngineError.TheVariants.{Write}
-use Rattle.bsp_engine.specs.Talk.{Event, heard, Goes, heard_in, said_in, kept, lines_from, rest_from, whole_lines, unless_empty, all_lines, Due, IsPrompt, Talks, Breaks}
-use Rattle.bsp_engine.specs.Inside.Talk.{Says, SaysPart, Answered, Stopped, AttendedIf, Attended, UnattendedIf, Unattended}
+use Rattle.bsp_engine.specs.Talk.{Event, heard, Goes, heard_in, said_in, kept, lines_from, rest_from, whole_lines, unless_empty, all_lines, Due, Talks, Breaks}
+use Rattle.bsp_engine.specs.Inside.Talk.{Says, SaysPart, Answered, Stopped, AttendedIf, Attended, UnattendedIf, Unattended, IsGoing, BreaksOff, Ends, TalksOn}
 use Rattle.bsp_engine.proofs.Logs.{goes_more, goes_none, said_append, heard_only, heard_none, prompt_only, prompt_first, ended_only}
 
 -- the answer to a line broke off in its text
-pub stopped_write : (due now : Due) (line : List ℕ) (old new : Option (List Event)) (text : List ℕ) → ((later : List (List ℕ)) → due (line ∷ later) ≡ text ++ now later) → SaysPart old new text → Stopped due line old new Write
+stopped_write : (due now : Due) (line : List ℕ) (old new : Option (List Event)) (text : List ℕ) → ((later : List (List ℕ)) → due (line ∷ later) ≡ text ++ now later) → SaysPart old new text → Stopped due line old new Write
 stopped_write due now line old new text next p = record {
   text = p.text;
   says = p.says;
   begins = λ later. (p.begins.0 ++ now later, next later ∙ (ap (λ l. l ++ now later) p.begins.1 ∙ append_assoc p.text p.begins.0 (now later)));
   whole = λ other. absurd (other refl);
 }
+
+pub stopped_part : (r : Result (Unit {0}) EngineError) (due now : Due) (line : List ℕ) (old new : Option (List Event)) (text : List ℕ) → ((later : List (List ℕ)) → due (line ∷ later) ≡ text ++ now later)
+    → OnErr r (SaysPart old new text) → IfErr r (λ e. e ≡ Write) → IfErr r (λ e. Stopped due line old new e)
+stopped_part (Ok u) due now line old new text next part is = tt
+stopped_part (Err e) due now line old new text next part is = subst (λ (x : EngineError). Stopped due line old new x) (sym is) (stopped_write due now line old new text next part)
 
 -- lines of a text that comes in two pieces
 lines_append : (begun xs ys : List ℕ) → lines_from begun (xs ++ ys) ≡ lines_from begun xs ++ lines_from (rest_from begun xs) ys
@@ -47,17 +52,6 @@ all_split done left =
     ap (λ l. l ++ unless_empty (rest_from [] (done ++ left))) (lines_append [] done left)
     ∙ (ap (λ r. (whole_lines done ++ lines_from (rest_from [] done) left) ++ unless_empty r) (rest_append [] done left)
     ∙ append_assoc (whole_lines done) (lines_from (rest_from [] done) left) (unless_empty (rest_from (rest_from [] done) left)))
-
--- A conversation that goes on. Of what was heard the lines up to some place were answered, this is kept of the line that was begun there, and these
--- bytes are left; `now` is due for the lines to come.
-pub record IsGoing (due now : Due) (old new : Option (List Event)) (begun left : List ℕ) : Type 0 where
-  pub events : List Event
-  pub goes : Goes old new events
-  pub prompt : IsPrompt due events
-  pub done : List ℕ
-  pub heard_all : heard_in events ≡ done ++ left
-  pub next : (later : List (List ℕ)) → due (whole_lines done ++ later) ≡ said_in events ++ now later
-  pub rest : begun ≡ rest_from [] done
 
 -- the same in other words
 pub goes_as : (due now : Due) (old new : Option (List Event)) (begun left begun' left' : List ℕ) → IsGoing due now old new begun left → begun ≡ begun' → left ≡ left' → IsGoing due now old new begun' left'
@@ -158,7 +152,7 @@ pub breaks_now : (due now : Due) (old new : Option (List Event)) (begun left : L
 breaks_now due now old new begun left error h none = breaks_here due now old new new begun left error h none (goes_none new)
 
 -- it breaks off in the first text
-pub breaks_first : (now : Due) (old new : Option (List Event)) (first : List ℕ) → SaysPart old new first → Breaks (λ lines. first ++ now lines) old new Write
+breaks_first : (now : Due) (old new : Option (List Event)) (first : List ℕ) → SaysPart old new first → Breaks (λ lines. first ++ now lines) old new Write
 breaks_first now old new first p =
     let s = p.says in
     record {
@@ -172,6 +166,9 @@ breaks_first now old new first p =
       );
       whole = λ other. absurd (other refl);
     }
+
+pub breaks_at_first : (now : Due) (old new : Option (List Event)) (first : List ℕ) (error : EngineError) → SaysPart old new first → error ≡ Write → Breaks (λ lines. first ++ now lines) old new error
+breaks_at_first now old new first error p is = subst (λ (e : EngineError). Breaks (λ lines. first ++ now lines) old new e) (sym is) (breaks_first now old new first p)
 
 -- it breaks off in the answer to a line, the first of those that are still due
 stops_in : (due now : Due) (old mid new : Option (List Event)) (begun left : List ℕ) (others : List (List ℕ)) (error : EngineError) (h : IsGoing due now old mid begun left) → now [] ≡ [] → others_of (rest_from [] h.done) left ≡ begun ∷ others → Stopped now begun mid new error → Breaks due old new error
@@ -210,7 +207,7 @@ last_line : (begun : List ℕ) → (begun ≡ [] → ⊥) → unless_empty begun
 last_line [] some = absurd (some refl)
 last_line (b ∷ bs) some = refl
 
-pub breaks_in_last : (due now : Due) (old mid new : Option (List Event)) (begun : List ℕ) (error : EngineError) → IsGoing due now old mid begun [] → now [] ≡ [] → (begun ≡ [] → ⊥) → Stopped now begun mid new error → Breaks due old new error
+breaks_in_last : (due now : Due) (old mid new : Option (List Event)) (begun : List ℕ) (error : EngineError) → IsGoing due now old mid begun [] → now [] ≡ [] → (begun ≡ [] → ⊥) → Stopped now begun mid new error → Breaks due old new error
 unfolding others_of
 breaks_in_last due now old mid new begun error h none some t =
     stops_in due now old mid new begun [] [] error h none (ap unless_empty (sym h.rest) ∙ last_line begun some) t
@@ -231,7 +228,7 @@ talks_end due now old mid new begun piece h none g ended empty =
     }
 
 -- the end is found, and the line that was begun is answered
-pub talks_last : (due now after : Due) (old mid late new : Option (List Event)) (begun piece : List ℕ) → IsGoing due now old mid begun [] → now [] ≡ [] → after [] ≡ [] → Goes mid late (heard piece ∷ []) → piece ≡ [] → (begun ≡ [] → ⊥) → Answered now after begun late new → Talks due old new
+talks_last : (due now after : Due) (old mid late new : Option (List Event)) (begun piece : List ℕ) → IsGoing due now old mid begun [] → now [] ≡ [] → after [] ≡ [] → Goes mid late (heard piece ∷ []) → piece ≡ [] → (begun ≡ [] → ⊥) → Answered now after begun late new → Talks due old new
 unfolding goes_heard
 talks_last due now after old mid late new begun piece h none none_after g ended some a =
     let k = goes_heard due now old mid late begun piece h none g in
@@ -248,6 +245,24 @@ talks_last due now after old mid late new begun piece h none none_after g ended 
           ∙ (ap (λ l. said_in k.events ++ l) (sym s.is) ∙ sym (said_append s.events k.events)))));
       ended = ended_only s.events k.events s.only ended;
     }
+
+-- the answer to the line that was begun where the end was heard
+pub rest_ends : (r : Result (Unit {0}) EngineError) (now after : Due) (begun : List ℕ) (old new : Option (List Event)) → now [] ≡ [] → after [] ≡ [] → (begun ≡ [] → ⊥) → OnOk r (Answered now after begun old new) → OnOk r (Ends now begun old new)
+rest_ends (Err e) now after begun old new none none_after some a = tt
+rest_ends (Ok u) now after begun old new none none_after some a = λ due start mid h g. talks_last due now after start mid old new begun [] h none none_after g refl some a
+
+pub rest_breaks : (r : Result (Unit {0}) EngineError) (now : Due) (begun : List ℕ) (old new : Option (List Event)) → now [] ≡ [] → (begun ≡ [] → ⊥) → IfErr r (λ e. Stopped now begun old new e) → IfErr r (λ e. BreaksOff now begun [] old new e)
+rest_breaks (Ok u) now begun old new none some t = tt
+rest_breaks (Err e) now begun old new none some t = λ due start h. breaks_in_last due now start old new begun e h none some t
+
+-- a conversation that has come somewhere goes on from there
+pub talks_from : (r : Result (Unit {0}) EngineError) (due now : Due) (start old new : Option (List Event)) (begun : List ℕ) → IsGoing due now start old begun [] → OnOk r (TalksOn now begun old new) → OnOk r (Talks due start new)
+talks_from (Err e) due now start old new begun h t = tt
+talks_from (Ok u) due now start old new begun h t = t due start h
+
+pub breaks_from : (r : Result (Unit {0}) EngineError) (due now : Due) (start old new : Option (List Event)) (begun : List ℕ) → IsGoing due now start old begun [] → IfErr r (λ e. BreaksOff now begun [] old new e) → IfErr r (λ e. Breaks due start new e)
+breaks_from (Ok u) due now start old new begun h t = tt
+breaks_from (Err e) due now start old new begun h t = t due start h
 
 -- the answer to one byte, at an LF and at another
 pub going_byte : (due now after : Due) (old mid new : Option (List Event)) (begun left : List ℕ) (b : ℕ) (next later : List ℕ) → IsGoing due now old mid begun left → left ≡ b ∷ later → Attended now after begun b next mid new → IsGoing due after old new next later
@@ -266,7 +281,7 @@ breaks_in_byte due now old mid new begun left b later error h none is a =
     ] refl a
 
 -- an error that was handed on
-pub handed_on : (r : Result (Unit {0}) EngineError) (e : EngineError) (P : EngineError → Type 0) → IsErrAnd r (λ y. y ≡ e) → P e → IfErr r P
+pub handed_on : {A : Type 0} (r : Result A EngineError) (e : EngineError) (P : EngineError → Type 0) → IsErrAnd r (λ y. y ≡ e) → P e → IfErr r P
 handed_on (Ok u) e P h p = tt
 handed_on (Err y) e P h p = subst P (sym h) p
 

@@ -7,61 +7,89 @@ use Rattle.bsp_step.specs.ViewParts.{ViewParts}
 use Rattle.bsp_step.specs.Act.{Act}
 use Rattle.bsp_step.specs.Turn.{turn_of}
 use Rattle.bsp_run.specs.declared.result.RunResult.{RunResult}
-use Rattle.bsp_run.specs.Run.{Run}
+use Rattle.bsp_run.specs.Run.{Run, run}
 use Rattle.bsp_run.specs.Result.{result_of}
+use Rattle.bsp_run.proofs.OneRun.{one_run}
 use Rattle.bsp_incr.specs.declared.edit.Edit.{Edit}
 use Rattle.bsp_incr.specs.declared.edit.EditRefusal.{EditRefusal}
-use Rattle.bsp_incr.specs.Edits.{refusal_of}
+use Rattle.bsp_incr.specs.Edits.{edited, refusal_of}
 use Rattle.bsp_incr.specs.Undo.{undo_of}
-use Rattle.bsp_incr.specs.Replies.{input_after}
-use Rattle.bsp_incr.specs.Inside.Replies.{reply_to}
+use Rattle.bsp_incr.specs.declared.reply.Reply.{Reply}
+use Rattle.bsp_incr.specs.declared.reply.Reply.TheVariants.{Done}
+use Rattle.bsp_incr.specs.declared.reply.Update.{Update}
+use Rattle.bsp_incr.specs.Inside.Replies.{done, reply_if, reply_to}
+use Rattle.bsp_incr.proofs.Replying.{replied_is}
 use Rattle.bsp_engine.specs.declared.options.Detail.{Detail}
 use Rattle.bsp_engine.specs.Lines.{line}
 use Rattle.bsp_engine.specs.Blocks.{reply_lines, blocks_after}
-use Rattle.bsp_engine.specs.Live.{LiveParts, after_batch, undos_after, last_result, answer_to_undo, answer_lines}
+use Rattle.bsp_engine.specs.Text.{refusal_line}
+use Rattle.bsp_engine.specs.declared.asking.Asked.TheVariants.{Undo}
+use Rattle.bsp_engine.specs.Live.{LiveParts, after_batch, answer_lines, answer_to, answer_to_undo, last_result, undos_after}
+use Rattle.bsp_engine.specs.Untouched.{AreRunsAround}
 use Rattle.bsp_engine.specs.Inside.LiveReplies.{live_reply, live_replies, live_replying}
-use Rattle.bsp_engine.specs.Inside.Given.{IsResultIn, result_if, undo_if}
+use Rattle.bsp_engine.specs.Inside.Given.{IsResultIn}
 use Rattle.bsp_engine.proofs.Beginning.{blocks-batch}
+
+-- what takes an accepted batch back is kept
+pub kept_undo : {P : Type 0} (before live : LiveParts P) (batch undo : List Edit) (undos : List (List Edit)) → before ≡ live → refusal_of before.input batch ≡ None → undo ≡ undo_of before.input batch → undos ≡ undo ∷ before.undos
+    → record before { undos = undos } ≡ record live { undos = undos_after (refusal_of live.input batch) live batch }
+kept_undo before live batch undo undos at none is more =
+    let all : undos ≡ undos_after (refusal_of before.input batch) before batch =
+    more ∙ ap (λ (u : List Edit). u ∷ before.undos) is ∙ sym (ap (λ (r : Option EditRefusal). undos_after r before batch) none) in
+    subst (λ (v : LiveParts _). record before { undos = undos } ≡ record v { undos = undos_after (refusal_of v.input batch) v batch }) at (λ k. record before { undos = all k })
 
 -- what is kept of a run is its result
 pub kept_is : (last : Option RunResult) (h r : Run) → IsResultIn last h → h ≡ r → last ≡ cond (is_some last) (Some (result_of r)) None
 kept_is None h r is e = refl
 kept_is (Some x) h r is e = ap Some (is ∙ ap result_of e)
 
-undos_made : {P : Type 0} (live : LiveParts P) (batch undo : List Edit) (undos : List (List Edit)) (r : Option EditRefusal) → Some undo ≡ undo_if r (undo_of live.input batch) → undos ≡ undo ∷ live.undos → undos ≡ undos_after r live batch
-undos_made live batch undo undos (Some refusal) is same = cc
-undos_made live batch undo undos None is same = let undo_is : undo ≡ undo_of live.input batch = cc in same ∙ ap (λ (u : List Edit). u ∷ live.undos) undo_is
-
--- the session after an accepted batch
-pub made : {P : Type 0} (before live : LiveParts P) (batch undo : List Edit) (o : Option (List Edit)) (program : P) (input : Input) (undos : List (List Edit)) (changes : Bool) → before ≡ live
-    → program ≡ before.program → input ≡ input_after before.input batch → o ≡ undo_if (refusal_of before.input batch) (undo_of before.input batch) → o ≡ Some undo → undos ≡ undo ∷ before.undos → changes ≡ before.changes
-    → record { program = program; input = input; undos = undos; changes = changes } ≡ after_batch live batch
-made before live batch undo o program input undos changes at p i u s n c =
-    let us = undos_made before batch undo undos (refusal_of before.input batch) (sym s ∙ u) n in
-    subst (λ (v : LiveParts _). record { program = program; input = input; undos = undos; changes = changes } ≡ after_batch v batch) at
-    (λ k. record { program = p k; input = i k; undos = us k; changes = c k })
-
 module _ {P : Type 0} (acts : P → ViewParts → List Act) (ending : P → ViewParts → End) (looks : P → ViewParts → ℕ → Bool) where
-  abbrev text_at : Bool → LiveParts P → List Edit → List ℕ
-  text_at places v batch =
-      reply_lines places (result_if v.changes (turn_of (acts v.program) (ending v.program)) v.input) (reply_to (looks v.program) (turn_of (acts v.program) (ending v.program)) v.input batch)
+  abbrev advance_lines : Bool → LiveParts P → List Edit → List ℕ
+  advance_lines places v batch = reply_lines places (last_result acts ending v) (live_reply acts ending looks v batch)
 
-  -- the text of a batch ..
-  pub made_text : (places : Bool) (before live : LiveParts P) (batch : List Edit) (old new : List ℕ) → before ≡ live
-      → new ≡ old ++ reply_lines places (result_if before.changes (turn_of (acts before.program) (ending before.program)) before.input) (reply_to (looks before.program) (turn_of (acts before.program) (ending before.program)) before.input batch)
-      → new ≡ old ++ reply_lines places (last_result acts ending live) (live_reply acts ending looks live batch)
+  -- The text of an accepted batch, of which the lines of the run after it were told against what was kept of the run before.
+  pub accepted_text : {E : Type 0} (places : Bool) (live shown : LiveParts P) (batch : List Edit) (last : Option RunResult) (update : Update) (before after history : Run) (r : Result (Unit {0}) E) (old new : List ℕ) → live ≡ shown
+      → is_some last ≡ live.changes → IsResultIn last before → AreRunsAround (turn_of (acts live.program) (ending live.program)) (looks live.program) live.input batch update before after → history ≡ after
+      → OnOk r (new ≡ old ++ reply_lines places last (Done (result_of history) (Some update)))
+      → OnOk r (new ≡ old ++ reply_lines places (last_result acts ending shown) (live_reply acts ending looks shown batch))
   unfolding last_result live_reply
-  made_text places before live batch old new at e = subst (λ v. new ≡ old ++ text_at places v batch) at e
+  accepted_text places live shown batch last update before after history r old new at asked is runs same told =
+      let turn = turn_of (acts live.program) (ending live.program) in
+      let input : Input = live.input in
+      let result = run turn input in
+      let kept : last ≡ cond live.changes (Some (result_of result)) None =
+      kept_is last before result is ((one_run turn input before runs.lawful).0 runs.before) ∙ ap (λ c. cond c (Some (result_of result)) None) asked in
+      let reply : Done (result_of history) (Some update) ≡ reply_to (looks live.program) turn input batch =
+      ap (λ (h : Run). Done (result_of h) (Some update)) same
+      ∙ replied_is (looks live.program) turn input batch before after update runs.lawful runs.accepted runs.before runs.after runs.exact in
+      subst (λ v. OnOk r (new ≡ old ++ advance_lines places v batch)) at
+      (subst (λ (b : Option RunResult). OnOk r (new ≡ old ++ reply_lines places b (reply_to (looks live.program) turn input batch))) kept
+      (subst (λ (x : Reply). OnOk r (new ≡ old ++ reply_lines places last x)) reply told))
 
-  -- .. and of one that is taken back
+  -- the text of a batch that is refused
+  pub refused_text : {E : Type 0} (places : Bool) (live shown : LiveParts P) (batch : List Edit) (refusal : EditRefusal) (r : Result (Unit {0}) E) (old new : List ℕ) → live ≡ shown → refusal_of live.input batch ≡ Some refusal
+      → OnOk r (new ≡ old ++ refusal_line refusal) → OnOk r (new ≡ old ++ reply_lines places (last_result acts ending shown) (live_reply acts ending looks shown batch))
+  unfolding live_reply
+  refused_text places live shown batch refusal r old new at is told =
+      let turn = turn_of (acts live.program) (ending live.program) in
+      subst (λ v. OnOk r (new ≡ old ++ advance_lines places v batch)) at
+      (subst (λ (o : Option EditRefusal). OnOk r (new ≡ old ++ reply_lines places (last_result acts ending live) (reply_if o (done (looks live.program) (Some (run turn live.input)) (run turn (edited live.input batch)))))) (sym is) told)
+
+  -- the text of a batch, whatever else can be taken back
+  pub made_text : {E : Type 0} (places : Bool) (live next : LiveParts P) (undos : List (List Edit)) (batch : List Edit) (r : Result (Unit {0}) E) (old new : List ℕ) → next ≡ record live { undos = undos }
+      → OnOk r (new ≡ old ++ reply_lines places (last_result acts ending next) (live_reply acts ending looks next batch)) → OnOk r (new ≡ old ++ reply_lines places (last_result acts ending live) (live_reply acts ending looks live batch))
+  unfolding last_result live_reply
+  made_text places live next undos batch r old new is told = subst (λ v. OnOk r (new ≡ old ++ advance_lines places v batch)) is told
+
+  -- the text of a batch that is taken back
   pub undone_text : {E : Type 0} (places : Bool) (before live : LiveParts P) (undo batch : List Edit) (former : List (List Edit)) (r : Result (Unit {0}) E) (old new : List ℕ) → before ≡ live → before.undos ≡ undo ∷ former → batch ≡ undo
-      → OnOk r (new ≡ old ++ reply_lines places (result_if before.changes (turn_of (acts before.program) (ending before.program)) before.input) (reply_to (looks before.program) (turn_of (acts before.program) (ending before.program)) before.input batch))
-      → OnOk r (new ≡ old ++ answer_lines places (last_result acts ending live) (answer_to_undo (live_replying acts ending looks) live live.undos))
+      → OnOk r (new ≡ old ++ reply_lines places (last_result acts ending (record before { undos = former })) (live_reply acts ending looks (record before { undos = former }) batch))
+      → OnOk r (new ≡ old ++ answer_lines places (last_result acts ending live) (answer_to (live_replying acts ending looks) live Undo))
   unfolding last_result live_reply
-  undone_text places before live undo batch former r old new at us same e =
+  undone_text places before live undo batch former r old new at us same told =
       subst (λ v. OnOk r (new ≡ old ++ answer_lines places (last_result acts ending v) (answer_to_undo (live_replying acts ending looks) v v.undos))) at
       (subst (λ (l : List (List Edit)). OnOk r (new ≡ old ++ answer_lines places (last_result acts ending before) (answer_to_undo (live_replying acts ending looks) before l))) (sym us)
-      (subst (λ b. OnOk r (new ≡ old ++ text_at places before b)) same e))
+      (subst (λ b. OnOk r (new ≡ old ++ advance_lines places before b)) same told))
 
   -- a block more
   pub block_more : (detail : Detail) (i : ℕ) (live next : LiveParts P) (batch : List Edit) (batches later : List (List Edit)) (t0 t1 t2 : List ℕ) → live.changes ≡ detail.changes → next ≡ after_batch live batch → batches ≡ batch ∷ later

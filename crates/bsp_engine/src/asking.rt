@@ -26,7 +26,7 @@ pub enum Asked {
 }
 
 /// Why a line is answered by nothing but this, and nothing has changed.
-#[derive(Clone, Copy, Debug, PartialEq, Eq)]
+#[derive(Clone, Copy)]
 pub enum Unread {
     /// J1: it is no TOML value.
     NotToml,

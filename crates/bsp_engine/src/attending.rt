@@ -1,18 +1,20 @@
 //! Who answers the lines of a live session, one after the other.
 
-ghost use Rattle.std.specs.Prelude.{◌≡◌, ◌≢◌, ◌∷◌, ◌++◌, List, ℕ, IfOk, OnOk, Err, false};
+ghost use Rattle.std.specs.Prelude.{◌≡◌, ◌≢◌, ◌∷◌, ◌++◌, List, ℕ, IfOk, OnOk, Err, None, false};
+ghost use Rattle.bsp_model.specs.Input.{input_fault};
 ghost use Rattle.bsp_engine.specs.Asked.{asked_of, is_document};
-ghost use Rattle.bsp_engine.specs.Inside.DueAt.{due_at};
-ghost use Rattle.bsp_engine.specs.Live.{after, answer_block, answer_to, last_result};
+ghost use Rattle.bsp_engine.specs.Inside.DueAt.{due_at, due_from};
 ghost use Rattle.bsp_engine.specs.Inside.LiveReplies.{live_replying};
+ghost use Rattle.bsp_engine.specs.Live.{after, answer_block, answer_to, due_of, last_result};
 
 use crate::asking::{asked_of, is_document};
-use crate::blocks::ROOM_OF_A_BLOCK;
 use crate::crew::Crew;
-use crate::document::document_block;
+use crate::document::put_document;
 use crate::errors::EngineError;
+use crate::jobs::Job;
 use crate::lines::push_line;
-use crate::live::{Live, push_answer};
+use crate::live::{Live, begin, push_answer};
+use crate::options::Detail;
 use bsp_model::OutOfMemory;
 use bsp_pool::Gate;
 use bsp_step::Program;
@@ -27,64 +29,94 @@ pub struct Attendant<P: Program> {
     pub last: u64,
     /// The text of the keys of the document that are the catalogue's own.
     pub own: Vec<u8>,
+    /// What is to be said next.
+    pub text: Vec<u8>,
 }
 
-/// The block of a line, after what the line asks was done.
-fn block_for<P: Program + Drop, R: Threads + Sync, G: Gate>(
+/// Who answers the lines of a job's session. The first text is to be said next; `own` is the text of the keys that are the catalogue's own.
+pub fn attendant_for<P: Program + Drop, R: Threads + Sync, G: Gate>(
     crew: &Crew<'_, R, G>,
-    live: &mut Live<P>,
-    places: bool,
-    number: u64,
-    line: &[u8],
-) -> Result<Vec<u8>, OutOfMemory>
-    ensures after { OnOk result (live.new ≡ after live.old (asked_of line.now)) }
-    ensures text { IfOk result (λ text. text.items ≡ answer_block places number (last_result P.acts P.ending live.old) (answer_to (live_replying P.acts P.ending P.looks) live.old (asked_of line.now))) }
+    detail: Detail,
+    job: Job<P>,
+    own: Vec<u8>,
+) -> Result<Attendant<P>, OutOfMemory>
+    requires lawful { input_fault job.input ≡ None }
+    ensures { IfOk result (λ attendant. due_from P.acts P.ending P.looks attendant ≡ due_of P.acts P.ending (live_replying P.acts P.ending P.looks) detail own.items job) }
 {
-    let asked = asked_of(crew.alloc, line)?;
-    let mut text = Vec::with_capacity(crew.alloc, ROOM_OF_A_BLOCK)?;
-    push_line(&mut text, "run", &[number])?;
-    push_answer(crew, places, live, &mut text, asked)?;
-    Ok(text)
+    let last = job.batches.len() as u64;
+    let mut text = Vec::new(crew.alloc);
+    let live = begin(crew, detail, job, &mut text, b"ready\n")?;
+    Ok(Attendant {
+        places: detail.places,
+        live,
+        last,
+        own,
+        text,
+    })
 }
 
-/// The answer to a line that asks for no document, as the block with the next number.
-fn next_block<P: Program + Drop, R: Threads + Sync, G: Gate>(
+/// Does what a line asks, and writes its block with the number of the last block.
+fn write_block<P: Program + Drop, R: Threads + Sync, G: Gate>(
     crew: &Crew<'_, R, G>,
     attendant: &mut Attendant<P>,
     line: &[u8],
-) -> Result<Vec<u8>, EngineError>
+) -> Result<(), OutOfMemory>
+    ensures rest { OnOk result (attendant.new ≡ record attendant.old { live = after attendant.old.live (asked_of line.now); text = attendant.new.text }) }
+    ensures text { OnOk result (attendant.new.text.items ≡ answer_block attendant.old.places attendant.old.last (last_result P.acts P.ending attendant.old.live)
+        (answer_to (live_replying P.acts P.ending P.looks) attendant.old.live (asked_of line.now))) }
+{
+    let asked = asked_of(crew.alloc, line)?;
+    attendant.text.clear();
+    let number = attendant.last;
+    push_line(&mut attendant.text, "run", &[number])?;
+    let places = attendant.places;
+    push_answer(
+        crew,
+        places,
+        &mut attendant.live,
+        &mut attendant.text,
+        asked,
+    )
+}
+
+/// Writes the answer to a line that asks for no document, as the block with the next number.
+fn write_next_block<P: Program + Drop, R: Threads + Sync, G: Gate>(
+    crew: &Crew<'_, R, G>,
+    attendant: &mut Attendant<P>,
+    line: &[u8],
+) -> Result<(), EngineError>
     requires { is_document line.now ≡ false }
-    ensures answer { IfOk result (λ text. (later : List (List ℕ)) →
-        due_at P.acts P.ending P.looks attendant.old (line.now ∷ later) ≡ text.items ++ due_at P.acts P.ending P.looks attendant.new later) }
+    ensures answer { OnOk result ((later : List (List ℕ)) →
+        due_at P.acts P.ending P.looks attendant.old (line.now ∷ later) ≡ due_from P.acts P.ending P.looks attendant.new later) }
     ensures failed { result ≢ Err EngineError.Write }
 {
     let Some(number) = attendant.last.checked_add(1) else {
         return Err(EngineError::TooLong);
     };
-    match block_for(crew, &mut attendant.live, attendant.places, number, line) {
-        Ok(text) => {
-            attendant.last = number;
-            Ok(text)
-        }
+    attendant.last = number;
+    match write_block(crew, attendant, line) {
+        Ok(()) => Ok(()),
         Err(_) => Err(EngineError::OutOfMemory),
     }
 }
 
-/// The answer to a line, which has no LF, or why there is none.
+/// Writes the answer to a line, which has no LF, or tells why there is none.
 pub fn respond<P: Program + Drop, R: Threads + Sync, G: Gate>(
     crew: &Crew<'_, R, G>,
     attendant: &mut Attendant<P>,
     line: &[u8],
-) -> Result<Vec<u8>, EngineError>
-    ensures answer { IfOk result (λ text. (later : List (List ℕ)) →
-        due_at P.acts P.ending P.looks attendant.old (line.now ∷ later) ≡ text.items ++ due_at P.acts P.ending P.looks attendant.new later) }
+) -> Result<(), EngineError>
+    ensures answer { OnOk result ((later : List (List ℕ)) →
+        due_at P.acts P.ending P.looks attendant.old (line.now ∷ later) ≡ due_from P.acts P.ending P.looks attendant.new later) }
     ensures failed { result ≢ Err EngineError.Write }
 {
     if !is_document(line) {
-        return next_block(crew, attendant, line);
+        return write_next_block(crew, attendant, line);
     }
-    match document_block(crew.alloc, attendant.own.as_slice(), attendant.live.input()) {
-        Ok(text) => Ok(text),
+    let own = attendant.own.as_slice();
+    let input = attendant.live.input();
+    match put_document(&mut attendant.text, own, input) {
+        Ok(()) => Ok(()),
         Err(_) => Err(EngineError::OutOfMemory),
     }
 }

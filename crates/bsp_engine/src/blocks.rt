@@ -17,7 +17,7 @@ use std::alloc::Global;
 pub const ROOM_OF_A_BLOCK: usize = 4096;
 
 /// Appends all of a result, or what of it is another than in a result before.
-pub fn push_result_after(
+fn push_result_after(
     text: &mut Vec<u8>,
     before: Option<&RunResult>,
     run: &RunResult,
@@ -65,7 +65,7 @@ fn push_reply(
 }
 
 /// Appends the block of a reply.
-pub fn push_block(
+fn push_block(
     text: &mut Vec<u8>,
     places: bool,
     number: u64,

@@ -1,4 +1,4 @@
-//! Who shares the work of a live session.
+//! Who shares the work of a session.
 
 ghost use Rattle.std.specs.Prelude.{◌<◌, ◌≤◌};
 

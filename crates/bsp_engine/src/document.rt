@@ -1,13 +1,12 @@
 //! The input of a live session as a document without batches.
 
-ghost use Rattle.std.specs.Prelude.{◌≡◌, ◌++◌, IfOk, OnOk, codes, decimal};
+ghost use Rattle.std.specs.Prelude.{◌≡◌, ◌++◌, OnOk, codes, decimal};
 ghost use Rattle.bsp_engine.specs.Lines.{numbered};
 ghost use Rattle.bsp_engine.specs.Document.{comma, document_block, document_text, entry, rows_line, words_text};
 
 use crate::lines::push_line;
 use bsp_model::{Input, Memory, OutOfMemory, Words};
 use itoa::Buffer;
-use std::alloc::Global;
 
 /// Appends what stands before the item of this number in an array.
 fn push_comma(text: &mut Vec<u8>, number: usize) -> Result<(), OutOfMemory>
@@ -122,13 +121,12 @@ fn push_document(text: &mut Vec<u8>, own: &[u8], input: &Input) -> Result<(), Ou
     text.extend_from_slice(own)
 }
 
-/// The document of an input, between the lines `document` and `end`.
-pub fn document_block(alloc: Global, own: &[u8], input: &Input) -> Result<Vec<u8>, OutOfMemory>
-    ensures { IfOk result (λ text. text.items ≡ document_block own.now input.now) }
+/// Leaves nothing in a text but the document of an input, between the lines `document` and `end`.
+pub fn put_document(text: &mut Vec<u8>, own: &[u8], input: &Input) -> Result<(), OutOfMemory>
+    ensures { OnOk result (text.new.items ≡ document_block own.now input.now) }
 {
-    let mut text = Vec::new(alloc);
+    text.clear();
     text.extend_from_slice(b"document\n")?;
-    push_document(&mut text, own, input)?;
-    text.extend_from_slice(b"end\n")?;
-    Ok(text)
+    push_document(text, own, input)?;
+    text.extend_from_slice(b"end\n")
 }

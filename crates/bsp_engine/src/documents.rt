@@ -8,14 +8,14 @@ ghost use Rattle.bsp_engine.specs.Refusal.{IfFault};
 ghost use Rattle.bsp_engine.specs.Reported.{IsAnswered};
 ghost use Rattle.bsp_engine.specs.Inside.Report.{report_of};
 
-use crate::blocks::report;
 use crate::catalogue::Catalogue;
+use crate::crew::Crew;
 use crate::errors::{EngineError, JobError, JobFault};
 use crate::flow::{Sink, Source};
+use crate::job_report::report_for;
 use crate::jobs::read_job;
 use crate::options::Options;
 use crate::reading::read_all;
-use crate::running::replies_to;
 use crate::writing::write_text;
 use bsp_pool::Gate;
 use std::alloc::Global;
@@ -23,20 +23,16 @@ use std::thread::Threads;
 
 /// The text of the report of a document, or why it has none.
 fn answer<C: Catalogue, R: Threads + Sync, G: Gate>(
-    rt: &R,
-    alloc: Global,
+    crew: &Crew<'_, R, G>,
     bytes: &[u8],
     options: Options,
-    gate: &G,
 ) -> Result<Vec<u8>, JobError>
     requires short { length bytes.now ≤ most_document_bytes }
-    requires workers { (0 < options.workers) × (options.workers ≤ 16) }
     ensures ok { IfOk result (λ text. report_of C.meaning C.Program.acts C.Program.ending C.Program.looks options.scratch options.detail bytes.now ≡ Ok text.items) }
     ensures fault { IfErr result (λ e. IfFault e (λ f. report_of C.meaning C.Program.acts C.Program.ending C.Program.looks options.scratch options.detail bytes.now ≡ Err (EngineError.Job f))) }
 {
-    let job = read_job::<C>(alloc, bytes)?;
-    let replies = replies_to(rt, alloc, job, options.workers, options.scratch, gate)?;
-    Ok(report(alloc, replies.as_slice(), options.detail)?)
+    let job = read_job::<C>(crew.alloc, bytes)?;
+    Ok(report_for(crew, options.scratch, options.detail, job)?)
 }
 
 /// Reads a document to its end, runs its job by 1 to 16 workers, and writes the report: all of it is made before the first write.
@@ -79,7 +75,13 @@ pub fn engine<C: Catalogue, R: Threads + Sync, S: Source, K: Sink, G: Gate>(
 {
     let bytes = read_all(alloc, reader)?;
     *document = bytes;
-    let text = answer::<C, _, _>(rt, alloc, document.as_slice(), options, gate)?;
+    let crew = Crew {
+        rt,
+        alloc,
+        workers: options.workers,
+        gate,
+    };
+    let text = answer::<C, _, _>(&crew, document.as_slice(), options)?;
     match write_text(writer, text.as_slice()) {
         Ok(()) => Ok(()),
         Err(_) => Err(EngineError::Write),

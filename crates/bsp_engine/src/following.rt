@@ -8,13 +8,12 @@ ghost use Rattle.bsp_engine.specs.Live.{due_of, WithReplies};
 ghost use Rattle.bsp_engine.specs.Inside.LiveReplies.{live_replying};
 ghost use Rattle.bsp_engine.specs.Talk.{Breaks, Talks};
 
-use crate::attending::Attendant;
+use crate::attending::attendant_for;
 use crate::catalogue::Catalogue;
 use crate::crew::Crew;
 use crate::errors::{EngineError, JobFault};
 use crate::flow::Source;
 use crate::jobs::{Job, read_job_and_keys};
-use crate::live::begin;
 use crate::options::{Detail, Options};
 use crate::reading::read_all;
 use crate::talking::talk;
@@ -36,19 +35,9 @@ fn follow_job<P: Program + Drop, R: Threads + Sync, T: Terminal, G: Gate>(
     ensures ok { OnOk result (Talks (due_of P.acts P.ending (live_replying P.acts P.ending P.looks) detail own.items job) (T.log terminal.old) (T.log terminal.new)) }
     ensures err { IfErr result (λ e. Breaks (due_of P.acts P.ending (live_replying P.acts P.ending P.looks) detail own.items job) (T.log terminal.old) (T.log terminal.new) e) }
 {
-    let (live, last, text) = match begin(crew, detail, job) {
-        Ok(begun) => begun,
-        Err(_) => return Err(EngineError::OutOfMemory),
-    };
-    let mut attendant = Attendant {
-        places: detail.places,
-        live,
-        last,
-        own,
-    };
-    match talk(crew, &mut attendant, terminal, text.as_slice()) {
-        Ok(()) => Ok(()),
-        Err(error) => Err(error),
+    match attendant_for(crew, detail, job, own) {
+        Ok(mut attendant) => talk(crew, &mut attendant, terminal),
+        Err(_) => Err(EngineError::OutOfMemory),
     }
 }
 

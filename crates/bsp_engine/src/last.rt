@@ -1,11 +1,11 @@
 //! The result of the run before, against which the next one is told.
 
 ghost use Rattle.std.specs.Prelude.{◌≡◌, ◌++◌, false, Some, IfOk, OnOk, slice_get};
-ghost use Rattle.bsp_run.specs.Result.{lines_of, memories_of, result_of};
+ghost use Rattle.bsp_run.specs.Result.{costs_of, lines_of, memories_of, result_of, total_of};
 ghost use Rattle.bsp_engine.specs.Changes.{changes_lines, changes_of, other_lines, others, piece_if, same_lines, same_words};
 ghost use Rattle.bsp_engine.specs.Lines.{numbered};
 ghost use Rattle.bsp_engine.specs.Text.{memory_line};
-ghost use Rattle.bsp_engine.specs.Inside.Touched.{AreSameUnflagged, IsResultBefore, flags_of, piece_there, put_there};
+ghost use Rattle.bsp_engine.specs.Inside.Touched.{AreSameUnflagged, IsResultBefore, cost_changes, flags_of, piece_there, process_changes, put_there};
 ghost use Rattle.bsp_engine.specs.Untouched.{at_limit, end_alike};
 
 use crate::change_lines::{
@@ -162,24 +162,28 @@ fn tell_all_lines(
 }
 
 impl Last {
+    /// What a run gave.
+    fn copy_of(alloc: Global, given: &RunResult) -> Result<Last, OutOfMemory>
+        ensures { IfOk result (λ last. last ≡ given.now) }
+    {
+        let memories = own_memories(alloc, &given.memories)?;
+        let lines = own_lines(alloc, given.lines.as_slice())?;
+        let costs = Vec::from_slice(alloc, given.costs.as_slice())?;
+        Ok(Last {
+            status: given.status.copy()?,
+            memories,
+            lines,
+            costs: Seq::from_vec(costs),
+            total: given.total,
+        })
+    }
+
     /// What a history gives.
     pub fn of(alloc: Global, history: &History) -> Result<Last, OutOfMemory>
         ensures { IfOk result (λ last. last ≡ result_of history.now) }
     {
-        let RunResult {
-            status,
-            memories,
-            lines,
-            costs,
-            total,
-        } = history.result()?;
-        Ok(Last {
-            status,
-            memories: own_memories(alloc, &memories)?,
-            lines: own_lines(alloc, lines.as_slice())?,
-            costs: Seq::from_vec(Vec::from_slice(alloc, costs.as_slice())?),
-            total,
-        })
+        let given = history.result()?;
+        Last::copy_of(alloc, &given)
     }
 
     /// Whether a run ended so, in as many supersteps.
@@ -210,6 +214,36 @@ impl Last {
         Ok(flags)
     }
 
+    /// Appends the lines of the processes that have something else than in this result, and puts that in its place. Only those with a flag are looked at.
+    fn tell_processes(
+        &mut self,
+        text: &mut Vec<u8>,
+        history: &History,
+        flags: &[bool],
+    ) -> Result<(), OutOfMemory>
+        requires memories { AreSameUnflagged flags.now self.old.memories (memories_of history.now) }
+        requires lines { AreSameUnflagged flags.now self.old.lines (lines_of history.now) }
+        ensures text { OnOk result (text.new.items ≡ text.old.items ++ process_changes self.old history.now) }
+        ensures last { OnOk result (self.new ≡ record self.old { memories = memories_of history.now; lines = lines_of history.now }) }
+    {
+        tell_memories(text, &mut self.memories, history, flags)?;
+        tell_all_lines(text, &mut self.lines, history, flags)
+    }
+
+    /// Appends the costs that are others than in this result, and puts them in its place.
+    fn tell_costs(&mut self, text: &mut Vec<u8>, history: &History) -> Result<(), OutOfMemory>
+        ensures text { OnOk result (text.new.items ≡ text.old.items ++ cost_changes self.old history.now) }
+        ensures last { OnOk result (self.new ≡ record self.old { costs = costs_of history.now; total = total_of (costs_of history.now) }) }
+    {
+        let costs = history.costs();
+        push_other_costs(text, self.costs.as_slice(), costs)?;
+        push_other_count(text, self.costs.len(), costs.len())?;
+        push_line(text, "total", &[history.total()])?;
+        self.costs = Seq::from_vec(Vec::from_slice(*text.allocator(), costs)?);
+        self.total = history.total();
+        Ok(())
+    }
+
     /// Appends the lines of what of the run after a batch is another than in this result, which then is what that run gives. Only the processes that the
     /// update touches are looked at, or all of them where the run does not end as before.
     pub fn tell(
@@ -224,18 +258,11 @@ impl Last {
             changes_lines (changes_of self.old (result_of history.now))) }
         ensures last { OnOk result (self.new ≡ result_of history.now) }
     {
-        let alloc = *text.allocator();
-        let flags = self.flags(alloc, history, batch, update)?;
+        let flags = self.flags(*text.allocator(), history, batch, update)?;
         push_status(text, history.status())?;
-        tell_memories(text, &mut self.memories, history, flags.as_slice())?;
-        tell_all_lines(text, &mut self.lines, history, flags.as_slice())?;
-        let costs = history.costs();
-        push_other_costs(text, self.costs.as_slice(), costs)?;
-        push_other_count(text, self.costs.len(), costs.len())?;
-        push_line(text, "total", &[history.total()])?;
-        self.costs = Seq::from_vec(Vec::from_slice(alloc, costs)?);
+        self.tell_processes(text, history, flags.as_slice())?;
+        self.tell_costs(text, history)?;
         self.status = history.status().copy()?;
-        self.total = history.total();
         Ok(())
     }
 }

@@ -1,6 +1,7 @@
 //! From the bytes of a document to the bytes of its report, for any catalogue of programs, and the whole of a tool that does so.
 #![tactic(auto)]
 
+mod accepted;
 mod asking;
 mod attending;
 mod blocks;
@@ -16,18 +17,19 @@ mod explaining;
 mod flags;
 mod flow;
 mod following;
+mod job_report;
 mod jobs;
 mod last;
 pub mod limits;
 mod lines;
 mod live;
 mod naming;
+mod opening;
 mod options;
 mod places;
 mod reading;
 mod reporting;
 mod rereading;
-mod running;
 mod talking;
 mod terminal;
 mod tool;
@@ -49,6 +51,3 @@ pub use options::{Detail, Options, Tool, VERSION, read_options, words_status};
 pub use rereading::{documents_read_back, named_keys_are_apart};
 pub use terminal::{Console, Terminal};
 pub use tool::run_tool;
-
-#[cfg(test)]
-mod tests;

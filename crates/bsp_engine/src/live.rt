@@ -1,33 +1,29 @@
 //! Sessions that stay open, with what takes their batches back.
 
-ghost use Rattle.std.specs.Prelude.{◌≡◌, ◌++◌, IfOk, IfSome, OnOk, None, Some, length, is_some};
+ghost use Rattle.std.specs.Prelude.{◌≡◌, ◌++◌, IfOk, OnOk, None, false};
 ghost use Rattle.bsp_model.specs.Input.{input_fault};
 ghost use Rattle.bsp_step.specs.Turn.{turn_of};
-ghost use Rattle.bsp_run.specs.Result.{result_of};
 ghost use Rattle.bsp_run.specs.Run.{run};
 ghost use Rattle.bsp_incr.specs.Edits.{refusal_of};
-ghost use Rattle.bsp_incr.specs.Replies.{input_after};
-ghost use Rattle.bsp_incr.specs.Undo.{undo_of};
-ghost use Rattle.bsp_incr.specs.Inside.Replies.{done, reply_to};
-ghost use Rattle.bsp_engine.specs.Blocks.{blocks_after, lines_after, reply_lines};
-ghost use Rattle.bsp_engine.specs.Inside.Given.{IsResultIn, result_if, undo_if};
-ghost use Rattle.bsp_engine.specs.Live.{after, after_batch, after_batches, answer_lines, answer_to, first_text, last_result, opened};
-ghost use Rattle.bsp_engine.specs.Inside.LiveReplies.{live_replies, live_reply, live_replying};
-ghost use Rattle.bsp_engine.specs.Inside.Touched.{IsResultBefore};
+ghost use Rattle.bsp_incr.specs.Inside.Changes.{update_of};
+ghost use Rattle.bsp_engine.specs.Blocks.{blocks_after, reply_lines, text_of};
+ghost use Rattle.bsp_engine.specs.Inside.LiveReplies.{advanced, live_replies, live_reply, live_replying, opening_block};
+ghost use Rattle.bsp_engine.specs.Inside.Replies.{replies_of};
+ghost use Rattle.bsp_engine.specs.Live.{after, after_batch, after_batches, answer_lines, answer_to, last_result, opened, undos_after};
 
+use crate::accepted::{apply, push_accepted};
 use crate::asking::{Asked, Unread};
-use crate::blocks::{ROOM_OF_A_BLOCK, push_block};
 use crate::crew::Crew;
 use crate::jobs::Job;
 use crate::last::Last;
 use crate::lines::push_line;
+use crate::opening::{last_if, push_opening, session_of};
 use crate::options::Detail;
-use crate::reporting::{push_refusal, push_result, push_update};
+use crate::reporting::push_refusal;
 use crate::unread::push_unread;
-use bsp_incr::{Batch, Edit, EditError, Reply, Session, Update};
+use bsp_incr::{Batch, Edit, EditError, Session, Update};
 use bsp_model::{Input, OutOfMemory};
 use bsp_pool::Gate;
-use bsp_run::{History, RunError};
 use bsp_step::Program;
 use std::alloc::{AllocError, Global};
 use std::collections::VecDeque;
@@ -38,10 +34,10 @@ use std::thread::Threads;
 #[derive(Drop)]
 pub struct Live<P: Program> {
     session: Session<P>,
-    /// The batches that take the accepted ones back that still stand, the newest first.
-    undos: VecDeque<Batch>,
     /// What the run gives, if the blocks tell changes alone.
     last: Option<Last>,
+    /// The batches that take the accepted ones back that still stand, the newest first.
+    undos: VecDeque<Batch>,
 }
 
 impl<P: Program> Model for Live<P> {
@@ -65,133 +61,82 @@ impl<P: Program + Drop> Live<P> {
     }
 }
 
-/// The reply that gives a history.
-fn reply_with(history: &History, update: Update) -> Result<Reply, OutOfMemory>
-    ensures { IfOk result (λ reply. reply ≡ Reply.Done (result_of history.now) (Some update)) }
-{
-    let result = history.result()?;
-    Ok(Reply::Done {
-        result,
-        update: Some(update),
-    })
-}
-
-/// What a history gives, if it is asked for.
-fn result_if(alloc: Global, asked: bool, history: &History) -> Result<Option<Last>, OutOfMemory>
-    ensures is { IfOk result (λ r. IsResultIn r history.now) }
-    ensures asked { IfOk result (λ r. is_some r ≡ asked) }
-{
-    if asked {
-        Ok(Some(Last::of(alloc, history)?))
-    } else {
-        Ok(None)
-    }
-}
-
-/// Opens the session of a job, without its batches.
+/// The session of a lawful input, of which nothing is told yet, and what was done for it.
 fn open<P: Program + Drop, R: Threads + Sync, G: Gate>(
     crew: &Crew<'_, R, G>,
-    changes: bool,
     program: P,
     input: Input,
-) -> Result<(Live<P>, Reply), OutOfMemory>
+) -> Result<(Live<P>, Update), OutOfMemory>
     requires lawful { input_fault input ≡ None }
-    ensures live { IfOk result (λ r. r.0 ≡ opened changes program input) }
-    ensures reply { IfOk result (λ r. r.1 ≡ done (P.looks program) None (run (turn_of (P.acts program) (P.ending program)) input)) }
+    ensures live { IfOk result (λ r. r.0 ≡ opened false program input) }
+    ensures update { IfOk result (λ r. r.1 ≡ update_of (P.looks program) None (run (turn_of (P.acts program) (P.ending program)) input)) }
 {
-    let opened = Session::open(crew.rt, crew.alloc, program, input, crew.workers, crew.gate);
-    let (session, update) = match opened {
-        Ok(opened) => opened,
-        Err(RunError::Input(_)) => unreachable!(),
-        Err(RunError::OutOfMemory) => return Err(AllocError),
-    };
-    let reply = reply_with(session.history(), update)?;
-    let last = result_if(crew.alloc, changes, session.history())?;
-    let undos = VecDeque::new(crew.alloc);
+    let (session, update) = session_of(crew, program, input)?;
     let live = Live {
         session,
-        undos,
-        last,
+        last: None,
+        undos: VecDeque::new(crew.alloc),
     };
-    Ok((live, reply))
+    Ok((live, update))
 }
 
-/// Appends the lines of the run after a batch: all, or what of it is another than in the result of the run before. Answers its own result where there
-/// was one.
-fn push_history(
-    text: &mut Vec<u8>,
-    before: Option<Last>,
-    history: &History,
-    batch: &[Edit],
-    update: &Update,
-) -> Result<Option<Last>, OutOfMemory>
-    requires { IfSome before (λ last. IsResultBefore last batch.now update.now history.now) }
-    ensures text { OnOk result (text.new.items ≡ text.old.items ++ lines_after before (result_of history.now)) }
-    ensures is { IfOk result (λ r. IsResultIn r history.now) }
-    ensures asked { IfOk result (λ r. is_some r ≡ is_some before) }
-{
-    match before {
-        Some(mut last) => {
-            last.tell(text, history, batch, update)?;
-            Ok(Some(last))
-        }
-        None => {
-            push_result(text, &history.result()?)?;
-            Ok(None)
-        }
-    }
-}
-
-/// Makes a batch of edits, and appends the lines of its reply.
-fn advance<P: Program + Drop, R: Threads + Sync, G: Gate>(
+/// Appends the block of the opening, for which this was done, and keeps what it told if the blocks are to tell changes alone.
+fn tell_opening<P: Program + Drop, R: Threads + Sync, G: Gate>(
     crew: &Crew<'_, R, G>,
-    places: bool,
-    session: &mut Session<P>,
-    last: &mut Option<Last>,
+    detail: Detail,
+    live: &mut Live<P>,
+    update: &Update,
     text: &mut Vec<u8>,
-    batch: &[Edit],
 ) -> Result<(), OutOfMemory>
-    requires { IsResultIn last.old session.old.history }
-    ensures program { session.new.program ≡ session.old.program }
-    ensures input { OnOk result (session.new.input ≡ input_after session.old.input batch.now) }
-    ensures text { OnOk result (text.new.items ≡ text.old.items ++ reply_lines places (result_if (is_some last.old) (turn_of (P.acts session.old.program) (P.ending session.old.program)) session.old.input) (reply_to (P.looks session.old.program) (turn_of (P.acts session.old.program) (P.ending session.old.program)) session.old.input batch.now)) }
-    ensures last { IsResultIn last.new session.new.history }
-    ensures asked { OnOk result (is_some last.new ≡ is_some last.old) }
+    requires { update.now ≡ update_of (P.looks live.old.program) None (run (turn_of (P.acts live.old.program) (P.ending live.old.program)) live.old.input) }
+    ensures live { OnOk result (live.new ≡ record live.old { changes = detail.changes }) }
+    ensures text { OnOk result (text.new.items ≡ text.old.items ++ opening_block P.acts P.ending P.looks detail.places live.old.program live.old.input) }
 {
     // That the input is lawful, and the history its run, is known where they are read.
-    let _input = session.input();
-    let _history = session.history();
-    let before = last.take();
-    match session.apply(crew.rt, crew.alloc, batch, crew.workers, crew.gate) {
-        Ok(update) => {
-            *last = push_history(text, before, session.history(), batch, &update)?;
-            push_update(text, places, &update)
-        }
-        Err(EditError::Refused(refusal)) => {
-            *last = before;
-            push_refusal(text, refusal)
-        }
+    let _input = live.session.input();
+    let history = live.session.history();
+    push_opening(text, detail.places, history, update)?;
+    live.last = last_if(crew.alloc, detail.changes, history)?;
+    Ok(())
+}
+
+/// Keeps what takes a batch back, unless the batch is refused.
+fn keep_undo<P: Program + Drop>(
+    alloc: Global,
+    live: &mut Live<P>,
+    batch: &[Edit],
+) -> Result<(), OutOfMemory>
+    ensures { OnOk result (live.new ≡ record live.old { undos = undos_after (refusal_of live.old.input batch.now) live.old batch.now }) }
+{
+    match live.session.undo_of(alloc, batch) {
+        Ok(undo) => Ok(live.undos.push_front(undo)?),
+        Err(EditError::Refused(_)) => Ok(()),
         Err(EditError::OutOfMemory) => Err(AllocError),
     }
 }
 
-/// What takes a batch back, unless the batch is refused.
-fn undo_of<P: Program + Drop>(
-    alloc: Global,
-    session: &Session<P>,
+/// Applies a batch of edits, and appends the lines of its reply.
+fn advance<P: Program + Drop, R: Threads + Sync, G: Gate>(
+    crew: &Crew<'_, R, G>,
+    places: bool,
+    live: &mut Live<P>,
+    text: &mut Vec<u8>,
     batch: &[Edit],
-) -> Result<Option<Batch>, OutOfMemory>
-    ensures { IfOk result (λ undo. undo ≡ undo_if (refusal_of session.now.input batch.now) (undo_of session.now.input batch.now)) }
+) -> Result<(), OutOfMemory>
+    ensures after { OnOk result (live.new ≡ advanced live.old batch.now) }
+    ensures text { OnOk result (text.new.items ≡ text.old.items ++ reply_lines places (last_result P.acts P.ending live.old) (live_reply P.acts P.ending P.looks live.old batch.now)) }
 {
-    match session.undo_of(alloc, batch) {
-        Ok(undo) => Ok(Some(undo)),
-        Err(EditError::Refused(_)) => Ok(None),
+    match apply(crew, &mut live.session, batch) {
+        Ok(update) => {
+            let history = live.session.history();
+            push_accepted(text, places, &mut live.last, history, batch, &update)
+        }
+        Err(EditError::Refused(refusal)) => push_refusal(text, refusal),
         Err(EditError::OutOfMemory) => Err(AllocError),
     }
 }
 
 /// Makes a batch, and appends the lines of its reply. What takes it back is kept, unless it is refused.
-#[tactic(auto, unfolding(crate::specs::Inside::LiveReplies::live_reply))]
 fn make<P: Program + Drop, R: Threads + Sync, G: Gate>(
     crew: &Crew<'_, R, G>,
     places: bool,
@@ -202,12 +147,8 @@ fn make<P: Program + Drop, R: Threads + Sync, G: Gate>(
     ensures after { OnOk result (live.new ≡ after_batch live.old batch.now) }
     ensures text { OnOk result (text.new.items ≡ text.old.items ++ reply_lines places (last_result P.acts P.ending live.old) (live_reply P.acts P.ending P.looks live.old batch.now)) }
 {
-    let undo = undo_of(crew.alloc, &live.session, batch)?;
-    advance(crew, places, &mut live.session, &mut live.last, text, batch)?;
-    if let Some(undo) = undo {
-        live.undos.push_front(undo)?;
-    }
-    Ok(())
+    keep_undo(crew.alloc, live, batch)?;
+    advance(crew, places, live, text, batch)
 }
 
 /// Makes batches, and appends the block of each; the first has the number 1.
@@ -229,32 +170,66 @@ fn make_all<P: Program + Drop, R: Threads + Sync, G: Gate>(
     Ok(())
 }
 
-/// Opens the session of a job, and makes its batches. Answers it with the number of its last block, and the text with which it begins.
+/// Appends the report of a job whose session was opened with this update, and then the end.
+fn tell_all<P: Program + Drop, R: Threads + Sync, G: Gate>(
+    crew: &Crew<'_, R, G>,
+    detail: Detail,
+    live: &mut Live<P>,
+    update: &Update,
+    batches: &[Batch],
+    text: &mut Vec<u8>,
+    end: &[u8],
+) -> Result<(), OutOfMemory>
+    requires { update.now ≡ update_of (P.looks live.old.program) None (run (turn_of (P.acts live.old.program) (P.ending live.old.program)) live.old.input) }
+    ensures live { OnOk result (live.new ≡ after_batches (record live.old { changes = detail.changes }) batches.now) }
+    ensures text { OnOk result (text.new.items ≡ text.old.items ++ opening_block P.acts P.ending P.looks detail.places live.old.program live.old.input
+        ++ blocks_after detail 1 (last_result P.acts P.ending (record live.old { changes = detail.changes })) (live_replies P.acts P.ending P.looks (record live.old { changes = detail.changes }) batches.now) ++ end.now) }
+{
+    tell_opening(crew, detail, live, update, text)?;
+    make_all(crew, detail, live, text, batches)?;
+    text.extend_from_slice(end)
+}
+
+/// Opens the session of a program, makes the batches, and appends the report and the end.
+fn start<P: Program + Drop, R: Threads + Sync, G: Gate>(
+    crew: &Crew<'_, R, G>,
+    detail: Detail,
+    program: P,
+    input: Input,
+    batches: &[Batch],
+    text: &mut Vec<u8>,
+    end: &[u8],
+) -> Result<Live<P>, OutOfMemory>
+    requires lawful { input_fault input ≡ None }
+    ensures live { IfOk result (λ live. live ≡ after_batches (opened detail.changes program input) batches.now) }
+    ensures text { OnOk result (text.new.items ≡ text.old.items ++ text_of detail (replies_of P.acts P.ending P.looks false (record { program = program; input = input; batches = batches.now })) ++ end.now) }
+{
+    let (mut live, update) = open(crew, program, input)?;
+    tell_all(crew, detail, &mut live, &update, batches, text, end)?;
+    Ok(live)
+}
+
+/// Opens the session of a job, makes its batches, and appends its report and the end.
 pub fn begin<P: Program + Drop, R: Threads + Sync, G: Gate>(
     crew: &Crew<'_, R, G>,
     detail: Detail,
     job: Job<P>,
-) -> Result<(Live<P>, u64, Vec<u8>), OutOfMemory>
+    text: &mut Vec<u8>,
+    end: &[u8],
+) -> Result<Live<P>, OutOfMemory>
     requires lawful { input_fault job.input ≡ None }
-    ensures live { IfOk result (λ r. r.0 ≡ after_batches (opened detail.changes job.program job.input) job.batches) }
-    ensures last { IfOk result (λ r. r.1 ≡ length job.batches) }
-    ensures text { IfOk result (λ r. r.2.items ≡ first_text (live_replying P.acts P.ending P.looks) detail job) }
+    ensures live { IfOk result (λ live. live ≡ after_batches (opened detail.changes job.program job.input) job.batches) }
+    ensures text { OnOk result (text.new.items ≡ text.old.items ++ text_of detail (replies_of P.acts P.ending P.looks false job) ++ end.now) }
 {
     let Job {
         program,
         input,
         batches,
     } = job;
-    let (mut live, opening) = open(crew, detail.changes, program, input)?;
-    let mut text = Vec::with_capacity(crew.alloc, ROOM_OF_A_BLOCK)?;
-    push_block(&mut text, detail.places, 0, None, &opening)?;
-    make_all(crew, detail, &mut live, &mut text, batches.as_slice())?;
-    text.extend_from_slice(b"ready\n")?;
-    Ok((live, batches.len() as u64, text))
+    start(crew, detail, program, input, batches.as_slice(), text, end)
 }
 
 /// Takes the last accepted batch back that still stands, and appends what is answered.
-#[tactic(auto, unfolding(crate::specs::Inside::LiveReplies::live_reply))]
 fn undo<P: Program + Drop, R: Threads + Sync, G: Gate>(
     crew: &Crew<'_, R, G>,
     places: bool,
@@ -265,14 +240,7 @@ fn undo<P: Program + Drop, R: Threads + Sync, G: Gate>(
     ensures text { OnOk result (text.new.items ≡ text.old.items ++ answer_lines places (last_result P.acts P.ending live.old) (answer_to (live_replying P.acts P.ending P.looks) live.old Asked.Undo)) }
 {
     match live.undos.pop_front() {
-        Some(undo) => advance(
-            crew,
-            places,
-            &mut live.session,
-            &mut live.last,
-            text,
-            undo.as_slice(),
-        ),
+        Some(undo) => advance(crew, places, live, text, undo.as_slice()),
         None => push_unread(text, Unread::NothingToUndo),
     }
 }

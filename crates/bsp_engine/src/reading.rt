@@ -13,7 +13,7 @@ use std::alloc::Global;
 const CHUNK: usize = 4096;
 
 /// Why a document was not read.
-#[derive(Clone, Copy, Debug, PartialEq, Eq)]
+#[derive(Clone, Copy)]
 pub enum ReadError {
     /// A read failed.
     Failed,

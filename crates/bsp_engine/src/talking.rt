@@ -1,14 +1,13 @@
 //! Conversations: the lines that are heard at a terminal, and their answers.
 
-ghost use Rattle.std.specs.Prelude.{◌≡◌, ◌++◌, IfErr, OnOk, OnErr};
-ghost use Rattle.bsp_engine.specs.Inside.DueAt.{due_at};
+ghost use Rattle.std.specs.Prelude.{◌≡◌, [], Ok, false, true, IfErr, OnOk, OnErr};
+ghost use Rattle.bsp_engine.specs.Inside.DueAt.{due_at, due_from};
+ghost use Rattle.bsp_engine.specs.Inside.Talk.{Answered, Attended, BreaksOff, Ends, GoesOn, Says, SaysPart, Stopped, TalksOn, Unattended};
 ghost use Rattle.bsp_engine.specs.Talk.{Breaks, Talks, kept};
-ghost use Rattle.bsp_engine.specs.Inside.Talk.{Answered, Attended, Says, SaysPart, Stopped, Unattended};
 
 use crate::attending::{Attendant, respond};
 use crate::crew::Crew;
 use crate::errors::EngineError;
-use crate::flow::Failed;
 use crate::limits::MOST_DOCUMENT_BYTES;
 use crate::terminal::Terminal;
 use bsp_model::OutOfMemory;
@@ -19,17 +18,18 @@ use std::thread::Threads;
 const CHUNK: usize = 4096;
 
 /// Says all of the text.
-fn say_all<T: Terminal>(terminal: &mut T, text: &[u8]) -> Result<(), Failed>
+fn say_all<T: Terminal>(terminal: &mut T, text: &[u8]) -> Result<(), EngineError>
     ensures ok { OnOk result (Says (T.log terminal.old) (T.log terminal.new) text.now) }
     ensures err { OnErr result (SaysPart (T.log terminal.old) (T.log terminal.new) text.now) }
+    ensures write { IfErr result (λ e. e ≡ EngineError.Write) }
 {
     let mut at = 0;
     while at < text.len() {
         let Ok(n) = terminal.say(&text[at..]) else {
-            return Err(Failed);
+            return Err(EngineError::Write);
         };
         if n == 0 {
-            return Err(Failed);
+            return Err(EngineError::Write);
         }
         at += n;
     }
@@ -46,11 +46,8 @@ fn answer<P: Program + Drop, R: Threads + Sync, G: Gate, T: Terminal>(
     ensures ok { OnOk result (Answered (due_at P.acts P.ending P.looks attendant.old) (due_at P.acts P.ending P.looks attendant.new) line.now (T.log terminal.old) (T.log terminal.new)) }
     ensures err { IfErr result (λ e. Stopped (due_at P.acts P.ending P.looks attendant.old) line.now (T.log terminal.old) (T.log terminal.new) e) }
 {
-    let text = respond(crew, attendant, line)?;
-    match say_all(terminal, text.as_slice()) {
-        Ok(()) => Ok(()),
-        Err(_) => Err(EngineError::Write),
-    }
+    respond(crew, attendant, line)?;
+    say_all(terminal, attendant.text.as_slice())
 }
 
 /// Keeps one more byte of a line, unless it is too long already.
@@ -86,37 +83,92 @@ fn attend<P: Program + Drop, R: Threads + Sync, G: Gate, T: Terminal>(
     }
 }
 
-/// Says the first text, and then answers each line that is heard before it waits for more, up to the end.
+/// Takes the bytes that were heard, one after the other.
+fn attend_all<P: Program + Drop, R: Threads + Sync, G: Gate, T: Terminal>(
+    crew: &Crew<'_, R, G>,
+    attendant: &mut Attendant<P>,
+    terminal: &mut T,
+    begun: &mut Vec<u8>,
+    bytes: &[u8],
+) -> Result<(), EngineError>
+    ensures ok { OnOk result (GoesOn (due_at P.acts P.ending P.looks attendant.old) (due_at P.acts P.ending P.looks attendant.new) begun.old.items bytes.now begun.new.items (T.log terminal.old) (T.log terminal.new)) }
+    ensures err { IfErr result (λ e. BreaksOff (due_at P.acts P.ending P.looks attendant.old) begun.old.items bytes.now (T.log terminal.old) (T.log terminal.new) e) }
+{
+    for byte in bytes {
+        attend(crew, attendant, terminal, begun, *byte)?;
+    }
+    Ok(())
+}
+
+/// Answers the line that was begun when the end was heard, if one was.
+fn attend_rest<P: Program + Drop, R: Threads + Sync, G: Gate, T: Terminal>(
+    crew: &Crew<'_, R, G>,
+    attendant: &mut Attendant<P>,
+    terminal: &mut T,
+    begun: &[u8],
+) -> Result<(), EngineError>
+    ensures ok { OnOk result (Ends (due_at P.acts P.ending P.looks attendant.old) begun.now (T.log terminal.old) (T.log terminal.new)) }
+    ensures err { IfErr result (λ e. BreaksOff (due_at P.acts P.ending P.looks attendant.old) begun.now [] (T.log terminal.old) (T.log terminal.new) e) }
+{
+    if begun.is_empty() {
+        return Ok(());
+    }
+    answer(crew, attendant, terminal, begun)
+}
+
+/// Waits for bytes, and answers the lines that end in them. Whether there were bytes: at the end the line that was begun is answered.
+fn attend_more<P: Program + Drop, R: Threads + Sync, G: Gate, T: Terminal>(
+    crew: &Crew<'_, R, G>,
+    attendant: &mut Attendant<P>,
+    terminal: &mut T,
+    begun: &mut Vec<u8>,
+) -> Result<bool, EngineError>
+    ensures more { result ≡ Ok true → GoesOn (due_at P.acts P.ending P.looks attendant.old) (due_at P.acts P.ending P.looks attendant.new) begun.old.items [] begun.new.items (T.log terminal.old) (T.log terminal.new) }
+    ensures end { result ≡ Ok false → TalksOn (due_at P.acts P.ending P.looks attendant.old) begun.old.items (T.log terminal.old) (T.log terminal.new) }
+    ensures err { IfErr result (λ e. BreaksOff (due_at P.acts P.ending P.looks attendant.old) begun.old.items [] (T.log terminal.old) (T.log terminal.new) e) }
+{
+    let mut chunk = [0u8; CHUNK];
+    let n = match terminal.hear(&mut chunk) {
+        Ok(n) => n,
+        Err(_) => return Err(EngineError::Read),
+    };
+    if n == 0 {
+        attend_rest(crew, attendant, terminal, begun.as_slice())?;
+        return Ok(false);
+    }
+    attend_all(crew, attendant, terminal, begun, &chunk[..n])?;
+    Ok(true)
+}
+
+/// Answers each line that is heard before it waits for more, up to the end. `begun` is kept of a line that has no end yet.
+fn listen<P: Program + Drop, R: Threads + Sync, G: Gate, T: Terminal>(
+    crew: &Crew<'_, R, G>,
+    attendant: &mut Attendant<P>,
+    terminal: &mut T,
+    begun: &mut Vec<u8>,
+) -> Result<(), EngineError>
+    ensures ok { OnOk result (TalksOn (due_at P.acts P.ending P.looks attendant.old) begun.old.items (T.log terminal.old) (T.log terminal.new)) }
+    ensures err { IfErr result (λ e. BreaksOff (due_at P.acts P.ending P.looks attendant.old) begun.old.items [] (T.log terminal.old) (T.log terminal.new) e) }
+{
+    for _ in 0..u64::MAX {
+        let more = attend_more(crew, attendant, terminal, begun)?;
+        if !more {
+            return Ok(());
+        }
+    }
+    Err(EngineError::Read)
+}
+
+/// Says what is to be said next, and then answers each line that is heard before it waits for more, up to the end.
 pub fn talk<P: Program + Drop, R: Threads + Sync, G: Gate, T: Terminal>(
     crew: &Crew<'_, R, G>,
     attendant: &mut Attendant<P>,
     terminal: &mut T,
-    first: &[u8],
 ) -> Result<(), EngineError>
-    ensures ok { OnOk result (Talks (λ lines. first.now ++ due_at P.acts P.ending P.looks attendant.old lines) (T.log terminal.old) (T.log terminal.new)) }
-    ensures err { IfErr result (λ e. Breaks (λ lines. first.now ++ due_at P.acts P.ending P.looks attendant.old lines) (T.log terminal.old) (T.log terminal.new) e) }
+    ensures ok { OnOk result (Talks (due_from P.acts P.ending P.looks attendant.old) (T.log terminal.old) (T.log terminal.new)) }
+    ensures err { IfErr result (λ e. Breaks (due_from P.acts P.ending P.looks attendant.old) (T.log terminal.old) (T.log terminal.new) e) }
 {
-    match say_all(terminal, first) {
-        Ok(()) => {}
-        Err(_) => return Err(EngineError::Write),
-    }
+    say_all(terminal, attendant.text.as_slice())?;
     let mut begun = Vec::new(crew.alloc);
-    let mut chunk = [0u8; CHUNK];
-    for _ in 0..u64::MAX {
-        let n = match terminal.hear(&mut chunk) {
-            Ok(n) => n,
-            Err(_) => return Err(EngineError::Read),
-        };
-        if n == 0 {
-            if begun.is_empty() {
-                return Ok(());
-            }
-            answer(crew, attendant, terminal, begun.as_slice())?;
-            return Ok(());
-        }
-        for byte in &chunk[..n] {
-            attend(crew, attendant, terminal, &mut begun, *byte)?;
-        }
-    }
-    Err(EngineError::Read)
+    listen(crew, attendant, terminal, &mut begun)
 }

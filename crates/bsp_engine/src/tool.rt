@@ -135,6 +135,36 @@ fn follow_file<
     ended::<C, R>(rt, outcome, document.as_slice())
 }
 
+/// Runs the job of the document on standard input, or follows the file.
+fn run_asked<
+    C: Catalogue,
+    R: Alloc<A = Global> + Files + Input + Print + Eprint + Threads + Clock + Sync,
+>(rt: &R, options: Options, followed: Option<&str>) -> ExitCode
+    requires workers { (0 < options.workers) × (options.workers ≤ 16) }
+{
+    match followed {
+        Some(_) if options.scratch => {
+            let _ = eprintln!(rt;
+                "error: the argument '--follow <FILE>' cannot be used with '--scratch'"
+            );
+            ExitCode::from(2)
+        }
+        Some(path) => follow_file::<C, R>(rt, options, path),
+        None => run_input::<C, R>(rt, options),
+    }
+}
+
+/// Does what the words ask for; the first word is the program's name.
+fn run_words<
+    C: Catalogue,
+    R: Alloc<A = Global> + Files + Input + Print + Eprint + Threads + Clock + Sync,
+>(rt: &R, tool: &Tool, words: &[&str]) -> ExitCode {
+    match read_options(rt.alloc(), tool, words) {
+        Ok((options, followed)) => run_asked::<C, R>(rt, options, followed),
+        Err(error) => refused(rt, error),
+    }
+}
+
 /// All that a tool does: it reads the words of its command line, and then runs the job of the document on standard input, of which the report
 /// goes to standard output; or that of a file, and then answers each line of standard input. The `main` of a tool hands on its runtime, and what
 /// this answers.
@@ -149,18 +179,5 @@ pub fn run_tool<
     let Ok(texts) = texts_of(rt.alloc(), words.as_slice()) else {
         return failed(rt, EngineError::OutOfMemory);
     };
-    let (options, followed) = match read_options(rt.alloc(), tool, texts.as_slice()) {
-        Ok(wanted) => wanted,
-        Err(error) => return refused(rt, error),
-    };
-    match followed {
-        Some(_) if options.scratch => {
-            let _ = eprintln!(rt;
-                "error: the argument '--follow <FILE>' cannot be used with '--scratch'"
-            );
-            ExitCode::from(2)
-        }
-        Some(path) => follow_file::<C, R>(rt, options, path),
-        None => run_input::<C, R>(rt, options),
-    }
+    run_words::<C, R>(rt, tool, texts.as_slice())
 }

@@ -1,14 +1,29 @@
 -- The replies of an open session, as functions of it.
-use Rattle.std.specs.Prelude.{ℕ, Bool, false, List, [], ◌∷◌}
+use Rattle.std.specs.Prelude.{ℕ, Bool, false, List, [], ◌∷◌, None}
+use Rattle.bsp_model.specs.declared.input.Input.{Input}
 use Rattle.bsp_model.specs.declared.fault.End.{End}
 use Rattle.bsp_step.specs.ViewParts.{ViewParts}
 use Rattle.bsp_step.specs.Act.{Act}
 use Rattle.bsp_step.specs.Turn.{turn_of}
+use Rattle.bsp_run.specs.Run.{run}
 use Rattle.bsp_incr.specs.declared.edit.Edit.{Edit}
 use Rattle.bsp_incr.specs.declared.reply.Reply.{Reply}
-use Rattle.bsp_incr.specs.Inside.Replies.{reply_to}
+use Rattle.bsp_incr.specs.Replies.{input_after}
+use Rattle.bsp_incr.specs.Inside.Replies.{done, reply_to}
+use Rattle.bsp_engine.specs.Blocks.{reply_block}
 use Rattle.bsp_engine.specs.Live.{LiveParts, Replying, after_batch}
 use Rattle.bsp_engine.specs.Inside.Replies.{replies_of}
+
+-- the reply to the opening
+abbrev pub opening_reply : {P : Type 0} → (P → ViewParts → List Act) → (P → ViewParts → End) → (P → ViewParts → ℕ → Bool) → P → Input → Reply
+opening_reply acts ending looks program input = done (looks program) None (run (turn_of (acts program) (ending program)) input)
+
+abbrev pub opening_block : {P : Type 0} → (P → ViewParts → List Act) → (P → ViewParts → End) → (P → ViewParts → ℕ → Bool) → Bool → P → Input → List ℕ
+opening_block acts ending looks places program input = reply_block places 0 None (opening_reply acts ending looks program input)
+
+-- the session after a batch, with nothing more to take back
+abbrev pub advanced : {P : Type 0} → LiveParts P → List Edit → LiveParts P
+advanced live batch = record live { input = input_after live.input batch }
 
 -- the reply to a batch
 unfoldable pub live_reply : {P : Type 0} → (P → ViewParts → List Act) → (P → ViewParts → End) → (P → ViewParts → ℕ → Bool) → LiveParts P → List Edit → Reply

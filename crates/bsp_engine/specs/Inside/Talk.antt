@@ -2,7 +2,7 @@
 use Rattle.std.specs.Prelude.{◌≡◌, ◌≢◌, ℕ, Bool, true, false, ◌==◌, List, [], ◌∷◌, ◌++◌, Option, ⊤}
 use Rattle.bsp_engine.specs.declared.errors.EngineError.{EngineError}
 use Rattle.bsp_engine.specs.declared.errors.EngineError.TheVariants.{Write}
-use Rattle.bsp_engine.specs.Talk.{Event, heard, said, Due, IsBeginning, kept, Goes, said_in}
+use Rattle.bsp_engine.specs.Talk.{Breaks, Due, Event, Goes, IsBeginning, IsPrompt, Talks, heard, heard_in, kept, rest_from, said, said_in, whole_lines}
 
 -- nothing was heard
 abbrev pub OnlySaid : List Event → Type 0
@@ -51,3 +51,31 @@ UnattendedIf false due begun old new error = new ≡ old
 
 abbrev pub Unattended : Due → List ℕ → ℕ → Option (List Event) → Option (List Event) → EngineError → Type 0
 Unattended due begun byte old new error = UnattendedIf (byte == 10) due begun old new error
+
+-- A conversation that goes on. Of what was heard the lines up to some place were answered, this is kept of the line that was begun there, and these
+-- bytes are left; `now` is due for the lines to come.
+pub record IsGoing (due now : Due) (old new : Option (List Event)) (begun left : List ℕ) : Type 0 where
+  pub events : List Event
+  pub goes : Goes old new events
+  pub prompt : IsPrompt due events
+  pub done : List ℕ
+  pub heard_all : heard_in events ≡ done ++ left
+  pub next : (later : List (List ℕ)) → due (whole_lines done ++ later) ≡ said_in events ++ now later
+  pub rest : begun ≡ rest_from [] done
+
+-- Whatever conversation had come here with these bytes left goes on with none left; `next` is kept of the line that was begun.
+abbrev pub GoesOn : (now after : Due) (begun left next : List ℕ) (old new : Option (List Event)) → Type 0
+GoesOn now after begun left next old new = (due : Due) (start : Option (List Event)) → IsGoing due now start old begun left → IsGoing due after start new next []
+
+-- Whatever conversation had come here with these bytes left broke off for this reason.
+abbrev pub BreaksOff : (now : Due) (begun left : List ℕ) (old new : Option (List Event)) → EngineError → Type 0
+BreaksOff now begun left old new error = (due : Due) (start : Option (List Event)) → IsGoing due now start old begun left → Breaks due start new error
+
+-- Whatever conversation had come here with no byte left was whole.
+abbrev pub TalksOn : (now : Due) (begun : List ℕ) (old new : Option (List Event)) → Type 0
+TalksOn now begun old new = (due : Due) (start : Option (List Event)) → IsGoing due now start old begun [] → Talks due start new
+
+-- Whatever conversation had come to the end here was whole.
+abbrev pub Ends : (now : Due) (begun : List ℕ) (old new : Option (List Event)) → Type 0
+Ends now begun old new =
+    (due : Due) (start mid : Option (List Event)) → IsGoing due now start mid begun [] → Goes mid old (heard [] ∷ []) → Talks due start new

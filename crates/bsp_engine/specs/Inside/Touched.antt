@@ -1,14 +1,16 @@
 -- The processes that an update tells of, and that of all others nothing is another where both runs end alike.
-use Rattle.std.specs.Prelude.{◌≡◌, ◌<◌, ℕ, Bool, true, false, List, [], ◌∷◌, length, replicate, slice_get, slice_set, Option, None, Some, if◌then◌else◌}
+use Rattle.std.specs.Prelude.{◌≡◌, ◌<◌, ℕ, Bool, true, false, List, [], ◌∷◌, ◌++◌, codes, length, replicate, slice_get, slice_set, Option, None, Some, if◌then◌else◌}
 use Rattle.bsp_model.specs.declared.input.Input.{Input}
 use Rattle.bsp_step.specs.ViewParts.{ViewParts}
 use Rattle.bsp_step.specs.OutcomeParts.{OutcomeParts}
 use Rattle.bsp_run.specs.declared.result.RunResult.{RunResult}
 use Rattle.bsp_run.specs.Run.{Run}
-use Rattle.bsp_run.specs.Result.{result_of}
+use Rattle.bsp_run.specs.Result.{costs_of, lines_of, memories_of, result_of, total_of}
 use Rattle.bsp_incr.specs.declared.edit.Edit.{Edit}
 use Rattle.bsp_incr.specs.declared.reply.Update.{Update}
-use Rattle.bsp_engine.specs.Changes.{other, piece_if}
+use Rattle.bsp_engine.specs.Changes.{count_line, other, other_lines, other_number, others, piece_if, same_lines, same_row, same_words}
+use Rattle.bsp_engine.specs.Lines.{line, numbered}
+use Rattle.bsp_engine.specs.Text.{cost_line, memory_line}
 use Rattle.bsp_engine.specs.Untouched.{touched, end_alike, AreRunsAround}
 
 -- The result is that of a run before the batch, and the run is the one after it.
@@ -57,3 +59,15 @@ put_there olds news p = put_in olds p (slice_get news p)
 pub record HaveSameUnflagged (flags : List Bool) (old new : RunResult) : Type 0 where
   pub memories : AreSameUnflagged flags old.memories new.memories
   pub lines : AreSameUnflagged flags old.lines new.lines
+
+-- what of the memories and of the lines of a run is another than in the result before
+abbrev pub process_changes : RunResult → Run → List ℕ
+process_changes old new =
+    numbered (piece_if memory_line) 0 (others same_words old.memories (memories_of new))
+    ++ numbered (piece_if other_lines) 0 (others same_lines old.lines (lines_of new))
+
+-- the same of the costs, with their number and their sum
+abbrev pub cost_changes : RunResult → Run → List ℕ
+cost_changes old new =
+    numbered (piece_if cost_line) 0 (others same_row old.costs (costs_of new))
+    ++ count_line (other_number (length old.costs) (length (costs_of new))) ++ line (codes "total") (total_of (costs_of new) ∷ [])

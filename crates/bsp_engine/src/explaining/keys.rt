@@ -1,92 +1,122 @@
 //! Which key of a document is at fault, or which of its values has another shape.
 
-use super::Told;
+use super::wrong::Wrong;
 use crate::catalogue::Catalogue;
 use crate::jobs::{integer_passes, is_batch, is_edit, is_known_key, is_row, rows_pass};
 use crate::tree::{elements, elements_at, has, value_at};
-use std::alloc::Global;
-use toml::Table;
+use toml::{Table, Value};
 
-/// Tells of the first needed key that is missing.
-pub fn missing_key<C: Catalogue>(alloc: Global, table: &Table) -> Told {
+/// The first needed key that is missing.
+pub fn missing_key<C: Catalogue>(table: &Table) -> Option<Wrong<'_>> {
+    let reason = "this key is missing";
     if !C::has_required_keys(table) {
         let key = C::key_at_fault(table);
-        return Ok(Some(format!(in alloc; "{key}: this key is missing")?));
+        return Some(Wrong::Key { key, reason });
     }
     for key in ["limit", "g", "l", "memory"] {
         if !has(table, key) {
-            return Ok(Some(format!(in alloc; "{key}: this key is missing")?));
+            return Some(Wrong::Key { key, reason });
         }
     }
-    Ok(None)
+    None
 }
 
-/// Tells of rows of integers that are none.
-fn misshapen_rows(alloc: Global, table: &Table, key: &str) -> Told {
-    let line = match elements_at(table, key).iter().position(|row| !is_row(row)) {
-        Some(pid) => format!(in alloc; "{key}, process {pid}: not an array of integers")?,
-        None => format!(in alloc; "{key}: not an array of arrays of integers")?,
-    };
-    Ok(Some(line))
+/// Rows of integers that are none.
+fn misshapen_rows<'a>(table: &'a Table, key: &'static str) -> Wrong<'a> {
+    match elements_at(table, key).iter().position(|row| !is_row(row)) {
+        Some(pid) => Wrong::Row {
+            key,
+            pid,
+            reason: "not an array of integers",
+        },
+        None => Wrong::Key {
+            key,
+            reason: "not an array of arrays of integers",
+        },
+    }
 }
 
-/// Tells of batches that are none. Their numbers are those of their blocks.
-fn misshapen_batches(alloc: Global, table: &Table) -> Told {
-    let Some(value) = value_at(table, "batches") else {
-        return Ok(None);
-    };
+/// A batch that is none.
+fn misshapen_batch(number: usize, batch: &Value) -> Wrong<'_> {
+    match elements(batch).iter().position(|edit| !is_edit(edit)) {
+        Some(place) => Wrong::Edit {
+            batch: number,
+            place,
+            reason: "not an edit",
+        },
+        None => Wrong::Batch {
+            number,
+            reason: "not an array of edits",
+        },
+    }
+}
+
+/// The first of the batches that is none.
+fn misshapen_batches(table: &Table) -> Option<Wrong<'_>> {
+    let value = value_at(table, "batches")?;
     if !value.is_array() {
-        return Ok(Some(format!(in alloc; "batches: not an array of batches")?));
+        return Some(Wrong::Key {
+            key: "batches",
+            reason: "not an array of batches",
+        });
     }
     for (before, batch) in elements(value).iter().enumerate() {
         if !is_batch(batch) {
-            let number = before.saturating_add(1);
-            let line = match elements(batch).iter().position(|edit| !is_edit(edit)) {
-                Some(place) => {
-                    format!(in alloc; "batches, batch {number}, edit {place}: not an edit")?
-                }
-                None => format!(in alloc; "batches, batch {number}: not an array of edits")?,
-            };
-            return Ok(Some(line));
+            return Some(misshapen_batch(before.saturating_add(1), batch));
         }
     }
-    Ok(None)
+    None
 }
 
-/// Tells of the first known key whose value has another shape.
-pub fn misshapen_value<C: Catalogue>(alloc: Global, table: &Table) -> Told {
-    if !C::has_right_shapes(table) {
-        let key = C::key_at_fault(table);
-        return Ok(Some(format!(in alloc; "{key}: a value of another shape")?));
-    }
+/// The first of the keys that every document may have whose value has another shape.
+fn misshapen_common_value(table: &Table) -> Option<Wrong<'_>> {
     for key in ["limit", "g", "l"] {
         if !integer_passes(table, key) {
-            return Ok(Some(format!(in alloc; "{key}: not an integer")?));
+            return Some(Wrong::Key {
+                key,
+                reason: "not an integer",
+            });
         }
     }
     for key in ["memory", "args"] {
         if !rows_pass(table, key) {
-            return misshapen_rows(alloc, table, key);
+            return Some(misshapen_rows(table, key));
         }
     }
-    misshapen_batches(alloc, table)
+    misshapen_batches(table)
 }
 
-/// Tells of the first key that nobody reads, by their order as texts.
-pub fn unknown_key<C: Catalogue>(alloc: Global, table: &Table) -> Told {
+/// The first known key whose value has another shape.
+pub fn misshapen_value<C: Catalogue>(table: &Table) -> Option<Wrong<'_>> {
+    if C::has_right_shapes(table) {
+        return misshapen_common_value(table);
+    }
+    Some(Wrong::Key {
+        key: C::key_at_fault(table),
+        reason: "a value of another shape",
+    })
+}
+
+/// The first key that nobody reads, by their order as texts.
+pub fn unknown_key<C: Catalogue>(table: &Table) -> Option<Wrong<'_>> {
     for key in table.keys() {
         if !is_known_key::<C>(key.as_str()) {
-            return Ok(Some(format!(in alloc; "{}: there is no such key", key.as_str())?));
+            return Some(Wrong::Key {
+                key: key.as_str(),
+                reason: "there is no such key",
+            });
         }
     }
-    Ok(None)
+    None
 }
 
-/// Tells of keys that say no program.
-pub fn unknown_program<C: Catalogue>(alloc: Global, table: &Table) -> Told {
+/// Keys that say no program.
+pub fn unknown_program<C: Catalogue>(table: &Table) -> Option<Wrong<'_>> {
     if C::names_program(table) {
-        return Ok(None);
+        return None;
     }
-    let key = C::key_at_fault(table);
-    Ok(Some(format!(in alloc; "{key}: there is no such program")?))
+    Some(Wrong::Key {
+        key: C::key_at_fault(table),
+        reason: "there is no such program",
+    })
 }

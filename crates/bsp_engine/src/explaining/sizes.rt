@@ -1,75 +1,92 @@
 //! Which size of the described input is past its limit (J6).
 
-use super::Told;
+use super::wrong::WrongSize;
 use crate::jobs::{count_of_args, is_between};
 use crate::tree::{elements, elements_at, integer_at};
 use bsp_model::limits::{
     HIGHEST_PRICE, MOST_ARGUMENTS, MOST_MEMORY_WORDS, MOST_PROCESSES, MOST_SUPERSTEPS,
 };
-use std::alloc::Global;
 use toml::Table;
 
-/// Tells of the number of processes.
-fn refused_count(alloc: Global, table: &Table) -> Told {
-    let memories = elements_at(table, "memory").len();
-    let args = count_of_args(table, memories);
-    let line = if memories == 0 {
-        format!(in alloc; "I1, memory: 0 processes, at least 1")?
-    } else if memories > MOST_PROCESSES {
-        format!(in alloc; "I2, memory: {memories} processes, at most {MOST_PROCESSES}")?
-    } else if args != memories {
-        format!(in alloc; "I3, args: {args} lists for {memories} processes")?
+/// The number of processes, or of their lists of arguments.
+fn refused_count(table: &Table) -> Option<WrongSize> {
+    let processes = elements_at(table, "memory").len();
+    let lists = count_of_args(table, processes);
+    if processes == 0 {
+        Some(WrongSize::NoProcess)
+    } else if processes > MOST_PROCESSES {
+        Some(WrongSize::TooManyProcesses(processes))
+    } else if lists != processes {
+        Some(WrongSize::OtherNumberOfLists { lists, processes })
     } else {
-        return Ok(None);
-    };
-    Ok(Some(line))
+        None
+    }
 }
 
-/// Tells of the first process whose row is too long.
-fn long_row(alloc: Global, table: &Table, fault: &str, key: &str, most: usize) -> Told {
+/// The first process whose row is too long.
+fn long_row(
+    table: &Table,
+    fault: &'static str,
+    key: &'static str,
+    most: usize,
+) -> Option<WrongSize> {
     for (pid, row) in elements_at(table, key).iter().enumerate() {
         let words = elements(row).len();
         if words > most {
-            let line = format!(in alloc;
-                "{fault}, {key}, process {pid}: {words} words, at most {most}"
-            )?;
-            return Ok(Some(line));
+            return Some(WrongSize::TooManyWords {
+                fault,
+                key,
+                pid,
+                words,
+                most,
+            });
         }
     }
-    Ok(None)
+    None
 }
 
-/// Tells of an integer that is not from `low` to `high`.
-fn out_of_range(alloc: Global, table: &Table, fault: &str, key: &str, low: u64, high: u64) -> Told {
-    match integer_at(table, key) {
-        Some(n) if !is_between(low, high, Some(n)) => {
-            Ok(Some(format!(in alloc; "{fault}, {key}: {n}, not {low} to {high}")?))
-        }
-        _ => Ok(None),
+/// An integer that is not from `low` to `high`.
+fn out_of_range(
+    table: &Table,
+    fault: &'static str,
+    key: &'static str,
+    low: u64,
+    high: u64,
+) -> Option<WrongSize> {
+    let number = integer_at(table, key)?;
+    if is_between(low, high, Some(number)) {
+        return None;
     }
+    Some(WrongSize::OutOfRange {
+        fault,
+        key,
+        number,
+        low,
+        high,
+    })
 }
 
-/// Tells of the limit and the prices.
-fn refused_number(alloc: Global, table: &Table) -> Told {
-    if let Some(line) = out_of_range(alloc, table, "I6", "limit", 1, MOST_SUPERSTEPS)? {
-        return Ok(Some(line));
+/// The limit, or one of the prices.
+fn refused_number(table: &Table) -> Option<WrongSize> {
+    if let Some(wrong) = out_of_range(table, "I6", "limit", 1, MOST_SUPERSTEPS) {
+        return Some(wrong);
     }
-    if let Some(line) = out_of_range(alloc, table, "I7", "g", 0, HIGHEST_PRICE)? {
-        return Ok(Some(line));
+    if let Some(wrong) = out_of_range(table, "I7", "g", 0, HIGHEST_PRICE) {
+        return Some(wrong);
     }
-    out_of_range(alloc, table, "I7", "l", 0, HIGHEST_PRICE)
+    out_of_range(table, "I7", "l", 0, HIGHEST_PRICE)
 }
 
-/// Tells of the first of I1 to I7.
-pub fn refused_size(alloc: Global, table: &Table) -> Told {
-    if let Some(line) = refused_count(alloc, table)? {
-        return Ok(Some(line));
+/// The first of I1 to I7.
+pub fn refused_size(table: &Table) -> Option<WrongSize> {
+    if let Some(wrong) = refused_count(table) {
+        return Some(wrong);
     }
-    if let Some(line) = long_row(alloc, table, "I4", "memory", MOST_MEMORY_WORDS)? {
-        return Ok(Some(line));
+    if let Some(wrong) = long_row(table, "I4", "memory", MOST_MEMORY_WORDS) {
+        return Some(wrong);
     }
-    if let Some(line) = long_row(alloc, table, "I5", "args", MOST_ARGUMENTS)? {
-        return Ok(Some(line));
+    if let Some(wrong) = long_row(table, "I5", "args", MOST_ARGUMENTS) {
+        return Some(wrong);
     }
-    refused_number(alloc, table)
+    refused_number(table)
 }

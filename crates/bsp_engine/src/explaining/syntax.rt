@@ -1,14 +1,8 @@
 //! Where a document is no TOML, and how a line is kept one line.
 
-use super::Told;
+use super::wrong::Wrong;
 use bsp_model::OutOfMemory;
-use std::alloc::{AllocError, Global};
-use std::str::Utf8Error;
-
-/// Tells of bytes that are not UTF-8.
-pub fn no_text(alloc: Global, error: &Utf8Error) -> Told {
-    Ok(Some(format!(in alloc; "byte {}: not UTF-8", error.valid_up_to())?))
-}
+use std::alloc::Global;
 
 /// The line and the column, both from 1, of the place after these bytes of a text. A column counts characters.
 fn position_after(before: &[u8]) -> (usize, usize) {
@@ -25,17 +19,23 @@ fn position_after(before: &[u8]) -> (usize, usize) {
     (line, column)
 }
 
-/// Tells of a text that is no TOML document.
-pub fn no_toml(alloc: Global, document: &[u8], error: &toml::de::Error) -> Told {
-    let Some(span) = error.span() else {
-        return Err(AllocError);
-    };
-    let (line, column) = position_after(&document[..span.start.min(document.len())]);
-    let reason = match error.message().split_once("\n") {
+/// The first line of a message.
+fn first_line(message: &str) -> &str {
+    match message.split_once("\n") {
         Some((first, _)) => first,
-        None => error.message(),
-    };
-    Ok(Some(format!(in alloc; "line {line}, column {column}: {reason}")?))
+        None => message,
+    }
+}
+
+/// Where a text is no TOML document. Nowhere, if memory was refused.
+pub fn no_toml<'a>(document: &[u8], error: &'a toml::de::Error) -> Option<Wrong<'a>> {
+    let span = error.span()?;
+    let (line, column) = position_after(&document[..span.start.min(document.len())]);
+    Some(Wrong::Syntax {
+        line,
+        column,
+        reason: first_line(error.message()),
+    })
 }
 
 /// The text with the code of each control character in its place, so that it stays on one line.

@@ -1,48 +1,57 @@
 //! Which number of a document is negative (J7).
 
-use super::Told;
+use super::wrong::Wrong;
 use crate::catalogue::Catalogue;
 use crate::jobs::has_negative;
 use crate::tree::{elements, elements_at};
-use std::alloc::Global;
 use toml::Table;
 
-/// Tells of the first process whose row has a negative number.
-fn negative_row(alloc: Global, table: &Table, key: &str) -> Told {
-    match elements_at(table, key)
+const REASON: &str = "a negative number";
+
+/// The first process whose row has a negative number.
+fn negative_row<'a>(table: &'a Table, key: &'static str) -> Option<Wrong<'a>> {
+    let pid = elements_at(table, key)
         .iter()
-        .position(|row| has_negative(row))
-    {
-        Some(pid) => Ok(Some(format!(in alloc; "{key}, process {pid}: a negative number")?)),
-        None => Ok(None),
-    }
+        .position(|row| has_negative(row))?;
+    Some(Wrong::Row {
+        key,
+        pid,
+        reason: REASON,
+    })
 }
 
-/// Tells of the first edit that has a negative number. A batch has the number of its block.
-fn negative_edit(alloc: Global, table: &Table) -> Told {
+/// The first edit that has a negative number. A batch has the number of its block.
+fn negative_edit(table: &Table) -> Option<Wrong<'_>> {
     for (before, batch) in elements_at(table, "batches").iter().enumerate() {
         if let Some(place) = elements(batch).iter().position(|edit| has_negative(edit)) {
-            let number = before.saturating_add(1);
-            let line = format!(in alloc;
-                "batches, batch {number}, edit {place}: a negative number"
-            )?;
-            return Ok(Some(line));
+            return Some(Wrong::Edit {
+                batch: before.saturating_add(1),
+                place,
+                reason: REASON,
+            });
         }
     }
-    Ok(None)
+    None
 }
 
-/// Tells of the first negative number.
-pub fn negative_number<C: Catalogue>(alloc: Global, table: &Table) -> Told {
-    if C::has_negative_word(table) {
-        let key = C::key_at_fault(table);
-        return Ok(Some(format!(in alloc; "{key}: a negative number")?));
+/// The first negative number in what every document may have.
+fn negative_common_number(table: &Table) -> Option<Wrong<'_>> {
+    if let Some(wrong) = negative_row(table, "memory") {
+        return Some(wrong);
     }
-    if let Some(line) = negative_row(alloc, table, "memory")? {
-        return Ok(Some(line));
+    if let Some(wrong) = negative_row(table, "args") {
+        return Some(wrong);
     }
-    if let Some(line) = negative_row(alloc, table, "args")? {
-        return Ok(Some(line));
+    negative_edit(table)
+}
+
+/// The first negative number.
+pub fn negative_number<C: Catalogue>(table: &Table) -> Option<Wrong<'_>> {
+    if !C::has_negative_word(table) {
+        return negative_common_number(table);
     }
-    negative_edit(alloc, table)
+    Some(Wrong::Key {
+        key: C::key_at_fault(table),
+        reason: REASON,
+    })
 }
