@@ -1,13 +1,23 @@
--- What arrives: the laws of collective calls. In each, every process of a superstep makes the first half (`AllMake`), and d, or the root, is one of them.
-use Rattle.std.specs.Prelude.{ℕ, ◌≡◌, ◌<◌, ◌+◌, List, [], length, map}
+-- What arrives: the laws of collective calls. In each law about a half, every process of a superstep makes it (`AllMake`), and d, or the root, is one of them.
+-- A root that is no process needs no premise in `GatherArrives` and `ReduceArrives`: a send to it faults, so no turn makes such a half.
+use Rattle.std.specs.Prelude.{ℕ, ◌≡◌, ◌<◌, ◌+◌, List, [], None, length, map}
 use Rattle.std.specs.List.{flat_map, range_with_len}
+use Rattle.bsp_model.specs.declared.fault.End.{End}
+use Rattle.bsp_step.specs.Act.{Act}
+use Rattle.bsp_step.specs.Turn.{turn_of}
 use Rattle.bsp_step.specs.ViewParts.{ViewParts}
 use Rattle.bsp_step.specs.OutcomeParts.{OutcomeParts}
 use Rattle.bsp_collectives.specs.declared.operation.Operation.{Operation as Operations}
 use Rattle.bsp_collectives.specs.Messages.{joined}
 use Rattle.bsp_collectives.specs.Operation.{combined}
 use Rattle.bsp_collectives.specs.Halves.{all_gather, all_reduce, block, block_size, broadcast, exchange, forward, gather, reduce, scan, scatter, spread}
-use Rattle.bsp_collectives.specs.Arrivals.{AllMake, arrived}
+use Rattle.bsp_collectives.specs.Arrivals.{AllMake, arrived, sends_made}
+
+-- A turn without a fault sends the messages of its acts, and no others.
+abbrev pub TurnsSendTheirActs : Type 0
+TurnsSendTheirActs =
+    (acts : ViewParts → List Act) (ending : ViewParts → End) (v : ViewParts) → (turn_of acts ending v).fault ≡ None
+    → (turn_of acts ending v).sends ≡ sends_made (acts v)
 
 -- Broadcast: the root's words arrive at each process.
 abbrev pub BroadcastArrives : Type 0

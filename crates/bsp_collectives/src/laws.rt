@@ -1,7 +1,12 @@
 //! What arrives, as laws: where every process of a superstep makes the first half of a collective call, the words that its second half reads are those
 //! that the name says.
 
-ghost use Rattle.bsp_collectives.specs.WhatArrives.{AllGatherArrives, AllReduceArrives, BroadcastArrives, ExchangeArrives, ForwardArrives, GatherArrives, GatherArrivesAtTheRootAlone, ReduceArrives, ScanArrives, ScatterArrives, SpreadArrives};
+ghost use Rattle.bsp_collectives.specs.WhatArrives.{AllGatherArrives, AllReduceArrives, BroadcastArrives, ExchangeArrives, ForwardArrives, GatherArrives, GatherArrivesAtTheRootAlone, ReduceArrives, ScanArrives, ScatterArrives, SpreadArrives, TurnsSendTheirActs};
+
+/// A turn without a fault sends the messages of its acts, and no others: so the outcomes of turns that make a half are those of which the laws below speak.
+pub fn turns_send_their_acts()
+    ensures { TurnsSendTheirActs }
+{}
 
 /// Broadcast: the root's words arrive at each process.
 pub fn broadcast_arrives()

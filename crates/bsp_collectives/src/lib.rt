@@ -9,7 +9,7 @@ mod sending;
 pub use laws::{
     all_gather_arrives, all_reduce_arrives, broadcast_arrives, exchange_arrives, forward_arrives,
     gather_arrives, gather_arrives_at_the_root_alone, reduce_arrives, scan_arrives,
-    scatter_arrives, spread_arrives,
+    scatter_arrives, spread_arrives, turns_send_their_acts,
 };
 pub use operation::Operation;
 pub use receiving::{combine, forward, receive};
