@@ -13,6 +13,3 @@ pub use computes::{Computes, run_computing, session_computes};
 pub use matvec::{matvec_multiplies, run_matvec};
 pub use prefix::{prefix_sums, run_prefix};
 pub use rank::{rank_counts, run_rank};
-
-#[cfg(test)]
-mod tests;

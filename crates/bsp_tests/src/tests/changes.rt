@@ -7,7 +7,7 @@ use bsp_incr::{Edit, Place, Update};
 pub type At = (u64, u64);
 
 /// Whether these are the places.
-fn are_places(places: &[Place], want: &[At]) -> bool {
+pub fn are_places(places: &[Place], want: &[At]) -> bool {
     if places.len() != want.len() {
         return false;
     }

@@ -6,15 +6,19 @@ use crate::Ask::{PopReg, PushReg, Send, SetTagsize, Store};
 use crate::{Asks, Clash};
 use bsp_model::{OutOfMemory, Same, TryCopy};
 use bsp_programs::Rank;
-use bsp_run::{History, RunError};
-use bsp_step::{Outcomes, Program};
+use bsp_run::{History, RunError, Views};
+use bsp_step::{Program, turn};
 use std::alloc::Global;
 use std::test::Fail;
 
-/// Whether each outcome is the same as its copy.
-fn have_equal_copies(alloc: Global, outcomes: &Outcomes) -> Result<bool, OutOfMemory> {
-    for pid in 0..outcomes.len() {
-        let outcome = outcomes.get(pid).to_outcome(alloc)?;
+/// Whether what a program's turn leaves at each view is the same as its copy.
+fn have_equal_copies<P: Program>(
+    alloc: Global,
+    program: &P,
+    views: &Views,
+) -> Result<bool, OutOfMemory> {
+    for pid in 0..views.len() {
+        let outcome = turn(alloc, program, &views.get(pid))?;
         if !outcome.same(&outcome.copy()?) {
             return Ok(false);
         }
@@ -22,29 +26,38 @@ fn have_equal_copies(alloc: Global, outcomes: &Outcomes) -> Result<bool, OutOfMe
     Ok(true)
 }
 
-/// Whether there are outcomes of a superstep, all the same as their copies.
-fn has_equal_copies(alloc: Global, history: &History, step: u64) -> Result<bool, OutOfMemory> {
-    match history.outcomes(step) {
-        Some(outcomes) => have_equal_copies(alloc, outcomes),
+/// Whether a run has views of a superstep, whose turns all leave what is the same as its copy.
+fn has_equal_copies<P: Program>(
+    alloc: Global,
+    program: &P,
+    history: &History,
+    step: u64,
+) -> Result<bool, OutOfMemory> {
+    match history.views(step) {
+        Some(views) => have_equal_copies(alloc, program, views),
         None => Ok(false),
     }
 }
 
-/// How many supersteps a run has before the first with an outcome that is not the same as its copy, or before its end.
-fn count_of_equal(alloc: Global, history: &History) -> Result<u64, OutOfMemory> {
+/// How many supersteps a run has before the first with a turn that leaves what is not the same as its copy, or before its end.
+fn count_of_equal<P: Program>(
+    alloc: Global,
+    program: &P,
+    history: &History,
+) -> Result<u64, OutOfMemory> {
     let steps = history.steps() as u64;
     for step in 0..steps {
-        if !has_equal_copies(alloc, history, step)? {
+        if !has_equal_copies(alloc, program, history, step)? {
             return Ok(step);
         }
     }
     Ok(steps)
 }
 
-/// How many supersteps of a known run have outcomes that are all the same as their copies.
+/// How many supersteps of a known run have turns that all leave what is the same as its copy.
 fn count_in<P: Program>(alloc: Global, program: &P, known: Known) -> Result<u64, RunError> {
     let history = history_of(alloc, program, row(known))?;
-    let found = count_of_equal(alloc, &history);
+    let found = count_of_equal(alloc, program, &history);
     drop(history);
     Ok(found?)
 }

@@ -12,6 +12,7 @@ pub enum Known {
     Chosen,
     Acted,
     Clash,
+    Told,
     Product,
     OtherProduct,
     Ranks,
@@ -31,6 +32,7 @@ pub fn row(known: Known) -> &'static Row {
         Known::Chosen => &CHOSEN,
         Known::Acted => &ACTED,
         Known::Clash => &CLASH,
+        Known::Told => &TOLD,
         Known::Product => &PRODUCT,
         Known::OtherProduct => &OTHER_PRODUCT,
         Known::Ranks => &RANKS,
@@ -111,6 +113,18 @@ const CLASH: Row = Row {
     finish: Finish::Halted,
     memories: &[&[77, 21], &[88, 89]],
     lines: &[&[], &[]],
+    costs: &[10, 22, 0],
+};
+
+/// Process 0 tells 3 others the word 7.
+const TOLD: Row = Row {
+    name: "told",
+    start: &[&[7], &[0], &[0], &[0]],
+    arguments: &[0],
+    limit: 16,
+    finish: Finish::Halted,
+    memories: &[&[7], &[7], &[7], &[7]],
+    lines: &[&[&[7]], &[&[7]], &[&[7]], &[&[7]]],
     costs: &[10, 22, 0],
 };
 

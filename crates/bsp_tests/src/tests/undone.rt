@@ -51,7 +51,9 @@ fn edited<P: Program + Drop, R: Threads + Sync>(
 ) -> Result<Vec<Batch>, EditError> {
     let mut undos = Vec::new(alloc);
     for number in 0..BATCHES {
-        let (update, undo) = session.apply_with_undo(rt, alloc, &batch(number), 1, &Open)?;
+        let batch = batch(number);
+        let undo = session.undo_of(alloc, &batch)?;
+        let update = session.apply(rt, alloc, &batch, 1, &Open)?;
         drop(update);
         if undos.push(undo).is_err() {
             return Err(EditError::OutOfMemory);

@@ -1,0 +1,6 @@
+//! Ends of supersteps, worked out by hand.
+
+mod exchange;
+mod inboxes;
+mod memories;
+mod outcomes;

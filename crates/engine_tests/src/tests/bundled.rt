@@ -1,0 +1,105 @@
+//! The bundled programs as a catalogue, and the engine with it.
+
+ghost use Rattle.std.specs.Prelude.{◌<◌, ◌≤◌};
+
+use super::failing::{sink, source};
+use bsp_engine::{ByName, Detail, EngineError, Named, Options, engine};
+use bsp_pool::Gate;
+use bsp_programs::Bundled;
+use std::alloc::Global;
+use std::thread::Threads;
+
+/// The bundled programs by their names.
+struct BundledPrograms;
+
+impl ByName for BundledPrograms {
+    ghost use Rattle.bsp_programs.specs.Bundled.{program_named};
+
+    type Program = Bundled;
+
+    ghost named = { program_named };
+
+    fn by_name(name: &str) -> Option<Bundled> {
+        Bundled::by_name(name)
+    }
+}
+
+/// The catalogue of the bundled programs.
+type AllBundled = Named<BundledPrograms>;
+
+/// How a document is read, and its report written.
+#[derive(Clone, Copy)]
+pub struct Flow {
+    /// The most bytes of a read, and of a write.
+    pub at_once: usize,
+    /// How many reads are made before one fails.
+    pub reads_left: usize,
+    /// How many bytes are written before a write takes none, or fails.
+    pub room: usize,
+    pub takes_none: bool,
+    /// Whether each input is run from its start.
+    pub scratch: bool,
+}
+
+/// A flow that does not fail.
+pub const STEADY: Flow = Flow {
+    at_once: 40,
+    reads_left: usize::MAX,
+    room: usize::MAX,
+    takes_none: false,
+    scratch: false,
+};
+
+/// What came of a document.
+#[derive(Clone, Copy)]
+pub struct Answer {
+    pub done: Result<(), EngineError>,
+    /// Whether just the wanted bytes were written.
+    pub is_written: bool,
+    /// How many bytes were not read.
+    pub unread: usize,
+    /// How many reads and writes failed.
+    pub failures: u64,
+}
+
+/// What the engine answers with the bundled programs, where these bytes are wanted.
+pub fn run<R: Threads + Sync, G: Gate>(
+    rt: &R,
+    alloc: Global,
+    document: &[u8],
+    flow: Flow,
+    want: &[u8],
+    workers: usize,
+    gate: &G,
+) -> Answer
+    requires { (0 < workers) × (workers ≤ 16) }
+{
+    let mut reader = source(document, flow);
+    let mut writer = sink(alloc, flow);
+    let mut left = Vec::new(alloc);
+    let options = Options {
+        workers,
+        scratch: flow.scratch,
+        detail: Detail {
+            places: false,
+            changes: false,
+        },
+    };
+    let done = engine::<AllBundled, _, _, _, _>(
+        rt,
+        alloc,
+        options,
+        &mut reader,
+        &mut writer,
+        &mut left,
+        gate,
+    );
+    let answer = Answer {
+        done,
+        is_written: writer.bytes.as_slice() == want,
+        unread: reader.bytes.len(),
+        failures: reader.failures.wrapping_add(writer.failures),
+    };
+    drop(writer);
+    answer
+}
