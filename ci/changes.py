@@ -1,4 +1,4 @@
-"""Which crates a working tree changes against a commit."""
+"""The crates of the repository by level, and which of them a working tree changes against a commit."""
 import subprocess
 
 
@@ -17,8 +17,8 @@ def needs(root):
         return needs_in(file)
 
 
-def crates_by_level(root):
-    """All crates, each after those that it stands on."""
+def crates_by_level(root, *tops):
+    """These crates, or all, and those that they stand on, each after those that it stands on: the order in which `rt` proves them."""
     below, crates = needs(root), []
 
     def add(crate):
@@ -27,7 +27,7 @@ def crates_by_level(root):
                 add(it)
             crates.append(crate)
 
-    for crate in below:
+    for crate in tops or below:
         add(crate)
     return crates
 

@@ -63,6 +63,7 @@ class Live(InAPlace):
         "numbers": (10, "b'run "),
         "forgets": (2, "its first lines"),
         "stays": (0, "no end after"),
+        "unheard": (0, "a client that dies"),
     }
 
     def test_a_right_session_passes(self):

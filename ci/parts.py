@@ -1,10 +1,29 @@
-"""The parts of the gate that are scripts of ci/, with their words, in the order in which ./check runs them."""
+"""The parts of the gate: the scripts of ci/ and `rt ci`, in the order in which ./check runs them."""
+from dataclasses import dataclass
+
+
+@dataclass(frozen=True)
+class Part:
+    """The words of a command, and how many tries it has to pass at least: one that tries fewer shows less than it is there for."""
+
+    words: tuple
+    least: int
 
 
 def live(count):
-    return ("ci/live", str(count), "--changes")
+    """So many talks with each of five programs; of each also one with long lines, and the starts that fail."""
+    return Part(("ci/live", str(count), "--changes"), 5 * (count + 2))
 
 
-FIRST = (("ci/test_gate",), ("ci/statement",), ("ci/python",))  # before anything is proved
-LAST = (("ci/documents",), ("ci/random", "300"), live(40), ("ci/sessions",), ("ci/count_allocations",), ("ci/refuse_allocations",))
-LAST_QUICK = (("ci/documents",), live(10))  # of ./check --quick
+DOCUMENTS = Part(("ci/documents",), 6_600)
+FIRST = (Part(("ci/test_gate",), 71), Part(("ci/statement",), 2), Part(("ci/python",), 58))  # before anything is proved
+PROOFS = Part(("rt", "ci"), 102)  # 22 crates and 80 must-fail edits
+LAST = (
+    DOCUMENTS,
+    Part(("ci/random", "300"), 1_500),
+    live(40),
+    Part(("ci/sessions",), 6),
+    Part(("ci/count_allocations",), 6),
+    Part(("ci/refuse_allocations",), 14_000),
+)
+LAST_QUICK = (DOCUMENTS, live(10))  # of ./check --quick

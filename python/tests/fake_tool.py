@@ -38,6 +38,7 @@ FLAWS = {
     "forgets": "`document` has the first limit",
     "ends_badly": "at the end of input the status is 1",
     "stays": "it does not end at the end of its input",
+    "unheard": "it ends well though nobody reads its answers any more",
 }
 
 
@@ -207,4 +208,4 @@ if __name__ == "__main__":
         sys.exit(main(sys.argv[1:]))
     except BrokenPipeError:
         os.dup2(os.open(os.devnull, os.O_WRONLY), 1)
-        sys.exit(ended("fault write", 1))
+        sys.exit(0 if "unheard" in sys.argv else ended("fault write", 1))

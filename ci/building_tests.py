@@ -1,0 +1,82 @@
+"""Shows how programs are built and run without being built: tests of ci/test_gate."""
+import os
+
+from place import InAPlace
+
+DOCUMENT = b"limit = 1\n"
+
+
+class Building(InAPlace):
+    """A program `tool` over a library `low`, of which nothing is built."""
+
+    def setUp(self):
+        super().setUp()
+        self.place.write("crates.txt", b"low:\ntool: low\n")
+        self.place.write("crates/tool/src/main.rt")
+        self.place.write("crates/tool/stdin", DOCUMENT)
+        self.place.write("ci/sizes.json", b'{"low": 30, "tool": 10}')
+
+    def rt(self, *lines):
+        self.place.script("bin/rt", *lines)
+
+    def run_on(self, *words):
+        """Runs the program on a document, and answers its status, its lines and those of standard error."""
+        self.place.write("document", DOCUMENT)
+        status, lines = self.place.run("shell", f'./run {" ".join(words)} < document 2> error')
+        with open(f"{self.place.root}/error", encoding="utf-8") as file:
+            return status, lines, file.read().splitlines()
+
+
+class Build(Building):
+    LOG = ["so far: 0 of 4 functions checked", "rt: chose --jobs 4 for low", "so far: 3 of 4 functions checked", "fn low::one: proved", "checked tool::main, 1 of 1"]
+
+    def test_each_crate_has_a_line(self):
+        self.rt(*(f"echo '{line}'" for line in self.LOG), "cat > out/tool")
+        status, lines = self.place.run("build", "tool")
+        wanted = [
+            "low, crate 1 of 2: 0 of ? functions proved, 0 minutes so far",
+            "tool, crate 2 of 2: 0 of ? functions proved, 0 minutes so far",
+            "build: crates/tool/out/tool is proved and built",
+        ]
+        self.assertEqual((status, lines), (0, wanted))
+
+    def test_the_log_is_named_where_it_fails(self):
+        self.rt(f"echo '{self.LOG[1]}'", "echo 'no proof'", "exit 1")
+        status, lines = self.place.run("build", "tool")
+        self.assertEqual((status, lines[-1]), (1, "build: tool was not built; crates/tool/out/build.log says why"))
+        with open(f"{self.place.root}/crates/tool/out/build.log", encoding="utf-8") as file:
+            self.assertEqual(file.read().splitlines()[-1], "no proof")
+
+    def test_no_program(self):
+        self.assertEqual(self.place.run("build", "low")[0], 2)
+        self.assertEqual(self.place.run("build", "tool", "low")[0], 2)
+
+
+class Run(Building):
+    TRIED = "run=ended status={} runners=1 races=unchecked proved=no"
+
+    def setUp(self):
+        super().setUp()
+        self.place.script("shell", f"cd {self.place.root}", 'eval "$1"')
+
+    def test_a_program_that_was_never_built_is_compiled_without_its_proof(self):
+        self.rt('[ "$*" = "try -- --places" ] || exit 7', "cat", "echo 'fault J2' >&2", f"echo '{self.TRIED.format(3)}' >&2", "exit 3")
+        status, lines, error = self.run_on("tool", "--places")
+        self.assertEqual((status, lines, error[1:]), (3, [DOCUMENT.decode().strip()], ["fault J2"]))
+        self.assertIn("./build tool proves it", error[0])
+
+    def test_no_answer_without_a_proof(self):
+        self.rt("echo 'too long' >&2", "exit 6")
+        status, lines, error = self.run_on("tool")
+        self.assertEqual((status, lines, error[1]), (1, [], "too long"))
+        self.assertIn("./build tool makes the proved program", error[2])
+
+    def test_a_live_session_wants_the_proved_program(self):
+        status, lines, error = self.run_on("tool", "--follow", "document")
+        self.assertEqual((status, lines), (2, []))
+        self.assertIn("./build tool", error[0])
+
+    def test_a_built_program_is_run(self):
+        self.place.script("crates/tool/out/tool", "cat")
+        os.utime(f"{self.place.root}/crates/tool/out/tool", (2**33, 2**33))
+        self.assertEqual(self.run_on("tool"), (0, [DOCUMENT.decode().strip()], []))
