@@ -1,5 +1,4 @@
 pub mod BlocksOf
-pub mod FirstBits
 pub mod HeadsTo
 pub mod Inputs
 pub mod MadeAgain

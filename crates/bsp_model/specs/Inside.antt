@@ -10,3 +10,4 @@ pub mod Ranges
 pub mod Rows
 pub mod Shared
 pub mod Tagged
+pub mod WordsOfSets

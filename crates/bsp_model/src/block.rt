@@ -23,7 +23,7 @@ pub trait Block: Sized {
 }
 
 /// What a put has beside its words.
-#[derive(Clone, Copy, Debug, PartialEq, Eq)]
+#[derive(Clone, Copy)]
 pub struct PutHead {
     /// The process that is written to.
     pub target: u64,
@@ -32,7 +32,7 @@ pub struct PutHead {
 }
 
 /// What a message on its way has beside its words, of which the first are its tag.
-#[derive(Clone, Copy, Debug, PartialEq, Eq)]
+#[derive(Clone, Copy)]
 pub struct SendHead {
     /// The process that gets it.
     pub target: u64,
@@ -41,37 +41,37 @@ pub struct SendHead {
 }
 
 /// What a message in a queue has beside its words, of which the first are its tag.
-#[derive(Clone, Copy, Debug, PartialEq, Eq)]
+#[derive(Clone, Copy)]
 pub struct MessageHead {
     /// The number of words of the tag.
     pub tag_len: usize,
 }
 
 /// What a printed line has beside its words: nothing.
-#[derive(Clone, Copy, Debug, PartialEq, Eq)]
+#[derive(Clone, Copy)]
 pub struct LineHead;
 
 impl Same for PutHead {
     fn same(&self, other: &PutHead) -> bool {
-        *self == *other
+        self.target == other.target && self.start == other.start
     }
 }
 
 impl Same for SendHead {
     fn same(&self, other: &SendHead) -> bool {
-        *self == *other
+        self.target == other.target && self.tag_len == other.tag_len
     }
 }
 
 impl Same for MessageHead {
     fn same(&self, other: &MessageHead) -> bool {
-        *self == *other
+        self.tag_len == other.tag_len
     }
 }
 
 impl Same for LineHead {
-    fn same(&self, other: &LineHead) -> bool {
-        *self == *other
+    fn same(&self, _other: &LineHead) -> bool {
+        true
     }
 }
 

@@ -19,7 +19,7 @@ use std::alloc::Global;
 use std::marker::Model;
 
 /// Blocks in order, kept in two lists: the heads, and the words of all blocks one behind the other.
-#[derive(Debug, Drop)]
+#[derive(Drop)]
 pub struct Blocks<X: Block> {
     /// The heads, each with the place where the words of its block end.
     heads: Vec<(X::Head, usize)>,

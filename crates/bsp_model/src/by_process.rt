@@ -1,6 +1,6 @@
 //! What several processes have, by process, and how that of some is replaced.
 
-ghost use Rattle.std.specs.Prelude.{◌≡◌, ◌<◌, ◌≤◌, ◌++◌, [], All, List, IfOk, length, slice_range};
+ghost use Rattle.std.specs.Prelude.{◌≡◌, ◌<◌, ◌≤◌, ◌++◌, [], All, List, OnErr, OnOk, length, slice_range};
 ghost use Rattle.bsp_model.specs.Replaced.{replaced, IsAscending};
 
 use crate::OutOfMemory;
@@ -16,36 +16,34 @@ pub trait ByProcess: Sized {
     fn count(&self) -> usize
         ensures { result ≡ length (items self.now) };
 
-    /// What these have, and behind it what others have from `from` on, and before `to`, or `OutOfMemory`. Full pages of memories are shared.
-    fn with_range(self, more: &Self, from: usize, to: usize) -> Result<Self, OutOfMemory>
+    /// Adds what others have from `from` on, and before `to`. Full pages of memories are shared. After `OutOfMemory` nothing has changed.
+    fn append_range(&mut self, more: &Self, from: usize, to: usize) -> Result<(), OutOfMemory>
         requires order { from ≤ to }
         requires inside { to ≤ length (items more.now) }
-        ensures { IfOk result (λ all. items all ≡ items self ++ slice_range (items more.now) from to) };
+        ensures ok { OnOk result (items self.new ≡ items self.old ++ slice_range (items more.now) from to) }
+        ensures err { OnErr result (items self.new ≡ items self.old) };
 }
 
-/// What all processes have, but for what is new of some, which are in ascending order, gathered in lists in which there is nothing yet. Or
-/// `OutOfMemory`. What is new of consecutive processes is copied in one piece, and so is what lies between.
-pub fn replaced_in<T: ByProcess>(
-    room: T,
+/// Adds to `all`, where nothing is yet, what all processes have, but for what is new of some, which are in ascending order. What is new of consecutive
+/// processes is copied in one piece, and so is what lies between. After `OutOfMemory` some of it is added.
+pub fn add_replaced<T: ByProcess>(
+    all: &mut T,
     old: &T,
     processes: &[usize],
     new: &T,
-) -> Result<T, OutOfMemory>
-    requires room { T.items room ≡ [] }
+) -> Result<(), OutOfMemory>
+    requires empty { T.items all.old ≡ [] }
     requires known { All (λ p. p < length (T.items old.now)) processes.now }
     requires ascending { IsAscending processes.now }
     requires count { length (T.items new.now) ≡ length processes.now }
-    ensures { IfOk result (λ all. T.items all ≡ replaced (T.items old.now) processes.now (T.items new.now)) }
+    ensures { OnOk result (T.items all.new ≡ replaced (T.items old.now) processes.now (T.items new.now)) }
 {
-    let mut all = room;
     let mut place = 0;
     while place < processes.len() {
         let end = end_of_run(processes, place);
-        let done = all.count();
-        all = all.with_range(old, done, processes[place])?;
-        all = all.with_range(new, place, end)?;
+        all.append_range(old, all.count(), processes[place])?;
+        all.append_range(new, place, end)?;
         place = end;
     }
-    let done = all.count();
-    all.with_range(old, done, old.count())
+    all.append_range(old, all.count(), old.count())
 }

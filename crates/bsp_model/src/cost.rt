@@ -3,7 +3,7 @@
 use crate::{OutOfMemory, TryCopy};
 
 /// What a superstep cost, in units of one operation on a local word (the usual additive BSP cost formula, which is later than Valiant 1990).
-#[derive(Clone, Copy, Debug, PartialEq, Eq)]
+#[derive(Clone, Copy, PartialEq, Eq)]
 pub struct CostRow {
     /// The largest work that a process charged: 0 to `MOST_WORK`.
     pub work: u64,

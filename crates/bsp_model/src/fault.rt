@@ -1,7 +1,7 @@
 //! How turns end, and the faults of turns, supersteps and inputs.
 
 /// How a program's step answers (Hill et al. 1998: `bsp_sync`, the end of the program, `bsp_abort`).
-#[derive(Clone, Copy, Debug, PartialEq, Eq)]
+#[derive(Clone, Copy, PartialEq, Eq)]
 pub enum End {
     /// The process goes on to the next superstep.
     Sync,
@@ -12,7 +12,7 @@ pub enum End {
 }
 
 /// Why a process was stopped in its turn: the first check that failed (this profile).
-#[derive(Clone, Copy, Debug, PartialEq, Eq)]
+#[derive(Clone, Copy, PartialEq, Eq)]
 pub enum Fault {
     /// F1: the step answered `End::Abort` with this code.
     Abort(u64),
@@ -41,7 +41,7 @@ pub enum Fault {
 }
 
 /// Why the end of a superstep ended a run: the first that holds, in this order (this profile).
-#[derive(Clone, Copy, Debug, PartialEq, Eq)]
+#[derive(Clone, Copy, PartialEq, Eq)]
 pub enum SyncFault {
     /// S1: some processes ended by sync and some by halt.
     MixedEnd,

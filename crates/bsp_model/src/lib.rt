@@ -30,7 +30,7 @@ mod words;
 
 pub use block::{Block, LineHead, MessageHead, PutHead, SendHead};
 pub use blocks::{Blocks, BlocksRef, MessageView, PutView, SendView};
-pub use by_process::{ByProcess, replaced_in};
+pub use by_process::{ByProcess, add_replaced};
 pub use columns::{BlockColumn, Column, SharedColumn, StoreColumn};
 pub use copying::{Same, TryCopy};
 pub use cost::CostRow;

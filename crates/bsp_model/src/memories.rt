@@ -3,18 +3,15 @@
 ghost use Rattle.std.specs.Prelude.{◌≡◌, ◌<◌, ◌≤◌, ◌+◌, ◌++◌, ◌∷◌, [], All, IfOk, OnErr, OnOk, length, nat_le, slice_index_or, slice_range, slice_set};
 ghost use Rattle.bsp_model.specs.Columns.{row_at};
 ghost use Rattle.bsp_model.specs.Memory.{memory_written};
-ghost use Rattle.bsp_model.specs.Replaced.{replaced, IsAscending};
 
 use crate::page::{Page, WORDS_OF_A_PAGE};
 use crate::paging::{cut_write, is_within, shared_pages, take_pages, write_row};
-use crate::{
-    ByProcess, Memory, MemoryRef, OutOfMemory, Rows, Share, SharedColumn, TryCopy, replaced_in,
-};
+use crate::{ByProcess, Memory, MemoryRef, OutOfMemory, Rows, Share, SharedColumn, TryCopy};
 use std::alloc::Global;
 use std::marker::Model;
 
 /// The memories of several processes, by process. Copies share the pages that are full.
-#[derive(Debug, Drop)]
+#[derive(Drop)]
 pub struct Memories {
     /// The full pages of each memory. Where `lasts` has no row, they belong to no memory.
     pages: SharedColumn<Page>,
@@ -34,24 +31,6 @@ impl Model for Memories {
 }
 
 impl Memories {
-    /// No memories, with room for so many, or `OutOfMemory`.
-    pub fn with_capacity(alloc: Global, count: usize) -> Result<Memories, OutOfMemory>
-        ensures { IfOk result (λ m. m ≡ []) }
-    {
-        Memories::new(alloc).into_room(count)
-    }
-
-    /// No memories, with a share of the room that these take beside their full pages, or `OutOfMemory`.
-    pub fn with_room_of(
-        alloc: Global,
-        like: &Memories,
-        share: Share,
-    ) -> Result<Memories, OutOfMemory>
-        ensures { IfOk result (λ m. m ≡ []) }
-    {
-        Memories::new(alloc).into_room_like(like, share)
-    }
-
     /// No memories, which take no memory.
     pub fn new(alloc: Global) -> Memories
         ensures { result ≡ [] }
@@ -70,54 +49,28 @@ impl Memories {
         self.lasts.clear();
     }
 
-    /// No memories, in the room of these, which is made enough for so many. Or `OutOfMemory`.
-    pub fn into_room(self, count: usize) -> Result<Memories, OutOfMemory>
-        ensures { IfOk result (λ m. m ≡ []) }
+    /// Makes room for so many memories more beside their full pages.
+    pub fn reserve(&mut self, count: usize) -> Result<(), OutOfMemory>
+        ensures { self.new ≡ self.old }
     {
-        let Memories {
-            mut pages,
-            mut lasts,
-        } = self;
-        pages.clear();
-        lasts.make_room(count, 0)?;
-        Ok(Memories { pages, lasts })
+        self.lasts.reserve(count)
     }
 
-    /// No memories, in the room of these, which is made enough for a share of what others take beside their full pages. Or `OutOfMemory`.
-    pub fn into_room_like(self, like: &Memories, share: Share) -> Result<Memories, OutOfMemory>
-        ensures { IfOk result (λ m. m ≡ []) }
+    /// Makes room for a share of other memories beside their full pages.
+    pub fn reserve_like(&mut self, like: &Memories, share: Share) -> Result<(), OutOfMemory>
+        ensures { self.new ≡ self.old }
     {
-        let Memories {
-            mut pages,
-            mut lasts,
-        } = self;
-        pages.make_room_like(&like.pages, share)?;
-        lasts.make_room_like(&like.lasts, share)?;
-        Ok(Memories { pages, lasts })
+        self.pages.reserve_like(&like.pages, share)?;
+        self.lasts.reserve_like(&like.lasts, share)
     }
 
-    /// A copy of these memories in the room of others, or `OutOfMemory`. Full pages are shared.
-    pub fn copy_into(&self, room: Memories) -> Result<Memories, OutOfMemory>
-        ensures { IfOk result (λ m. m ≡ self.now) }
+    /// Makes these memories copies of others. Full pages are shared. After `OutOfMemory` there are none.
+    pub fn copy_from(&mut self, source: &Memories) -> Result<(), OutOfMemory>
+        ensures { OnOk result (self.new ≡ source.now) }
     {
-        let memories = room.into_room_like(self, Share::whole())?;
-        memories.with_range(self, 0, self.len())
-    }
-
-    /// A copy of these memories, but for new ones of some processes, which are in ascending order, in the room of others, or `OutOfMemory`.
-    pub fn replaced_into(
-        &self,
-        processes: &[usize],
-        new: &Memories,
-        room: Memories,
-    ) -> Result<Memories, OutOfMemory>
-        requires known { All (λ p. p < length self.now) processes.now }
-        requires ascending { IsAscending processes.now }
-        requires count { length new.now ≡ length processes.now }
-        ensures { IfOk result (λ m. m ≡ replaced self.now processes.now new.now) }
-    {
-        let room = room.into_room_like(self, Share::whole())?;
-        replaced_in(room, self, processes, new)
+        self.clear();
+        self.reserve_like(source, Share::whole())?;
+        self.append_range(source, 0, source.len())
     }
 
     /// The number of memories.
@@ -173,28 +126,6 @@ impl Memories {
         Ok(())
     }
 
-    /// Adds copies of the memories that `more` has from `from` on, and before `to`, which share the pages that are full. After `OutOfMemory` nothing
-    /// has changed.
-    pub fn append_range(
-        &mut self,
-        more: &Memories,
-        from: usize,
-        to: usize,
-    ) -> Result<(), OutOfMemory>
-        requires order { from ≤ to }
-        requires inside { to ≤ length more.now }
-        ensures ok { OnOk result (self.new ≡ self.old ++ slice_range more.now from to) }
-        ensures err { OnErr result (self.new ≡ self.old) }
-    {
-        if from == to {
-            return Ok(());
-        }
-        self.pages
-            .take_range(self.lasts.len(), &more.pages, from, to)?;
-        self.lasts.append_range(&more.lasts.as_ref(), from, to)?;
-        Ok(())
-    }
-
     /// Makes `words` the words of a process's memory from `start` on. False, and nothing changes, where they pass the end; after `OutOfMemory`
     /// nothing has changed. Other copies of the memory stay as they are.
     #[inline]
@@ -245,15 +176,21 @@ impl ByProcess for Memories {
         self.len()
     }
 
-    fn with_range(self, more: &Memories, from: usize, to: usize) -> Result<Memories, OutOfMemory> {
-        let mut all = self;
-        all.append_range(more, from, to)?;
-        Ok(all)
+    fn append_range(&mut self, more: &Memories, from: usize, to: usize) -> Result<(), OutOfMemory> {
+        if from == to {
+            return Ok(());
+        }
+        self.pages
+            .take_range(self.lasts.len(), &more.pages, from, to)?;
+        self.lasts.append_range(&more.lasts.as_ref(), from, to)?;
+        Ok(())
     }
 }
 
 impl TryCopy for Memories {
     fn copy(&self) -> Result<Memories, OutOfMemory> {
-        self.copy_into(Memories::new(self.pages.allocator()))
+        let mut copy = Memories::new(self.pages.allocator());
+        copy.copy_from(self)?;
+        Ok(copy)
     }
 }

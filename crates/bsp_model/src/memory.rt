@@ -12,7 +12,7 @@ use std::alloc::Global;
 use std::marker::Model;
 
 /// The memory of a process: a list of 64-bit words at the addresses 0, 1, .. Its copies share the pages that are full.
-#[derive(Debug, Drop)]
+#[derive(Drop)]
 pub struct Memory {
     /// The pages that are full.
     pub(crate) pages: Vec<Page>,

@@ -12,7 +12,7 @@ use std::sync::Arc;
 pub const WORDS_OF_A_PAGE: usize = 64;
 
 /// A page of 64 words. Its copies share them.
-#[derive(Debug, Drop)]
+#[derive(Drop)]
 pub struct Page {
     words: Arc<[u64; WORDS_OF_A_PAGE], Global>,
 }

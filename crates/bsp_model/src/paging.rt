@@ -92,63 +92,31 @@ fn copied_pages(alloc: Global, pages: &[Page]) -> Result<Vec<Page>, OutOfMemory>
 }
 
 /// Copies of these pages, which share their words, in a list that its copies share. For no page it takes no memory.
-#[inline(always)]
+#[inline]
 pub fn shared_pages(alloc: Global, pages: &[Page]) -> Result<SharedSeq<Page>, OutOfMemory>
-    ensures { IfOk result (λ new. new ≡ pages.now) }
-{
-    if pages.is_empty() {
-        return Ok(SharedSeq::new());
-    }
-    share_copies(alloc, pages)
-}
-
-/// The same, where there are pages.
-#[inline(never)]
-fn share_copies(alloc: Global, pages: &[Page]) -> Result<SharedSeq<Page>, OutOfMemory>
     ensures { IfOk result (λ new. new ≡ pages.now) }
 {
     SharedSeq::from_vec(copied_pages(alloc, pages)?)
 }
 
 /// Makes copies of `source`, which share their words, the pages of a list. After `OutOfMemory` it has none.
-#[inline(always)]
+#[inline]
 pub fn load_pages(pages: &mut Vec<Page>, source: &[Page]) -> Result<(), OutOfMemory>
     ensures ok { OnOk result (pages.new.items ≡ source.now) }
     ensures err { OnErr result (pages.new.items ≡ []) }
 {
-    if pages.is_empty() && source.is_empty() {
+    pages.clear();
+    if source.is_empty() {
         return Ok(());
     }
-    replace_pages(pages, source)
-}
-
-/// The same, where there are pages.
-#[inline(never)]
-fn replace_pages(pages: &mut Vec<Page>, source: &[Page]) -> Result<(), OutOfMemory>
-    ensures ok { OnOk result (pages.new.items ≡ source.now) }
-    ensures err { OnErr result (pages.new.items ≡ []) }
-{
-    pages.clear();
     let alloc = *pages.allocator();
     *pages = copied_pages(alloc, source)?;
     Ok(())
 }
 
 /// The pages of a list, in a list that its copies share. None is left in the first.
-#[inline(always)]
+#[inline]
 pub fn take_pages(pages: &mut Vec<Page>) -> Result<SharedSeq<Page>, OutOfMemory>
-    ensures taken { IfOk result (λ taken. taken ≡ pages.old.items) }
-    ensures rest { pages.new.items ≡ [] }
-{
-    if pages.is_empty() {
-        return Ok(SharedSeq::new());
-    }
-    take_all_pages(pages)
-}
-
-/// The same, where there are pages.
-#[inline(never)]
-fn take_all_pages(pages: &mut Vec<Page>) -> Result<SharedSeq<Page>, OutOfMemory>
     ensures taken { IfOk result (λ taken. taken ≡ pages.old.items) }
     ensures rest { pages.new.items ≡ [] }
 {

@@ -3,7 +3,7 @@
 use crate::{OutOfMemory, Same, TryCopy, Words};
 
 /// A put, resolved: words to be written at a target.
-#[derive(Debug, Drop)]
+#[derive(Drop)]
 pub struct Put {
     /// The process that is written to.
     pub target: u64,
@@ -14,7 +14,7 @@ pub struct Put {
 }
 
 /// A get, resolved: words to be read from an owner.
-#[derive(Clone, Copy, Debug, PartialEq, Eq)]
+#[derive(Clone, Copy)]
 pub struct Get {
     /// The process that is read.
     pub owner: u64,
@@ -27,7 +27,7 @@ pub struct Get {
 }
 
 /// A message on its way.
-#[derive(Debug, Drop)]
+#[derive(Drop)]
 pub struct Send {
     /// The process that gets it.
     pub target: u64,
@@ -38,7 +38,7 @@ pub struct Send {
 }
 
 /// A message in a queue.
-#[derive(Debug, Drop)]
+#[derive(Drop)]
 pub struct Message {
     /// The tag, of at most `MOST_TAG_WORDS` words.
     pub tag: Words,
@@ -47,7 +47,7 @@ pub struct Message {
 }
 
 /// A store that was made in the own memory.
-#[derive(Clone, Copy, Debug, PartialEq, Eq)]
+#[derive(Clone, Copy)]
 pub struct Store {
     /// The address.
     pub addr: u64,
@@ -79,7 +79,10 @@ impl TryCopy for Get {
 
 impl Same for Get {
     fn same(&self, other: &Get) -> bool {
-        *self == *other
+        self.owner == other.owner
+            && self.start == other.start
+            && self.len == other.len
+            && self.into == other.into
     }
 }
 

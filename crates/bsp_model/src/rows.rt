@@ -3,16 +3,14 @@
 ghost use Rattle.std.specs.Prelude.{◌≡◌, ◌<◌, ◌≤◌, ◌+◌, ◌^◌, ◌++◌, ◌∷◌, [], ℕ, drop, length, map, nat_eq, ◌-◌, slice_index, slice_index_or, slice_range, slice_set, take, EachIndex, IfOk, OnErr, OnOk, vec_capacity, vec_len};
 ghost use Rattle.bsp_model.specs.Columns.{row_at};
 
-mod room;
-
-use crate::OutOfMemory;
 use crate::row_ends::{add_ends, bounds_of, start_of};
 use crate::seq::{append_items, replace_items};
+use crate::{OutOfMemory, Share};
 use std::alloc::Global;
 use std::marker::Model;
 
 /// A list of rows, such as the last words of each memory. The items of all rows lie one behind the other in one list, and a second list says where each row ends.
-#[derive(Debug, Drop)]
+#[derive(Drop)]
 pub(crate) struct Rows<T> {
     items: Vec<T>,
     ends: Vec<usize>,
@@ -145,6 +143,21 @@ impl<T: Copy> Rows<T> {
     {
         self.items.clear();
         self.ends.clear();
+    }
+
+    /// Makes room for so many rows more.
+    pub(crate) fn reserve(&mut self, rows: usize) -> Result<(), OutOfMemory>
+        ensures { self.new ≡ self.old }
+    {
+        self.ends.reserve(rows)
+    }
+
+    /// Makes room for a share of the rows that others have, and of their items.
+    pub(crate) fn reserve_like(&mut self, like: &Rows<T>, share: Share) -> Result<(), OutOfMemory>
+        ensures { self.new ≡ self.old }
+    {
+        self.items.reserve(share.part(like.items.len()))?;
+        self.ends.reserve(share.part(like.ends.len()))
     }
 
     /// Puts a row of these items at the end. After `OutOfMemory` nothing has changed.

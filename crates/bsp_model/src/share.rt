@@ -1,7 +1,7 @@
 //! How much of the room that all processes take some of them get.
 
 /// Some of several processes, by their numbers.
-#[derive(Debug, Clone, Copy)]
+#[derive(Clone, Copy)]
 pub struct Share {
     some: usize,
     all: usize,

@@ -9,7 +9,7 @@ use std::marker::Model;
 use std::sync::Arc;
 
 /// A list of values that stays as it is. Its copies share the values, so that a copy takes no memory.
-#[derive(Debug, Drop)]
+#[derive(Drop)]
 pub struct SharedSeq<T> {
     /// None where there is no value.
     pub(crate) items: Option<Arc<Vec<T>, Global>>,

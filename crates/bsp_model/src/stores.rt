@@ -12,7 +12,7 @@ use std::alloc::Global;
 use std::marker::Model;
 
 /// Stores in the order in which they were made. Those of words one behind the other are kept as one range, with no address for each word.
-#[derive(Debug, Drop)]
+#[derive(Drop)]
 pub struct Stores {
     /// The ranges, in order. None of them goes on where the one before it ended.
     pub(crate) ranges: Vec<Range>,

@@ -143,6 +143,9 @@ impl<'a> StoresRef<'a> {
     pub(crate) fn stand_in(&self, range: Range, memory: &MemoryRef<'_>) -> bool
         ensures { IsTrue result → words_stored self.now ≡ take range.len (drop range.start memory.now) }
     {
+        if self.stand_in_piece(range, memory) {
+            return true;
+        }
         let len = memory.len() as u64;
         if range.len == 0 || range.start > len || range.len as u64 > len - range.start {
             return false;
@@ -158,7 +161,7 @@ impl<'a> StoresRef<'a> {
 
     /// The same where they are kept and stand there in one piece, as those of most turns; else false.
     #[inline(always)]
-    pub(crate) fn stand_in_piece(&self, range: Range, memory: &MemoryRef<'_>) -> bool
+    fn stand_in_piece(&self, range: Range, memory: &MemoryRef<'_>) -> bool
         ensures { IsTrue result → words_stored self.now ≡ take range.len (drop range.start memory.now) }
     {
         let there = memory.piece(range.start, range.len);

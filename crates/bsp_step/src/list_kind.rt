@@ -2,7 +2,7 @@
 
 /// A kind of list that a turn may leave. In most supersteps no turn leaves any of some kinds, and they are not gone over. A fault and a choice of the
 /// next tag size are lists of at most one.
-#[derive(Clone, Copy, Debug, PartialEq, Eq)]
+#[derive(Clone, Copy, PartialEq, Eq)]
 pub enum ListKind {
     /// The fault.
     Faults,

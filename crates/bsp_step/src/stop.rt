@@ -6,7 +6,7 @@ ghost use Rattle.bsp_step.specs.declared.stop.Stop.TheVariants.{OutOfMemory};
 use std::alloc::{AllocError, AllocFailed};
 
 /// Why an acting call of a context did not act.
-#[derive(Clone, Copy, Debug, PartialEq, Eq)]
+#[derive(Clone, Copy, PartialEq, Eq)]
 pub enum Stop {
     /// This fault is kept: the call's own, or that of an earlier call.
     Fault(bsp_model::Fault),

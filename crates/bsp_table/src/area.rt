@@ -3,7 +3,7 @@
 use bsp_model::{OutOfMemory, Same, TryCopy};
 
 /// A part of a process's memory, in words.
-#[derive(Clone, Copy, Debug, PartialEq, Eq)]
+#[derive(Clone, Copy, PartialEq, Eq)]
 pub struct Area {
     /// The address of its first word.
     pub start: u64,

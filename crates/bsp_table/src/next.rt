@@ -48,7 +48,7 @@ pub trait Registers {
 }
 
 /// Why there is no next table.
-#[derive(Clone, Copy, Debug, PartialEq, Eq)]
+#[derive(Clone, Copy, PartialEq, Eq)]
 pub enum TableFault {
     /// S3, S4 or S5: the first of `PopMismatch`, `PushMismatch` and `TooManySlots` that holds.
     Sync(SyncFault),

@@ -1,32 +1,27 @@
--- A set of processes by the bits of its words: no public contract speaks of them.
-use Rattle.std.specs.Prelude.{ℕ, ◌+◌, ◌-◌, ◌/◌, ◌%◌, ◌<◌, ◌≤◌, ◌≡◌, ◌≢◌, Bool, true, false, List, map, length, nat_eq, slice_index}
+-- A set of processes by the bits of a word: no public contract speaks of them.
+use Rattle.std.specs.Prelude.{ℕ, ◌+◌, ◌*◌, ◌<◌, ◌≤◌, ◌≡◌, ◌≢◌, Bool, false, true, List, [], ◌∷◌, map, nat_eq, if◌then◌else◌}
 use Rattle.std.specs.List.{range_with_len}
 use Rattle.std.specs.Int.{bit_at}
 
 -- whether the bit of a process is set
-unfoldable pub has_bit : List ℕ → ℕ → Bool
-has_bit words p = nat_eq (bit_at (slice_index words (p / 64)) (p % 64)) 1
+unfoldable pub has_bit : ℕ → ℕ → Bool
+has_bit word p = nat_eq (bit_at word p) 1
 
--- the set of so many processes that these words are
-abbrev pub set_of : ℕ → List ℕ → List Bool
-set_of count words = map (has_bit words) (range_with_len 0 count)
+-- the set of so many processes that a word is
+abbrev pub set_of : ℕ → ℕ → List Bool
+set_of count word = map (has_bit word) (range_with_len 0 count)
 
--- There are as many words as so many processes need, and one at least, in which no other bit is set.
-pub record AreWordsOf (count : ℕ) (words : List ℕ) : Type 0 where
-  pub many : length words ≡ (count - 1) / 64 + 1
-  pub clear : (p : ℕ) → count ≤ p → has_bit words p ≡ false
+-- the word that a set is
+unfoldable pub word_of : List Bool → ℕ
+word_of [] = 0
+word_of (b ∷ bs) = (if b then 1 else 0) + 2 * word_of bs
+
+-- There are no more processes than bits, and no other bit is set.
+pub record AreBitsOf (count word : ℕ) : Type 0 where
+  pub few : count ≤ 64
+  pub clear : (p : ℕ) → count ≤ p → has_bit word p ≡ false
 
 -- one bit more
-pub record IsWithBit (before after : List ℕ) (process : ℕ) : Type 0 where
+pub record IsWithBit (before after process : ℕ) : Type 0 where
   pub set : has_bit after process ≡ true
   pub others : (p : ℕ) → p ≢ process → has_bit after p ≡ has_bit before p
-
--- no bit from a place on
-abbrev pub HasNoBitFrom : List ℕ → ℕ → Type 0
-HasNoBitFrom words from = (p : ℕ) → from ≤ p → has_bit words p ≡ false
-
--- the first bit from a place on
-pub record IsFirstBitFrom (words : List ℕ) (from q : ℕ) : Type 0 where
-  pub behind : from ≤ q
-  pub set : has_bit words q ≡ true
-  pub none : (p : ℕ) → from ≤ p → p < q → has_bit words p ≡ false

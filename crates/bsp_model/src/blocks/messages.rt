@@ -6,7 +6,7 @@ use crate::block::MessageHead;
 use crate::{Blocks, BlocksRef, Message, OutOfMemory};
 
 /// A message that stands in a queue.
-#[derive(Clone, Copy, Debug)]
+#[derive(Clone, Copy)]
 pub struct MessageView<'a> {
     /// The tag.
     pub tag: &'a [u64],

@@ -7,7 +7,7 @@ use crate::{Blocks, BlocksRef, OutOfMemory, Put, Words};
 use std::alloc::Global;
 
 /// A put that stands in a list of puts.
-#[derive(Clone, Copy, Debug)]
+#[derive(Clone, Copy)]
 pub struct PutView<'a> {
     /// The process that is written to.
     pub target: u64,

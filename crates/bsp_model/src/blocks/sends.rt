@@ -7,7 +7,7 @@ use crate::{Blocks, BlocksRef, OutOfMemory, Send, Words};
 use std::alloc::Global;
 
 /// A message that stands in a list of messages on their way.
-#[derive(Clone, Copy, Debug)]
+#[derive(Clone, Copy)]
 pub struct SendView<'a> {
     /// The process that gets it.
     pub target: u64,

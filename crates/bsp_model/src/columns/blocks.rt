@@ -12,7 +12,7 @@ use std::alloc::Global;
 use std::marker::Model;
 
 /// For each process, by its number, blocks in order; all lie in four lists. A process at which no blocks were put has none.
-#[derive(Debug, Drop)]
+#[derive(Drop)]
 pub struct BlockColumn<X: Block> {
     pairs: Pairs<(X::Head, usize), u64>,
 }
@@ -39,18 +39,11 @@ impl<X: Block> BlockColumn<X> {
         }
     }
 
-    /// Takes all blocks away, and makes room for one block of one word for each of `count` processes.
-    pub fn make_room(&mut self, count: usize) -> Result<(), OutOfMemory>
-        ensures { self.new ≡ [] }
+    /// Makes room for a share of the blocks of another column.
+    pub fn reserve_like(&mut self, like: &BlockColumn<X>, share: Share) -> Result<(), OutOfMemory>
+        ensures { self.new ≡ self.old }
     {
-        self.pairs.make_room(count)
-    }
-
-    /// Takes all blocks away, and makes a share of the room that the blocks of `like` take.
-    pub fn make_room_like(&mut self, like: &BlockColumn<X>, share: Share) -> Result<(), OutOfMemory>
-        ensures { self.new ≡ [] }
-    {
-        self.pairs.make_room_like(&like.pairs, share)
+        self.pairs.reserve_like(&like.pairs, share)
     }
 
     /// Takes all blocks away. Their room stays.

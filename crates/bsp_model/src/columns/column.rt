@@ -8,7 +8,7 @@ use std::alloc::Global;
 use std::marker::Model;
 
 /// For each process, by its number, a row of items, all in one list. A process that nothing was put at has the empty row.
-#[derive(Debug, Drop)]
+#[derive(Drop)]
 pub struct Column<T> {
     /// The rows of the first processes. Those of the others are empty.
     rows: Rows<T>,
@@ -58,18 +58,11 @@ impl<T> Column<T> {
 }
 
 impl<T: Copy> Column<T> {
-    /// Takes all rows away, and makes room for `count` rows of one item.
-    pub fn make_room(&mut self, count: usize) -> Result<(), OutOfMemory>
-        ensures { self.new ≡ [] }
+    /// Makes room for a share of the rows that stand in another column.
+    pub fn reserve_like(&mut self, like: &Column<T>, share: Share) -> Result<(), OutOfMemory>
+        ensures { self.new ≡ self.old }
     {
-        self.rows.make_room(count, count)
-    }
-
-    /// Takes all rows away, and makes a share of the room that the rows of `like` take.
-    pub fn make_room_like(&mut self, like: &Column<T>, share: Share) -> Result<(), OutOfMemory>
-        ensures { self.new ≡ [] }
-    {
-        self.rows.make_room_like(&like.rows, share)
+        self.rows.reserve_like(&like.rows, share)
     }
 
     /// Takes all rows away. Their room stays.
@@ -90,23 +83,6 @@ impl<T: Copy> Column<T> {
     /// Makes `row` the row of a process, and leaves those behind it out. After `OutOfMemory` its own is left out too.
     #[inline(always)]
     pub fn put(&mut self, place: usize, row: &[T]) -> Result<(), OutOfMemory>
-        ensures ok { OnOk result (IsPut [] (row_at self.old) place row.now (row_at self.new)) }
-        ensures err { OnErr result (AreCut [] (row_at self.old) place (row_at self.new)) }
-    {
-        let count = self.rows.len();
-        if row.is_empty() && count <= place {
-            return Ok(());
-        }
-        if count == place {
-            self.rows.push(row)?;
-            return Ok(());
-        }
-        self.put_elsewhere(place, row)
-    }
-
-    /// The same, where the row does not go on behind the last that stands.
-    #[inline(never)]
-    fn put_elsewhere(&mut self, place: usize, row: &[T]) -> Result<(), OutOfMemory>
         ensures ok { OnOk result (IsPut [] (row_at self.old) place row.now (row_at self.new)) }
         ensures err { OnErr result (AreCut [] (row_at self.old) place (row_at self.new)) }
     {

@@ -10,7 +10,7 @@ use std::alloc::Global;
 use std::marker::Model;
 
 /// For each process, by its number, two rows, whose items lie in two lists.
-#[derive(Debug, Drop)]
+#[derive(Drop)]
 pub struct Pairs<A, B> {
     firsts: Column<A>,
     seconds: Column<B>,
@@ -61,22 +61,12 @@ impl<A, B> Pairs<A, B> {
 }
 
 impl<A: Copy, B: Copy> Pairs<A, B> {
-    /// Takes all rows away, and makes room for `count` rows of one item in each list.
-    pub fn make_room(&mut self, count: usize) -> Result<(), OutOfMemory>
-        ensures { self.new ≡ ([], []) }
+    /// Makes room for a share of the rows that others have.
+    pub fn reserve_like(&mut self, like: &Pairs<A, B>, share: Share) -> Result<(), OutOfMemory>
+        ensures { self.new ≡ self.old }
     {
-        self.clear();
-        self.firsts.make_room(count)?;
-        self.seconds.make_room(count)
-    }
-
-    /// Takes all rows away, and makes a share of the room that the rows of `like` take.
-    pub fn make_room_like(&mut self, like: &Pairs<A, B>, share: Share) -> Result<(), OutOfMemory>
-        ensures { self.new ≡ ([], []) }
-    {
-        self.clear();
-        self.firsts.make_room_like(&like.firsts, share)?;
-        self.seconds.make_room_like(&like.seconds, share)
+        self.firsts.reserve_like(&like.firsts, share)?;
+        self.seconds.reserve_like(&like.seconds, share)
     }
 
     /// Leaves the rows from a process on out.

@@ -8,7 +8,7 @@ use std::alloc::Global;
 use std::marker::Model;
 
 /// For each process, by its number, a list that copies share. The last ones, where empty, need not stand.
-#[derive(Debug, Drop)]
+#[derive(Drop)]
 pub struct SharedColumn<T> {
     /// The lists of the first processes. Those of the others are empty.
     pub(crate) rows: Vec<SharedSeq<T>>,
@@ -85,33 +85,19 @@ impl<T: Drop> SharedColumn<T> {
         self.rows.clear();
     }
 
-    /// Leaves empty lists alone, and makes a share of the room that others take.
-    pub(crate) fn make_room_like(
+    /// Makes room for a share of the lists that stand in another column.
+    pub(crate) fn reserve_like(
         &mut self,
         like: &SharedColumn<T>,
         share: Share,
     ) -> Result<(), OutOfMemory>
-        ensures { self.new ≡ [] }
+        ensures { self.new ≡ self.old }
     {
-        self.rows.clear();
         self.rows.reserve(share.part(like.rows.len()))
     }
 
     /// Makes `row` the list of a process, and leaves those behind it out. After `OutOfMemory` its own is left out too.
-    #[inline(always)]
     pub fn put(&mut self, place: usize, row: SharedSeq<T>) -> Result<(), OutOfMemory>
-        ensures ok { OnOk result (IsPut [] (row_at self.old) place row (row_at self.new)) }
-        ensures err { OnErr result (AreCut [] (row_at self.old) place (row_at self.new)) }
-    {
-        if row.is_empty() && self.rows.len() <= place {
-            return Ok(());
-        }
-        self.put_elsewhere(place, row)
-    }
-
-    /// The same, where the column may change.
-    #[inline(never)]
-    fn put_elsewhere(&mut self, place: usize, row: SharedSeq<T>) -> Result<(), OutOfMemory>
         ensures ok { OnOk result (IsPut [] (row_at self.old) place row (row_at self.new)) }
         ensures err { OnErr result (AreCut [] (row_at self.old) place (row_at self.new)) }
     {

@@ -30,33 +30,7 @@ impl Pairs<Range, u64> {
 
     /// Makes these those of a process beside the memory that its turn left, and leaves those of the processes behind it out. After `OutOfMemory`
     /// its own are left out too.
-    #[inline(always)]
     pub fn put(
-        &mut self,
-        place: usize,
-        stores: &StoresRef<'_>,
-        memory: &MemoryRef<'_>,
-    ) -> Result<(), OutOfMemory>
-        ensures before { (k : ℕ) → k < place → pair_at self.new k ≡ pair_at self.old k }
-        ensures behind { (k : ℕ) → place < k → pair_at self.new k ≡ ([], []) }
-        ensures beside { OnOk result (AreBeside self.new place memory.now) }
-        ensures there { OnOk result (stores_beside self.new place memory.now ≡ stores.now) }
-        ensures err { OnErr result (pair_at self.new place ≡ ([], [])) }
-    {
-        if stores.ranges.len() == 1 {
-            if stores.stand_in_piece(stores.ranges[0], memory) {
-                self.put_pair(place, stores.ranges, &[])?;
-                return Ok(());
-            }
-            return Ok(self.put_range(place, stores, memory)?);
-        }
-        self.put_pair(place, stores.ranges, stores.values)?;
-        Ok(())
-    }
-
-    /// The same, where they may be one range.
-    #[inline(never)]
-    fn put_range(
         &mut self,
         place: usize,
         stores: &StoresRef<'_>,

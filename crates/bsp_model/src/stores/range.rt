@@ -6,7 +6,7 @@ ghost use Rattle.bsp_model.specs.Inside.Ranges.{longer, last_len};
 use crate::Same;
 
 /// Words that were stored one behind the other.
-#[derive(Clone, Copy, Debug, PartialEq, Eq)]
+#[derive(Clone, Copy)]
 pub struct Range {
     /// The address of the first.
     pub start: u64,
@@ -16,7 +16,7 @@ pub struct Range {
 
 impl Same for Range {
     fn same(&self, other: &Range) -> bool {
-        *self == *other
+        self.start == other.start && self.len == other.len
     }
 }
 

@@ -1,6 +1,6 @@
 use Rattle.std.proofs.Common.{◌-◌, length}
 use Rattle.bsp_model.proofs.Replaced.{IsFront}
-use Rattle.bsp_model.proofs.by_process.replaced_in.Given as goal
+use Rattle.bsp_model.proofs.by_process.add_replaced.Given as goal
 
 -- what stands in front of what is still to be looked at
 abbrev pub invariant-loop-place : goal.invariant-loop-place

@@ -2,7 +2,7 @@ use Rattle.std.proofs.Common.{◌≤◌, [], length, ap, arith}
 use Rattle.std.proofs.lemmas.Result.{MatchResult-from_err}
 use Rattle.bsp_model.specs.Columns.{row_at, AreTaken}
 use Rattle.bsp_model.proofs.PagedMemories.{length-memories_of, ArePaged-same, memories_of-same, ArePaged-more, memories_of-more}
-use Rattle.bsp_model.proofs.memories.Memories.append_range.Goals as goal
+use Rattle.bsp_model.proofs.memories.MemoriesByProcess.append_range.Goals as goal
 
 pub append_range-requires-clause-inside : goal.append_range-requires-clause-inside
 append_range-requires-clause-inside c =
