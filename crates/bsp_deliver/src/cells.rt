@@ -1,12 +1,11 @@
 //! The next memories and queues of several processes.
 
-ghost use Rattle.std.specs.Prelude.{◌≡◌, ◌<◌, ◌≤◌, ◌++◌, ◌∷◌, [], All, length, nat_eq, slice_index_or, slice_range, IfOk, OnErr, OnOk};
+ghost use Rattle.std.specs.Prelude.{◌≡◌, ◌<◌, ◌≤◌, ◌++◌, ◌∷◌, [], All, length, nat_eq, slice_index_or, IfOk, OnErr, OnOk};
 ghost use Rattle.bsp_model.specs.Replaced.{replaced, IsAscending};
-ghost use Rattle.bsp_deliver.specs.Inside.Cells.{cells_of};
 
 use bsp_model::{
     ByProcess, Memories, Memory, MemoryRef, MessageColumn, MessagesRef, OutOfMemory, Share,
-    replaced_in,
+    add_replaced,
 };
 use bsp_step::Queue;
 use std::alloc::Global;
@@ -15,9 +14,9 @@ use std::marker::Model;
 /// The next memory and the next queue of each of several processes, in the order of a list, in few lists.
 #[derive(Drop)]
 pub struct Cells {
-    memories: Memories,
+    pub(crate) memories: Memories,
     /// The queue of each memory. Those past the last memory belong to no process.
-    queues: MessageColumn,
+    pub(crate) queues: MessageColumn,
 }
 
 impl Model for Cells {
@@ -45,19 +44,17 @@ impl Cells {
     pub fn with_capacity(alloc: Global, count: usize) -> Result<Cells, OutOfMemory>
         ensures { IfOk result (λ cells. cells ≡ []) }
     {
-        Cells::new(alloc).into_room(count)
+        let mut cells = Cells::new(alloc);
+        cells.memories.reserve(count)?;
+        Ok(cells)
     }
 
-    /// Of no process, with the room that these take beside their full pages, or `OutOfMemory`.
-    fn with_room_of(alloc: Global, like: &Cells) -> Result<Cells, OutOfMemory>
-        ensures { IfOk result (λ cells. cells ≡ []) }
+    /// Makes the room that other cells take beside their full pages.
+    fn reserve_like(&mut self, like: &Cells) -> Result<(), OutOfMemory>
+        ensures { self.new ≡ self.old }
     {
-        let mut cells = Cells {
-            memories: Memories::with_room_of(alloc, &like.memories, Share::whole())?,
-            queues: MessageColumn::new(alloc),
-        };
-        cells.queues.make_room_like(&like.queues, Share::whole())?;
-        Ok(cells)
+        self.memories.reserve_like(&like.memories, Share::whole())?;
+        self.queues.reserve_like(&like.queues, Share::whole())
     }
 
     /// Takes all processes away. The room stays.
@@ -66,33 +63,6 @@ impl Cells {
     {
         self.memories.clear();
         self.queues.clear();
-    }
-
-    /// Of no process, in the room of these, which is made enough for so many. Or `OutOfMemory`.
-    pub(crate) fn into_room(self, count: usize) -> Result<Cells, OutOfMemory>
-        ensures { IfOk result (λ cells. cells ≡ []) }
-    {
-        let Cells {
-            memories,
-            mut queues,
-        } = self;
-        queues.clear();
-        let memories = memories.into_room(count)?;
-        Ok(Cells { memories, queues })
-    }
-
-    /// These memories, and the queue of each.
-    pub(crate) fn from_parts(memories: Memories, queues: MessageColumn) -> Cells
-        ensures { result ≡ cells_of memories queues }
-    {
-        Cells { memories, queues }
-    }
-
-    /// The memories, and the queue of each.
-    pub(crate) fn into_parts(self) -> (Memories, MessageColumn)
-        ensures { cells_of result.0 result.1 ≡ self }
-    {
-        (self.memories, self.queues)
     }
 
     /// The number of processes.
@@ -161,19 +131,6 @@ impl Cells {
         Ok(())
     }
 
-    /// Adds copies of the memories and queues that `more` has from `from` on, and before `to`. After `OutOfMemory` nothing has changed.
-    fn append_range(&mut self, more: &Cells, from: usize, to: usize) -> Result<(), OutOfMemory>
-        requires order { from ≤ to }
-        requires inside { to ≤ length more.now }
-        ensures ok { OnOk result (self.new ≡ self.old ++ slice_range more.now from to) }
-        ensures err { OnErr result (self.new ≡ self.old) }
-    {
-        self.queues
-            .take_range(self.memories.len(), &more.queues, from, to)?;
-        self.memories.append_range(&more.memories, from, to)?;
-        Ok(())
-    }
-
     /// These memories and queues, but for new ones of some processes, which are in ascending order.
     pub fn replaced(
         &self,
@@ -186,8 +143,10 @@ impl Cells {
         requires count { length cells.now ≡ length processes.now }
         ensures { IfOk result (λ c. c ≡ replaced self.now processes.now cells.now) }
     {
-        let room = Cells::with_room_of(alloc, self)?;
-        Ok(replaced_in(room, self, processes, cells)?)
+        let mut all = Cells::new(alloc);
+        all.reserve_like(self)?;
+        add_replaced(&mut all, self, processes, cells)?;
+        Ok(all)
     }
 }
 
@@ -203,9 +162,10 @@ impl ByProcess for Cells {
         self.len()
     }
 
-    fn with_range(self, more: &Cells, from: usize, to: usize) -> Result<Cells, OutOfMemory> {
-        let mut all = self;
-        all.append_range(more, from, to)?;
-        Ok(all)
+    fn append_range(&mut self, more: &Cells, from: usize, to: usize) -> Result<(), OutOfMemory> {
+        self.queues
+            .take_range(self.memories.len(), &more.queues, from, to)?;
+        self.memories.append_range(&more.memories, from, to)?;
+        Ok(())
     }
 }

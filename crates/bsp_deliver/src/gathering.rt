@@ -1,14 +1,12 @@
 //! What a superstep's end brings to several processes, in one pass over all requests.
 
-ghost use Rattle.std.specs.Prelude.{◌≡◌, ◌<◌, ℕ, All, IfOk, IfSome, is_some, length, map, nat_eq};
+ghost use Rattle.std.specs.Prelude.{◌≡◌, ◌<◌, ℕ, All, IfOk, IfSome, OnOk, is_some, length, map, nat_eq};
 ghost use Rattle.bsp_model.specs.Columns.{row_at};
 ghost use Rattle.bsp_deliver.specs.Cost.{IsHRelation};
 ghost use Rattle.bsp_deliver.specs.Delivery.{delivery_parts, next_memory, next_queue};
-ghost use Rattle.bsp_deliver.specs.Inside.Gathering.{ArePlaces};
 ghost use Rattle.bsp_deliver.specs.Condition.{AreDeliverable, IsAscending};
 
 use crate::Cells;
-use crate::all::deliver_all;
 use crate::sorting::{add_queue, origins_of};
 use crate::writing::memories_after;
 use bsp_model::{MessageColumn, OutOfMemory, Send};
@@ -24,35 +22,21 @@ pub struct Delivered {
     pub h: Option<u64>,
 }
 
-/// Where each of so many processes stands in the list. Those that aren't in it stand past its end.
-fn places_of(alloc: Global, count: usize, processes: &[usize]) -> Result<Vec<usize>, OutOfMemory>
-    requires known { All (λ d. d < count) processes.now }
-    requires ascending { IsAscending processes.now }
-    ensures { IfOk result (λ places. ArePlaces count processes.now places.items) }
-{
-    let mut places = vec![in alloc; processes.len(); count]?;
-    for place in 0..processes.len() {
-        places[processes[place]] = place;
-    }
-    Ok(places)
-}
-
-/// The queues of these processes after delivery, in the room of others. Where nobody sends a message none is looked for.
-pub(crate) fn queues_after(
+/// Puts the queue of each of these processes after delivery in the place of the former ones. Where nobody sends a message none is looked for.
+fn queues_after(
     alloc: Global,
     outcomes: &Outcomes,
     processes: &[usize],
-    room: MessageColumn,
-) -> Result<MessageColumn, OutOfMemory>
+    queues: &mut MessageColumn,
+) -> Result<(), OutOfMemory>
     requires deliverable { AreDeliverable outcomes.now }
     requires known { All (λ d. d < length outcomes.now) processes.now }
-    ensures { IfOk result (λ queues. (k : ℕ) → row_at queues k
+    ensures { OnOk result ((k : ℕ) → row_at queues.new k
         ≡ row_at (map (λ d. next_queue (delivery_parts outcomes.now d)) processes.now) k) }
 {
-    let mut queues = room;
     queues.clear();
     if outcomes.is_without(ListKind::Sends) {
-        return Ok(queues);
+        return Ok(());
     }
     let sends = origins_of::<Send>(alloc, outcomes)?;
     let mut queue = Queue::new(alloc);
@@ -61,33 +45,32 @@ pub(crate) fn queues_after(
         add_queue(&mut queue, processes[place], &sends, outcomes)?;
         queues.put(place, &queue.as_ref())?;
     }
-    Ok(queues)
+    Ok(())
 }
 
-/// What `deliver` answers for each of these processes, in the order of the list, in one pass over the requests of those who issue some to them. The
-/// list is ascending.
-fn deliver_together(
+/// Makes `cells` what `deliver` answers for each of these processes, and answers the h-relation where they are all processes.
+fn deliver_into(
     alloc: Global,
     outcomes: &Outcomes,
     processes: &[usize],
-    room: Cells,
-) -> Result<Cells, OutOfMemory>
+    cells: &mut Cells,
+) -> Result<Option<u64>, OutOfMemory>
     requires deliverable { AreDeliverable outcomes.now }
     requires known { All (λ d. d < length outcomes.now) processes.now }
     requires ascending { IsAscending processes.now }
-    ensures { IfOk result (λ all. all
+    ensures cells { OnOk result (cells.new
         ≡ map (λ d. (next_memory (delivery_parts outcomes.now d), next_queue (delivery_parts outcomes.now d))) processes.now) }
+    ensures h { IfOk result (λ h. IfSome h (IsHRelation outcomes.now)) }
+    ensures counted { IfOk result (λ h. is_some h ≡ nat_eq (length processes.now) (length outcomes.now)) }
 {
-    let places = places_of(alloc, outcomes.len(), processes)?;
-    let (old_memories, old_queues) = room.into_parts();
-    let memories = memories_after(alloc, outcomes, processes, places.as_slice(), old_memories)?;
-    let queues = queues_after(alloc, outcomes, processes, old_queues)?;
-    Ok(Cells::from_parts(memories, queues))
+    let h = memories_after(alloc, outcomes, processes, &mut cells.memories)?;
+    queues_after(alloc, outcomes, processes, &mut cells.queues)?;
+    Ok(h)
 }
 
 /// What `deliver` answers for each of these processes, in the order of the list. The list is ascending. For no process it takes no memory, and else
 /// the requests are gone over once; where the list has all processes, they are counted too. What the processes get is gathered in the room of
-/// others, which are no longer needed.
+/// cells that are no longer needed.
 pub fn deliver_some(
     alloc: Global,
     outcomes: &Outcomes,
@@ -102,14 +85,11 @@ pub fn deliver_some(
     ensures h { IfOk result (λ r. IfSome r.h (IsHRelation outcomes.now)) }
     ensures counted { IfOk result (λ r. is_some r.h ≡ nat_eq (length processes.now) (length outcomes.now)) }
 {
+    let mut cells = room;
     if processes.is_empty() {
-        let cells = room.into_room(0)?;
+        cells.clear();
         return Ok(Delivered { cells, h: None });
     }
-    if processes.len() == outcomes.len() {
-        let (cells, h) = deliver_all(alloc, outcomes, processes, room)?;
-        return Ok(Delivered { cells, h: Some(h) });
-    }
-    let cells = deliver_together(alloc, outcomes, processes, room)?;
-    Ok(Delivered { cells, h: None })
+    let h = deliver_into(alloc, outcomes, processes, &mut cells)?;
+    Ok(Delivered { cells, h })
 }

@@ -2,7 +2,6 @@
 #![tactic(auto)]
 
 mod addressed;
-mod all;
 mod cells;
 mod chains;
 mod cost;
@@ -17,7 +16,6 @@ mod touched;
 mod writing;
 
 pub use addressed::inbox;
-pub use all::deliver_all;
 pub use cells::Cells;
 pub use cost::h_of;
 pub use delivery::{deliver, deliver_inbox};

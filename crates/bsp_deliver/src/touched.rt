@@ -1,6 +1,6 @@
 //! To which processes a delivery depends on something else, where some outcomes have changed.
 
-ghost use Rattle.std.specs.Prelude.{◌≡◌, ◌<◌, ◌↔◌, IsTrue, IfOk, All, length, map};
+ghost use Rattle.std.specs.Prelude.{◌≡◌, ◌<◌, ◌↔◌, IsTrue, All, length, map};
 ghost use Rattle.bsp_deliver.specs.Requests.{words_read};
 ghost use Rattle.bsp_deliver.specs.Delivery.{delivery_parts};
 ghost use Rattle.bsp_deliver.specs.Condition.{AreDeliverable};
@@ -10,9 +10,8 @@ ghost use Rattle.bsp_deliver.specs.Touched.{AreSameUnlessMarked, AreTouched};
 
 use crate::marking::mark_parcels;
 use crate::same::is_same_answer;
-use bsp_model::{Get, OutOfMemory, ProcessSet, Same, are_same};
+use bsp_model::{Get, ProcessSet, Same, are_same};
 use bsp_step::{ListKind, OutcomeRef, Outcomes};
-use std::alloc::Global;
 
 /// Whether a get reads the words that it read before. Those of an owner whose outcome has not changed are the same.
 fn reads_same_words(old: &Outcomes, new: &Outcomes, changed: &ProcessSet, get: &Get) -> bool
@@ -132,24 +131,20 @@ fn mark_touched<'a>(
 /// others, or to whom other puts or messages are brought.
 ///
 /// In `changed` is each process whose outcome may be another one than before. Only these are looked at, and where somebody gets words, the gets
-/// of the others too.
-///
-/// # Errors
-/// `OutOfMemory` where there is none for the answer.
+/// of the other processes too. It takes no memory.
 pub fn touched_by_changes<'a>(
-    alloc: Global,
     old: &'a Outcomes,
     new: &'a Outcomes,
     changed: &ProcessSet,
-) -> Result<ProcessSet, OutOfMemory>
+) -> ProcessSet
     requires count { length old.now ≡ length new.now }
     requires marks { length changed.now ≡ length new.now }
     requires before { AreDeliverable old.now }
     requires after { AreDeliverable new.now }
     requires unchanged { AreSameUnlessMarked old.now new.now changed.now }
-    ensures { IfOk result (λ touched. AreTouched old.now new.now touched) }
+    ensures { AreTouched old.now new.now result }
 {
-    let mut touched = ProcessSet::none(alloc, new.len())?;
+    let mut touched = ProcessSet::none(new.len());
     mark_touched(&mut touched, old, new, changed);
-    Ok(touched)
+    touched
 }

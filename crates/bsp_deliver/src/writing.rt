@@ -1,13 +1,17 @@
 //! What the gets and the puts of a superstep leave in the memories of several processes.
 
-ghost use Rattle.std.specs.Prelude.{◌≡◌, ◌+◌, ◌<◌, ◌≤◌, ◌++◌, ◌∷◌, [], All, IfOk, IfSome, OnOk, length, map, fold, slice_index, slice_index_or, slice_set, true, false};
+ghost use Rattle.std.specs.Prelude.{◌≡◌, ◌+◌, ◌<◌, ◌≤◌, ◌++◌, ◌∷◌, [], All, IfOk, IfSome, OnOk, is_some, length, map, fold, nat_eq, slice_index, slice_index_or, slice_set, true, false};
+ghost use Rattle.std.specs.List.{range_with_len};
 ghost use Rattle.bsp_deliver.specs.Requests.{all_puts, each_below, words_read};
-ghost use Rattle.bsp_deliver.specs.Delivery.{get_write, delivery_parts};
+ghost use Rattle.bsp_deliver.specs.Cost.{IsHRelation};
+ghost use Rattle.bsp_deliver.specs.Delivery.{get_write, delivery_parts, next_memory};
+ghost use Rattle.bsp_deliver.specs.Inside.Sums.{counted, no_words, transfers_from, HasRoom};
 ghost use Rattle.bsp_deliver.specs.Inside.Gathering.{overlay, put_at, ArePlaces, AreTargets};
 ghost use Rattle.bsp_deliver.specs.Condition.{AreDeliverable, AreRequestsInside, IsAscending, IsGetInside, sizes_of};
 
+use crate::cost::{Sums, are_puts_alone, h_from};
 use crate::delivery::{piece_at, words_at};
-use bsp_model::limits::MOST_MEMORY_WORDS;
+use bsp_model::limits::{MOST_MEMORY_WORDS, MOST_PROCESSES};
 use bsp_model::{Get, Memories, OutOfMemory, ProcessSet, PutsRef};
 use bsp_step::{ListKind, Outcomes};
 use std::alloc::Global;
@@ -57,7 +61,7 @@ fn write_gets(
 }
 
 /// Adds the memory of process `d` after computing, with the words over it that its gets read.
-fn add_memory(
+pub(crate) fn add_memory(
     alloc: Global,
     memories: &mut Memories,
     d: usize,
@@ -74,31 +78,31 @@ fn add_memory(
     Ok(())
 }
 
-/// The memories of these processes after computing, with the words over each that its gets read, in the room of others.
-pub(crate) fn memories_with_gets(
+/// Makes `memories` those of these processes after computing, with the words over each that its gets read.
+fn load_memories(
     alloc: Global,
     outcomes: &Outcomes,
     processes: &[usize],
-    room: Memories,
-) -> Result<Memories, OutOfMemory>
+    memories: &mut Memories,
+) -> Result<(), OutOfMemory>
     requires deliverable { AreDeliverable outcomes.now }
     requires known { All (λ d. d < length outcomes.now) processes.now }
     requires ascending { IsAscending processes.now }
-    ensures { IfOk result (λ memories. memories ≡ map (λ d. overlay (delivery_parts outcomes.now d).memory (map get_write (delivery_parts outcomes.now d).gets)) processes.now) }
+    ensures { OnOk result (memories.new ≡ map (λ d. overlay (delivery_parts outcomes.now d).memory (map get_write (delivery_parts outcomes.now d).gets)) processes.now) }
 {
     if outcomes.is_without(ListKind::Gets) {
-        return Ok(outcomes.memories_of(processes, room)?);
+        return outcomes.copy_memories_of(processes, memories);
     }
-    let mut memories = outcomes.room_for_memories(processes.len(), room)?;
+    outcomes.make_room_for_memories(processes.len(), memories)?;
     for process in processes {
-        add_memory(alloc, &mut memories, *process, outcomes)?;
+        add_memory(alloc, memories, *process, outcomes)?;
     }
-    Ok(memories)
+    Ok(())
 }
 
 /// Writes one sender's puts, in issue order, each to the memory at its target's place.
 #[inline(always)]
-pub(crate) fn write_puts(
+fn write_puts(
     memories: &mut Memories,
     places: &[usize],
     puts: &PutsRef<'_>,
@@ -138,34 +142,107 @@ fn write_puts_to(
     Ok(())
 }
 
-/// The set of these processes, of so many.
-fn set_of(alloc: Global, count: usize, processes: &[usize]) -> Result<ProcessSet, OutOfMemory>
-    requires { All (λ d. d < count) processes.now }
-    ensures { IfOk result (λ set. All (λ d. slice_index_or set d false ≡ true) processes.now) }
+/// Writes all puts, by sender, then by issue, each to the memory at its target's place, and counts the words of all requests.
+fn write_and_count(
+    memories: &mut Memories,
+    places: &[usize],
+    outcomes: &Outcomes,
+) -> Result<Sums, OutOfMemory>
+    requires deliverable { AreDeliverable outcomes.now }
+    requires count { length places.now ≡ length outcomes.now }
+    ensures memories { OnOk result (memories.new ≡ fold (λ ms s. put_at places.now ms s.1) memories.old (all_puts outcomes.now)) }
+    ensures sums { IfOk result (λ sums. sums ≡ fold counted no_words (transfers_from 0 outcomes.now)) }
+    ensures room { IfOk result (λ sums. HasRoom sums 0) }
 {
-    let mut set = ProcessSet::none(alloc, count)?;
+    let mut sums = Sums::none();
+    let puts_alone = are_puts_alone(outcomes);
+    for sender in 0..outcomes.len() {
+        sums.count_requests(outcomes, sender, puts_alone);
+        let own = outcomes.puts(sender);
+        write_puts(memories, places, &own)?;
+    }
+    Ok(sums)
+}
+
+/// Writes the puts to all processes, each to the memory of its target, and answers the h-relation.
+fn write_all(
+    memories: &mut Memories,
+    processes: &[usize],
+    outcomes: &Outcomes,
+) -> Result<u64, OutOfMemory>
+    requires deliverable { AreDeliverable outcomes.now }
+    requires processes { processes.now ≡ range_with_len 0 (length outcomes.now) }
+    ensures memories { OnOk result (memories.new ≡ fold (λ ms s. put_at processes.now ms s.1) memories.old (all_puts outcomes.now)) }
+    ensures h { IfOk result (IsHRelation outcomes.now) }
+{
+    let sums = write_and_count(memories, processes, outcomes)?;
+    Ok(h_from(&sums, outcomes))
+}
+
+/// The set of these processes, of so many.
+fn set_of(count: usize, processes: &[usize]) -> ProcessSet
+    requires few { count ≤ MOST_PROCESSES }
+    requires known { All (λ d. d < count) processes.now }
+    ensures { All (λ d. slice_index_or result d false ≡ true) processes.now }
+{
+    let mut set = ProcessSet::none(count);
     for process in processes {
         set.insert(*process);
     }
-    Ok(set)
+    set
 }
 
-/// The memories of these processes after delivery, in the room of others.
+/// Where each of so many processes stands in the list. Those that aren't in it stand past its end.
+fn places_of(alloc: Global, count: usize, processes: &[usize]) -> Result<Vec<usize>, OutOfMemory>
+    requires known { All (λ d. d < count) processes.now }
+    requires ascending { IsAscending processes.now }
+    ensures { IfOk result (λ places. ArePlaces count processes.now places.items) }
+{
+    let mut places = vec![in alloc; processes.len(); count]?;
+    for place in 0..processes.len() {
+        places[processes[place]] = place;
+    }
+    Ok(places)
+}
+
+/// Writes the puts to these processes, each to the memory at its target's place. Who puts nothing to them is not gone over.
+fn write_some(
+    alloc: Global,
+    memories: &mut Memories,
+    processes: &[usize],
+    outcomes: &Outcomes,
+) -> Result<(), OutOfMemory>
+    requires deliverable { AreDeliverable outcomes.now }
+    requires known { All (λ d. d < length outcomes.now) processes.now }
+    requires ascending { IsAscending processes.now }
+    requires count { length memories.old ≡ length processes.now }
+    ensures { OnOk result ((places : _) × (ArePlaces (length outcomes.now) processes.now places)
+        × (memories.new ≡ fold (λ ms s. put_at places ms s.1) memories.old (all_puts outcomes.now))) }
+{
+    let places = places_of(alloc, outcomes.len(), processes)?;
+    let targets = set_of(outcomes.len(), processes);
+    write_puts_to(memories, places.as_slice(), &targets, outcomes)
+}
+
+/// Makes `memories` those of these processes after delivery. Where they are all processes, the requests are counted too, and the h-relation is answered.
 pub(crate) fn memories_after(
     alloc: Global,
     outcomes: &Outcomes,
     processes: &[usize],
-    places: &[usize],
-    room: Memories,
-) -> Result<Memories, OutOfMemory>
+    memories: &mut Memories,
+) -> Result<Option<u64>, OutOfMemory>
     requires deliverable { AreDeliverable outcomes.now }
     requires known { All (λ d. d < length outcomes.now) processes.now }
     requires ascending { IsAscending processes.now }
-    requires places { ArePlaces (length outcomes.now) processes.now places.now }
-    ensures { IfOk result (λ memories. memories ≡ fold (λ ms s. put_at places.now ms s.1) (map (λ d. overlay (delivery_parts outcomes.now d).memory (map get_write (delivery_parts outcomes.now d).gets)) processes.now) (all_puts outcomes.now)) }
+    ensures memories { OnOk result (memories.new ≡ map (λ d. next_memory (delivery_parts outcomes.now d)) processes.now) }
+    ensures h { IfOk result (λ h. IfSome h (IsHRelation outcomes.now)) }
+    ensures counted { IfOk result (λ h. is_some h ≡ nat_eq (length processes.now) (length outcomes.now)) }
 {
-    let mut memories = memories_with_gets(alloc, outcomes, processes, room)?;
-    let targets = set_of(alloc, outcomes.len(), processes)?;
-    write_puts_to(&mut memories, places, &targets, outcomes)?;
-    Ok(memories)
+    load_memories(alloc, outcomes, processes, memories)?;
+    if processes.len() == outcomes.len() {
+        let h = write_all(memories, processes, outcomes)?;
+        return Ok(Some(h));
+    }
+    write_some(alloc, memories, processes, outcomes)?;
+    Ok(None)
 }

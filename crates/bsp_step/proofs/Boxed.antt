@@ -2,18 +2,13 @@
 use Rattle.std.proofs.Common.{◌≡◌, ap}
 use Rattle.bsp_step.specs.declared.turn_lists.TurnLists.{TurnLists}
 use Rattle.bsp_step.specs.Context.{Context}
-use Rattle.bsp_step.specs.Inside.RareLists.{RareParts}
 
 abbrev pub lists_of : Context → TurnLists
-lists_of c = record { memory = c.memory; stores = c.stores; puts = c.puts; rare = record { gets = c.gets; sends = c.sends; pops = c.pops; pushes = c.pushes; lines = c.lines } }
+lists_of c = record { memory = c.memory; stores = c.stores; puts = c.puts; gets = c.gets; sends = c.sends; pops = c.pops; pushes = c.pushes; lines = c.lines }
 
 abbrev pub with_lists : Context → TurnLists → Context
 with_lists c l =
-    record c { memory = l.memory; stores = l.stores; puts = l.puts; gets = l.rare.gets; sends = l.rare.sends; pops = l.rare.pops; pushes = l.rare.pushes; lines = l.rare.lines }
-
--- with others of what few turns leave
-abbrev pub with_rare : Context → TurnLists → RareParts → Context
-with_rare c l r = record (with_lists c l) { gets = r.gets; sends = r.sends; pops = r.pops; pushes = r.pushes; lines = r.lines }
+    record c { memory = l.memory; stores = l.stores; puts = l.puts; gets = l.gets; sends = l.sends; pops = l.pops; pushes = l.pushes; lines = l.lines }
 
 -- the lists that are read in the box are the context's
 pub same-lists : (c : Context) (l : TurnLists) → l ≡ lists_of c → with_lists c l ≡ c

@@ -23,8 +23,7 @@ use Rattle.bsp_step.specs.Requests.{IsAddressed, IsPlaced, IsAsked}
 use Rattle.bsp_step.specs.OutcomeParts.{IsOutcome, IsOutcomeOf, IsHaltOnFault, IsShortSend}
 use Rattle.bsp_step.specs.Turn.{closed, ended_of, abort_of, turn_of}
 use Rattle.bsp_step.proofs.Performing.{perform_all-view}
-use Rattle.bsp_step.specs.Inside.RareLists.{RareParts}
-use Rattle.bsp_step.proofs.Boxed.{lists_of, with_lists, with_rare, same-lists}
+use Rattle.bsp_step.proofs.Boxed.{lists_of, with_lists, same-lists}
 use Rattle.bsp_step.proofs.Placing.{ArePlaced-push, AreAsked-push}
 use Rattle.bsp_step.proofs.Finding.{AreSlots-push}
 
@@ -152,16 +151,16 @@ put-within c d l pid len area offset start words puts h same read passes at long
     subst (λ (x : Context). IsContext (record x { puts = puts })) (sym (same-lists c l read)) (rw (made, begins) (done-within c (put pid words area offset) h passed))
 
 -- So does a get.
-pub get-within : (c d : Context) (l : TurnLists) (pid area offset into len start : ℕ) (rare : RareParts) → IsContext c → c ≡ d → l ≡ lists_of c → place_fault d pid area (offset + len) ≡ None → into + len ≤ length c.memory → start ≡ start_of (target_area d.view pid area) + offset → rare ≡ record l.rare { gets = l.rare.gets ++ record { owner = pid; start = start; len = len; into = into } ∷ [] } → IsContext (with_rare c l rare)
-get-within c d l pid area offset into len start rare h same read passes own at e =
+pub get-within : (c d : Context) (l : TurnLists) (pid area offset into len start : ℕ) (gets : List Get) → IsContext c → c ≡ d → l ≡ lists_of c → place_fault d pid area (offset + len) ≡ None → into + len ≤ length c.memory → start ≡ start_of (target_area d.view pid area) + offset → gets ≡ l.gets ++ record { owner = pid; start = start; len = len; into = into } ∷ [] → IsContext (record (with_lists c l) { gets = gets })
+get-within c d l pid area offset into len start gets h same read passes own at e =
     let passed : place_fault c pid area (offset + len) ≡ None = ap (λ (x : Context). place_fault x pid area (offset + len)) same ∙ passes in
     let begins : start ≡ start_of (target_area c.view pid area) + offset = at ∙ ap (λ (x : Context). start_of (target_area x.view pid area) + offset) (sym same) in
     let one = both_pass _ _ passed in
     let two = both_pass _ _ one.1 in
     let found = area_passes _ _ _ two.1 in
-    subst (λ (r : RareParts). IsContext (with_rare c l r)) (sym e)
-    (subst (λ (m : TurnLists). IsContext (with_rare c m (record m.rare { gets = m.rare.gets ++ record { owner = pid; start = start; len = len; into = into } ∷ [] }))) (sym read)
-    (rw begins (get_done c pid area offset into len found.0 h (lt_passes _ _ _ one.0) (lt_passes _ _ _ two.0) found.1 found.2 own)))
+    let made : gets ≡ c.gets ++ record { owner = pid; start = start; len = len; into = into } ∷ [] = e ∙ ap (λ (m : TurnLists). m.gets ++ record { owner = pid; start = start; len = len; into = into } ∷ []) read in
+    subst (λ (x : Context). IsContext (record x { gets = gets })) (sym (same-lists c l read))
+    (rw (made, begins) (get_done c pid area offset into len found.0 h (lt_passes _ _ _ one.0) (lt_passes _ _ _ two.0) found.1 found.2 own))
 
 performed-within : (f r : Option Fault) (c d : Context) → IsContext c → (r ≡ None → IsContext d) → IsContext (performed f r c d)
 performed-within (Some f) r c d h k = h

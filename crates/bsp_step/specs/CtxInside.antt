@@ -17,12 +17,12 @@ context_of c =
       left = drop c.taken c.view.now.queue;
       stores = c.lists.value.stores;
       puts = c.lists.value.puts;
-      gets = c.lists.value.rare.gets;
-      sends = c.lists.value.rare.sends;
-      pops = c.lists.value.rare.pops;
-      pushes = c.lists.value.rare.pushes;
+      gets = c.lists.value.gets;
+      sends = c.lists.value.sends;
+      pops = c.lists.value.pops;
+      pushes = c.lists.value.pushes;
       tag = c.tag;
-      lines = c.lists.value.rare.lines;
+      lines = c.lists.value.lines;
       work = c.work;
       fault = c.fault;
     }

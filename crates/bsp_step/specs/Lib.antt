@@ -6,7 +6,6 @@ pub mod Act
 pub mod Perform
 pub mod Requests
 pub mod OutcomeParts
-pub mod RareListsInside
 pub mod OutcomeInside
 pub mod OutcomeRefInside
 pub mod Turn

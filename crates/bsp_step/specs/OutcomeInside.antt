@@ -10,12 +10,12 @@ outcome_parts o =
       memory = o.lists.value.memory;
       stores = o.lists.value.stores;
       puts = o.lists.value.puts;
-      gets = o.lists.value.rare.gets;
-      sends = o.lists.value.rare.sends;
-      pops = o.lists.value.rare.pops;
-      pushes = o.lists.value.rare.pushes;
+      gets = o.lists.value.gets;
+      sends = o.lists.value.sends;
+      pops = o.lists.value.pops;
+      pushes = o.lists.value.pushes;
       tag = o.tag;
-      lines = o.lists.value.rare.lines;
+      lines = o.lists.value.lines;
       work = o.work;
     }
 

@@ -90,12 +90,11 @@ impl<'v> Ctx<'v> {
         ensures { result ≡ count_of_requests self.now }
     {
         let lists: &TurnLists = &self.lists;
-        let rare = &lists.rare;
         lists.puts.len()
-            + rare.gets().len()
-            + rare.sends().len()
-            + rare.pops().len()
-            + rare.pushes().len()
+            + lists.gets.len()
+            + lists.sends.len()
+            + lists.pops.len()
+            + lists.pushes.len()
     }
 
     /// The checks with which each request begins: no fault is kept, and fewer than `MOST_REQUESTS` stand.

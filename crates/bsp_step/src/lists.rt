@@ -3,9 +3,9 @@
 ghost use Rattle.std.specs.Prelude.{◌≡◌, ◌≤◌, ◌<◌, ◌+◌, ◌-◌, ℕ, [], OnOk};
 ghost use Rattle.bsp_model.specs.Columns.{row_at};
 ghost use Rattle.std.specs.Bool.{OnTrue};
-ghost use Rattle.bsp_step.specs.Inside.Outcomes.{IsWithoutColumn, first_at, AreSameLists, HasLists, HasRare, KeepsRest};
+ghost use Rattle.bsp_step.specs.Inside.Outcomes.{IsWithoutColumn, first_at, AreSameLists, HasLists};
 
-use crate::{Ended, ListKind, Outcome, OutcomeRef, RareLists, TurnLists};
+use crate::{Ended, ListKind, OutcomeRef};
 use bsp_model::{
     Column, Fault, Get, LineColumn, MemoryRef, OutOfMemory, PutColumn, SendColumn, Share,
     StoreColumn,
@@ -21,8 +21,8 @@ pub(crate) struct TurnEnd {
     pub(crate) work: u32,
 }
 
-/// The lists of several outcomes, each kind of list in a column of its own. Faults and choices of a tag size are rare: each lies in a row of one
-/// item, and where there is none the row is empty.
+/// The lists of several outcomes, each kind of list in a column of its own. Few turns end with a fault or choose a tag size: each fault and each
+/// choice lies in a row of one item, and where there is none the row is empty.
 #[derive(Drop)]
 pub(crate) struct Lists {
     pub(crate) faults: Column<Fault>,
@@ -86,26 +86,19 @@ impl Lists {
         }
     }
 
-    /// Empties all lists, and makes room in those that most turns fill for one item of each of `count` turns.
-    pub(crate) fn make_room(&mut self, count: usize) -> Result<(), OutOfMemory> {
-        self.clear();
-        self.stores.make_room(count)?;
-        self.puts.make_room(count)?;
-        self.pushes.make_room(count)?;
-        self.lines.make_room(count)
-    }
-
-    /// Empties all lists, and makes a share of the room that those of `like` take.
-    pub(crate) fn make_room_like(&mut self, like: &Lists, share: Share) -> Result<(), OutOfMemory> {
-        self.faults.make_room_like(&like.faults, share)?;
-        self.stores.make_room_like(&like.stores, share)?;
-        self.puts.make_room_like(&like.puts, share)?;
-        self.gets.make_room_like(&like.gets, share)?;
-        self.sends.make_room_like(&like.sends, share)?;
-        self.pops.make_room_like(&like.pops, share)?;
-        self.pushes.make_room_like(&like.pushes, share)?;
-        self.tags.make_room_like(&like.tags, share)?;
-        self.lines.make_room_like(&like.lines, share)
+    /// Makes a share of the room that the lists of others take.
+    pub(crate) fn reserve_like(&mut self, like: &Lists, share: Share) -> Result<(), OutOfMemory>
+        ensures { self.new ≡ self.old }
+    {
+        self.faults.reserve_like(&like.faults, share)?;
+        self.stores.reserve_like(&like.stores, share)?;
+        self.puts.reserve_like(&like.puts, share)?;
+        self.gets.reserve_like(&like.gets, share)?;
+        self.sends.reserve_like(&like.sends, share)?;
+        self.pops.reserve_like(&like.pops, share)?;
+        self.pushes.reserve_like(&like.pushes, share)?;
+        self.tags.reserve_like(&like.tags, share)?;
+        self.lines.reserve_like(&like.lines, share)
     }
 
     /// Leaves no lists for any process. Their room stays.
@@ -144,55 +137,6 @@ impl Lists {
         let lines = self.lines.put(place, &outcome.lines);
         let requests = puts.and(gets).and(sends).and(pops).and(pushes);
         faults.and(stores).and(requests).and(tags).and(lines)
-    }
-
-    /// The same for what a turn has just left, each of whose lists is read where it lies when its turn comes.
-    #[inline(always)]
-    pub(crate) fn put_own(&mut self, place: usize, outcome: &Outcome) -> Result<(), OutOfMemory>
-        ensures before { (k : ℕ) → k < place → AreSameLists self.old k self.new k }
-        ensures there { OnOk result (HasLists self.new place outcome.now.memory outcome.now) }
-    {
-        let lists: &TurnLists = &outcome.lists;
-        let faults = put_fault(&mut self.faults, place, outcome.fault);
-        let memory = lists.memory.as_ref();
-        let stores = self.stores.put(place, &lists.stores.as_ref(), &memory);
-        let puts = self.puts.put(place, &lists.puts.as_ref());
-        let tags = put_tag(&mut self.tags, place, outcome.tag);
-        let rare = self.put_rare(place, &lists.rare);
-        faults.and(stores).and(puts).and(tags).and(rare)
-    }
-
-    /// Makes copies of these lists those of a process, behind which none stand any more. After `OutOfMemory` some of them are.
-    #[inline(always)]
-    fn put_rare(&mut self, place: usize, rare: &RareLists) -> Result<(), OutOfMemory>
-        ensures before { (k : ℕ) → k < place → AreSameLists self.old k self.new k }
-        ensures there { OnOk result (HasRare self.new place rare.now) }
-        ensures rest { KeepsRest self.old self.new }
-    {
-        if rare.is_used() {
-            return self.copy_rare(place, rare);
-        }
-        self.gets.cut(place);
-        self.sends.cut(place);
-        self.pops.cut(place);
-        self.pushes.cut(place);
-        self.lines.cut(place);
-        Ok(())
-    }
-
-    /// The same, where the flag of `rare` is up.
-    #[inline(never)]
-    fn copy_rare(&mut self, place: usize, rare: &RareLists) -> Result<(), OutOfMemory>
-        ensures before { (k : ℕ) → k < place → AreSameLists self.old k self.new k }
-        ensures there { OnOk result (HasRare self.new place rare.now) }
-        ensures rest { KeepsRest self.old self.new }
-    {
-        let gets = self.gets.put(place, rare.gets());
-        let sends = self.sends.put(place, &rare.sends());
-        let pops = self.pops.put(place, rare.pops());
-        let pushes = self.pushes.put(place, rare.pushes());
-        let lines = self.lines.put(place, &rare.lines());
-        gets.and(sends).and(pops).and(pushes).and(lines)
     }
 
     /// Whether no list of a kind stands.

@@ -70,12 +70,12 @@ impl Outcome {
             memory: lists.memory.as_ref(),
             stores: lists.stores.as_ref(),
             puts: lists.puts.as_ref(),
-            gets: lists.rare.gets(),
-            sends: lists.rare.sends(),
-            pops: lists.rare.pops(),
-            pushes: lists.rare.pushes(),
+            gets: lists.gets.as_slice(),
+            sends: lists.sends.as_ref(),
+            pops: lists.pops.as_slice(),
+            pushes: lists.pushes.as_slice(),
             tag: self.tag,
-            lines: lists.rare.lines(),
+            lines: lists.lines.as_ref(),
             work: self.work,
         }
     }
@@ -87,7 +87,7 @@ impl TryCopy for Outcome {
         Ok(Outcome {
             fault: self.fault,
             ended: self.ended,
-            lists: Box::new(lists.rare.allocator(), lists.copy()?)?,
+            lists: Box::new(lists.gets.allocator(), lists.copy()?)?,
             tag: self.tag,
             work: self.work,
         })

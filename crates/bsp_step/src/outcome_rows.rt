@@ -11,7 +11,7 @@ ghost use Rattle.bsp_step.specs.ListKind.{IsWithout};
 use crate::lists::{Lists, TurnEnd};
 use crate::{ListKind, Outcome, OutcomeRef, Outcomes, TurnLists};
 use bsp_model::{
-    ByProcess, LineColumn, Memories, Memory, OutOfMemory, ProcessSet, Share, replaced_in,
+    ByProcess, LineColumn, Memories, Memory, OutOfMemory, ProcessSet, Share, add_replaced,
 };
 use std::alloc::Global;
 use std::marker::Model;
@@ -38,45 +38,45 @@ impl Model for OutcomeRows {
 }
 
 impl OutcomeRows {
-    /// No outcomes, with room for so many, or `OutOfMemory`.
-    pub fn with_capacity(alloc: Global, count: usize) -> Result<OutcomeRows, OutOfMemory>
+    /// No outcomes, or `OutOfMemory`.
+    pub fn new(alloc: Global) -> Result<OutcomeRows, OutOfMemory>
         ensures { IfOk result (λ o. o ≡ []) }
     {
         Ok(OutcomeRows {
-            ends: Vec::with_capacity(alloc, count)?,
-            memories: Memories::with_capacity(alloc, count)?,
+            ends: Vec::new(alloc),
+            memories: Memories::new(alloc),
             lists: Box::new(alloc, Lists::new(alloc))?,
         })
     }
 
-    /// The same, with room in most lists too: for outcomes of all processes, superstep after superstep in the same lists.
-    pub(crate) fn with_room(alloc: Global, count: usize) -> Result<OutcomeRows, OutOfMemory>
+    /// No outcomes, with room for so many, or `OutOfMemory`.
+    pub fn with_capacity(alloc: Global, count: usize) -> Result<OutcomeRows, OutOfMemory>
         ensures { IfOk result (λ o. o ≡ []) }
     {
-        let mut rows = OutcomeRows {
-            ends: Vec::with_capacity(alloc, count)?,
-            memories: Memories::with_capacity(alloc, count)?,
-            lists: Box::new(alloc, Lists::new(alloc))?,
-        };
-        rows.lists.make_room(count)?;
+        let mut rows = OutcomeRows::new(alloc)?;
+        rows.reserve(count)?;
         Ok(rows)
     }
 
-    /// No outcomes, with a share of the room that these take, or `OutOfMemory`.
-    pub(crate) fn with_room_of(
-        alloc: Global,
+    /// Makes room for so many outcomes more, but not in their lists.
+    fn reserve(&mut self, count: usize) -> Result<(), OutOfMemory>
+        ensures { self.new ≡ self.old }
+    {
+        self.ends.reserve(count)?;
+        self.memories.reserve(count)
+    }
+
+    /// Makes a share of the room that other outcomes take.
+    pub(crate) fn reserve_like(
+        &mut self,
         like: &OutcomeRows,
         share: Share,
-    ) -> Result<OutcomeRows, OutOfMemory>
-        ensures { IfOk result (λ o. o ≡ []) }
+    ) -> Result<(), OutOfMemory>
+        ensures { self.new ≡ self.old }
     {
-        let mut rows = OutcomeRows {
-            ends: Vec::with_capacity(alloc, share.part(like.ends.len()))?,
-            memories: Memories::with_room_of(alloc, &like.memories, share)?,
-            lists: Box::new(alloc, Lists::new(alloc))?,
-        };
-        rows.lists.make_room_like(&like.lists, share)?;
-        Ok(rows)
+        self.ends.reserve(share.part(like.ends.len()))?;
+        self.memories.reserve_like(&like.memories, share)?;
+        self.lists.reserve_like(&like.lists, share)
     }
 
     /// Takes all outcomes away. Their room stays.
@@ -88,37 +88,41 @@ impl OutcomeRows {
         self.lists.clear();
     }
 
-    /// No memories, in the room of others, which is made enough for a share of those of these outcomes. Or `OutOfMemory`.
-    pub(crate) fn room_for_memories(
+    /// Makes room for a share of the memories of these outcomes.
+    pub(crate) fn reserve_memories(
         &self,
-        room: Memories,
+        memories: &mut Memories,
         share: Share,
-    ) -> Result<Memories, OutOfMemory>
-        ensures { IfOk result (λ m. m ≡ []) }
+    ) -> Result<(), OutOfMemory>
+        ensures { memories.new ≡ memories.old }
     {
-        room.into_room_like(&self.memories, share)
+        memories.reserve_like(&self.memories, share)
     }
 
-    /// Copies of all memories in the room of others, or `OutOfMemory`.
-    pub(crate) fn memories(&self, room: Memories) -> Result<Memories, OutOfMemory>
-        ensures { IfOk result (λ m. m ≡ map (λ o. o.memory) self.now) }
+    /// Makes `memories` copies of all memories, or `OutOfMemory`.
+    pub(crate) fn copy_memories(&self, memories: &mut Memories) -> Result<(), OutOfMemory>
+        ensures { OnOk result (memories.new ≡ map (λ o. o.memory) self.now) }
     {
-        Ok(self.memories.copy_into(room)?)
+        memories.copy_from(&self.memories)?;
+        Ok(())
     }
 
     /// The same, but for those of new outcomes of some processes, which are in ascending order.
-    pub(crate) fn memories_replaced(
+    pub(crate) fn copy_memories_replaced(
         &self,
         processes: &[usize],
         new: &OutcomeRows,
-        room: Memories,
-    ) -> Result<Memories, OutOfMemory>
+        memories: &mut Memories,
+    ) -> Result<(), OutOfMemory>
         requires known { All (λ p. p < length self.now) processes.now }
         requires ascending { IsAscending processes.now }
         requires count { length new.now ≡ length processes.now }
-        ensures { IfOk result (λ m. m ≡ map (λ o. o.memory) (replaced self.now processes.now new.now)) }
+        ensures { OnOk result (memories.new ≡ map (λ o. o.memory) (replaced self.now processes.now new.now)) }
     {
-        Ok(self.memories.replaced_into(processes, &new.memories, room)?)
+        memories.clear();
+        memories.reserve_like(&self.memories, Share::whole())?;
+        add_replaced(memories, &self.memories, processes, &new.memories)?;
+        Ok(())
     }
 
     /// Makes the lines of all processes the column `lines`, or `OutOfMemory`.
@@ -197,11 +201,12 @@ impl OutcomeRows {
         ensures err { OnErr result (self.new ≡ self.old) }
     {
         let mut outcome = outcome;
+        let left = outcome.as_ref();
         let end = TurnEnd {
-            ended: outcome.ended,
-            work: outcome.work as u32,
+            ended: left.ended,
+            work: left.work as u32,
         };
-        self.lists.put_own(self.ends.len(), &outcome)?;
+        self.lists.put(self.ends.len(), &left, &left.memory)?;
         self.ends.reserve(1)?;
         let lists: &mut TurnLists = &mut outcome.lists;
         self.memories.push_from(&mut lists.memory)?;
@@ -252,8 +257,10 @@ impl OutcomeRows {
         requires count { length new.now ≡ length processes.now }
         ensures { IfOk result (λ o. o ≡ replaced self.now processes.now new.now) }
     {
-        let room = OutcomeRows::with_room_of(alloc, self, Share::whole())?;
-        Ok(replaced_in(room, self, processes, new)?)
+        let mut all = OutcomeRows::new(alloc)?;
+        all.reserve_like(self, Share::whole())?;
+        add_replaced(&mut all, self, processes, new)?;
+        Ok(all)
     }
 
     /// These outcomes, which stay as they are, or `OutOfMemory`.
@@ -275,24 +282,17 @@ impl ByProcess for OutcomeRows {
         self.len()
     }
 
-    fn with_range(
-        self,
+    fn append_range(
+        &mut self,
         more: &OutcomeRows,
         from: usize,
         to: usize,
-    ) -> Result<OutcomeRows, OutOfMemory> {
-        let OutcomeRows {
-            mut ends,
-            memories,
-            mut lists,
-        } = self;
-        lists.take_range(ends.len(), &more.lists, from, to)?;
-        ends.extend_from_slice(&more.ends[from..to])?;
-        let memories = memories.with_range(&more.memories, from, to)?;
-        Ok(OutcomeRows {
-            ends,
-            memories,
-            lists,
-        })
+    ) -> Result<(), OutOfMemory> {
+        self.lists
+            .take_range(self.ends.len(), &more.lists, from, to)?;
+        self.ends.reserve(to - from)?;
+        self.memories.append_range(&more.memories, from, to)?;
+        self.ends.extend_from_slice(&more.ends[from..to]).unwrap();
+        Ok(())
     }
 }

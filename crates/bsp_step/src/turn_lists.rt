@@ -3,8 +3,10 @@
 ghost use Rattle.std.specs.Prelude.{◌≡◌, ◌≤◌, ◌+◌, ◌++◌, ◌∷◌, [], drop, length, take, OnErr, OnOk};
 ghost use Rattle.bsp_step.specs.Inside.TurnLists.{no_lists};
 
-use crate::RareLists;
-use bsp_model::{Memory, MemoryRef, OutOfMemory, Puts, Stores, TryCopy};
+use bsp_model::{
+    Get, Memory, MemoryRef, OutOfMemory, PrintedLines, Puts, Sends, Seq, Stores, TryCopy,
+};
+use bsp_table::Area;
 use std::alloc::Global;
 
 /// The lists that a turn leaves, its memory first. They lie in a box, so that an outcome and a context that move take few words with them.
@@ -16,8 +18,16 @@ pub struct TurnLists {
     pub stores: Stores,
     /// The puts, in issue order, resolved to process and start word.
     pub puts: Puts,
-    /// The other requests and the printed lines.
-    pub rare: RareLists,
+    /// The gets, in issue order, resolved to process and start word.
+    pub gets: Seq<Get>,
+    /// The sends, in issue order.
+    pub sends: Sends,
+    /// The popped slots, in issue order.
+    pub pops: Seq<usize>,
+    /// The pushed areas, in issue order.
+    pub pushes: Seq<Area>,
+    /// The printed lines, in order.
+    pub lines: PrintedLines,
 }
 
 impl TurnLists {
@@ -29,7 +39,11 @@ impl TurnLists {
             memory: Memory::new(alloc),
             stores: Stores::new(alloc),
             puts: Puts::new(alloc),
-            rare: RareLists::new(alloc),
+            gets: Seq::new(alloc),
+            sends: Sends::new(alloc),
+            pops: Seq::new(alloc),
+            pushes: Seq::new(alloc),
+            lines: PrintedLines::new(alloc),
         }
     }
 
@@ -41,7 +55,11 @@ impl TurnLists {
     {
         self.stores.clear();
         self.puts.clear();
-        self.rare.clear();
+        self.gets.clear();
+        self.sends.clear();
+        self.pops.clear();
+        self.pushes.clear();
+        self.lines.clear();
         self.memory.load_from(memory)
     }
 
@@ -72,7 +90,11 @@ impl TryCopy for TurnLists {
             memory: self.memory.copy()?,
             stores: self.stores.copy()?,
             puts: self.puts.copy()?,
-            rare: self.rare.copy()?,
+            gets: self.gets.copy()?,
+            sends: self.sends.copy()?,
+            pops: self.pops.copy()?,
+            pushes: self.pushes.copy()?,
+            lines: self.lines.copy()?,
         })
     }
 }

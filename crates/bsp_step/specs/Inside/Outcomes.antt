@@ -10,7 +10,6 @@ use Rattle.bsp_step.specs.declared.list_kind.ListKind.TheVariants.{Faults, Gets,
 use Rattle.bsp_step.specs.declared.lists.Lists.{Lists}
 use Rattle.bsp_step.specs.declared.lists.TurnEnd.{TurnEnd}
 use Rattle.bsp_step.specs.OutcomeParts.{OutcomeParts, IsOutcome}
-use Rattle.bsp_step.specs.Inside.RareLists.{RareParts}
 
 -- how the turn of a process that there is not ended
 abbrev pub no_end : TurnEnd
@@ -65,21 +64,6 @@ pub record HasLists (lists : Lists) (k : ℕ) (memory : List ℕ) (o : OutcomePa
   pub pushes : row_at lists.pushes k ≡ o.pushes
   pub tags : first_at lists.tags k ≡ o.tag
   pub lines : row_at lists.lines k ≡ o.lines
-
--- The lists have these, which few turns leave, as the rows of a process.
-pub record HasRare (lists : Lists) (k : ℕ) (rare : RareParts) : Type 0 where
-  pub gets : row_at lists.gets k ≡ rare.gets
-  pub sends : row_at lists.sends k ≡ rare.sends
-  pub pops : row_at lists.pops k ≡ rare.pops
-  pub pushes : row_at lists.pushes k ≡ rare.pushes
-  pub lines : row_at lists.lines k ≡ rare.lines
-
--- The others than these are the same in two of them.
-pub record KeepsRest (old new : Lists) : Type 0 where
-  pub faults : new.faults ≡ old.faults
-  pub stores : new.stores ≡ old.stores
-  pub puts : new.puts ≡ old.puts
-  pub tags : new.tags ≡ old.tags
 
 -- A process has the rows that another one has in other lists.
 pub record AreSameLists (old : Lists) (j : ℕ) (new : Lists) (k : ℕ) : Type 0 where

@@ -1,8 +1,7 @@
 -- The lists that a turn leaves, which outcomes and contexts keep in a box.
 use Rattle.std.specs.Prelude.{List, ℕ, []}
 use Rattle.bsp_step.specs.declared.turn_lists.TurnLists.{TurnLists}
-use Rattle.bsp_step.specs.Inside.RareLists.{nothing_rare}
 
 -- those of a turn that did nothing, with this memory
 abbrev pub no_lists : List ℕ → TurnLists
-no_lists memory = record { memory = memory; stores = []; puts = []; rare = nothing_rare }
+no_lists memory = record { memory = memory; stores = []; puts = []; gets = []; sends = []; pops = []; pushes = []; lines = [] }

@@ -55,13 +55,13 @@ impl<'v> Ctx<'v> {
         if let Some(fault) = self.fault {
             return Err(Stop::Fault(fault));
         }
-        if self.lists.rare.lines().len() >= MOST_LINES {
+        if self.lists.lines.len() >= MOST_LINES {
             return self.refuse(Fault::LineLimit);
         }
         if words.len() > MOST_LINE_WORDS {
             return self.refuse(Fault::TooLong);
         }
-        self.lists.rare.push_line(words)?;
+        self.lists.lines.push(words)?;
         Ok(())
     }
 }

@@ -74,7 +74,7 @@ impl<'v> Ctx<'v> {
         if words.len() > MOST_PAYLOAD_WORDS {
             return self.refuse(Fault::TooLong);
         }
-        self.lists.rare.push_send(pid, tag, words)?;
+        self.lists.sends.push(pid, tag, words)?;
         Ok(())
     }
 

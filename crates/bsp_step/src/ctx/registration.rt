@@ -20,7 +20,7 @@ impl<'v> Ctx<'v> {
         if start > words || len > words - start {
             return self.refuse(Fault::BadLocal);
         }
-        self.lists.rare.push_area(Area { start, len })?;
+        self.lists.pushes.push(Area { start, len })?;
         Ok(())
     }
 
@@ -33,11 +33,11 @@ impl<'v> Ctx<'v> {
     {
         self.begin_request()?;
         let view = self.view;
-        let popped = self.lists.rare.pops();
+        let popped = self.lists.pops.as_slice();
         let Some(slot) = view.table.find_under(view.pid, start, popped) else {
             return self.refuse(Fault::NotRegistered(start));
         };
-        self.lists.rare.push_pop(slot)?;
+        self.lists.pops.push(slot)?;
         Ok(())
     }
 }

@@ -74,7 +74,7 @@ impl<'v> Ctx<'v> {
         if into > own || len > own - into {
             return self.refuse(Fault::BadLocal);
         }
-        self.lists.rare.push_get(Get {
+        self.lists.gets.push(Get {
             owner: pid,
             start,
             len,

@@ -1,6 +1,6 @@
 //! The outcomes of few processes, which lie apart from those of all.
 
-ghost use Rattle.std.specs.Prelude.{◌≡◌, ◌≤◌, ◌<◌, ℕ, All, IfOk, length, map};
+ghost use Rattle.std.specs.Prelude.{◌≡◌, ◌≤◌, ◌<◌, ℕ, All, IfOk, OnOk, length, map};
 ghost use Rattle.std.specs.Bool.{OnTrue};
 ghost use Rattle.bsp_model.specs.PutsTo.{AreToNone};
 ghost use Rattle.bsp_model.specs.Replaced.{IsAscending};
@@ -68,12 +68,17 @@ impl Others {
         Ok(Shared::new(alloc, rows.replaced(alloc, apart, &self.rows)?)?)
     }
 
-    /// Copies of the memories of all processes, of these and of all others, in the room of others. Or `OutOfMemory`.
-    pub fn memories(&self, rows: &OutcomeRows, room: Memories) -> Result<Memories, OutOfMemory>
+    /// Makes `memories` copies of the memories of all processes, of these and of all others. Or `OutOfMemory`.
+    pub fn copy_memories(
+        &self,
+        rows: &OutcomeRows,
+        memories: &mut Memories,
+    ) -> Result<(), OutOfMemory>
         requires others { AreOthers rows.now self.now }
-        ensures { IfOk result (λ m. m ≡ map (λ o. o.memory) (with_others rows.now self.now)) }
+        ensures { OnOk result (memories.new ≡ map (λ o. o.memory) (with_others rows.now self.now)) }
     {
-        Ok(rows.memories_replaced(self.processes.as_slice(), &self.rows, room)?)
+        rows.copy_memories_replaced(self.processes.as_slice(), &self.rows, memories)?;
+        Ok(())
     }
 
     /// The first process from `from` on whose turn may put something to one of these processes, or the number of processes.

@@ -22,44 +22,46 @@ impl Outcomes {
     {
         match &self.rows {
             Some(rows) if is_worth_room(count, rows.len()) => {
-                OutcomeRows::with_room_of(alloc, rows, Share::of(count, rows.len()))
+                let mut room = OutcomeRows::new(alloc)?;
+                room.reserve_like(rows, Share::of(count, rows.len()))?;
+                Ok(room)
             }
             _ => OutcomeRows::with_capacity(alloc, count),
         }
     }
 
-    /// The same, where these outcomes are no longer needed: their own lists, unless copies share them. Where there are none, there is room for what as
-    /// many turns mostly leave.
+    /// The same, where these outcomes are no longer needed: their own lists, unless copies share them.
     pub fn into_room(self, alloc: Global, count: usize) -> Result<OutcomeRows, OutOfMemory>
         ensures { IfOk result (λ o. o ≡ []) }
     {
         let Outcomes { rows, others: _ } = self;
         let Some(rows) = rows else {
-            return OutcomeRows::with_room(alloc, count);
+            return OutcomeRows::with_capacity(alloc, count);
         };
         match rows.try_unwrap() {
             Ok(mut rows) => {
                 rows.clear();
                 Ok(rows)
             }
-            Err(rows) => Outcomes {
-                rows: Some(rows),
-                others: None,
-            }
-            .room_for(alloc, count),
+            Err(_) => OutcomeRows::with_capacity(alloc, count),
         }
     }
 
-    /// Lists in which so many memories are to be gathered, none of which is there yet, in the room of others. Where these outcomes are as many,
-    /// or more but not very many more, there is room for the share that so many of their memories have. Or `OutOfMemory`.
-    pub fn room_for_memories(&self, count: usize, room: Memories) -> Result<Memories, OutOfMemory>
-        ensures { IfOk result (λ m. m ≡ []) }
+    /// Takes all memories away, and makes room for so many. Where these outcomes are as many, or more but not very many more, there is room for the
+    /// share that so many of their memories have. Or `OutOfMemory`.
+    pub fn make_room_for_memories(
+        &self,
+        count: usize,
+        memories: &mut Memories,
+    ) -> Result<(), OutOfMemory>
+        ensures { memories.new ≡ [] }
     {
+        memories.clear();
         match &self.rows {
             Some(rows) if is_worth_room(count, rows.len()) => {
-                rows.room_for_memories(room, Share::of(count, rows.len()))
+                rows.reserve_memories(memories, Share::of(count, rows.len()))
             }
-            _ => room.into_room(count),
+            _ => memories.reserve(count),
         }
     }
 
@@ -73,29 +75,36 @@ impl Outcomes {
         }
     }
 
-    /// Copies of the memories of all processes, in the room of others: in one piece, or in few where some outcomes lie apart. Or `OutOfMemory`.
-    pub fn memories(&self, room: Memories) -> Result<Memories, OutOfMemory>
-        ensures { IfOk result (λ m. m ≡ map (λ o. o.memory) self.now) }
+    /// Makes `memories` copies of the memories of all processes: in one piece, or in few where some outcomes lie apart. Or `OutOfMemory`.
+    pub fn copy_memories(&self, memories: &mut Memories) -> Result<(), OutOfMemory>
+        ensures { OnOk result (memories.new ≡ map (λ o. o.memory) self.now) }
     {
         match (&self.rows, &self.others) {
-            (Some(rows), Some(others)) => Ok(others.memories(rows, room)?),
-            (Some(rows), None) => Ok(rows.memories(room)?),
-            (None, _) => room.into_room(0),
+            (Some(rows), Some(others)) => others.copy_memories(rows, memories),
+            (Some(rows), None) => rows.copy_memories(memories),
+            (None, _) => {
+                memories.clear();
+                Ok(())
+            }
         }
     }
 
-    /// Copies of the memories of some processes, which are in ascending order, in the room of others. Or `OutOfMemory`.
-    pub fn memories_of(&self, processes: &[usize], room: Memories) -> Result<Memories, OutOfMemory>
+    /// Makes `memories` copies of the memories of some processes, which are in ascending order. Or `OutOfMemory`.
+    pub fn copy_memories_of(
+        &self,
+        processes: &[usize],
+        memories: &mut Memories,
+    ) -> Result<(), OutOfMemory>
         requires known { All (λ p. p < length self.now) processes.now }
         requires ascending { IsAscending processes.now }
-        ensures { IfOk result (λ m. m ≡ map (λ p. (outcome_of self.now p).memory) processes.now) }
+        ensures { OnOk result (memories.new ≡ map (λ p. (outcome_of self.now p).memory) processes.now) }
     {
         if processes.len() == self.len() {
-            return self.memories(room);
+            return self.copy_memories(memories);
         }
-        let mut memories = room.into_room(processes.len())?;
-        self.push_memories(processes, &mut memories)?;
-        Ok(memories)
+        memories.clear();
+        memories.reserve(processes.len())?;
+        self.push_memories(processes, memories)
     }
 
     /// Adds copies of the memories of some processes to `memories`. After `OutOfMemory` some of them are added.
@@ -122,7 +131,7 @@ impl Outcomes {
     fn copy_lines(&self, lines: &mut LineColumn) -> Result<(), OutOfMemory>
         ensures { OnOk result ((p : ℕ) → row_at lines.new p ≡ (outcome_of self.now p).lines) }
     {
-        lines.make_room(self.len())?;
+        lines.clear();
         if let Some(rows) = self.all_rows() {
             return rows.copy_lines(lines);
         }

@@ -8,7 +8,7 @@ use Rattle.bsp_deliver.proofs.touched.touched_by_changes.Goals as goal
 
 pub mark_touched-requires-clause-as_many : goal.mark_touched-requires-clause-as_many
 mark_touched-requires-clause-as_many c =
-    ap (λ (bs : List Bool). length bs) c.in_ok-touched.ensures ∙ length-replicate c.len.result false ∙ c.len.ensures
+    ap (λ (bs : List Bool). length bs) c.none-touched.ensures ∙ length-replicate c.len.result false ∙ c.len.ensures
 
 -- where no process was marked at first, those are not marked of which the rest holds
 touched_of_marks : (os us : List OutcomeParts) (marks : List Bool) → AreMarkedUnless (λ d. delivery_parts os d ≡ delivery_parts us d) (replicate (length us) false) marks → AreTouched os us marks
@@ -23,5 +23,5 @@ returns c =
     let os = c.args.old.now in
     let us = c.args.new.now in
     let marks : List Bool = c.mark_touched.new.marks in
-    let none : c.in_ok-touched.touched ≡ replicate (length us) false = c.in_ok-touched.ensures ∙ ap (λ n. replicate n false) c.len.ensures in
+    let none : c.none-touched.result ≡ replicate (length us) false = c.none-touched.ensures ∙ ap (λ n. replicate n false) c.len.ensures in
     touched_of_marks os us marks (subst (λ (bs : List Bool). AreMarkedUnless (λ d. delivery_parts os d ≡ delivery_parts us d) bs marks) none c.mark_touched.ensures)
