@@ -16,9 +16,7 @@ use Rattle.bsp_incr.specs.Inside.Changes.{differs, processes_where}
 use Rattle.bsp_incr.specs.Inside.Marks.{AreMarked, ViewsDifferAtMost, HaveOneTable}
 use Rattle.bsp_model.specs.ProcessSet.{processes_in}
 use Rattle.bsp_model.specs.Replaced.{replaced}
-use Rattle.bsp_deliver.specs.Requests.{each_below}
-use Rattle.bsp_incr.proofs.Gathering.{all_where}
-use Rattle.bsp_incr.proofs.Members.{each_below-same, filled_among}
+use Rattle.bsp_incr.proofs.Gathering.{all_where, filter_from, filter_twice}
 use Rattle.bsp_incr.proofs.Patching.{patched, patched_at, patched_is, put_or_there}
 use Rattle.bsp_model.proofs.Replaced.{length-replaced}
 use Rattle.bsp_incr.proofs.Serving.{serves-itself}
@@ -72,20 +70,21 @@ needed_if : (b d : Bool) → (b ≡ false → d ≡ false) → (b && d) ≡ d
 needed_if true d h = refl
 needed_if false d h = sym (h refl)
 
-pub needed_among : (looks : ViewParts → ℕ → Bool) (old new : List ViewParts) (set : List Bool) → ViewsDifferAtMost old new set → patched (λ _. true) (replicate (length set) false) (filter (differs looks old new) (processes_in set)) ≡ each_below (length new) (differs looks old new)
+pub needed_among : (looks : ViewParts → ℕ → Bool) (old new : List ViewParts) (set : List Bool) → ViewsDifferAtMost old new set → filter (differs looks old new) (processes_in set) ≡ processes_where (length new) (differs looks old new)
 needed_among looks old new set h =
     let d = differs looks old new in
-    filled_among d set ∙ ap (λ n. each_below n (λ p. get_or set p false && d p)) h.count
-    ∙ each_below-same (length new) (λ p. get_or set p false && d p) d
-    (λ p l.
+    filter_twice (λ p. get_or set p false) d (range_with_len 0 (length set)) ∙ ap (λ n. processes_where n (λ p. get_or set p false && d p)) h.count
+    ∙ filter_from (λ p. get_or set p false && d p) d 0 (length new)
+    (λ p low high.
+    let l : p < length new = omega arith in
     let among : p < length set = omega (arith, l, h.count) in
     needed_if (get_or set p false) (d p) (λ t. let seen = h.same p l (get_or_default set p true false among ∙ t) in differs-same looks old new p seen.0 seen.1))
 
 -- .. and besides them those for which the recorded turn serves.
 pub served_among : (looks : ViewParts → ℕ → Bool) (old new : List ViewParts) (set : List Bool) → ViewsDifferAtMost old new set
-    → patched (λ _. true) (replicate (length set) false) (filter (λ p. not (differs looks old new p)) (processes_in set)) ≡ each_below (length new) (λ p. get_or set p false && not (differs looks old new p))
+    → filter (λ p. not (differs looks old new p)) (processes_in set) ≡ processes_where (length new) (λ p. get_or set p false && not (differs looks old new p))
 served_among looks old new set h =
-    filled_among (λ p. not (differs looks old new p)) set ∙ ap (λ n. each_below n (λ p. get_or set p false && not (differs looks old new p))) h.count
+    filter_twice (λ p. get_or set p false) (λ p. not (differs looks old new p)) (range_with_len 0 (length set)) ∙ ap (λ n. processes_where n (λ p. get_or set p false && not (differs looks old new p))) h.count
 
 both_true : (t d : Bool) → (t && not d) ≡ true → d ≡ false
 both_true true true h = cc

@@ -8,7 +8,7 @@ use bsp_run::RunResult;
 use std::alloc::Global;
 
 /// A process in a superstep.
-#[derive(Clone, Copy, Debug, PartialEq, Eq)]
+#[derive(Clone, Copy, PartialEq, Eq)]
 pub struct Place {
     /// The number of the superstep.
     pub step: u64,
@@ -17,7 +17,7 @@ pub struct Place {
 }
 
 /// What was done again for a change.
-#[derive(Debug, Drop)]
+#[derive(Drop)]
 pub struct Update {
     /// The turns that were taken again, by superstep, then process.
     pub executed: Seq<Place>,

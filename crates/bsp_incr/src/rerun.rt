@@ -10,8 +10,6 @@ ghost use Rattle.bsp_incr.specs.Edits.{refusal_of, edited};
 ghost use Rattle.bsp_incr.specs.Inside.Before.{IsBefore, IsBeforeEdits};
 ghost use Rattle.bsp_incr.specs.Inside.Marks.{AreArgsMarked, AreFirstMarked};
 ghost use Rattle.bsp_run.specs.TurnBy.{turn_by};
-ghost use Rattle.bsp_incr.specs.Inside.Given.{IsMidway};
-ghost use Rattle.bsp_incr.specs.Inside.Known.{KnowsTable};
 
 mod finishing;
 mod given;
@@ -34,44 +32,25 @@ use std::thread::Threads;
 pub use under_way::UnderWay;
 pub use workers::Workers;
 
-/// Supersteps of a run that has just been opened, until it has ended.
+/// The supersteps of a run that has just been opened, and what was done for them. The processes in `first` begin with something else than in the run
+/// before.
 fn remake_all<P: Program, G: Gate, R: Threads + Sync>(
     given: &Given<'_, P, R, G>,
     tape: &mut Tape,
-    under_way: &mut UnderWay,
-) -> Result<(), OutOfMemory>
+    first: ProcessSet,
+) -> Result<Update, OutOfMemory>
     requires started { tape.old ≡ start given.now.input }
-    requires under_way { IsMidway P.Program given.now tape.old under_way.old }
-    requires table { KnowsTable given.now.before tape.old under_way.old.table }
+    requires first { AreFirstMarked given.now.before given.now.input first }
     ensures ended { OnOk result (is_ended tape.new.phase ≡ true) }
     ensures run { OnOk result (tape.new ≡ run (turn_by P.Program given.now.program) given.now.input) }
-    ensures update { OnOk result (under_way.new.update
-        ≡ update_of (P.looks given.now.program) given.now.before tape.new) }
+    ensures update { IfOk result
+        (λ update. update ≡ update_of (P.looks given.now.program) given.now.before tape.new) }
 {
-    // That the input is lawful is known where it is read.
-    let _input = given.input;
-    while tape.is_open() {
-        advance(given, tape, under_way)?;
-    }
-    Ok(())
-}
-
-/// The run of a program that is made again, and what was done for it. The processes in `first` begin with something else than in the run before.
-fn remade<P: Program, G: Gate, R: Threads + Sync>(
-    given: &Given<'_, P, R, G>,
-    first: ProcessSet,
-) -> Result<(Tape, Update), OutOfMemory>
-    requires first { AreFirstMarked given.now.before given.now.input first }
-    ensures ended { IfOk result (λ r. is_ended r.0.phase ≡ true) }
-    ensures run { IfOk result (λ r. r.0 ≡ run (turn_by P.Program given.now.program) given.now.input) }
-    ensures update { IfOk result (λ r. r.1 ≡ update_of (P.looks given.now.program) given.now.before r.0) }
-{
-    // That the input is lawful is known where it is read.
-    let _input = given.input;
-    let mut tape = opened(given, &first)?;
     let mut under_way = UnderWay::new(given.workers.alloc, first);
-    remake_all(given, &mut tape, &mut under_way)?;
-    Ok((tape, under_way.into_update()))
+    while tape.is_open() {
+        advance(given, tape, &mut under_way)?;
+    }
+    Ok(under_way.update)
 }
 
 /// The run of a program on a lawful input, made against the run before, if there was one, of the same program and as many processes: a turn is
@@ -100,7 +79,8 @@ pub fn rerun<P: Program, G: Gate, R: Threads + Sync>(
         old,
         other_args: &args,
     };
-    let (tape, update) = remade(&given, first)?;
+    let mut tape = opened(&given, &first)?;
+    let update = remake_all(&given, &mut tape, first)?;
     let executed = update.executed.as_slice();
     let history = finished(alloc, old, tape, input.mems.len(), executed)?;
     Ok((history, update))

@@ -1,19 +1,21 @@
 -- The shares of all processes are a whole superstep.
-use Rattle.std.proofs.Common.{◌≡◌, ℕ, List, [], map, length, All, get_or, true, sym, ap, ◌∙◌, subst, refl}
+use Rattle.std.proofs.Common.{◌≡◌, ◌<◌, ℕ, List, [], map, length, All, get_or, true, sym, ap, ◌∙◌, subst, refl}
 use Rattle.std.specs.List.{range_with_len}
 use Rattle.std.proofs.lemmas.List.{get_or-map, length-map}
 use Rattle.std.proofs.lemmas.List.FromFn.{fill_by_all}
 use Rattle.bsp_model.specs.declared.request.Message.{Message}
 use Rattle.bsp_model.specs.declared.fault.End.{End}
 use Rattle.bsp_step.specs.ViewParts.{ViewParts, IsView}
-use Rattle.bsp_step.specs.OutcomeParts.{OutcomeParts, no_outcome, outcome_of}
+use Rattle.bsp_step.specs.OutcomeParts.{OutcomeParts, no_outcome}
 use Rattle.bsp_step.specs.Act.{Act}
 use Rattle.bsp_step.specs.Turn.{turn_of}
-use Rattle.bsp_run.specs.Run.{Run, open_views, after_turns}
+use Rattle.bsp_run.specs.Run.{Run, after_turns}
 use Rattle.bsp_run.specs.Condition.{AreOutcomesOf, no_view, is_turned, deliveries_of}
 use Rattle.bsp_run.specs.Supersteps.{superstep_shown}
 use Rattle.bsp_run.specs.Shares.{turns_of, deliveries_to}
 use Rattle.bsp_run.proofs.Runs.{outcomes_shown-turned, turned_phase_is}
+use Rattle.bsp_run.specs.Inside.Turns.{AreTurnsOf}
+use Rattle.bsp_run.proofs.Lists.{range_below}
 use Rattle.bsp_run.proofs.Turns.{AreOutcomesOf-turns}
 
 -- the turns of all processes, by number, are those of all views
@@ -26,27 +28,17 @@ pub deliveries_to-all : (os : List OutcomeParts) → deliveries_to os (range_wit
 unfolding deliveries_of
 deliveries_to-all os = refl
 
--- the memories of all processes, by number
-pub memories-all : (os : List OutcomeParts) → map (λ p. (outcome_of os p).memory) (range_with_len 0 (length os)) ≡ map (λ o. o.memory) os
-memories-all os =
-    let memory = λ (o : OutcomeParts). o.memory in
-    sym (fill_by_all (λ p. (outcome_of os p).memory) (map memory os) (length os) [] (length-map os memory) (λ p l. get_or-map memory os p no_outcome [] l))
-
--- What is known of the outcomes of the open superstep that are made of the views shown.
-pub record AreTurnsOf (turn : ViewParts → OutcomeParts) (r : Run) (vs : List ViewParts) (os : List OutcomeParts) : Type 0 where
-  pub turns : os ≡ map turn (open_views r)
-  pub outcomes : AreOutcomesOf (open_views r) os
-  pub count : length os ≡ length vs
-
-pub turns_made : (acts : ViewParts → List Act) (ending : ViewParts → End) (r : Run) (vs : List ViewParts) (ps : List ℕ) (os : List OutcomeParts) → vs ≡ open_views r → All IsView vs → ps ≡ range_with_len 0 (length vs) → os ≡ turns_of (turn_of acts ending) vs ps → AreTurnsOf (turn_of acts ending) r vs os
-turns_made acts ending r vs ps os views limits all made =
+-- the turns of all processes, as they are shared, are those of the open superstep
+pub turns_made : (acts : ViewParts → List Act) (ending : ViewParts → End) (vs ws : List ViewParts) (ps : List ℕ) (os : List OutcomeParts) → ws ≡ vs → All IsView ws → ps ≡ range_with_len 0 (length vs) → os ≡ turns_of (turn_of acts ending) ws ps → AreTurnsOf (turn_of acts ending) vs os
+turns_made acts ending vs ws ps os same limits all made =
     let turn = turn_of acts ending in
-    let turns : os ≡ map turn vs = made ∙ ap (turns_of turn vs) all ∙ turns_of-all turn vs in
-    record {
-      turns = turns ∙ ap (map turn) views;
-      outcomes = subst (λ ws. AreOutcomesOf ws os) views (subst (AreOutcomesOf vs) (sym turns) (AreOutcomesOf-turns acts ending vs limits));
-      count = ap (λ (us : List OutcomeParts). length us) turns ∙ length-map vs turn;
-    }
+    let turns : os ≡ map turn vs = made ∙ (λ i. turns_of turn (same i) (all i)) ∙ turns_of-all turn vs in
+    let known : All IsView vs = subst (All IsView) same limits in
+    record { turns = turns; within = subst (AreOutcomesOf vs) (sym turns) (AreOutcomesOf-turns acts ending vs known) }
+
+-- processes of a superstep that are some of its outcomes
+pub are_known : (ps : List ℕ) (count : ℕ) (os : List OutcomeParts) → ps ≡ range_with_len 0 count → length os ≡ count → All (λ p. p < length os) ps
+are_known ps count os all long = subst (All (λ p. p < length os)) (sym (all ∙ ap (range_with_len 0) (sym long))) (range_below (length os))
 
 after_turns-outcomes : (r : Run) (os : List OutcomeParts) → (after_turns r os).outcomes ≡ os
 unfolding after_turns

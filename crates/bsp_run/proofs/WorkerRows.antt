@@ -1,8 +1,7 @@
 -- What workers hand over, put in order.
-use Rattle.std.proofs.Common.{◌≡◌, ◌<◌, ◌≤◌, ℕ, ◌+◌, ◌-◌, List, ◌∷◌, [], ◌++◌, map, length, get_or, take, ap, sym, ◌∙◌, arith}
+use Rattle.std.proofs.Common.{◌≡◌, ◌<◌, ℕ, ◌+◌, ◌-◌, List, ◌∷◌, [], ◌++◌, map, length, get_or, take, ap, sym, ◌∙◌}
 use Rattle.std.specs.Prelude.{slice_range}
 use Rattle.std.proofs.Math.Seq.{take-add}
-use Rattle.std.proofs.lemmas.List.{length-map, take_all}
 use Rattle.bsp_pool.proofs.ShareLists.{IsPart, output_at, output_more}
 
 -- the outputs up to a place, and then a part of a worker's rows
@@ -17,7 +16,3 @@ with_part {T = T} outputs outs done new number from to rows part so_far is =
 pub with_one : {X T : Type 0} (f : X → T) (xs : List X) (done new : List T) (k : ℕ) (d : X) (out : T) → k < length xs → done ≡ take k (map f xs) → out ≡ f (get_or xs k d) → new ≡ done ++ out ∷ [] → new ≡ take (k + 1) (map f xs)
 with_one {T = T} f xs done new k d out inside so_far made is =
     is ∙ (ap (λ (o : T). done ++ o ∷ []) made ∙ output_more (map f xs) done k (f (get_or xs k d)) so_far (output_at f xs k d inside))
-
--- the outputs up to the last place are all
-pub all_done : {X T : Type 0} (f : X → T) (xs : List X) (done : List T) (k : ℕ) → length xs ≤ k → done ≡ take k (map f xs) → done ≡ map f xs
-all_done f xs done k past so_far = so_far ∙ take_all k (map f xs) (omega (arith, length-map xs f))

@@ -10,5 +10,4 @@ pub mod Lines
 pub mod SharedCells
 pub mod Views
 pub mod ViewsRef
-pub mod WorkerRows
 pub mod Turns

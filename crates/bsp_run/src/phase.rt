@@ -3,7 +3,7 @@
 use crate::Status;
 
 /// What comes next in a run.
-#[derive(Debug, Drop)]
+#[derive(Drop)]
 pub enum Phase {
     /// The turns of the open superstep.
     Open,

@@ -1,26 +1,65 @@
 //! A run on one thread.
 
-ghost use Rattle.std.specs.Prelude.{◌≡◌, ◌<◌, All, None, IfOk, IfErr, IfSome, OnOk, length};
+ghost use Rattle.std.specs.Prelude.{◌≡◌, None, IfOk, IfErr, OnOk, length, true};
+ghost use Rattle.std.specs.List.{range_with_len};
 ghost use Rattle.bsp_model.specs.Input.{input_fault};
 ghost use Rattle.bsp_step.specs.Turn.{turn_of};
-ghost use Rattle.bsp_deliver.specs.Condition.{AreDeliverable, IsAscending};
-ghost use Rattle.bsp_deliver.specs.Cost.{IsHRelation};
-ghost use Rattle.bsp_run.specs.Shares.{turns_of, deliveries_to};
-ghost use Rattle.bsp_run.specs.Run.{run};
+ghost use Rattle.bsp_run.specs.Run.{advance, open_views, run};
+ghost use Rattle.bsp_run.specs.Condition.{is_open};
+ghost use Rattle.bsp_run.specs.Inside.Turns.{AreTurnsOf};
 ghost use Rattle.bsp_run.specs.Result.{result_of};
 ghost use Rattle.bsp_run.specs.Law.{IsBspRun, IsBspResult};
 ghost use Rattle.bsp_run.specs.RunErrors.{input_fault_of};
 
-use crate::supersteps::run_by;
+use crate::supersteps::numbers;
 use crate::tape::checked;
 use crate::unrecorded::{Taken, Unrecorded, all_turns};
 use crate::wide::turns_by_one;
-use crate::{History, RunError, RunResult, TurnRows, Views};
-use bsp_deliver::{Cells, Delivered, deliver_some};
+use crate::{History, RunError, RunResult, Tape, TurnRows};
+use bsp_deliver::{Cells, deliver_some};
 use bsp_model::{Input, OutOfMemory};
 use bsp_pool::Open;
 use bsp_step::{Outcomes, Program};
 use std::alloc::Global;
+
+/// The outcomes of the open superstep of a run.
+fn plain_outcomes<P: Program>(
+    alloc: Global,
+    program: &P,
+    tape: &Tape,
+    processes: &[usize],
+) -> Result<Outcomes, OutOfMemory>
+    requires open { is_open tape.now.phase ≡ true }
+    requires processes { processes.now ≡ range_with_len 0 (length (open_views tape.now)) }
+    ensures { IfOk result (AreTurnsOf (turn_of (P.acts program.now) (P.ending program.now)) (open_views tape.now)) }
+{
+    let room = tape.outcomes_before().room_for(alloc, processes.len())?;
+    let mut rows = TurnRows {
+        outcomes: room,
+        spare: None,
+    };
+    turns_by_one(alloc, &mut rows, program, tape.open_views(), processes, &Open)?;
+    rows.outcomes.share()
+}
+
+/// One superstep more of a run that has not ended.
+fn plain_superstep<P: Program>(
+    alloc: Global,
+    program: &P,
+    tape: &mut Tape,
+) -> Result<(), OutOfMemory>
+    requires open { is_open tape.old.phase ≡ true }
+    ensures { OnOk result (tape.new ≡ advance (turn_of (P.acts program.now) (P.ending program.now)) tape.old) }
+{
+    let processes = numbers(alloc, tape.open_views().len())?;
+    let all = processes.as_slice();
+    let outcomes = plain_outcomes(alloc, program, tape, all)?;
+    if tape.turned(outcomes)? {
+        let made = deliver_some(alloc, tape.outcomes(), all, Cells::new(alloc))?;
+        let _ = tape.delivered(made)?;
+    }
+    Ok(())
+}
 
 /// The run of a program on an input, on one thread: every process from its first superstep, up to the superstep limit. `law` says what it is in
 /// the words of BSP. `Input(f)` comes exactly where the input's check answers f; or `OutOfMemory`.
@@ -30,36 +69,11 @@ pub fn run_plain<P: Program>(alloc: Global, program: &P, input: &Input) -> Resul
     ensures law { IfOk result (λ history. IsBspRun (turn_of (P.acts program.now) (P.ending program.now)) input.now history) }
     ensures input { IfErr result (λ e. input_fault input.now ≡ input_fault_of e) }
 {
-    run_by(
-        alloc,
-        program,
-        input,
-        &|program: &P, views: &Views, processes: &[usize], like: &Outcomes| -> Result<
-            Outcomes,
-            OutOfMemory,
-        >
-            requires { All (λ p. p < length views.now) processes.now }
-            ensures { IfOk result (λ all. all ≡ turns_of (turn_of (P.acts program.now) (P.ending program.now)) views.now processes.now) }
-        {
-            turns_by_one(
-                alloc,
-                TurnRows::new(like.room_for(alloc, processes.len())?, None),
-                program,
-                views,
-                processes,
-                &Open,
-            )?
-            .outcomes
-            .share()
-        },
-        &|outcomes: &Outcomes, processes: &[usize]| -> Result<Delivered, OutOfMemory>
-            requires deliverable { AreDeliverable outcomes.now }
-            requires processes { All (λ d. d < length outcomes.now) processes.now }
-            requires ascending { IsAscending processes.now }
-            ensures cells { IfOk result (λ made. made.cells ≡ deliveries_to outcomes.now processes.now) }
-            ensures h { IfOk result (λ made. IfSome made.h (IsHRelation outcomes.now)) }
-        { deliver_some(alloc, outcomes, processes, Cells::new(alloc)) },
-    )
+    let mut tape = Tape::open(alloc, input)?;
+    while tape.is_open() {
+        plain_superstep(alloc, program, &mut tape)?;
+    }
+    Ok(tape.finish()?)
 }
 
 /// What `lawful_result` answers. The turns are taken in the room of those that are handed in.

@@ -8,7 +8,7 @@ use std::marker::Model;
 
 /// The lines that a process printed, in order. They lie among those of other processes, in a column that its copies share, so that a copy takes no
 /// memory.
-#[derive(Debug, Drop)]
+#[derive(Drop)]
 pub struct Lines {
     all: Shared<LineColumn>,
     place: usize,

@@ -10,7 +10,7 @@ use bsp_model::{
 use std::alloc::AllocError;
 
 /// A fault of a process.
-#[derive(Clone, Copy, Debug, PartialEq, Eq)]
+#[derive(Clone, Copy)]
 pub struct ProcessFault {
     /// The number of the process.
     pub pid: u64,
@@ -19,7 +19,7 @@ pub struct ProcessFault {
 }
 
 /// How a run ended.
-#[derive(Debug, Drop)]
+#[derive(Drop)]
 pub enum Status {
     /// All processes halted.
     Halted,

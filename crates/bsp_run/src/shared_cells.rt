@@ -142,17 +142,14 @@ impl SharedCells {
         ensures { IfOk result (λ c. c ≡ replaced self.now processes.items new) }
     {
         let cells = self.cells_below(alloc, processes.as_slice())?;
-        if !are_few(processes.len(), self.len()) {
-            let all = cells.replaced(alloc, processes.as_slice(), &new)?;
-            return Ok(SharedCells::new(alloc, all)?);
+        if are_few(processes.len(), self.len()) {
+            let others = Some(OtherCells {
+                processes,
+                cells: new,
+            });
+            return Ok(SharedCells { cells, others });
         }
-        let others = OtherCells {
-            processes,
-            cells: new,
-        };
-        Ok(SharedCells {
-            cells,
-            others: Some(others),
-        })
+        let all = cells.replaced(alloc, processes.as_slice(), &new)?;
+        SharedCells::new(alloc, all)
     }
 }

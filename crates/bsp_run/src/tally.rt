@@ -13,6 +13,7 @@ use bsp_model::limits::{HIGHEST_PRICE, MOST_SUPERSTEPS};
 use bsp_model::{CostRow, Input, LineColumn, Memories, OutOfMemory, Seq};
 use bsp_step::Outcomes;
 use std::alloc::Global;
+use std::mem;
 
 /// The lines and the costs of a run so far, and its prices.
 #[derive(Drop)]
@@ -82,31 +83,26 @@ impl Tally {
         self.add(alloc, outcomes, cost_of_end(outcomes))
     }
 
-    /// What a run gives that ended so, with these memories.
-    pub fn into_result(
-        self,
+    /// What a run gives that ended so, with these memories. The lines and the costs are handed out.
+    pub fn take_result(
+        &mut self,
         alloc: Global,
         status: Status,
         memories: Memories,
     ) -> Result<RunResult, OutOfMemory>
-        requires { length self.costs ≤ MOST_SUPERSTEPS }
+        requires { length self.old.costs ≤ MOST_SUPERSTEPS }
         ensures { IfOk result (λ r. r ≡ record {
           status = status;
           memories = memories;
-          lines = each_below (length memories) (lines_in self.lines.items);
-          costs = self.costs;
-          total = total_of self.costs;
+          lines = each_below (length memories) (lines_in self.old.lines.items);
+          costs = self.old.costs;
+          total = total_of self.old.costs;
         }) }
     {
         let total = total_of(self.costs.as_slice());
-        let Tally {
-            g: _,
-            l: _,
-            lines,
-            costs,
-        } = self;
+        let lines = mem::replace(&mut self.lines, Vec::new(alloc));
         let lines = lines_printed(alloc, lines, memories.len())?;
-        let costs = costs.share()?;
+        let costs = mem::replace(&mut self.costs, Seq::new(alloc)).share()?;
         Ok(RunResult {
             status,
             memories,

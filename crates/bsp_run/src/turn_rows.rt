@@ -1,7 +1,5 @@
 //! What is kept from turn to turn.
 
-ghost use Rattle.std.specs.Prelude.{◌≡◌};
-
 use bsp_model::OutOfMemory;
 use bsp_step::{Outcome, OutcomeRows};
 use std::alloc::Global;
@@ -13,15 +11,6 @@ pub struct TurnRows {
     pub outcomes: OutcomeRows,
     /// An outcome whose lists serve the next turn. There may be none before the first turn, and there is none behind one that was refused memory.
     pub spare: Option<Outcome>,
-}
-
-impl TurnRows {
-    /// These outcomes, and this spare one, if there is one.
-    pub fn new(outcomes: OutcomeRows, spare: Option<Outcome>) -> TurnRows
-        ensures { result.outcomes ≡ outcomes }
-    {
-        TurnRows { outcomes, spare }
-    }
 }
 
 /// The spare outcome, or else a new one.

@@ -65,8 +65,11 @@ pub(crate) fn all_turns<P: Program>(
 {
     let before = mem::replace(&mut taken.outcomes, Outcomes::new());
     let room = before.into_room(alloc, processes.len())?;
-    let rows = TurnRows::new(room, taken.spare.take());
-    let rows = turns_by_one(alloc, rows, program, views, processes, &Open)?;
+    let mut rows = TurnRows {
+        outcomes: room,
+        spare: taken.spare.take(),
+    };
+    turns_by_one(alloc, &mut rows, program, views, processes, &Open)?;
     taken.spare = rows.spare;
     taken.outcomes = rows.outcomes.share()?;
     Ok(())
@@ -139,39 +142,30 @@ impl Unrecorded {
         })
     }
 
-    /// What was added up.
-    fn into_tally(self) -> Tally
-        ensures { result ≡ self.tally }
-    {
-        self.tally
-    }
-
-    /// What the run gives that ended so with these outcomes.
+    /// What the run gives that ended so with these outcomes. What was added up is handed out.
     pub(crate) fn ended(
-        self,
+        &mut self,
         alloc: Global,
         status: Status,
         outcomes: &Outcomes,
     ) -> Result<RunResult, OutOfMemory>
-        requires ended { (r : Run) × IsUnrecordedIn (Phase.Ended status) r self outcomes.now }
+        requires ended { (r : Run) × IsUnrecordedIn (Phase.Ended status) r self.old outcomes.now }
         requires before { is_limit (Phase.Ended status) ≡ false }
-        ensures { (r : Run) → IsUnrecordedIn (Phase.Ended status) r self outcomes.now
+        ensures { (r : Run) → IsUnrecordedIn (Phase.Ended status) r self.old outcomes.now
             → IfOk result (λ given. given ≡ result_of r) }
     {
-        let mut tally = self.into_tally();
-        tally.add_end(alloc, outcomes)?;
+        self.tally.add_end(alloc, outcomes)?;
         let memories = memories_of_outcomes(alloc, outcomes)?;
-        tally.into_result(alloc, status, memories)
+        self.tally.take_result(alloc, status, memories)
     }
 
-    /// What the run gives that ended at the limit.
-    pub(crate) fn ended_at_limit(self, alloc: Global) -> Result<RunResult, OutOfMemory>
-        requires ended { (r : Run) × IsUnrecordedIn (Phase.Ended Status.Limit) r self r.outcomes }
-        ensures { (r : Run) → IsUnrecordedIn (Phase.Ended Status.Limit) r self r.outcomes
+    /// What the run gives that ended at the limit. What was added up is handed out.
+    pub(crate) fn ended_at_limit(&mut self, alloc: Global) -> Result<RunResult, OutOfMemory>
+        requires ended { (r : Run) × IsUnrecordedIn (Phase.Ended Status.Limit) r self.old r.outcomes }
+        ensures { (r : Run) → IsUnrecordedIn (Phase.Ended Status.Limit) r self.old r.outcomes
             → IfOk result (λ given. given ≡ result_of r) }
     {
         let memories = memories_of_views(alloc, &self.views)?;
-        let tally = self.into_tally();
-        tally.into_result(alloc, Status::Limit, memories)
+        self.tally.take_result(alloc, Status::Limit, memories)
     }
 }

@@ -1,20 +1,23 @@
 //! A run by a pool of workers, and its parts.
 
-ghost use Rattle.std.specs.Prelude.{◌≡◌, ◌<◌, ◌≤◌, [], All, None, IfOk, IfErr, IfSome, OnOk, length};
+ghost use Rattle.std.specs.Prelude.{◌≡◌, ◌<◌, ◌≤◌, [], All, None, IfOk, IfErr, IfSome, OnOk, length, true};
 ghost use Rattle.bsp_model.specs.Input.{input_fault};
 ghost use Rattle.bsp_step.specs.Turn.{turn_of};
 ghost use Rattle.bsp_deliver.specs.Condition.{AreDeliverable, IsAscending};
 ghost use Rattle.bsp_deliver.specs.Cost.{IsHRelation};
 ghost use Rattle.bsp_run.specs.Shares.{turns_of, deliveries_to};
-ghost use Rattle.bsp_run.specs.Run.{run};
+ghost use Rattle.std.specs.List.{range_with_len};
+ghost use Rattle.bsp_run.specs.Run.{advance, open_views, run};
+ghost use Rattle.bsp_run.specs.Condition.{is_open};
+ghost use Rattle.bsp_run.specs.Inside.Turns.{AreTurnsOf};
 ghost use Rattle.bsp_run.specs.Law.{IsBspRun};
 ghost use Rattle.bsp_run.specs.RunErrors.{input_fault_of};
 
-use crate::in_order::{cells_in_order, turns_in_order};
-use crate::supersteps::run_by;
+use crate::in_order::in_order;
+use crate::supersteps::numbers;
 use crate::turn_rows::spare_of;
 use crate::works::{Deliveries, Turns};
-use crate::{History, RunError, TurnRows, Views};
+use crate::{History, RunError, Tape, TurnRows, Views};
 use bsp_deliver::{Cells, Delivered, deliver_some, sort_requests};
 use bsp_model::{Input, OutOfMemory};
 use bsp_pool::{Gate, gather};
@@ -25,27 +28,25 @@ use std::thread::Threads;
 /// The turns of some processes, in the order of the list, by the calling thread, which passes the gate before each. They are gathered in `rows`.
 pub(crate) fn turns_by_one<P: Program, G: Gate>(
     alloc: Global,
-    rows: TurnRows,
+    rows: &mut TurnRows,
     program: &P,
     views: &Views,
     processes: &[usize],
     gate: &G,
-) -> Result<TurnRows, OutOfMemory>
+) -> Result<(), OutOfMemory>
     requires processes { All (λ p. p < length views.now) processes.now }
-    requires empty { rows.outcomes ≡ [] }
-    ensures { IfOk result (λ all. all.outcomes ≡ turns_of (turn_of (P.acts program.now) (P.ending program.now)) views.now processes.now) }
+    requires empty { rows.old.outcomes ≡ [] }
+    ensures { OnOk result (rows.new.outcomes
+        ≡ turns_of (turn_of (P.acts program.now) (P.ending program.now)) views.now processes.now) }
 {
-    let TurnRows {
-        mut outcomes,
-        mut spare,
-    } = rows;
-    let mut spare = spare_of(alloc, &mut spare)?;
+    let mut spare = spare_of(alloc, &mut rows.spare)?;
     for (place, process) in processes.iter().enumerate() {
         gate.pass(place);
         let outcome = turn_reusing(alloc, program, &views.get(*process), spare)?;
-        spare = outcomes.push(outcome)?;
+        spare = rows.outcomes.push(outcome)?;
     }
-    Ok(TurnRows::new(outcomes, Some(spare)))
+    rows.spare = Some(spare);
+    Ok(())
 }
 
 /// The turns of some processes, in the order of the list, shared by 1 to 16 workers. `processes` are places in `views`. Whoever drew
@@ -72,13 +73,13 @@ pub fn wide_turns<P: Program, G: Gate, R: Threads + Sync>(
     ensures { IfOk result (λ all. all.outcomes ≡ turns_of (turn_of (P.acts program.now) (P.ending program.now)) views.now processes.now) }
 {
     if workers.min(processes.len()) < 2 {
-        return turns_by_one(alloc, rows, program, views, processes, gate);
+        let mut rows = rows;
+        turns_by_one(alloc, &mut rows, program, views, processes, gate)?;
+        return Ok(rows);
     }
     let turns = Turns { program, views };
-    let TurnRows { outcomes, spare } = rows;
     let shares = gather(rt, alloc, &turns, processes, workers, gate);
-    let all = turns_in_order(alloc, outcomes, &turns, processes, shares.as_slice())?;
-    Ok(TurnRows::new(all, spare))
+    in_order(alloc, &turns, rows, processes, shares.as_slice())
 }
 
 /// Passes the gate with each of so many places, in order.
@@ -164,8 +165,57 @@ pub fn wide_deliveries<G: Gate, R: Threads + Sync>(
         sorted: &sorted,
     };
     let shares = gather(rt, alloc, &deliveries, processes, workers, gate);
-    let cells = cells_in_order(alloc, &deliveries, processes, shares.as_slice())?;
+    let room = Cells::with_capacity(alloc, processes.len())?;
+    let cells = in_order(alloc, &deliveries, room, processes, shares.as_slice())?;
     Ok(Delivered { cells, h: None })
+}
+
+/// The outcomes of the open superstep of a run, by the workers.
+fn wide_outcomes<P: Program, G: Gate, R: Threads + Sync>(
+    rt: &R,
+    alloc: Global,
+    program: &P,
+    tape: &Tape,
+    processes: &[usize],
+    workers: usize,
+    gate: &G,
+) -> Result<Outcomes, OutOfMemory>
+    requires open { is_open tape.now.phase ≡ true }
+    requires processes { processes.now ≡ range_with_len 0 (length (open_views tape.now)) }
+    requires workers { (0 < workers) × (workers ≤ 16) }
+    ensures { IfOk result (AreTurnsOf (turn_of (P.acts program.now) (P.ending program.now)) (open_views tape.now)) }
+{
+    let room = tape.outcomes_before().room_for(alloc, processes.len())?;
+    let rows = TurnRows {
+        outcomes: room,
+        spare: None,
+    };
+    let views = tape.open_views();
+    let taken = wide_turns(rt, alloc, rows, program, views, processes, workers, gate)?;
+    taken.outcomes.share()
+}
+
+/// One superstep more of a run that has not ended, by the workers.
+fn wide_superstep<P: Program, G: Gate, R: Threads + Sync>(
+    rt: &R,
+    alloc: Global,
+    program: &P,
+    tape: &mut Tape,
+    workers: usize,
+    gate: &G,
+) -> Result<(), OutOfMemory>
+    requires open { is_open tape.old.phase ≡ true }
+    requires workers { (0 < workers) × (workers ≤ 16) }
+    ensures { OnOk result (tape.new ≡ advance (turn_of (P.acts program.now) (P.ending program.now)) tape.old) }
+{
+    let processes = numbers(alloc, tape.open_views().len())?;
+    let all = processes.as_slice();
+    let outcomes = wide_outcomes(rt, alloc, program, tape, all, workers, gate)?;
+    if tape.turned(outcomes)? {
+        let made = wide_deliveries(rt, alloc, tape.outcomes(), all, workers, gate)?;
+        let _ = tape.delivered(made)?;
+    }
+    Ok(())
 }
 
 /// What `run_plain` answers, by 1 to 16 workers. They share the turns of each superstep, and then its deliveries: whoever drew a process
@@ -184,30 +234,9 @@ pub fn run_wide<P: Program, G: Gate, R: Threads + Sync>(
     ensures law { IfOk result (λ history. IsBspRun (turn_of (P.acts program.now) (P.ending program.now)) input.now history) }
     ensures input { IfErr result (λ e. input_fault input.now ≡ input_fault_of e) }
 {
-    run_by(
-        alloc,
-        program,
-        input,
-        &|program: &P, views: &Views, processes: &[usize], like: &Outcomes| -> Result<
-            Outcomes,
-            OutOfMemory,
-        >
-            requires processes { All (λ p. p < length views.now) processes.now }
-            requires workers { (0 < workers) × (workers ≤ 16) }
-            ensures { IfOk result (λ all. all ≡ turns_of (turn_of (P.acts program.now) (P.ending program.now)) views.now processes.now) }
-        {
-            let rows = TurnRows::new(like.room_for(alloc, processes.len())?, None);
-            wide_turns(rt, alloc, rows, program, views, processes, workers, gate)?
-                .outcomes
-                .share()
-        },
-        &|outcomes: &Outcomes, processes: &[usize]| -> Result<Delivered, OutOfMemory>
-            requires deliverable { AreDeliverable outcomes.now }
-            requires processes { All (λ d. d < length outcomes.now) processes.now }
-            requires ascending { IsAscending processes.now }
-            requires workers { (0 < workers) × (workers ≤ 16) }
-            ensures cells { IfOk result (λ made. made.cells ≡ deliveries_to outcomes.now processes.now) }
-            ensures h { IfOk result (λ made. IfSome made.h (IsHRelation outcomes.now)) }
-        { wide_deliveries(rt, alloc, outcomes, processes, workers, gate) },
-    )
+    let mut tape = Tape::open(alloc, input)?;
+    while tape.is_open() {
+        wide_superstep(rt, alloc, program, &mut tape, workers, gate)?;
+    }
+    Ok(tape.finish()?)
 }

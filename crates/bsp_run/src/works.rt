@@ -7,10 +7,11 @@ ghost use Rattle.bsp_deliver.specs.Delivery.{delivery_parts, next_memory, next_q
 ghost use Rattle.bsp_deliver.specs.Sorting.{IsSortedFrom};
 ghost use Rattle.bsp_run.specs.Condition.{no_view};
 
+use crate::in_order::Joining;
 use crate::turn_rows::spare_of;
 use crate::{TurnRows, Views};
 use bsp_deliver::{Cells, SortedRequests, deliver_sorted};
-use bsp_model::{Memory, OutOfMemory};
+use bsp_model::{ByProcess, Memory, OutOfMemory};
 use bsp_pool::Gathering;
 use bsp_step::{Ctx, Outcome, OutcomeRows, Outcomes, Program, Queue};
 use std::alloc::Global;
@@ -37,7 +38,7 @@ impl<'a, P: Program> Gathering for Turns<'a, P> {
     ghost outputs = { λ _ rows. rows.outcomes };
 
     fn begin(&self, alloc: Global) -> Result<TurnRows, OutOfMemory> {
-        Ok(TurnRows::new(OutcomeRows::with_capacity(alloc, 0)?, None))
+        Ok(TurnRows { outcomes: OutcomeRows::with_capacity(alloc, 0)?, spare: None })
     }
 
     // The calls of `bsp_step::turn_reusing`, to which no method of a trait may pass a program.
@@ -50,6 +51,20 @@ impl<'a, P: Program> Gathering for Turns<'a, P> {
         let spare = rows.outcomes.push(ctx.close(how))?;
         rows.spare = Some(spare);
         Ok(())
+    }
+}
+
+impl<'a, P: Program> Joining for Turns<'a, P> {
+    fn joined(
+        &self,
+        rows: TurnRows,
+        more: &TurnRows,
+        from: usize,
+        to: usize,
+    ) -> Result<TurnRows, OutOfMemory> {
+        let TurnRows { outcomes, spare } = rows;
+        let all = outcomes.with_range(&more.outcomes, from, to)?;
+        Ok(TurnRows { outcomes: all, spare })
     }
 }
 
@@ -84,5 +99,17 @@ impl<'a> Gathering for Deliveries<'a> {
         let (memory, queue) = deliver_sorted(alloc, *process, self.sorted, self.outcomes)?;
         cells.push(memory, queue)?;
         Ok(())
+    }
+}
+
+impl<'a> Joining for Deliveries<'a> {
+    fn joined(
+        &self,
+        rows: Cells,
+        more: &Cells,
+        from: usize,
+        to: usize,
+    ) -> Result<Cells, OutOfMemory> {
+        rows.with_range(more, from, to)
     }
 }

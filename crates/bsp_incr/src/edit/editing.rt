@@ -5,6 +5,7 @@ ghost use Rattle.bsp_incr.specs.Edits.{edit_fault, refusal_of, edited_by, edited
 ghost use Rattle.bsp_incr.specs.Inside.Formers.{restored};
 
 use crate::edit::former::{Former, restore};
+use crate::edit::undo::former_of;
 use crate::{Edit, EditFault, EditRefusal};
 use bsp_model::limits::{HIGHEST_PRICE, MOST_SUPERSTEPS};
 use bsp_model::{Input, OutOfMemory, Seq, TryCopy};
@@ -76,42 +77,12 @@ pub fn refusal_of(input: &Input, edits: &[Edit]) -> Option<EditRefusal>
     None
 }
 
-/// Whether a word of a memory is this one.
-fn is_word(input: &Input, pid: u64, addr: u64, value: u64) -> bool
-    ensures { result ≡ true → edited_by input.now (Edit.Word pid addr value) ≡ input.now }
-{
-    let Some(memory) = input.mems.as_slice().get(pid as usize) else {
-        return false;
-    };
-    match memory.load(addr) {
-        Some(word) => word == value,
-        None => false,
-    }
-}
-
-/// Whether an argument is this one.
-fn is_arg(input: &Input, pid: u64, index: u64, value: u64) -> bool
-    ensures { result ≡ true → edited_by input.now (Edit.Arg pid index value) ≡ input.now }
-{
-    let Some(args) = input.args.as_slice().get(pid as usize) else {
-        return false;
-    };
-    match args.as_slice().get(index as usize) {
-        Some(arg) => *arg == value,
-        None => false,
-    }
-}
-
 /// Whether an edit gives what is there already.
+#[tactic(auto, using(crate::proofs::EditParts::former_there))]
 fn is_there(input: &Input, edit: &Edit) -> bool
     ensures { result ≡ true → edited_by input.now edit.now ≡ input.now }
 {
-    match *edit {
-        Edit::Word { pid, addr, value } => is_word(input, pid, addr, value),
-        Edit::Arg { pid, index, value } => is_arg(input, pid, index, value),
-        Edit::Limit(n) => n == input.limit,
-        Edit::Prices { g, l } => g == input.g && l == input.l,
-    }
+    former_of(input, edit) == *edit
 }
 
 /// Whether each edit of a batch gives what is there already. It takes no memory.

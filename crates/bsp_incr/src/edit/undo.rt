@@ -36,7 +36,7 @@ pub fn arg_of(input: &Input, pid: u64, index: u64) -> u64
 }
 
 /// The edit that gives a part the value that it has.
-fn former_of(input: &Input, edit: &Edit) -> Edit
+pub fn former_of(input: &Input, edit: &Edit) -> Edit
     ensures { result ≡ former_of input.now edit.now }
 {
     match *edit {

@@ -37,11 +37,4 @@ impl UnderWay {
             spare: None,
         }
     }
-
-    /// What was done again.
-    pub fn into_update(self) -> Update
-        ensures { result ≡ self.update }
-    {
-        self.update
-    }
 }

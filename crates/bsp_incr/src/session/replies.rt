@@ -82,21 +82,6 @@ fn all_replies<P: Program + Drop, R: Threads + Sync, G: Gate>(
     Ok(all)
 }
 
-/// The replies of a session that has just been opened.
-fn session_replies<P: Program + Drop, R: Threads + Sync, G: Gate>(
-    workers: &Workers<'_, R, G>,
-    session: Session<P>,
-    update: Update,
-    batches: &[Batch],
-) -> Result<Vec<Reply>, OutOfMemory>
-    requires exact { IsExact (P.looks session.program) None session.history update }
-    ensures { IfOk result (λ all. all.items ≡ replies (P.looks session.program)
-        (turn_by P.Program session.program) session.input batches.now) }
-{
-    let mut session = session;
-    all_replies(workers, &mut session, update, batches)
-}
-
 /// The replies of a session: the opening first, then one for each batch. 1 to 16 workers share the turns and the deliveries.
 /// `Input(f)` exactly where the input's check answers f, or `OutOfMemory`.
 pub fn session_run<P: Program + Drop, R: Threads + Sync, G: Gate>(
@@ -114,14 +99,14 @@ pub fn session_run<P: Program + Drop, R: Threads + Sync, G: Gate>(
     ensures lawful { OnOk result (input_fault input ≡ None) }
     ensures input { IfErr result (λ e. input_fault input ≡ input_fault_of e) }
 {
-    let (session, update) = Session::open(rt, alloc, program, input, workers, gate)?;
+    let (mut session, update) = Session::open(rt, alloc, program, input, workers, gate)?;
     let workers = Workers {
         rt,
         alloc,
         count: workers,
         gate,
     };
-    Ok(session_replies(&workers, session, update, batches)?)
+    Ok(all_replies(&workers, &mut session, update, batches)?)
 }
 
 /// The reply that gives the run of a lawful input, made afresh.

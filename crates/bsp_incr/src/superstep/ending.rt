@@ -108,10 +108,14 @@ fn open_next_like<P: Program, G: Gate, R: Threads + Sync>(
 {
     // What stands of the run before is known where it is read.
     let _before = given.old;
-    let Deliveries { processes, made } = deliveries;
-    let row = cost(given, tape, doubtful, made.h);
+    let row = cost(given, tape, doubtful, deliveries.made.h);
     let (setting, known) = next_setting(tape, old_next, known)?;
-    let views = tape.next_views_like(old_next, setting, processes, made.cells)?;
+    let views = tape.next_views_like(
+        old_next,
+        setting,
+        deliveries.processes,
+        deliveries.made.cells,
+    )?;
     let _ = tape.delivered_as(views, row)?;
     Ok(known)
 }
@@ -190,12 +194,11 @@ pub fn make_deliveries<P: Program, G: Gate, R: Threads + Sync>(
         ++ touched_in (length tape.old.past) (delivered_beside given.now tape.old) tape.old.outcomes) }
 {
     let step = tape.step() as u64;
-    let mut touched = touched_beside(given, tape, doubtful)?;
-    let deliveries = deliveries_among(given, tape, &touched)?;
+    under_way.marks = touched_beside(given, tape, doubtful)?;
+    let deliveries = deliveries_among(given, tape, &under_way.marks)?;
     let redelivered = &mut under_way.update.redelivered;
     add_places(redelivered, step, deliveries.processes.as_slice())?;
     under_way.table = open_next(given, tape, doubtful, deliveries, known)?;
-    touched.insert_all(given.other_args);
-    under_way.marks = touched;
+    under_way.marks.insert_all(given.other_args);
     Ok(())
 }

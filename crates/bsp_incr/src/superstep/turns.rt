@@ -1,7 +1,6 @@
 //! The turns of a superstep, of which those that serve from the run before are not taken again.
 
 ghost use Rattle.std.specs.Prelude.{◌≡◌, ◌<◌, ◌++◌, ◌∷◌, [], All, IfNone, IfOk, IfSome, OnOk, map, length, option_map, slice_index_or, true, false};
-ghost use Rattle.bsp_deliver.specs.Requests.{each_below};
 ghost use Rattle.bsp_model.specs.Replaced.{replaced, IsAscending};
 ghost use Rattle.bsp_run.specs.Condition.{no_view};
 ghost use Rattle.bsp_run.specs.Shares.{turns_of};
@@ -16,7 +15,7 @@ use crate::Place;
 use crate::compare::{Doubtful, OpenSuperstep, add_places, serves};
 use crate::rerun::Given;
 use crate::superstep::reuse::reuse;
-use bsp_model::{OutOfMemory, ProcessSet, Seq, TryCopy};
+use bsp_model::{OutOfMemory, Seq, TryCopy};
 use bsp_pool::Gate;
 use bsp_run::{TurnRows, wide_turns};
 use bsp_step::{Outcome, OutcomeRows, Outcomes, Program};
@@ -43,30 +42,6 @@ fn needs_turn<P: Program>(
         &superstep.views.get(p),
         doubtful.same_table,
     )
-}
-
-/// Of the doubtful processes, those whose turn has to be taken, and then those for which the recorded one serves.
-fn needed_turns<P: Program, R, G>(
-    given: &Given<'_, P, R, G>,
-    superstep: &OpenSuperstep<'_, '_>,
-    doubtful: &Doubtful,
-) -> Result<(ProcessSet, ProcessSet), OutOfMemory>
-    requires doubtful { AreDoubtful superstep.now.old_views superstep.now.views.now doubtful.now }
-    ensures needed { IfOk result (λ r. r.0 ≡ each_below (length superstep.now.views.now)
-        (differs_now (P.looks given.now.program) superstep.now)) }
-    ensures served { IfOk result (λ r. r.1 ≡ each_below (length superstep.now.views.now)
-        (stays_now (P.looks given.now.program) superstep.now doubtful.now.processes)) }
-{
-    let mut needed = ProcessSet::none(given.workers.alloc, doubtful.processes.count())?;
-    let mut served = ProcessSet::none(given.workers.alloc, doubtful.processes.count())?;
-    for process in doubtful.processes.iter() {
-        if needs_turn(given.program, superstep, doubtful, process) {
-            needed.insert(process);
-        } else {
-            served.insert(process);
-        }
-    }
-    Ok((needed, served))
 }
 
 /// Adds the turn of a process for which the recorded one serves, over the memory that it sees now.
@@ -154,7 +129,10 @@ fn taken_turns<P: Program, G: Gate, R: Threads + Sync>(
     let rows = wide_turns(
         workers.rt,
         workers.alloc,
-        TurnRows::new(room, spare.take()),
+        TurnRows {
+            outcomes: room,
+            spare: spare.take(),
+        },
         given.program,
         superstep.views,
         processes,
@@ -184,9 +162,15 @@ fn needs_among<P: Program, R, G>(
     ensures served { IfOk result (λ needs. needs.served.items ≡ processes_where (length superstep.now.views.now)
         (stays_now (P.looks given.now.program) superstep.now doubtful.now.processes)) }
 {
-    let (to_take, to_serve) = needed_turns(given, superstep, doubtful)?;
-    let taken = to_take.members(given.workers.alloc)?;
-    let served = to_serve.members(given.workers.alloc)?;
+    let mut taken = Vec::with_capacity(given.workers.alloc, doubtful.processes.count())?;
+    let mut served = Vec::with_capacity(given.workers.alloc, doubtful.processes.count())?;
+    for process in doubtful.processes.iter() {
+        if needs_turn(given.program, superstep, doubtful, process) {
+            taken.push(process)?;
+        } else {
+            served.push(process)?;
+        }
+    }
     Ok(Needs { taken, served })
 }
 

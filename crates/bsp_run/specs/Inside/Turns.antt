@@ -1,11 +1,10 @@
--- The turns that workers share.
-use Rattle.std.specs.Prelude.{ℕ, List}
-use Rattle.bsp_step.specs.declared.program.Program.{Ghosts}
+-- The turns of a superstep.
+use Rattle.std.specs.Prelude.{◌≡◌, List, map}
+use Rattle.bsp_step.specs.ViewParts.{ViewParts}
 use Rattle.bsp_step.specs.OutcomeParts.{OutcomeParts}
-use Rattle.bsp_run.specs.declared.works.Turns.{Turns}
-use Rattle.bsp_run.specs.Shares.{turns_of}
-use Rattle.bsp_run.specs.TurnBy.{turn_by}
+use Rattle.bsp_run.specs.Condition.{AreOutcomesOf}
 
--- what the turns of these processes leave, in the order of the list
-abbrev pub turns_in : {P : Type 0} → Ghosts P → Turns P → List ℕ → List OutcomeParts
-turns_in laws turns ps = turns_of (turn_by laws turns.program.now) turns.views.now ps
+-- What the turns at these views leave, as a run takes it.
+pub record AreTurnsOf (turn : ViewParts → OutcomeParts) (vs : List ViewParts) (os : List OutcomeParts) : Type 0 where
+  pub turns : os ≡ map turn vs
+  pub within : AreOutcomesOf vs os

@@ -1,0 +1,32 @@
+use Rattle.std.proofs.Common.{◌≡◌, ◌<◌, ◌∙◌, sym, subst, true, false}
+use Rattle.bsp_model.specs.declared.input.Input.{Input}
+use Rattle.bsp_model.proofs.Inputs.{lawful_input}
+use Rattle.bsp_step.specs.Turn.{turn_of}
+use Rattle.bsp_run.specs.Run.{Run, run}
+use Rattle.bsp_run.specs.Law.{IsBspRun}
+use Rattle.bsp_run.specs.Condition.{is_open}
+use Rattle.bsp_run.proofs.Laws.{IsBspRun-run}
+use Rattle.bsp_run.proofs.Runs.{LeadsTo, supersteps_left, start-leads, advance-leads, fewer_left, closed-leads}
+use Rattle.bsp_run.proofs.plain.run_plain.Goals as goal
+
+pub loop-alloc-init : goal.loop-alloc-init
+loop-alloc-init g c =
+    let turn = turn_of (g.P.Program.acts c.args.program.now) (g.P.Program.ending c.args.program.now) in
+    let input : Input = c.args.input.now in
+    let opened = c.in_ok-tape.ensures.ok in
+    subst (λ (r : Run). LeadsTo turn r (run turn input)) (sym opened.1) (start-leads turn input (lawful_input input opened.0).some_superstep)
+
+pub loop-alloc-preserved : goal.loop-alloc-preserved
+loop-alloc-preserved g c =
+    let turn = turn_of (g.P.Program.acts c.args.program.now) (g.P.Program.ending c.args.program.now) in
+    let whole : Run = run turn c.args.input.now in
+    let open_now : is_open c.loop-alloc.tape.phase ≡ true = sym c.is_open.ensures ∙ c.loop-alloc-test.true in
+    subst (λ (r : Run). LeadsTo turn r whole) (sym c.in_ok-plain_superstep.ensures) (advance-leads turn c.loop-alloc.tape whole c.loop-alloc.invariant open_now)
+
+pub loop-alloc-smaller : goal.loop-alloc-smaller
+loop-alloc-smaller g c =
+    let turn = turn_of (g.P.Program.acts c.args.program.now) (g.P.Program.ending c.args.program.now) in
+    let whole : Run = run turn c.args.input.now in
+    let open_now : is_open c.loop-alloc.tape.phase ≡ true = sym c.is_open.ensures ∙ c.loop-alloc-test.true in
+    subst (λ (r : Run). supersteps_left r < supersteps_left c.loop-alloc.tape) (sym c.in_ok-plain_superstep.ensures) (fewer_left turn c.loop-alloc.tape whole c.loop-alloc.invariant open_now)
+
