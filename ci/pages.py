@@ -92,9 +92,9 @@ def files_of(root):
 
 def looks_like_a_path(text):
     """Whether a piece of code names a file or a folder. `.rt` is an ending, and NAME.toml stands for any name."""
-    if not PATH.fullmatch(text) or ".." in text or re.search(r"\bNAME\b", text):
+    if not PATH.fullmatch(text) or text.startswith((".", "/")) or ".." in text or re.search(r"\bNAME\b", text):
         return False
-    return (text.endswith(SUFFIXES) and not text.startswith(".")) or ("/" in text.rstrip("/") and not text.startswith("/"))
+    return text.endswith(SUFFIXES) or "/" in text.rstrip("/")
 
 
 def names_in(page):
