@@ -109,17 +109,25 @@ def names_in(page):
                 yield number, name.rstrip("/"), False
 
 
-def is_there(name, files):
-    """Whether a file or a folder has this name, or one whose last parts are this name: `*` stands for any characters."""
-    whole = [f"/{file}" for file in files]
-    return any(fnmatch.fnmatch(file, f"*/{name}") or fnmatch.fnmatch(file, f"*/{name}/*") for file in whole)
+def tails_of(files):
+    """The last parts of all files and folders, from one part on."""
+    tails = set()
+    for file in files:
+        parts = file.split("/")
+        tails |= {"/".join(parts[begin:end]) for end in range(1, len(parts) + 1) for begin in range(end)}
+    return tails
+
+
+def is_there(name, tails):
+    """Whether a file or a folder has this name, or last parts that are this name: `*` stands for any characters."""
+    return name in tails or ("*" in name and bool(fnmatch.filter(tails, name)))
 
 
 def missing_files(root):
     """A line for each file that a page names and that the repository does not have."""
-    files = files_of(root)
+    tails = tails_of(files_of(root))
     for page in pages_of(root):
         for number, name, linked in names_in(page):
-            there = os.path.exists(name) if linked else is_there(name, files)
+            there = os.path.exists(name) if linked else is_there(name, tails)
             if not there:
                 yield f"{os.path.relpath(page, root)}:{number}: there is no {os.path.relpath(name, root) if linked else name}"
