@@ -16,7 +16,7 @@ def live(count):
 
 
 DOCUMENTS = Part(("ci/documents",), 6_600)
-FIRST = (Part(("ci/test_gate",), 71), Part(("ci/statement",), 2), Part(("ci/python",), 58))  # before anything is proved
+FIRST = (Part(("ci/test_gate",), 81), Part(("ci/statement",), 2), Part(("ci/python",), 58))  # before anything is proved
 PROOFS = Part(("rt", "ci"), 102)  # 22 crates and 80 must-fail edits
 LAST = (
     DOCUMENTS,
