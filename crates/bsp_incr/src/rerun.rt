@@ -70,7 +70,6 @@ pub fn rerun<P: Program, G: Gate, R: Threads + Sync>(
     ensures update { IfOk result
         (λ r. r.1 ≡ update_of (P.looks program.now) (option_map (λ k. k.now) old.entry) r.0) }
 {
-    let alloc = workers.alloc;
     let Marks { args, first } = marks;
     let given = Given {
         workers,
@@ -82,7 +81,7 @@ pub fn rerun<P: Program, G: Gate, R: Threads + Sync>(
     let mut tape = opened(&given, &first)?;
     let update = remake_all(&given, &mut tape, first)?;
     let executed = update.executed.as_slice();
-    let history = finished(alloc, old, tape, input.mems.len(), executed)?;
+    let history = finished(old, tape, input.mems.len(), executed)?;
     Ok((history, update))
 }
 
@@ -99,7 +98,7 @@ fn rerun_from_edits<P: Program, G: Gate, R: Threads + Sync>(
     ensures run { IfOk result (λ r. r.0 ≡ run (turn_by P.Program program.now) input.now) }
     ensures update { IfOk result (λ r. r.1 ≡ update_of (P.looks program.now) (Some old.now) r.0) }
 {
-    let marks = marks_of_edits(workers.alloc, old, input, edits)?;
+    let marks = marks_of_edits(old, input, edits);
     rerun(workers, program, Some(old), input, marks)
 }
 

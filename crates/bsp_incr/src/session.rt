@@ -72,7 +72,7 @@ impl<P: Program + Drop> Session<P> {
             count: workers,
             gate,
         };
-        let marks = all_marks(alloc, &input)?;
+        let marks = all_marks(&input);
         let (history, update) = rerun(workers, &program, None, &input, marks)?;
         let session = Session {
             program,

@@ -154,6 +154,6 @@ pub fn advance<P: Program, G: Gate, R: Threads + Sync>(
         under_way.table = KnownTable::AsBefore;
         return Ok(());
     }
-    let doubtful = Doubtful::among(given.workers.alloc, &superstep, marks, under_way.table)?;
+    let doubtful = Doubtful::among(&superstep, marks, under_way.table);
     remake_superstep(given, tape, &doubtful, under_way)
 }

@@ -55,7 +55,7 @@ impl Tape {
         requires { is_ended self.phase ≡ true }
         ensures { IfOk result (λ history. history ≡ self) }
     {
-        let none = ProcessSet::new(*self.past.allocator());
+        let none = ProcessSet::none(0);
         Ok(self.finish_sharing(&SharedSeq::new(), &none)?)
     }
 
@@ -66,7 +66,7 @@ impl Tape {
         requires marks { LinesDifferAtMost other.now self marks.now }
         ensures { IfOk result (λ history. history ≡ self) }
     {
-        let none = ProcessSet::new(*self.past.allocator());
+        let none = ProcessSet::none(0);
         let marks = if have_as_many(&self, &other.run) {
             marks
         } else {
@@ -167,7 +167,8 @@ impl History {
 pub(crate) fn memories_of_views(alloc: Global, views: &Views) -> Result<Memories, OutOfMemory>
     ensures { IfOk result (λ all. all ≡ map (λ v. v.memory) views.now) }
 {
-    let mut all = Memories::with_capacity(alloc, views.len())?;
+    let mut all = Memories::new(alloc);
+    all.reserve(views.len())?;
     for pid in 0..views.len() {
         let view = views.get(pid);
         all.push_copy(&view.memory)?;
@@ -193,7 +194,9 @@ pub(crate) fn memories_of_outcomes(
 ) -> Result<Memories, OutOfMemory>
     ensures { IfOk result (λ all. all ≡ map (λ o. o.memory) outcomes.now) }
 {
-    Ok(outcomes.memories(Memories::new(alloc))?)
+    let mut all = Memories::new(alloc);
+    outcomes.copy_memories(&mut all)?;
+    Ok(all)
 }
 
 impl History {

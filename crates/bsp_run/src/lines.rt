@@ -9,6 +9,7 @@ ghost use Rattle.bsp_run.specs.Result.{lines_of_process};
 ghost use Rattle.bsp_run.specs.Inside.Lines.{is_taken, lines_from, AreGathered, AreLinesUnlessMarked};
 
 use crate::{Lines, Superstep};
+use bsp_model::limits::MOST_PROCESSES;
 use bsp_model::{
     LineColumn, OutOfMemory, PrintedLines, PrintedLinesRef, ProcessSet, Shared, SharedSeq, TryCopy,
 };
@@ -137,23 +138,18 @@ fn has_other_lines(before: &[Lines], marks: &ProcessSet, turns: &[&Outcomes], pi
 }
 
 /// Marks the processes of a run before that have other lines now, of those that are marked.
-fn mark_others(
-    alloc: Global,
-    before: &[Lines],
-    marks: &ProcessSet,
-    turns: &[&Outcomes],
-) -> Result<ProcessSet, OutOfMemory>
+fn mark_others(before: &[Lines], marks: &ProcessSet, turns: &[&Outcomes]) -> ProcessSet
     requires { AreLinesUnlessMarked before.now marks.now (map (λ o. o.now) turns.now) }
-    ensures { IfOk result (λ others. AreLinesUnlessMarked before.now others
-        (map (λ o. o.now) turns.now)) }
+    ensures { AreLinesUnlessMarked before.now result (map (λ o. o.now) turns.now) }
 {
-    let mut others = ProcessSet::none(alloc, before.len())?;
-    for pid in 0..before.len() {
+    let count = before.len().min(MOST_PROCESSES);
+    let mut others = ProcessSet::none(count);
+    for pid in 0..count {
         if has_other_lines(before, marks, turns, pid) {
             others.insert(pid);
         }
     }
-    Ok(others)
+    others
 }
 
 /// The lines of each process that are not taken from a run before, in one column.
@@ -269,6 +265,6 @@ pub fn all_lines(
         return before.copy();
     }
     let turns = printing(alloc, past, last)?;
-    let others = mark_others(alloc, before.as_slice(), marks, turns.as_slice())?;
+    let others = mark_others(before.as_slice(), marks, turns.as_slice());
     Ok(lines_taken(alloc, before, &others, turns.as_slice(), nprocs)?)
 }

@@ -38,7 +38,14 @@ fn plain_outcomes<P: Program>(
         outcomes: room,
         spare: None,
     };
-    turns_by_one(alloc, &mut rows, program, tape.open_views(), processes, &Open)?;
+    turns_by_one(
+        alloc,
+        &mut rows,
+        program,
+        tape.open_views(),
+        processes,
+        &Open,
+    )?;
     rows.outcomes.share()
 }
 

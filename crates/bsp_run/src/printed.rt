@@ -82,6 +82,6 @@ pub fn lines_printed(
 {
     let all = in_one_column(alloc, printed, nprocs)?;
     let all = Shared::new(alloc, all)?;
-    let none = ProcessSet::new(alloc);
+    let none = ProcessSet::none(0);
     Ok(each_lines(alloc, &[], &none, &all, nprocs)?)
 }

@@ -19,7 +19,7 @@ use crate::supersteps::numbers;
 use crate::tally::Tally;
 use crate::wide::turns_by_one;
 use crate::{Phase, RunResult, Status, TurnRows, Views};
-use bsp_deliver::deliver_all;
+use bsp_deliver::{Delivered, deliver_some};
 use bsp_model::{Input, OutOfMemory};
 use bsp_pool::Open;
 use bsp_step::{Outcome, Outcomes, Program};
@@ -89,7 +89,8 @@ fn next_views(
 {
     let (setting, room) = views.into_parts(alloc);
     let setting = setting.after(outcomes)?;
-    let (cells, h) = deliver_all(alloc, outcomes, processes, room)?;
+    let Delivered { cells, h } = deliver_some(alloc, outcomes, processes, room)?;
+    let Some(h) = h else { unreachable!() };
     Ok((Views::open(alloc, setting, cells)?, h))
 }
 

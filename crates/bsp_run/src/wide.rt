@@ -79,7 +79,9 @@ pub fn wide_turns<P: Program, G: Gate, R: Threads + Sync>(
     }
     let turns = Turns { program, views };
     let shares = gather(rt, alloc, &turns, processes, workers, gate);
-    in_order(alloc, &turns, rows, processes, shares.as_slice())
+    let mut rows = rows;
+    in_order(alloc, &turns, &mut rows, processes, shares.as_slice())?;
+    Ok(rows)
 }
 
 /// Passes the gate with each of so many places, in order.
@@ -165,8 +167,8 @@ pub fn wide_deliveries<G: Gate, R: Threads + Sync>(
         sorted: &sorted,
     };
     let shares = gather(rt, alloc, &deliveries, processes, workers, gate);
-    let room = Cells::with_capacity(alloc, processes.len())?;
-    let cells = in_order(alloc, &deliveries, room, processes, shares.as_slice())?;
+    let mut cells = Cells::with_capacity(alloc, processes.len())?;
+    in_order(alloc, &deliveries, &mut cells, processes, shares.as_slice())?;
     Ok(Delivered { cells, h: None })
 }
 

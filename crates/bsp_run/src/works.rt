@@ -38,7 +38,10 @@ impl<'a, P: Program> Gathering for Turns<'a, P> {
     ghost outputs = { λ _ rows. rows.outcomes };
 
     fn begin(&self, alloc: Global) -> Result<TurnRows, OutOfMemory> {
-        Ok(TurnRows { outcomes: OutcomeRows::with_capacity(alloc, 0)?, spare: None })
+        Ok(TurnRows {
+            outcomes: OutcomeRows::with_capacity(alloc, 0)?,
+            spare: None,
+        })
     }
 
     // The calls of `bsp_step::turn_reusing`, to which no method of a trait may pass a program.
@@ -55,16 +58,14 @@ impl<'a, P: Program> Gathering for Turns<'a, P> {
 }
 
 impl<'a, P: Program> Joining for Turns<'a, P> {
-    fn joined(
+    fn join(
         &self,
-        rows: TurnRows,
+        rows: &mut TurnRows,
         more: &TurnRows,
         from: usize,
         to: usize,
-    ) -> Result<TurnRows, OutOfMemory> {
-        let TurnRows { outcomes, spare } = rows;
-        let all = outcomes.with_range(&more.outcomes, from, to)?;
-        Ok(TurnRows { outcomes: all, spare })
+    ) -> Result<(), OutOfMemory> {
+        rows.outcomes.append_range(&more.outcomes, from, to)
     }
 }
 
@@ -103,13 +104,13 @@ impl<'a> Gathering for Deliveries<'a> {
 }
 
 impl<'a> Joining for Deliveries<'a> {
-    fn joined(
+    fn join(
         &self,
-        rows: Cells,
+        rows: &mut Cells,
         more: &Cells,
         from: usize,
         to: usize,
-    ) -> Result<Cells, OutOfMemory> {
-        rows.with_range(more, from, to)
+    ) -> Result<(), OutOfMemory> {
+        rows.append_range(more, from, to)
     }
 }

@@ -1,6 +1,6 @@
 //! Who may see something else in a superstep than in the run before.
 
-ghost use Rattle.std.specs.Prelude.{◌≡◌, ◌↔◌, [], IfOk, IsTrue, true};
+ghost use Rattle.std.specs.Prelude.{◌≡◌, ◌↔◌, [], IsTrue, true};
 ghost use Rattle.bsp_model.specs.ProcessSet.{processes_in};
 ghost use Rattle.bsp_incr.specs.Inside.Marks.{AreMarked, ViewsDifferAtMost};
 ghost use Rattle.bsp_incr.specs.Inside.Known.{AreDoubtful, AreMarkedAlone, HaveSameTable, IsKnown};
@@ -8,8 +8,7 @@ ghost use Rattle.bsp_incr.specs.Inside.Known.{AreDoubtful, AreMarkedAlone, HaveS
 use crate::compare::beside::OpenSuperstep;
 use crate::compare::known_table::KnownTable;
 use crate::compare::looking::has_table;
-use bsp_model::{OutOfMemory, ProcessSet};
-use std::alloc::Global;
+use bsp_model::ProcessSet;
 
 /// What may be another in a superstep than in the run before.
 #[derive(Drop)]
@@ -51,37 +50,27 @@ pub fn all_see_the_same(
     marks.is_empty() && is_same_table(superstep, known)
 }
 
-/// The same set.
-fn copy_of(alloc: Global, set: &ProcessSet) -> Result<ProcessSet, OutOfMemory>
-    ensures { IfOk result (λ copy. copy ≡ set.now) }
-{
-    let mut copy = ProcessSet::none(alloc, set.count())?;
-    copy.insert_all(set);
-    Ok(copy)
-}
-
 impl Doubtful {
     /// The processes that are marked, where the table and the tag size are those of the run before, and else all.
     pub fn among(
-        alloc: Global,
         superstep: &OpenSuperstep<'_, '_>,
         marks: &ProcessSet,
         known: KnownTable,
-    ) -> Result<Doubtful, OutOfMemory>
+    ) -> Doubtful
         requires marks { AreMarked superstep.now.old_views superstep.now.views.now marks.now }
         requires known { IsKnown known superstep.now.old_views superstep.now.views.now }
-        ensures doubtful { IfOk result (AreDoubtful superstep.now.old_views superstep.now.views.now) }
-        ensures few { IfOk result (AreMarkedAlone superstep.now.old_views superstep.now.views.now marks.now) }
+        ensures doubtful { AreDoubtful superstep.now.old_views superstep.now.views.now result }
+        ensures few { AreMarkedAlone superstep.now.old_views superstep.now.views.now marks.now result }
     {
         let same_table = is_same_table(superstep, known);
         let processes = if same_table {
-            copy_of(alloc, marks)?
+            *marks
         } else {
-            ProcessSet::all(alloc, superstep.views.len())?
+            ProcessSet::all(marks.count())
         };
-        Ok(Doubtful {
+        Doubtful {
             processes,
             same_table,
-        })
+        }
     }
 }

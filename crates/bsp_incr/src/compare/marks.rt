@@ -1,6 +1,6 @@
 //! Which processes have another memory or other arguments than in the run before.
 
-ghost use Rattle.std.specs.Prelude.{◌≡◌, IfOk, None, Some};
+ghost use Rattle.std.specs.Prelude.{◌≡◌, ◌≤◌, None, Some, length};
 ghost use Rattle.bsp_incr.specs.Inside.Before.{IsBeforeEdits};
 ghost use Rattle.bsp_incr.specs.Inside.Marks.{AreArgsMarked, AreFirstMarked};
 ghost use Rattle.bsp_incr.specs.Inside.Marking.{word_before, word_now, arg_before, arg_now, word_place, arg_place};
@@ -9,12 +9,12 @@ ghost use Rattle.bsp_incr.specs.Inside.Marking.{marked_if, marked_at, all_marked
 use crate::Edit;
 use crate::compare::before::first_views_before;
 use crate::edit::{arg_of, word_of};
-use bsp_model::{Input, OutOfMemory, ProcessSet};
+use bsp_model::limits::MOST_PROCESSES;
+use bsp_model::{Input, ProcessSet};
 use bsp_run::History;
-use std::alloc::Global;
 
 /// The processes that begin with something else than in the run before.
-#[derive(Drop)]
+#[derive(Clone, Copy)]
 pub struct Marks {
     /// Those with other arguments. They are marked in each superstep.
     pub args: ProcessSet,
@@ -23,14 +23,16 @@ pub struct Marks {
 }
 
 /// Where there is no run before, all processes are marked.
-pub fn all_marks(alloc: Global, input: &Input) -> Result<Marks, OutOfMemory>
-    ensures args { IfOk result (λ marks. AreArgsMarked None input.now marks.args) }
-    ensures first { IfOk result (λ marks. AreFirstMarked None input.now marks.first) }
+pub fn all_marks(input: &Input) -> Marks
+    requires { length input.now.mems ≤ MOST_PROCESSES }
+    ensures args { AreArgsMarked None input.now result.args }
+    ensures first { AreFirstMarked None input.now result.first }
 {
-    Ok(Marks {
-        args: ProcessSet::all(alloc, input.mems.len())?,
-        first: ProcessSet::all(alloc, input.mems.len())?,
-    })
+    let all = ProcessSet::all(input.mems.len());
+    Marks {
+        args: all,
+        first: all,
+    }
 }
 
 /// The word of a memory in the run before; 0 where there was none.
@@ -125,20 +127,15 @@ fn mark_words(marks: &mut ProcessSet, old: &History, input: &Input, edits: &[Edi
 }
 
 /// The processes that a batch has left with other arguments or another memory. It looks at what the edits name, and at nothing else.
-pub fn marks_of_edits(
-    alloc: Global,
-    old: &History,
-    input: &Input,
-    edits: &[Edit],
-) -> Result<Marks, OutOfMemory>
+pub fn marks_of_edits(old: &History, input: &Input, edits: &[Edit]) -> Marks
+    requires few { length input.now.mems ≤ MOST_PROCESSES }
     requires before { (turn : _) × IsBeforeEdits turn edits.now input.now old.now }
-    ensures args { IfOk result (λ marks. AreArgsMarked (Some old.now) input.now marks.args) }
-    ensures first { IfOk result (λ marks. AreFirstMarked (Some old.now) input.now marks.first) }
+    ensures args { AreArgsMarked (Some old.now) input.now result.args }
+    ensures first { AreFirstMarked (Some old.now) input.now result.first }
 {
-    let mut args = ProcessSet::none(alloc, input.mems.len())?;
+    let mut args = ProcessSet::none(input.mems.len());
     mark_args(&mut args, old, input, edits);
-    let mut first = ProcessSet::none(alloc, input.mems.len())?;
-    mark_args(&mut first, old, input, edits);
+    let mut first = args;
     mark_words(&mut first, old, input, edits);
-    Ok(Marks { args, first })
+    Marks { args, first }
 }

@@ -1,41 +1,38 @@
 //! The history of a run that was made again.
 
-ghost use Rattle.std.specs.Prelude.{◌≡◌, IfOk, option_map, true};
+ghost use Rattle.std.specs.Prelude.{◌≡◌, ◌≤◌, IfOk, option_map, true};
 ghost use Rattle.std.specs.Option.{ForSome};
 ghost use Rattle.bsp_run.specs.Condition.{is_ended};
 ghost use Rattle.bsp_incr.specs.Inside.Stays.{LinesStayBut, AreProcessesMarked};
 
 use crate::Place;
+use bsp_model::limits::MOST_PROCESSES;
 use bsp_model::{OutOfMemory, ProcessSet};
 use bsp_run::{History, Tape};
-use std::alloc::Global;
 
 /// The processes of some places, of so many.
-fn processes_of_places(
-    alloc: Global,
-    nprocs: usize,
-    places: &[Place],
-) -> Result<ProcessSet, OutOfMemory>
-    ensures { IfOk result (λ marks. AreProcessesMarked places.now marks) }
+fn processes_of_places(nprocs: usize, places: &[Place]) -> ProcessSet
+    requires { nprocs ≤ MOST_PROCESSES }
+    ensures { AreProcessesMarked places.now result }
 {
-    let mut processes = ProcessSet::none(alloc, nprocs)?;
+    let mut processes = ProcessSet::none(nprocs);
     for place in places {
         if place.pid < processes.count() as u64 {
             processes.insert(place.pid as usize);
         }
     }
-    Ok(processes)
+    processes
 }
 
 /// The history of a run that has ended. It shares the lines of each process that are those of the run before, as those of a process are whose turns
 /// were not taken again.
 pub fn finished(
-    alloc: Global,
     old: Option<&History>,
     tape: Tape,
     nprocs: usize,
     executed: &[Place],
 ) -> Result<History, OutOfMemory>
+    requires few { nprocs ≤ MOST_PROCESSES }
     requires ended { is_ended tape.phase ≡ true }
     requires executed { ForSome (option_map (λ k. k.now) old) (λ r. LinesStayBut r tape executed.now) }
     ensures { IfOk result (λ history. history ≡ tape) }
@@ -43,6 +40,6 @@ pub fn finished(
     let Some(history) = old else {
         return Ok(tape.finish()?);
     };
-    let processes = processes_of_places(alloc, nprocs, executed)?;
+    let processes = processes_of_places(nprocs, executed);
     Ok(tape.finish_like(history, &processes)?)
 }

@@ -194,11 +194,11 @@ pub fn make_deliveries<P: Program, G: Gate, R: Threads + Sync>(
         ++ touched_in (length tape.old.past) (delivered_beside given.now tape.old) tape.old.outcomes) }
 {
     let step = tape.step() as u64;
-    under_way.marks = touched_beside(given, tape, doubtful)?;
-    let deliveries = deliveries_among(given, tape, &under_way.marks)?;
+    let touched = touched_beside(given, tape, doubtful);
+    let deliveries = deliveries_among(given, tape, &touched)?;
     let redelivered = &mut under_way.update.redelivered;
     add_places(redelivered, step, deliveries.processes.as_slice())?;
     under_way.table = open_next(given, tape, doubtful, deliveries, known)?;
-    under_way.marks.insert_all(given.other_args);
+    under_way.marks = touched.union(given.other_args);
     Ok(())
 }

@@ -21,7 +21,7 @@ loop-place-preserved-in-Some g c =
     let ends = part.ends in
     record {
       inside = omega (arith, ends, length-map inputs does);
-      done = with_part outputs (map does inputs) (outputs c.loop-place.rows) (outputs c.in_ok-rows-in-Some.rows) c.loop-place.place c.in-Some.part.from c.in-Some.part.to c.in-Some.part.rows.now part c.loop-place.invariant.done c.in_ok-rows-in-Some.ensures;
+      done = with_part outputs (map does inputs) (outputs c.loop-place.rows) (outputs c.join.new.rows) c.loop-place.place c.in-Some.part.from c.in-Some.part.to c.in-Some.part.rows.now part c.loop-place.invariant.done c.in_ok-join-in-Some.ensures;
     }
 
 pub loop-place-preserved : goal.loop-place-preserved

@@ -11,5 +11,5 @@ pub returns : goal.returns
 returns c =
     let n = c.args.nprocs in
     let all : List (List (List ℕ)) = c.in_ok-all.all in
-    c.in_ok-each_lines.ensures ∙ ap (λ (marks : List Bool). each_below n (lines_from [] marks c.in_ok-all-2.all)) c.new-none.ensures ∙ ap (λ (column : List (List (List ℕ))). each_below n (lines_from [] [] column)) c.in_ok-all-2.ensures
+    c.in_ok-each_lines.ensures ∙ ap (λ (marks : List Bool). each_below n (lines_from [] marks c.in_ok-all-2.all)) c.none-none.ensures ∙ ap (λ (column : List (List (List ℕ))). each_below n (lines_from [] [] column)) c.in_ok-all-2.ensures
     ∙ lines_from_none all n ∙ each_below-agree n (row_at all) (lines_in c.args.printed.items) c.in_ok-all.ensures

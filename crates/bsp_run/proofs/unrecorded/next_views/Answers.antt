@@ -29,8 +29,8 @@ after-requires-clause-step c =
     let turned : IsTurned r = is_turned_run r t.run t.phase in
     omega (arith, is.step, turned.room, t.run.few_supersteps)
 
-pub deliver_all-requires-clause-deliverable : goal.deliver_all-requires-clause-deliverable
-deliver_all-requires-clause-deliverable c =
+pub deliver_some-requires-clause-deliverable : goal.deliver_some-requires-clause-deliverable
+deliver_some-requires-clause-deliverable c =
     let r : Run = c.requires.turned.0 in
     let t : AreTurned r c.args.views c.args.outcomes.now = c.requires.turned.1 in
     let turned : IsTurned r = is_turned_run r t.run t.phase in
@@ -41,11 +41,11 @@ open-requires c =
     let r : Run = c.requires.turned.0 in
     let t : AreTurned r c.args.views c.args.outcomes.now = c.requires.turned.1 in
     let known = c.in_ok-setting.ensures ∙ setting_next r c.args.views c.args.outcomes.now c.into_parts-setting.result.0 t c.into_parts-setting.ensures.setting in
-    let made = deliveries_made c.args.outcomes.now (length c.args.outcomes.now) c.args.processes.now c.in_ok-cells.cells refl c.requires.processes c.in_ok-cells.ensures.cells ∙ ap deliveries_of (sym t.outcomes) in
-    opens_next r c.in_ok-setting.setting c.in_ok-cells.cells t.run t.phase known made
+    let made = deliveries_made c.args.outcomes.now (length c.args.outcomes.now) c.args.processes.now C refl c.requires.processes c.in_ok-cells.ensures.cells ∙ ap deliveries_of (sym t.outcomes) in
+    opens_next r c.in_ok-setting.setting C t.run t.phase known made
 
 pub returns-clause-views : goal.returns-clause-views
 returns-clause-views c = λ r t.
     let known = c.in_ok-setting.ensures ∙ setting_next r c.args.views c.args.outcomes.now c.into_parts-setting.result.0 t c.into_parts-setting.ensures.setting in
-    let made = deliveries_made c.args.outcomes.now (length c.args.outcomes.now) c.args.processes.now c.in_ok-cells.cells refl c.requires.processes c.in_ok-cells.ensures.cells ∙ ap deliveries_of (sym t.outcomes) in
-    c.in_ok-open.ensures ∙ views_next r c.in_ok-setting.setting c.in_ok-cells.cells known made
+    let made = deliveries_made c.args.outcomes.now (length c.args.outcomes.now) c.args.processes.now C refl c.requires.processes c.in_ok-cells.ensures.cells ∙ ap deliveries_of (sym t.outcomes) in
+    c.in_ok-open.ensures ∙ views_next r c.in_ok-setting.setting C known made

@@ -29,4 +29,3 @@ loop-alloc-smaller g c =
     let whole : Run = run turn c.args.input.now in
     let open_now : is_open c.loop-alloc.tape.phase ≡ true = sym c.is_open.ensures ∙ c.loop-alloc-test.true in
     subst (λ (r : Run). supersteps_left r < supersteps_left c.loop-alloc.tape) (sym c.in_ok-wide_superstep.ensures) (fewer_left turn c.loop-alloc.tape whole c.loop-alloc.invariant open_now)
-
