@@ -71,7 +71,7 @@ once_more x n = grind (arith, nat_tests)
 once_then : (x n : ℕ) → 0 < once_below x n → x < n
 once_then x n h = grind (arith, nat_tests)
 
-stands : (x : ℕ) (ys : List ℕ) → 0 < occurrences x (x ∷ ys)
+pub stands : (x : ℕ) (ys : List ℕ) → 0 < occurrences x (x ∷ ys)
 stands x ys = grind (arith, nat_tests)
 
 pub all_below : (n : ℕ) (xs : List ℕ) → ((x : ℕ) → 0 < occurrences x xs → x < n) → All (λ x. x < n) xs

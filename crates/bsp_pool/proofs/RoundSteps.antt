@@ -37,7 +37,7 @@ get-push_last [] y = refl
 get-push_last (x ∷ xs) y = get-push_last xs y
 
 -- what stands at k after a write at n: the new element, or what stood there
-get-set_cases : {X : Type 0} (xs : List X) (n k : ℕ) (y x : X) → slice_get (slice_set xs n y) k ≡ Some x → ((k ≡ n) × (y ≡ x)) ⊎ ((k ≢ n) × (slice_get xs k ≡ Some x))
+pub get-set_cases : {X : Type 0} (xs : List X) (n k : ℕ) (y x : X) → slice_get (slice_set xs n y) k ≡ Some x → ((k ≡ n) × (y ≡ x)) ⊎ ((k ≢ n) × (slice_get xs k ≡ Some x))
 get-set_cases [] n k y x e = absurd (cc)
 get-set_cases (z ∷ xs) zero zero y x e = inl (refl, cc)
 get-set_cases (z ∷ xs) zero (suc k) y x e = inr ((λ q. omega arith), e)
@@ -45,7 +45,7 @@ get-set_cases (z ∷ xs) (suc n) zero y x e = inr ((λ q. omega arith), e)
 get-set_cases (z ∷ xs) (suc n) (suc k) y x e =
     ⊎_elim (λ (h : (k ≡ n) × (y ≡ x)). inl (ap suc h.0, h.1)) (λ (h : (k ≢ n) × (slice_get xs k ≡ Some x)). inr ((λ q. h.0 (omega arith)), h.1)) (get-set_cases xs n k y x e)
 
-get-replicate : {X : Type 0} (n k : ℕ) (y x : X) → slice_get (replicate n y) k ≡ Some x → y ≡ x
+pub get-replicate : {X : Type 0} (n k : ℕ) (y x : X) → slice_get (replicate n y) k ≡ Some x → y ≡ x
 get-replicate zero k y x e = absurd (cc)
 get-replicate (suc n) zero y x e = cc
 get-replicate (suc n) (suc k) y x e = get-replicate n k y x e

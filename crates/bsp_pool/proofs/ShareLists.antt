@@ -1,32 +1,20 @@
 -- What workers hand over, and runs of numbers in it.
-use Rattle.std.proofs.Common.{◌≡◌, ℕ, List, [], ◌∷◌, ◌++◌, length, ◌<◌, ◌≤◌, sym, arith, refl, ap, ◌∙◌, zero, suc, take, drop, ◌+◌, ◌-◌, subst, get_or, reverse, ⊎_elim, zero-add}
-use Rattle.std.proofs.lemmas.Grind.{common_steps, flat_map-append}
-use Rattle.std.specs.Prelude.{None, Some, slice_get, slice_set, map, slice_index_or, nat_lt}
-use Rattle.std.proofs.lemmas.List.{map-append, append-nil, length-map, reverse-append}
-use Rattle.std.proofs.lemmas.List.Elements.{filter-append, All-append, All-set}
-use Rattle.std.proofs.lemmas.Bool.Decides.{nat_tests}
+use Rattle.std.proofs.Common.{◌≡◌, ℕ, List, [], ◌∷◌, ◌++◌, length, ◌<◌, ◌≤◌, sym, arith, refl, ap, ◌∙◌, zero, suc, take, drop, ◌+◌, ◌-◌, subst, get_or, ⊎_elim, zero-add}
+use Rattle.std.proofs.lemmas.Grind.{common_steps}
+use Rattle.std.specs.Prelude.{None, Some, slice_get, map, slice_index_or}
+use Rattle.std.proofs.lemmas.List.{map-append, length-map}
+use Rattle.std.proofs.lemmas.List.Elements.{All-append}
 use Rattle.std.proofs.lemmas.Option.{slice_get_cases, slice_get_within}
 use Rattle.std.proofs.lemmas.Cmp.{ranked}
 use Rattle.std.specs.Ordering.{nat_cmp}
 use Rattle.std.specs.declared.cmp.Ordering.TheVariants.{Equal}
-use Rattle.std.specs.List.{flat_map}
 use Rattle.bsp_pool.specs.declared.share.Share.{Share}
 use Rattle.bsp_pool.specs.declared.share.Run.{Run}
 use Rattle.bsp_pool.specs.Runs.{IsRunFrom}
 use Rattle.bsp_pool.specs.Shares.{IsShare, AreShares}
-use Rattle.bsp_pool.specs.Inside.HandsBack.{below, numbers_of}
 
 pub no_shares : {Rows T : Type 0} (outputs : Rows → List T) (outs : List T) → AreShares outputs outs []
 no_shares outputs outs = record { each = λ k d lt. absurd (omega arith) }
-
-pub one_share : {Rows T : Type 0} (outputs : Rows → List T) (outs : List T) (s : Share Rows) → IsShare outputs outs s → AreShares outputs outs (s ∷ [])
-one_share {Rows = Rows} outputs outs s h =
-    let each : (k : ℕ) (d : Share Rows) → k < 1 → IsShare outputs outs (slice_index_or (s ∷ []) k d) = λ k d lt. first k d lt in
-    record { each = each }
-  where
-    first : (k : ℕ) (d : Share Rows) → k < 1 → IsShare outputs outs (slice_index_or (s ∷ []) k d)
-    first zero d lt = h
-    first (suc k) d lt = absurd (omega arith)
 
 pub more_shares : {Rows T : Type 0} (outputs : Rows → List T) (outs : List T) (ss ts : List (Share Rows)) → AreShares outputs outs ss → AreShares outputs outs ts → AreShares outputs outs (ss ++ ts)
 more_shares outputs outs ss ts h i = record { each = All-append (IsShare outputs outs) ss ts h.each i.each }
@@ -53,35 +41,6 @@ taken (x ∷ xs) (suc i) out at = let step : suc i + 1 ≡ suc (i + 1) = omega a
 
 pub output_more : {B : Type 0} (outs xs : List B) (i : ℕ) (out : B) → xs ≡ take i outs → slice_get outs i ≡ Some out → xs ++ out ∷ [] ≡ take (i + 1) outs
 output_more outs xs i out so_far at = ap (λ l. l ++ out ∷ []) so_far ∙ taken outs i out at
-
--- a number below the end was drawn, and kept
-pub below_drawn : (end : ℕ) (numbers kept : List ℕ) (number : ℕ) → number < end → kept ≡ below end numbers → kept ++ number ∷ [] ≡ below end (numbers ++ number ∷ [])
-below_drawn end numbers kept number lt is =
-    let here : below end (number ∷ []) ≡ number ∷ [] = grind (arith, nat_tests, common_steps) in
-    ap (λ l. l ++ number ∷ []) is ∙ (sym (ap (λ l. below end numbers ++ l) here) ∙ sym (filter-append (λ x. nat_lt x end) numbers (number ∷ [])))
-
--- a number past the end was drawn
-pub past_drawn : (end : ℕ) (numbers kept : List ℕ) (number : ℕ) → end ≤ number → kept ≡ below end numbers → kept ≡ below end (numbers ++ number ∷ [])
-past_drawn end numbers kept number past is =
-    let here : below end (number ∷ []) ≡ [] = grind (arith, nat_tests, common_steps) in
-    is ∙ (sym (append-nil _) ∙ (sym (ap (λ l. below end numbers ++ l) here) ∙ sym (filter-append (λ x. nat_lt x end) numbers (number ∷ []))))
-
--- one share changed
-pub share_changed : {Rows T : Type 0} (outputs : Rows → List T) (outs : List T) (ss new : List (Share Rows)) (i : ℕ) (s : Share Rows) → AreShares outputs outs ss → IsShare outputs outs s → new ≡ slice_set ss i s → AreShares outputs outs new
-share_changed outputs outs ss new i s h is new_is = subst (AreShares outputs outs) (sym new_is) (record { each = All-set (IsShare outputs outs) ss i s is h.each })
-
-pub share_at : {Rows T : Type 0} (outputs : Rows → List T) (outs : List T) (ss : List (Share Rows)) (i : ℕ) (s : Share Rows) → AreShares outputs outs ss → i < length ss → s ≡ slice_index_or ss i s → IsShare outputs outs s
-share_at outputs outs ss i s h lt is = subst (IsShare outputs outs) (sym is) (h.each i s lt)
-
-map-reverse : {X Y : Type 0} (f : X → Y) (xs : List X) → map f (reverse xs) ≡ reverse (map f xs)
-map-reverse f [] = refl
-map-reverse f (x ∷ xs) =
-    ap (map f) (reverse-append (x ∷ []) xs)
-    ∙ (map-append f (reverse xs) (x ∷ []) ∙ (ap (λ l. l ++ f x ∷ []) (map-reverse f xs) ∙ sym (reverse-append (f x ∷ []) (map f xs))))
-
-pub share_reversed : {T : Type 0} (outs : List T) (ns new : List ℕ) (os os' : List T) → map (slice_get outs) ns ≡ map Some os → new ≡ reverse ns → os' ≡ reverse os → map (slice_get outs) new ≡ map Some os'
-share_reversed outs ns new os os' h new_is is =
-    ap (map (slice_get outs)) new_is ∙ (map-reverse (slice_get outs) ns ∙ (ap reverse h ∙ (sym (map-reverse Some os) ∙ ap (map Some) (sym is))))
 
 -- where a place has the number that was looked for, consecutive numbers begin with it
 pub run_numbers : (ns ls ms : List ℕ) (from to number : ℕ) → ls ≡ ns → ms ≡ ns → nat_cmp (get_or ls from 0) number ≡ Equal
@@ -165,21 +124,3 @@ run_outputs {Rows = Rows} outputs outs shares number run are is =
     let share = is.share in
     let own : IsShare outputs outs share = subst (IsShare outputs outs) is.stands.2 (are.each is.stands.0 share is.stands.1) in
     subst (IsPart outputs outs number run.from run.to) (sym is.rows) (part_of outputs outs share number run.from run.to own is.some is.inside is.numbers)
-
--- the shares of two, or those of one where there is no room
-pub appended_shares : {Rows T : Type 0} (outputs : Rows → List T) (outs : List T) (ss ts new : List (Share Rows)) → AreShares outputs outs ss → AreShares outputs outs ts → new ≡ ss ++ ts → AreShares outputs outs new
-appended_shares outputs outs ss ts new h i is = subst (AreShares outputs outs) (sym is) (more_shares outputs outs ss ts h i)
-
--- the numbers of both
-pub appended_numbers : {Rows : Type 0} (ss ts new : List (Share Rows)) (end : ℕ) (ms ns : List ℕ) → numbers_of ss ≡ below end ms → numbers_of ts ≡ below end ns → new ≡ ss ++ ts → numbers_of new ≡ below end (ms ++ ns)
-appended_numbers {Rows = Rows} ss ts new end ms ns h i is =
-    let own : Share Rows → List ℕ = λ s. s.numbers.items in
-    ap (λ l. flat_map own l) is ∙ (flat_map-append own ss ts ∙ (ap (λ l. l ++ flat_map own ts) h ∙ (ap (λ l. below end ms ++ l) i ∙ sym (filter-append (λ x. nat_lt x end) ms ns))))
-
--- the share of one worker alone
-pub first_share : {Rows T : Type 0} (outputs : Rows → List T) (outs : List T) (before new : List (Share Rows)) (s : Share Rows) → IsShare outputs outs s → before ≡ [] → new ≡ before ++ s ∷ [] → AreShares outputs outs new
-first_share {Rows = Rows} outputs outs before new s h none is = subst (AreShares outputs outs) (sym (is ∙ ap (λ (l : List (Share Rows)). l ++ s ∷ []) none)) (one_share outputs outs s h)
-
-pub first_numbers : {Rows : Type 0} (before new : List (Share Rows)) (s : Share Rows) (end n : ℕ) (ms : List ℕ) → before ≡ [] → new ≡ before ++ s ∷ [] → s.numbers.items ≡ below n ms → end ≡ n → numbers_of new ≡ below end ms
-first_numbers {Rows = Rows} before new s end n ms none is numbers same =
-    ap numbers_of (is ∙ ap (λ (l : List (Share Rows)). l ++ s ∷ []) none) ∙ (append-nil s.numbers.items ∙ (numbers ∙ ap (λ (k : ℕ). below k ms) (sym same)))

@@ -37,9 +37,10 @@ missing_of-more does xs os k made x o out lt same so_far at at' is =
     (slice_get-missing_of does xs os k x o lt same ∙ ap Some (ap (λ o. made_unless o (does (slice_index_or xs k x))) (sym at') ∙ (ap (λ x. made_unless o (does x)) (sym at) ∙ sym is)))
 
 -- what a Turn leaves is the machine turned
-pub turned-is : {Job In Out : Type 0} (does : In → Out) (m : Machine Job In Out) (done : List (List Out)) (next : RoundParts Out) (row : List Out) (inputs : List In) (kept made : List (Option Out)) → length m.round.outputs ≡ length (inputs_of m)
-    → inputs ≡ inputs_of m → kept ≡ m.round.outputs → made ≡ missing_of does inputs kept → row ≡ merged_of m.round.outputs made → done ≡ m.committed ++ row ∷ [] → next ≡ opened (length (slice_index_or m.phases (length m.committed + 1) [])) (length m.round.workers)
-    → machine m.work m.phases done next ≡ turned does m
-turned-is does m done next row inputs kept made places inputs-is kept-is made-is row-is done-is next-is =
-    let full : row ≡ finished does (inputs_of m) m.round.outputs = row-is ∙ (ap (merged_of m.round.outputs) (made-is ∙ (ap (λ xs. missing_of does xs kept) inputs-is ∙ ap (missing_of does (inputs_of m)) kept-is)) ∙ merged_of-missing_of does (inputs_of m) m.round.outputs places) in
-    ap (λ d. machine m.work m.phases d next) (done-is ∙ ap (λ r. m.committed ++ r ∷ []) full) ∙ ap (λ n. machine m.work m.phases (m.committed ++ finished does (inputs_of m) m.round.outputs ∷ []) n) next-is
+pub turned-is : {Job In Out : Type 0} (does : In → Out) (m : Machine Job In Out) (done : List (List Out)) (next : RoundParts Out) (row : List Out) (inputs next_inputs : List In)
+    → inputs ≡ inputs_of m → next_inputs ≡ slice_index_or m.phases (length m.committed + 1) [] → row ≡ finished does inputs m.round.outputs
+    → done ≡ m.committed ++ row ∷ [] → next ≡ opened (length next_inputs) (length m.round.workers) → machine m.work m.phases done next ≡ turned does m
+turned-is does m done next row inputs next_inputs inputs-is next_inputs-is row-is done-is next-is =
+    let full : row ≡ finished does (inputs_of m) m.round.outputs = row-is ∙ ap (λ xs. finished does xs m.round.outputs) inputs-is in
+    ap (λ d. machine m.work m.phases d next) (done-is ∙ ap (λ r. m.committed ++ r ∷ []) full)
+    ∙ ap (λ n. machine m.work m.phases (m.committed ++ finished does (inputs_of m) m.round.outputs ∷ []) n) (next-is ∙ ap (λ xs. opened (length xs) (length m.round.workers)) next_inputs-is)

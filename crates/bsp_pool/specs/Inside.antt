@@ -1,6 +1,7 @@
 pub mod Claim
 pub mod Views
 pub mod Turning
-pub mod HandsBack
+pub mod Hands
 pub mod Lists
 pub mod Holding
+pub mod Kept

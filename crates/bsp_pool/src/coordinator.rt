@@ -1,13 +1,16 @@
 //! A phase, by the thread that calls it.
 
-ghost use Rattle.std.specs.Prelude.{◌≡◌, ◌<◌, ◌≤◌, All, IfOk, Some, map, length, slice_get};
-ghost use Rattle.bsp_pool.specs.Shares.{AreShares};
+ghost use Rattle.std.specs.Prelude.{◌≡◌, ◌<◌, ◌≤◌, List, All, IfOk, length, map};
+ghost use Rattle.bsp_pool.specs.Numbers.{IsDistinct};
+ghost use Rattle.bsp_pool.specs.Shares.{AreShares, HasEachNumber, IsShare, numbers_of};
+ghost use Rattle.bsp_pool.specs.Inside.Kept.{AreKept};
 ghost use Rattle.bsp_pool.specs.Inside.Lists.{items_of};
 
-use crate::listed::{Listed, first_last, next_output};
+use crate::round::no_outputs;
 use crate::share::Share;
+use crate::turning::{merged, work_missing};
 use crate::work::{Gate, Gathering, Work};
-use crate::worker::{Finished, Jobs, run_phase};
+use crate::worker::{Jobs, run_workers};
 use crate::{Deck, OutOfMemory};
 use std::alloc::Global;
 use std::thread::Threads;
@@ -20,7 +23,7 @@ use std::thread::Threads;
 /// left, and passes no gate for it.
 ///
 /// # Errors
-/// `OutOfMemory` where that work, or the list of outputs, is refused memory.
+/// `OutOfMemory` where that work, or a list of outputs, is refused memory.
 pub fn phase<W: Work, G: Gate, R: Threads + Sync>(
     rt: &R,
     alloc: Global,
@@ -33,13 +36,15 @@ pub fn phase<W: Work, G: Gate, R: Threads + Sync>(
     requires accepts { All (W.accepts work.now) inputs.now }
     ensures { IfOk result (λ outputs. outputs.items ≡ map (W.does work.now) inputs.now) }
 {
-    let listed = Listed { work };
-    let shares = first_last(gather(rt, alloc, &listed, inputs, workers, gate));
-    in_order(alloc, work, inputs, shares)
+    let mut kept = no_outputs(alloc, inputs.len())?;
+    keep_all(&mut kept, gather(rt, alloc, work, inputs, workers, gate));
+    let missing = work_missing(alloc, work, inputs, kept.as_slice())?;
+    Ok(merged(kept, missing))
 }
 
 /// What workers gather of the outputs of these inputs: for each worker a share, its rows with the numbers of the outputs in them. The workers
-/// are those of `phase`, and pass the gate as there. Where memory was refused no share may have a number; that is for the caller to work.
+/// are those of `phase`, and pass the gate as there. No number is worked twice. One that no share has was given up by a worker for want of memory,
+/// or no worker drew past the end; it is for the caller to work.
 pub fn gather<W: Gathering, G: Gate, R: Threads + Sync>(
     rt: &R,
     alloc: Global,
@@ -50,13 +55,17 @@ pub fn gather<W: Gathering, G: Gate, R: Threads + Sync>(
 ) -> Vec<Share<W::Rows>>
     requires workers { (0 < workers) × (workers ≤ 16) }
     requires accepts { All (W.accepts work.now) inputs.now }
-    ensures { AreShares (W.outputs work.now) (map (W.does work.now) inputs.now) result.items }
+    ensures shares { AreShares (W.outputs work.now) (map (W.does work.now) inputs.now) result.items }
+    ensures once { IsDistinct (numbers_of result.items) }
+    ensures each { HasEachNumber (length inputs.now) result.items }
 {
-    if inputs.is_empty() {
+    // A worker beyond the number of inputs would find nothing to draw.
+    let useful = workers.min(inputs.len()).max(1);
+    let Ok(mut shares) = Vec::with_capacity(alloc, useful) else {
         return Vec::new(alloc);
-    }
-    let Ok((deck, pass)) = Deck::open(alloc) else {
-        return Vec::new(alloc);
+    };
+    let Ok((deck, mut pass)) = Deck::open(alloc) else {
+        return shares;
     };
     let jobs = Jobs {
         alloc,
@@ -65,49 +74,33 @@ pub fn gather<W: Gathering, G: Gate, R: Threads + Sync>(
         inputs,
         gate,
     };
-    // A worker beyond the number of inputs would find nothing to draw.
-    let useful = workers.min(inputs.len()).max(1);
-    let Finished { pass, shares, .. } = run_phase(rt, &jobs, pass, useful);
+    run_workers(rt, &jobs, &mut pass, useful, &mut shares);
     deck.close(pass);
     shares
 }
 
-/// The outputs in order. What no share has is worked here.
-fn in_order<W: Work>(
-    alloc: Global,
-    work: &W,
-    inputs: &[W::In],
-    mut shares: Vec<Share<Vec<W::Out>>>,
-) -> Result<Vec<W::Out>, OutOfMemory>
-    requires accepts { All (W.accepts work.now) inputs.now }
-    requires shares { AreShares items_of (map (W.does work.now) inputs.now) shares.items }
-    ensures { IfOk result (λ outputs. outputs.items ≡ map (W.does work.now) inputs.now) }
+/// Keeps the outputs of these shares by their numbers.
+fn keep_all<T: Drop>(kept: &mut Vec<Option<T>>, shares: Vec<Share<Vec<T>>>)
+    ensures { (outs : List T) → AreShares items_of outs shares.items → AreKept outs kept.old.items → AreKept outs kept.new.items }
 {
-    let mut outputs = Vec::with_capacity(alloc, inputs.len())?;
-    for number in 0..inputs.len() {
-        let output = output_of(alloc, work, inputs, &mut shares, number)?;
-        outputs.push(output)?;
+    let mut shares = shares;
+    while let Some(share) = shares.pop() {
+        keep(kept, share);
     }
-    Ok(outputs)
 }
 
-/// The output of this number, worked here if it does not lie last in a share.
-#[tactic(auto, using(crate::proofs::ShareLists::output_at))]
-fn output_of<W: Work>(
-    alloc: Global,
-    work: &W,
-    inputs: &[W::In],
-    shares: &mut Vec<Share<Vec<W::Out>>>,
-    number: usize,
-) -> Result<W::Out, OutOfMemory>
-    requires accepts { All (W.accepts work.now) inputs.now }
-    requires shares { AreShares items_of (map (W.does work.now) inputs.now) shares.old.items }
-    requires number { number < length inputs.now }
-    ensures kept { AreShares items_of (map (W.does work.now) inputs.now) shares.new.items }
-    ensures output { IfOk result (λ out. slice_get (map (W.does work.now) inputs.now) number ≡ Some out) }
+/// Keeps the outputs of this share by their numbers.
+fn keep<T: Drop>(kept: &mut Vec<Option<T>>, share: Share<Vec<T>>)
+    ensures { (outs : List T) → IsShare items_of outs share → AreKept outs kept.old.items → AreKept outs kept.new.items }
 {
-    match next_output(shares, number) {
-        Some(output) => Ok(output),
-        None => work.work(alloc, &inputs[number]),
+    let Share {
+        mut numbers,
+        mut rows,
+        ..
+    } = share;
+    while let (Some(number), Some(output)) = (numbers.pop(), rows.pop()) {
+        if number < kept.len() {
+            kept[number] = Some(output);
+        }
     }
 }

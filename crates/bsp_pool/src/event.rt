@@ -3,12 +3,12 @@
 ghost use Rattle.std.specs.Prelude.{◌≡◌};
 ghost use Rattle.bsp_pool.specs.declared.event.CoreRefusal.TheVariants.{OutOfMemory};
 
-use std::alloc::{AllocError, AllocFailed};
+use std::alloc::AllocError;
 use std::error::Error;
 use std::fmt;
 
 /// What may happen in a round machine. Workers have the numbers from 0 on.
-#[derive(Clone, Copy, Debug, PartialEq, Eq)]
+#[derive(Clone, Copy, Debug)]
 pub enum Event {
     /// The worker takes the next number: one `fetch_add` of 1 on the claim word.
     Draw(usize),
@@ -49,14 +49,6 @@ impl From<AllocError> for CoreRefusal {
     ghost from_gives = { λ _ refusal. refusal ≡ OutOfMemory };
 
     fn from(_error: AllocError) -> CoreRefusal {
-        CoreRefusal::OutOfMemory
-    }
-}
-
-impl<T: Drop> From<AllocFailed<T>> for CoreRefusal {
-    ghost from_gives = { λ _ refusal. refusal ≡ OutOfMemory };
-
-    fn from(_error: AllocFailed<T>) -> CoreRefusal {
         CoreRefusal::OutOfMemory
     }
 }

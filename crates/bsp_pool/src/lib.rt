@@ -9,7 +9,6 @@ mod claim;
 mod coordinator;
 mod deck;
 mod event;
-mod listed;
 mod machine;
 mod pass_view;
 mod round;

@@ -1,22 +1,18 @@
 //! The round machine.
 
-ghost use Rattle.std.specs.Prelude.{◌≡◌, ◌<◌, ◌≤◌, ◌+◌, List, [], All, IfOk, length, map, slice_index_or, take};
-ghost use Rattle.std.specs.Vec.{vec_capacity};
+ghost use Rattle.std.specs.Prelude.{◌≡◌, ◌<◌, ◌≤◌, List, [], All, IfOk, length, map, slice_index_or, take};
 ghost use Rattle.bsp_pool.specs.declared.event.Event.{Event};
 ghost use Rattle.bsp_pool.specs.EventLists.{KeepsRounds};
-ghost use Rattle.bsp_pool.specs.Rounds.{Applies, opened};
-ghost use Rattle.bsp_pool.specs.Machine.{starting, step, round_step, inputs_of, IsSound};
-ghost use Rattle.bsp_pool.specs.Inside.Turning.{missing_of};
+ghost use Rattle.bsp_pool.specs.Rounds.{Applies};
+ghost use Rattle.bsp_pool.specs.Machine.{starting, step, round_step, IsSound};
 
 use crate::OutOfMemory;
 use crate::event::{CoreRefusal, Event};
-use crate::round::Round;
+use crate::round::{Round, turn};
 use crate::row::Row;
-use crate::turning::missing;
 use crate::work::Work;
 use std::alloc::Global;
 use std::marker::Model;
-use std::mem;
 
 /// The round machine: the pool, step by step, on one thread. It has a list of phases, each a list of inputs. In the
 /// round of the open phase workers draw its numbers, work their inputs and leave, and a turn commits the outputs.
@@ -31,15 +27,6 @@ pub struct Core<W: Work> {
     phases: Vec<Row<W::In>>,
     committed: Vec<Row<W::Out>>,
     round: Round<W::Out>,
-}
-
-/// What a Turn puts in the place of the open round: the outputs of the numbers for which none was kept, a list with room for those of all, and the round of
-/// the next phase.
-#[derive(Drop)]
-struct Turning<T> {
-    row: Vec<T>,
-    made: Vec<Option<T>>,
-    next: Round<T>,
 }
 
 impl<W: Work> Model for Core<W> {
@@ -139,24 +126,6 @@ impl<W: Work + Drop> Core<W> {
         self.round.leave(worker)
     }
 
-    /// All that a Turn takes memory for.
-    fn turning(&self) -> Result<Turning<W::Out>, OutOfMemory>
-        ensures made { IfOk result (λ t. t.made.items ≡ missing_of (W.does self.now.work) (inputs_of self.now) self.now.round.outputs) }
-        ensures row { IfOk result (λ t. t.row.items ≡ []) }
-        ensures room { IfOk result (λ t. length (inputs_of self.now) ≤ vec_capacity t.row) }
-        ensures next { IfOk result (λ t. t.next
-            ≡ opened (length (slice_index_or self.now.phases (length self.now.committed + 1) [])) (length self.now.round.workers)) }
-    {
-        let inputs = inputs_at(self.phases.as_slice(), self.committed.len());
-        let next_inputs = inputs_at(self.phases.as_slice(), self.committed.len() + 1);
-        Ok(Turning {
-            next: Round::open(self.alloc, next_inputs.len(), self.round.workers())?,
-            made: missing(self.alloc, &self.work, inputs, self.round.outputs())?,
-            row: Vec::with_capacity(self.alloc, inputs.len())?,
-        })
-    }
-
-    /// What may be refused memory comes first, so that nothing has changed where it is.
     fn turn(&mut self) -> Result<(), CoreRefusal>
         requires { length self.old.committed < length self.old.phases }
         ensures { Applies (round_step (W.does self.old.work) self.old Event.Turn) self.old result self.new }
@@ -165,10 +134,16 @@ impl<W: Work + Drop> Core<W> {
             return Err(CoreRefusal::NotNow);
         }
         self.committed.reserve(1)?;
-        let Turning { row, made, next } = self.turning()?;
-        let ended = mem::replace(&mut self.round, next);
-        self.committed
-            .push_reserved(Row::from_vec(ended.into_row(row, made)));
+        let inputs = inputs_at(self.phases.as_slice(), self.committed.len());
+        let next_inputs = inputs_at(self.phases.as_slice(), self.committed.len() + 1);
+        let outputs = turn(
+            self.alloc,
+            &self.work,
+            inputs,
+            &mut self.round,
+            next_inputs.len(),
+        )?;
+        self.committed.push_reserved(Row::from_vec(outputs));
         Ok(())
     }
 }

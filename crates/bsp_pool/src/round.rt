@@ -1,16 +1,17 @@
 //! A round: what is known of the open phase of the round machine.
 
-ghost use Rattle.std.specs.Prelude.{◌≡◌, ◌+◌, ◌<◌, ◌≤◌, ◌++◌, IfOk, All, length, replicate, slice_get, vec_len};
+ghost use Rattle.std.specs.Prelude.{◌≡◌, ◌<◌, All, IfOk, OnErr, OnOk, length, replicate, slice_get};
 ghost use Rattle.std.specs.List.{list_all};
-ghost use Rattle.bsp_pool.specs.Rounds.{opened, after_draw, after_leave, with_output, is_gone, Applies};
+ghost use Rattle.bsp_pool.specs.Rounds.{opened, after_draw, after_leave, with_output, is_gone, finished, Applies};
 ghost use Rattle.bsp_pool.specs.Inside.Holding.{number_of};
-ghost use Rattle.std.specs.Vec.{vec_capacity};
-ghost use Rattle.bsp_pool.specs.Inside.Turning.{merged_of};
 
+use crate::OutOfMemory;
 use crate::event::CoreRefusal;
-use crate::turning::merged;
-use std::alloc::{AllocError, Global};
+use crate::turning::{merged, work_missing};
+use crate::work::Work;
+use std::alloc::Global;
 use std::marker::Model;
+use std::mem;
 
 /// What a worker is at.
 #[derive(Clone, Copy)]
@@ -43,21 +44,18 @@ impl<T> Model for Round<T> {
 
 impl<T: Drop> Round<T> {
     /// A round that opens, with all workers ready.
-    pub(crate) fn open(alloc: Global, inputs: usize, workers: usize) -> Result<Round<T>, AllocError>
+    pub(crate) fn open(
+        alloc: Global,
+        inputs: usize,
+        workers: usize,
+    ) -> Result<Round<T>, OutOfMemory>
         ensures { IfOk result (λ r. r ≡ opened inputs workers) }
     {
         Ok(Round {
             draws: Vec::new(alloc),
-            workers: ready_workers(alloc, workers)?,
+            workers: vec![in alloc; Worker::Ready; workers]?,
             outputs: no_outputs(alloc, inputs)?,
         })
-    }
-
-    /// How many workers there are.
-    pub(crate) fn workers(&self) -> usize
-        ensures { result ≡ length self.now.workers }
-    {
-        self.workers.len()
     }
 
     /// The worker takes the next number.
@@ -69,7 +67,8 @@ impl<T: Drop> Round<T> {
             return Err(CoreRefusal::NotNow);
         };
         let number = self.draws.len();
-        self.draws.push(worker)?;
+        self.draws.reserve(1)?;
+        self.draws.push_reserved(worker);
         self.workers[worker] = if number < inputs {
             Worker::Holding(number)
         } else {
@@ -120,40 +119,38 @@ impl<T: Drop> Round<T> {
             .iter()
             .all(|worker| matches!(worker, Worker::Gone))
     }
-
-    /// The outputs that were kept, by number.
-    pub(crate) fn outputs(&self) -> &[Option<T>]
-        ensures { result.now ≡ self.now.outputs }
-    {
-        self.outputs.as_slice()
-    }
-
-    /// The outputs in order, behind the row: those that were kept, and else those that were made.
-    pub(crate) fn into_row(self, row: Vec<T>, made: Vec<Option<T>>) -> Vec<T>
-        requires { vec_len row + length self.outputs ≤ vec_capacity row }
-        ensures { result.items ≡ row.items ++ merged_of self.outputs made.items }
-    {
-        let Round { outputs, .. } = self;
-        merged(row, outputs, made)
-    }
 }
 
-fn ready_workers(alloc: Global, workers: usize) -> Result<Vec<Worker>, AllocError>
-    ensures { IfOk result (λ v. v.items ≡ replicate workers Worker.Ready) }
+/// The outputs of a round, and the next round opened in its place.
+pub(crate) fn turn<W: Work>(
+    alloc: Global,
+    work: &W,
+    inputs: &[W::In],
+    round: &mut Round<W::Out>,
+    next_inputs: usize,
+) -> Result<Vec<W::Out>, OutOfMemory>
+    requires accepts { All (W.accepts work.now) inputs.now }
+    requires places { length round.old.outputs ≡ length inputs.now }
+    ensures outputs { IfOk result (λ outputs. outputs.items ≡ finished (W.does work.now) inputs.now round.old.outputs) }
+    ensures next { OnOk result (round.new ≡ opened next_inputs (length round.old.workers)) }
+    ensures err { OnErr result (round.new ≡ round.old) }
 {
-    let mut ready = Vec::with_capacity(alloc, workers)?;
-    for _worker in 0..workers {
-        ready.push(Worker::Ready)?;
-    }
-    Ok(ready)
+    let missing = work_missing(alloc, work, inputs, round.outputs.as_slice())?;
+    let next = Round::open(alloc, next_inputs, round.workers.len())?;
+    let Round { outputs, .. } = mem::replace(round, next);
+    Ok(merged(outputs, missing))
 }
 
-fn no_outputs<T: Drop>(alloc: Global, inputs: usize) -> Result<Vec<Option<T>>, AllocError>
+/// A list of so many places, in which no output is kept.
+pub(crate) fn no_outputs<T: Drop>(
+    alloc: Global,
+    inputs: usize,
+) -> Result<Vec<Option<T>>, OutOfMemory>
     ensures { IfOk result (λ v. v.items ≡ replicate inputs None) }
 {
     let mut outputs = Vec::with_capacity(alloc, inputs)?;
     for _number in 0..inputs {
-        outputs.push(None)?;
+        outputs.push_reserved(None);
     }
     Ok(outputs)
 }

@@ -10,6 +10,10 @@ pub struct Share<Rows> {
     pub numbers: Vec<usize>,
     /// Their outputs, in the same order.
     pub rows: Rows,
+    /// Whether it gave up a number that it drew, for want of memory.
+    pub gave_up: bool,
+    /// Whether it drew a number past the end.
+    pub past_end: bool,
 }
 
 /// Outputs of consecutive numbers, which lie one behind the other in the rows of one worker.

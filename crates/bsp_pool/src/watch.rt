@@ -22,7 +22,8 @@ const JOBS_A_LOOK: usize = 4;
 pub(crate) struct Watch {
     looks: Option<Looks>,
     next_look: usize,
-    workers: usize,
+    /// How many workers the rest is worth, as the last look left it.
+    pub(crate) workers: usize,
 }
 
 /// When a watch began, and what it knows from its last look: when that was, how many jobs were done, and how many workers
@@ -45,47 +46,57 @@ impl Watch {
         }
     }
 
-    /// The watch of a worker that is alone from this time on.
-    pub(crate) fn new(now: Instant) -> Watch {
-        Watch {
-            looks: Some(Looks {
-                began: now,
-                last: now,
-                jobs: 0,
-                worth: usize::MAX,
-            }),
-            next_look: 1,
-            workers: 1,
+    /// The watch of the first of so many workers. Where the gate tells no time, it calls the others at once.
+    pub(crate) fn new<G: Gate>(gate: &G, workers: usize) -> Watch {
+        if workers < 2 {
+            return Watch::none();
+        }
+        match gate.now() {
+            Some(now) => Watch {
+                looks: Some(Looks {
+                    began: now,
+                    last: now,
+                    jobs: 0,
+                    worth: usize::MAX,
+                }),
+                next_look: 1,
+                workers: 1,
+            },
+            None => Watch {
+                looks: None,
+                next_look: 0,
+                workers: 1,
+            },
         }
     }
 
-    /// How many workers the rest is worth, as the last look left it.
-    pub(crate) fn workers(&self) -> usize {
-        self.workers
-    }
-
-    /// Whether the worker, which has done so many jobs, leaves those that are left to several workers.
+    /// Whether the worker, which has done so many jobs, shares those that are left with others.
     pub(crate) fn calls_others<G: Gate>(&mut self, gate: &G, done: usize, left: usize) -> bool {
         if done < self.next_look || left == 0 {
             return false;
         }
-        self.workers = self.look(gate, done, left);
+        self.workers = self.look(gate, done, left).min(left);
         self.workers > 1
     }
 
     /// Looks at the time: how many workers the jobs that are left are worth, by the pace since the last look and by that
-    /// before it. Where the gate tells the time no longer, they are worth any number.
+    /// before it. Where the gate tells no time, they are worth any number.
     fn look<G: Gate>(&mut self, gate: &G, done: usize, left: usize) -> usize {
-        let (Some(looks), Some(now)) = (self.looks, gate.now()) else {
+        let Some(looks) = self.looks else {
             return usize::MAX;
         };
-        let pace = looks.pace(now, done);
+        let Some(now) = gate.now() else {
+            return usize::MAX;
+        };
+        let jobs = done.saturating_sub(looks.jobs).max(1);
+        let pace = now.duration_since(looks.last).as_nanos() / jobs as u128;
+        let worth = pace.saturating_mul(left as u128) / NANOS_A_WORKER;
+        let worth = worth.min(left as u128) as usize;
         let step = if done < JOBS_A_LOOK || pace >= LONG_JOB_NANOS {
             1
         } else {
             JOBS_A_LOOK
         };
-        let worth = workers_for(pace, left);
         self.next_look = done.saturating_add(step);
         self.looks = Some(Looks {
             began: looks.began,
@@ -98,18 +109,4 @@ impl Watch {
         }
         worth.min(looks.worth)
     }
-}
-
-impl Looks {
-    /// How many nanoseconds each job took since the last look.
-    fn pace(&self, now: Instant, done: usize) -> u128 {
-        let jobs = done.saturating_sub(self.jobs).max(1);
-        now.duration_since(self.last).as_nanos() / jobs as u128
-    }
-}
-
-/// How many workers so many jobs are worth at this pace.
-fn workers_for(pace: u128, jobs: usize) -> usize {
-    let worth = pace.saturating_mul(jobs as u128) / NANOS_A_WORKER;
-    worth.min(usize::MAX as u128) as usize
 }

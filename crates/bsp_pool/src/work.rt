@@ -67,6 +67,33 @@ pub trait Gathering: Sync {
         ensures err { OnErr result (outputs self.now rows.new ≡ outputs self.now rows.old) };
 }
 
+/// A work is gathered in lists of its outputs.
+impl<W: Work> Gathering for W {
+    ghost use Rattle.bsp_pool.specs.Inside.Lists.{items_of};
+
+    type In = W::In;
+
+    type Out = W::Out;
+
+    type Rows = Vec<W::Out>;
+
+    ghost accepts = { λ work input. W.accepts work input };
+
+    ghost does = { λ work input. W.does work input };
+
+    ghost outputs = { λ _ rows. items_of rows };
+
+    fn begin(&self, alloc: Global) -> Result<Vec<W::Out>, OutOfMemory> {
+        Ok(Vec::new(alloc))
+    }
+
+    fn add(&self, alloc: Global, rows: &mut Vec<W::Out>, input: &W::In) -> Result<(), OutOfMemory> {
+        let output = self.work(alloc, input)?;
+        rows.push(output)?;
+        Ok(())
+    }
+}
+
 /// A place that a worker passes between drawing a job and working it, as to hold it there in a test.
 pub trait Gate: Sync {
     /// Called by the worker that drew the job of this number (from 0), before its work.
@@ -80,7 +107,7 @@ pub trait Gate: Sync {
 }
 
 /// The gate that does nothing and tells no time.
-#[derive(Clone, Copy, Debug, Default)]
+#[derive(Clone, Copy)]
 pub struct Open;
 
 impl Gate for Open {

@@ -1,16 +1,18 @@
-//! The workers of a phase. Each has a pass of its own, made of the first one, and the passes are joined as they end.
+//! The workers of a phase. Each has a pass of its own, made of the first one, and the passes are joined once all have left.
 
-ghost use Rattle.std.specs.Prelude.{◌≡◌, ◌+◌, ◌-◌, ◌<◌, ◌++◌, ◌∷◌, [], false, All, List, OnErr, OnOk, length, map};
-ghost use Rattle.std.specs.Thread.{IsSync};
+ghost use Rattle.std.specs.Prelude.{◌≡◌, ◌+◌, ◌<◌, ◌≤◌, ◌++◌, ◌∷◌, [], All, IfNone, IfSome, OnErr, OnOk, ◌-◌, ◌^◌, length, map, max, vec_len};
+ghost use Rattle.std.specs.Vec.{vec_capacity};
+ghost use Rattle.bsp_pool.specs.Numbers.{all_units};
+ghost use Rattle.bsp_pool.specs.Passes.{pass_of};
 ghost use Rattle.bsp_pool.specs.Shares.{IsShare};
-ghost use Rattle.bsp_pool.specs.Inside.HandsBack.{IsFreshFor, HandsBack, below};
+ghost use Rattle.bsp_pool.specs.Inside.Hands.{HasUnits, IsHand, IsReady, IsNew, IsSplit, IsGathered};
 
 use crate::share::Share;
 use crate::watch::Watch;
 use crate::work::{Gate, Gathering};
 use crate::{Deck, OutOfMemory, Pass};
 use std::alloc::Global;
-use std::thread::{Threads, join};
+use std::thread::{Threads, for_each_mut};
 
 /// The jobs of a phase: what its workers draw from, work and pass.
 #[derive(Drop)]
@@ -22,17 +24,15 @@ pub(crate) struct Jobs<'a, W: Gathering, G: Gate> {
     pub(crate) gate: &'a G,
 }
 
-/// What workers hand back at their end.
+/// What a worker holds: the right to draw, and what it will hand over.
 #[derive(Drop)]
-pub(crate) struct Finished<Rows> {
+pub(crate) struct Hand<Rows> {
     pub(crate) pass: Pass,
-    pub(crate) shares: Vec<Share<Rows>>,
-    /// Whether memory was refused, so that numbers of the pass may be missing in the shares.
-    pub(crate) refused: bool,
+    pub(crate) share: Share<Rows>,
 }
 
-/// The most numbers that one worker draws, so that its pass stays within 2^32 for each unit.
-const MOST_DRAWS: u64 = 4294967295;
+/// The most numbers that a worker draws alone, and again beside other workers, so that its pass stays within 2^32 for its unit.
+const MOST_DRAWS: u64 = 2147483648;
 
 /// Works the input of this number, and keeps its output in the share. After `OutOfMemory` the share has what it had.
 fn work_into<W: Gathering, G: Gate>(
@@ -46,6 +46,8 @@ fn work_into<W: Gathering, G: Gate>(
     ensures share { IsShare (W.outputs jobs.now.work.now) (map (W.does jobs.now.work.now) jobs.now.inputs.now) share.new }
     ensures ok { OnOk result (share.new.numbers.items ≡ share.old.numbers.items ++ number ∷ []) }
     ensures err { OnErr result (share.new.numbers.items ≡ share.old.numbers.items) }
+    ensures gave_up { share.new.gave_up ≡ share.old.gave_up }
+    ensures past_end { share.new.past_end ≡ share.old.past_end }
 {
     share.numbers.reserve(1)?;
     jobs.work
@@ -54,188 +56,169 @@ fn work_into<W: Gathering, G: Gate>(
     Ok(())
 }
 
-/// Draws numbers until one is past the end, and works the input of each into the share. It ends early where an input finds no memory, where
-/// the watch calls others, or after `MOST_DRAWS` numbers. It answers whether memory was refused.
-fn draw_all<W: Gathering, G: Gate>(
-    jobs: &Jobs<W, G>,
-    pass: &mut Pass,
-    share: &mut Share<W::Rows>,
-    watch: &mut Watch,
-) -> bool
-    requires fresh { IsFreshFor jobs.now.deck.now 1 pass.old }
+/// Draws a number and works its input into the share. It answers whether the worker stays: it leaves where the number is past the end, or
+/// is given up for want of memory.
+fn draw_one<W: Gathering, G: Gate>(jobs: &Jobs<W, G>, hand: &mut Hand<W::Rows>) -> bool
     requires accepts { All (W.accepts jobs.now.work.now) jobs.now.inputs.now }
-    requires share { IsShare (W.outputs jobs.now.work.now) (map (W.does jobs.now.work.now) jobs.now.inputs.now) share.old }
-    requires empty { share.old.numbers.items ≡ [] }
-    ensures deck { pass.new.deck ≡ jobs.now.deck.now }
-    ensures share { IsShare (W.outputs jobs.now.work.now) (map (W.does jobs.now.work.now) jobs.now.inputs.now) share.new }
-    ensures whole { result ≡ false → share.new.numbers.items ≡ below (length jobs.now.inputs.now) pass.new.numbers }
+    requires room { length hand.old.pass.numbers < 2 ^ 32 }
+    requires hand { IsHand jobs.now.deck.now (W.outputs jobs.now.work.now) (map (W.does jobs.now.work.now) jobs.now.inputs.now) hand.old }
+    ensures hand { IsHand jobs.now.deck.now (W.outputs jobs.now.work.now) (map (W.does jobs.now.work.now) jobs.now.inputs.now) hand.new }
+    ensures drawn { length hand.new.pass.numbers ≡ length hand.old.pass.numbers + 1 }
 {
-    let inputs = jobs.inputs;
+    let number = jobs.deck.draw(&mut hand.pass);
+    if number >= jobs.inputs.len() as u64 {
+        hand.share.past_end = true;
+        return false;
+    }
+    let number = number as usize;
+    jobs.gate.pass(number);
+    match work_into(jobs, &mut hand.share, number) {
+        Ok(()) => true,
+        Err(_) => {
+            hand.share.gave_up = true;
+            false
+        }
+    }
+}
+
+/// Draws numbers and works their inputs until the worker leaves, the watch calls others, or `MOST_DRAWS` numbers are drawn.
+fn draw_all<W: Gathering, G: Gate>(jobs: &Jobs<W, G>, hand: &mut Hand<W::Rows>, watch: &mut Watch)
+    requires accepts { All (W.accepts jobs.now.work.now) jobs.now.inputs.now }
+    requires hand { IsReady jobs.now.deck.now (W.outputs jobs.now.work.now) (map (W.does jobs.now.work.now) jobs.now.inputs.now) hand.old }
+    ensures hand { IsHand jobs.now.deck.now (W.outputs jobs.now.work.now) (map (W.does jobs.now.work.now) jobs.now.inputs.now) hand.new }
+    ensures drawn { length hand.new.pass.numbers ≤ length hand.old.pass.numbers + 2 ^ 31 }
+{
     for draws in 0..MOST_DRAWS {
         let done = draws as usize;
-        if watch.calls_others(jobs.gate, done, inputs.len().saturating_sub(done)) {
-            return false;
+        let left = jobs.inputs.len().saturating_sub(done);
+        if watch.calls_others(jobs.gate, done, left) || !draw_one(jobs, hand) {
+            return;
         }
-        let number = jobs.deck.draw(pass);
-        if number >= inputs.len() as u64 {
-            return false;
-        }
-        let number = number as usize;
-        jobs.gate.pass(number);
-        let Ok(()) = work_into(jobs, share, number) else {
-            return true;
-        };
-    }
-    false
-}
-
-/// What a worker hands back that has drawn nothing, for want of memory.
-fn without_rows<W: Gathering, G: Gate>(jobs: &Jobs<W, G>, pass: Pass) -> Finished<W::Rows>
-    requires { pass.deck ≡ jobs.now.deck.now }
-    ensures { HandsBack jobs.now.deck.now (W.outputs jobs.now.work.now) (map (W.does jobs.now.work.now) jobs.now.inputs.now) result }
-{
-    Finished {
-        pass,
-        shares: Vec::new(jobs.alloc),
-        refused: true,
     }
 }
 
-/// One worker, with rows of its own, which it hands back with the numbers that it worked.
-fn run_worker<W: Gathering, G: Gate>(
-    jobs: &Jobs<W, G>,
-    mut pass: Pass,
-    watch: &mut Watch,
-) -> Finished<W::Rows>
-    requires fresh { IsFreshFor jobs.now.deck.now 1 pass }
-    requires accepts { All (W.accepts jobs.now.work.now) jobs.now.inputs.now }
-    ensures { HandsBack jobs.now.deck.now (W.outputs jobs.now.work.now) (map (W.does jobs.now.work.now) jobs.now.inputs.now) result }
+/// What a worker holds that has drawn nothing yet. `None` where there is no memory for its rows.
+fn begin<W: Gathering, G: Gate>(jobs: &Jobs<W, G>, pass: &mut Pass) -> Option<Hand<W::Rows>>
+    requires { HasUnits jobs.now.deck.now 2 pass.old }
+    ensures some { IfSome result (λ hand. pass.new ≡ pass_of pass.old.deck (pass.old.units - 1) []) }
+    ensures none { IfNone result (pass.new ≡ pass.old) }
+    ensures hand { IfSome result
+        (IsNew jobs.now.deck.now (W.outputs jobs.now.work.now) (map (W.does jobs.now.work.now) jobs.now.inputs.now)) }
 {
-    let Ok(mut shares) = Vec::with_capacity(jobs.alloc, 1) else {
-        return without_rows(jobs, pass);
-    };
     let Ok(rows) = jobs.work.begin(jobs.alloc) else {
-        return without_rows(jobs, pass);
+        return None;
     };
-    let numbers = Vec::new(jobs.alloc);
-    let mut share = Share { numbers, rows };
-    let refused = draw_all(jobs, &mut pass, &mut share, watch);
-    shares.push_reserved(share);
-    Finished {
-        pass,
-        shares,
-        refused,
-    }
+    Some(Hand {
+        pass: jobs.deck.share(pass),
+        share: Share {
+            numbers: Vec::new(jobs.alloc),
+            rows,
+            gave_up: false,
+            past_end: false,
+        },
+    })
 }
 
-/// How many numbers these shares have.
-fn numbers_in<Rows>(shares: &[Share<Rows>]) -> usize {
-    let mut numbers: usize = 0;
-    for share in shares {
-        numbers = numbers.saturating_add(share.numbers.len());
-    }
-    numbers
-}
-
-/// So many workers. Where the gate tells the time, the calling thread begins alone, and calls others once what is left is
-/// worth them.
-pub(crate) fn run_phase<W: Gathering, G: Gate, R: Threads + Sync>(
+/// All of these workers draw, each in a thread of its own where threads can be made.
+fn draw_together<W: Gathering, G: Gate, R: Threads + Sync>(
     rt: &R,
     jobs: &Jobs<W, G>,
-    mut pass: Pass,
-    workers: usize,
-) -> Finished<W::Rows>
-    requires workers { 0 < workers }
-    requires fresh { IsFreshFor jobs.now.deck.now (workers + 1) pass }
+    hands: &mut [Hand<W::Rows>],
+)
     requires accepts { All (W.accepts jobs.now.work.now) jobs.now.inputs.now }
-    ensures { HandsBack jobs.now.deck.now (W.outputs jobs.now.work.now) (map (W.does jobs.now.work.now) jobs.now.inputs.now) result }
+    requires hands { All (IsReady jobs.now.deck.now (W.outputs jobs.now.work.now) (map (W.does jobs.now.work.now) jobs.now.inputs.now)) hands.old }
+    ensures { All (IsHand jobs.now.deck.now (W.outputs jobs.now.work.now) (map (W.does jobs.now.work.now) jobs.now.inputs.now)) hands.new }
 {
-    if workers == 1 {
-        return run_worker(jobs, pass, &mut Watch::none());
-    }
-    let Some(now) = jobs.gate.now() else {
-        return run_workers(rt, jobs, pass, workers);
-    };
-    let mut watch = Watch::new(now);
-    let own = jobs.deck.share(&mut pass);
-    let first = run_worker(jobs, own, &mut watch);
-    let left = jobs.inputs.len().saturating_sub(numbers_in(&first.shares));
-    if left == 0 {
-        return first;
-    }
-    let useful = watch.workers().min(workers).min(left).max(1);
-    let others = run_workers(rt, jobs, pass, useful);
-    joined(jobs, first, others)
-}
-
-/// So many workers, in threads of their own where threads can be made, but none more once all is drawn. A worker for which
-/// there is no thread runs on the calling thread.
-fn run_workers<W: Gathering, G: Gate, R: Threads + Sync>(
-    rt: &R,
-    jobs: &Jobs<W, G>,
-    mut pass: Pass,
-    workers: usize,
-) -> Finished<W::Rows>
-    requires workers { 0 < workers }
-    requires fresh { IsFreshFor jobs.now.deck.now workers pass }
-    requires accepts { All (W.accepts jobs.now.work.now) jobs.now.inputs.now }
-    ensures { HandsBack jobs.now.deck.now (W.outputs jobs.now.work.now) (map (W.does jobs.now.work.now) jobs.now.inputs.now) result }
-{
-    if workers == 1 || jobs.deck.next_number(&mut pass) >= jobs.inputs.len() as u64 {
-        return run_worker(jobs, pass, &mut Watch::none());
-    }
-    let other = jobs.deck.share(&mut pass);
-    let (one, others) = join(
+    let threads = hands.len().max(1);
+    for_each_mut(
         rt,
-        || -> Finished<W::Rows>
-            requires fresh { IsFreshFor jobs.now.deck.now 1 other }
+        hands,
+        threads,
+        &|_place: usize, hand: &mut Hand<W::Rows>|
             requires accepts { All (W.accepts jobs.now.work.now) jobs.now.inputs.now }
-            ensures { HandsBack jobs.entry.now.deck.now (W.outputs jobs.entry.now.work.now)
-                (map (W.does jobs.entry.now.work.now) jobs.entry.now.inputs.now) result }
-        { run_worker(jobs, other, &mut Watch::none()) },
-        || -> Finished<W::Rows>
-            requires sync { IsSync R.row }
-            requires workers { 1 < workers }
-            requires fresh { IsFreshFor jobs.now.deck.now (workers - 1) pass }
-            requires accepts { All (W.accepts jobs.now.work.now) jobs.now.inputs.now }
-            ensures { HandsBack jobs.entry.now.deck.now (W.outputs jobs.entry.now.work.now)
-                (map (W.does jobs.entry.now.work.now) jobs.entry.now.inputs.now) result }
-        { run_workers(rt, jobs, pass, workers - 1) },
+            requires hand { IsReady jobs.now.deck.now (W.outputs jobs.now.work.now) (map (W.does jobs.now.work.now) jobs.now.inputs.now) hand.now }
+            ensures { IsHand jobs.entry.now.deck.now (W.outputs jobs.entry.now.work.now)
+                (map (W.does jobs.entry.now.work.now) jobs.entry.now.inputs.now) hand.exit.now }
+        { draw_all(jobs, hand, &mut Watch::none()) },
     );
-    joined(jobs, one, others)
 }
 
-/// What both hand back, under one pass.
-fn joined<W: Gathering, G: Gate>(
+/// Where there are to be several workers, they begin, and all draw. Fewer begin where there is no memory for their rows.
+fn draw_beside<W: Gathering, G: Gate, R: Threads + Sync>(
+    rt: &R,
     jobs: &Jobs<W, G>,
-    one: Finished<W::Rows>,
-    others: Finished<W::Rows>,
-) -> Finished<W::Rows>
-    requires one { HandsBack jobs.now.deck.now (W.outputs jobs.now.work.now) (map (W.does jobs.now.work.now) jobs.now.inputs.now) one }
-    requires others { HandsBack jobs.now.deck.now (W.outputs jobs.now.work.now) (map (W.does jobs.now.work.now) jobs.now.inputs.now) others }
-    ensures { HandsBack jobs.now.deck.now (W.outputs jobs.now.work.now) (map (W.does jobs.now.work.now) jobs.now.inputs.now) result }
+    pass: &mut Pass,
+    hands: &mut Vec<Hand<W::Rows>>,
+    workers: usize,
+)
+    requires accepts { All (W.accepts jobs.now.work.now) jobs.now.inputs.now }
+    requires workers { workers ≤ 16 }
+    requires room { workers ≤ vec_capacity hands.old }
+    requires split { IsSplit jobs.now.deck.now pass.old (vec_len hands.old) }
+    requires ready { All (IsReady jobs.now.deck.now (W.outputs jobs.now.work.now) (map (W.does jobs.now.work.now) jobs.now.inputs.now)) hands.old.items }
+    ensures split { IsSplit jobs.now.deck.now pass.new (vec_len hands.new) }
+    ensures hands { All (IsHand jobs.now.deck.now (W.outputs jobs.now.work.now) (map (W.does jobs.now.work.now) jobs.now.inputs.now)) hands.new.items }
+    ensures len { vec_len hands.new ≤ max (vec_len hands.old) workers }
 {
-    let Finished {
-        mut pass,
-        mut shares,
-        refused,
-    } = one;
-    let Finished {
-        pass: other,
-        shares: mut more,
-        refused: other_refused,
-    } = others;
-    jobs.deck.join(&mut pass, other);
-    let Ok(()) = shares.append(&mut more) else {
-        return Finished {
-            pass,
-            shares,
-            refused: true,
-        };
-    };
-    Finished {
-        pass,
-        shares,
-        refused: refused || other_refused,
+    if workers < 2 {
+        return;
     }
+    for _worker in hands.len()..workers {
+        let Some(hand) = begin(jobs, pass) else {
+            break;
+        };
+        hands.push_reserved(hand);
+    }
+    draw_together(rt, jobs, hands.as_mut_slice());
+}
+
+/// Joins the passes of these workers to `pass`, and puts their shares behind `shares`.
+fn hand_over<W: Gathering, G: Gate>(
+    jobs: &Jobs<W, G>,
+    pass: &mut Pass,
+    hands: Vec<Hand<W::Rows>>,
+    shares: &mut Vec<Share<W::Rows>>,
+)
+    requires empty { shares.old.items ≡ [] }
+    requires room { vec_len hands ≤ vec_capacity shares.old }
+    requires split { IsSplit jobs.now.deck.now pass.old (vec_len hands) }
+    requires hands { All (IsHand jobs.now.deck.now (W.outputs jobs.now.work.now) (map (W.does jobs.now.work.now) jobs.now.inputs.now)) hands.items }
+    ensures { IsGathered jobs.now.deck.now (W.outputs jobs.now.work.now) (map (W.does jobs.now.work.now) jobs.now.inputs.now)
+        pass.new shares.new.items }
+{
+    let mut hands = hands;
+    while let Some(hand) = hands.pop() {
+        jobs.deck.join(pass, hand.pass);
+        shares.push_reserved(hand.share);
+    }
+}
+
+/// So many workers at most, and the shares that they hand over. The calling thread is the first of them and begins alone; it starts threads for
+/// others once its watch calls them.
+pub(crate) fn run_workers<W: Gathering, G: Gate, R: Threads + Sync>(
+    rt: &R,
+    jobs: &Jobs<W, G>,
+    pass: &mut Pass,
+    workers: usize,
+    shares: &mut Vec<Share<W::Rows>>,
+)
+    requires workers { (0 < workers) × (workers ≤ 16) }
+    requires accepts { All (W.accepts jobs.now.work.now) jobs.now.inputs.now }
+    requires pass { pass.old ≡ pass_of jobs.now.deck.now all_units [] }
+    requires empty { shares.old.items ≡ [] }
+    requires room { workers ≤ vec_capacity shares.old }
+    ensures { IsGathered jobs.now.deck.now (W.outputs jobs.now.work.now) (map (W.does jobs.now.work.now) jobs.now.inputs.now)
+        pass.new shares.new.items }
+{
+    let Ok(mut hands) = Vec::with_capacity(jobs.alloc, workers) else {
+        return;
+    };
+    let Some(mut first) = begin(jobs, pass) else {
+        return;
+    };
+    let mut watch = Watch::new(jobs.gate, workers);
+    draw_all(jobs, &mut first, &mut watch);
+    hands.push_reserved(first);
+    draw_beside(rt, jobs, pass, &mut hands, watch.workers.min(workers));
+    hand_over(jobs, pass, hands, shares);
 }

@@ -1,0 +1,171 @@
+-- What workers keep of the numbers that they draw, step by step.
+use Rattle.std.proofs.Common.{◌≡◌, ℕ, ◌<◌, ◌≤◌, List, [], ◌∷◌, ◌++◌, length, Bool, true, false, refl, sym, ap, ◌∙◌, subst, arith, inl, inr, ⊎_elim, zero, suc}
+use Rattle.std.specs.Prelude.{All, ◌||◌, ◌⊎◌}
+use Rattle.std.specs.List.{list_any}
+use Rattle.std.proofs.lemmas.Bool.Decides.{nat_tests}
+use Rattle.std.proofs.Math.Bool.{or-false}
+use Rattle.std.proofs.lemmas.Grind.{flat_map-append}
+use Rattle.std.proofs.lemmas.List.{append-nil}
+use Rattle.std.proofs.lemmas.List.Elements.{All-push}
+use Rattle.std.proofs.lemmas.List.Folds.{list_any-append, list_any-from_Any, list_any_none}
+use Rattle.bsp_pool.specs.declared.share.Share.{Share}
+use Rattle.bsp_pool.specs.Numbers.{occurrences, IsDistinct}
+use Rattle.bsp_pool.specs.Shares.{IsShare, AreShares, HasEachNumber, numbers_of}
+use Rattle.bsp_pool.specs.Passes.{PassContent, drawn, joined}
+use Rattle.bsp_pool.specs.declared.worker.Hand.{Hand}
+use Rattle.atomic_table.specs.Seated.{TableId}
+use Rattle.bsp_pool.specs.Inside.Hands.{Tells, IsHand, IsReady, IsNew}
+use Rattle.bsp_pool.proofs.ClaimSteps.{occurrences-append, stands}
+
+pub tells_nothing : (end : ℕ) → Tells end [] [] false false
+tells_nothing end = record { once = λ x. omega arith; whole = λ none x lt. refl; ended = λ e. absurd (cc) }
+
+smaller : (x n : ℕ) → x < n → occurrences x (n ∷ []) ≡ 0
+smaller x n lt = grind (arith, nat_tests)
+
+-- a number past the end was drawn
+pub tells_past : (end : ℕ) (drawn kept : List ℕ) (g p : Bool) (n : ℕ) → Tells end drawn kept g p → end ≤ n → Tells end (drawn ++ n ∷ []) kept g true
+tells_past end drawn kept g p n h past =
+    record {
+      once = λ x. let a = occurrences-append x drawn (n ∷ []) in let o = h.once x in omega arith;
+      whole = λ none x lt.
+          let a = occurrences-append x drawn (n ∷ []) in
+          let w = h.whole none x lt in
+          let z = smaller x n (omega arith) in
+          omega arith;
+      ended = λ e. (n, past, (let a = occurrences-append n drawn (n ∷ []) in let s = stands n [] in omega arith));
+    }
+
+-- such a number stays drawn
+still_ended : (end : ℕ) (drawn more : List ℕ) (p : Bool) → (p ≡ true → (y : ℕ) × (end ≤ y) × (0 < occurrences y drawn)) → p ≡ true → (y : ℕ) × (end ≤ y) × (0 < occurrences y (drawn ++ more))
+still_ended end drawn more p h e =
+    let there : (y : ℕ) × (end ≤ y) × (0 < occurrences y drawn) = h e in
+    (there.0, there.1, (let a = occurrences-append there.0 drawn more in let s = there.2 in omega arith))
+
+-- a number was drawn and kept
+pub tells_kept : (end : ℕ) (drawn kept : List ℕ) (g p : Bool) (n : ℕ) → Tells end drawn kept g p → Tells end (drawn ++ n ∷ []) (kept ++ n ∷ []) g p
+tells_kept end drawn kept g p n h =
+    record {
+      once = λ x. let a = occurrences-append x drawn (n ∷ []) in let b = occurrences-append x kept (n ∷ []) in let o = h.once x in omega arith;
+      whole = λ none x lt. let a = occurrences-append x drawn (n ∷ []) in let b = occurrences-append x kept (n ∷ []) in let w = h.whole none x lt in omega arith;
+      ended = still_ended end drawn (n ∷ []) p h.ended;
+    }
+
+-- a number was drawn and given up
+pub tells_given_up : (end : ℕ) (drawn kept : List ℕ) (g p : Bool) (n : ℕ) → Tells end drawn kept g p → Tells end (drawn ++ n ∷ []) kept true p
+tells_given_up end drawn kept g p n h =
+    record {
+      once = λ x. let a = occurrences-append x drawn (n ∷ []) in let o = h.once x in omega arith;
+      whole = λ none x lt. absurd (cc);
+      ended = still_ended end drawn (n ∷ []) p h.ended;
+    }
+
+neither_left : (g h : Bool) → (g || h) ≡ false → g ≡ false
+neither_left false h e = refl
+neither_left true h e = e
+
+neither_right : (g h : Bool) → (g || h) ≡ false → h ≡ false
+neither_right false h e = e
+neither_right true h e = absurd (cc)
+
+either : (p q : Bool) → (p || q) ≡ true → (p ≡ true) ⊎ (q ≡ true)
+either true q e = inl refl
+either false q e = inr e
+
+-- of two together
+pub tells_both : (end : ℕ) (a k b l : List ℕ) (g p h q : Bool) → Tells end a k g p → Tells end b l h q → Tells end (a ++ b) (k ++ l) (g || h) (p || q)
+tells_both end a k b l g p h q one other =
+    record {
+      once = λ x. let s = occurrences-append x a b in let t = occurrences-append x k l in let o = one.once x in let r = other.once x in omega arith;
+      whole = λ none x lt.
+          let s = occurrences-append x a b in
+          let t = occurrences-append x k l in
+          let o = one.whole (neither_left g h none) x lt in
+          let r = other.whole (neither_right g h none) x lt in
+          omega arith;
+      ended = λ e.
+          ⊎_elim
+          (λ (first : p ≡ true). still_ended end a b p one.ended first)
+          (λ (second : q ≡ true).
+          let there : (y : ℕ) × (end ≤ y) × (0 < occurrences y b) = other.ended second in
+          (there.0, there.1, (let s = occurrences-append there.0 a b in let t = there.2 in omega arith)))
+          (either p q e);
+    }
+
+numbers_more : {Rows : Type 0} (ss : List (Share Rows)) (s : Share Rows) → numbers_of (ss ++ s ∷ []) ≡ numbers_of ss ++ s.numbers.items
+numbers_more {Rows = Rows} ss s =
+    let own : Share Rows → List ℕ = λ s. s.numbers.items in
+    flat_map-append own ss (s ∷ []) ∙ ap (λ l. numbers_of ss ++ l) (append-nil s.numbers.items)
+
+flag_more : {X : Type 0} (flag : X → Bool) (ss : List X) (s : X) → list_any flag (ss ++ s ∷ []) ≡ (list_any flag ss || flag s)
+flag_more flag ss s = list_any-append flag ss (s ∷ []) ∙ ap (λ b. list_any flag ss || b) (or-false (flag s))
+
+-- one share more
+pub tells_more : {Rows : Type 0} (end : ℕ) (drawn mine : List ℕ) (ss : List (Share Rows)) (s : Share Rows)
+    → Tells end drawn (numbers_of ss) (list_any (λ s. s.gave_up) ss) (list_any (λ s. s.past_end) ss) → Tells end mine s.numbers.items s.gave_up s.past_end
+    → Tells end (drawn ++ mine) (numbers_of (ss ++ s ∷ [])) (list_any (λ s. s.gave_up) (ss ++ s ∷ [])) (list_any (λ s. s.past_end) (ss ++ s ∷ []))
+tells_more {Rows = Rows} end drawn mine ss s all own =
+    let gave_up : Share Rows → Bool = λ s. s.gave_up in
+    let past_end : Share Rows → Bool = λ s. s.past_end in
+    let both = tells_both end drawn (numbers_of ss) mine s.numbers.items (list_any gave_up ss) (list_any past_end ss) s.gave_up s.past_end all own in
+    let P : List ℕ → Type 0 = λ k. Tells end (drawn ++ mine) k (list_any gave_up (ss ++ s ∷ [])) (list_any past_end (ss ++ s ∷ [])) in
+    let Q : Bool → Type 0 = λ g. Tells end (drawn ++ mine) (numbers_of ss ++ s.numbers.items) g (list_any past_end (ss ++ s ∷ [])) in
+    let R : Bool → Type 0 = λ p. Tells end (drawn ++ mine) (numbers_of ss ++ s.numbers.items) (list_any gave_up ss || s.gave_up) p in
+    subst P (sym (numbers_more ss s)) (subst Q (sym (flag_more gave_up ss s)) (subst R (sym (flag_more past_end ss s)) both))
+
+-- the shares after one more, and the pass that its pass was joined to
+pub tells_joined : {Rows : Type 0} (end : ℕ) (before other after : PassContent) (ss new : List (Share Rows)) (s : Share Rows)
+    → Tells end before.numbers (numbers_of ss) (list_any (λ s. s.gave_up) ss) (list_any (λ s. s.past_end) ss) → Tells end other.numbers s.numbers.items s.gave_up s.past_end
+    → after ≡ joined before other → new ≡ ss ++ s ∷ [] → Tells end after.numbers (numbers_of new) (list_any (λ s. s.gave_up) new) (list_any (λ s. s.past_end) new)
+tells_joined {Rows = Rows} end before other after ss new s all own is items =
+    let P : PassContent → Type 0 = λ p. Tells end p.numbers (numbers_of new) (list_any (λ s. s.gave_up) new) (list_any (λ s. s.past_end) new) in
+    let Q : List (Share Rows) → Type 0 = λ l. Tells end (before.numbers ++ other.numbers) (numbers_of l) (list_any (λ s. s.gave_up) l) (list_any (λ s. s.past_end) l) in
+    subst P (sym is) (subst Q (sym items) (tells_more end before.numbers other.numbers ss s all own))
+
+pub shares_more : {Rows T : Type 0} (outputs : Rows → List T) (outs : List T) (ss : List (Share Rows)) (s : Share Rows) → AreShares outputs outs ss → IsShare outputs outs s → AreShares outputs outs (ss ++ s ∷ [])
+shares_more outputs outs ss s h own = record { each = All-push (IsShare outputs outs) ss s h.each own }
+
+found_below : (y n : ℕ) (xs : List ℕ) → All (λ x. x < n) xs → 0 < occurrences y xs → y < n
+found_below y n [] all has = absurd (omega arith)
+found_below y n (x ∷ xs) all has =
+    ⊎_elim
+    (λ (here : x ≡ y). let first : x < n = all zero x (omega arith) in omega arith)
+    (λ (there : 0 < occurrences y xs). found_below y n xs (λ k d lt. all (suc k) d (omega arith)) there)
+    (first_or_rest y x xs has)
+  where
+    first_or_rest : (y x : ℕ) (xs : List ℕ) → 0 < occurrences y (x ∷ xs) → (x ≡ y) ⊎ (0 < occurrences y xs)
+    first_or_rest y x xs has = grind (arith, nat_tests)
+
+pub same_tells : (end : ℕ) (d k k' : List ℕ) (g g' p p' : Bool) → k' ≡ k → g' ≡ g → p' ≡ p → Tells end d k g p → Tells end d k' g' p'
+same_tells end d k k' g g' p p' e f q t = rw (e, f, q) t
+
+-- a worker after a draw
+pub hand_after : {Rows T : Type 0} (deck : TableId) (outputs : Rows → List T) (outs : List T) (old new : Hand Rows) (n : ℕ) → IsHand deck outputs outs old → new.pass ≡ drawn old.pass n → IsShare outputs outs new.share
+    → Tells (length outs) (old.pass.numbers ++ n ∷ []) new.share.numbers.items new.share.gave_up new.share.past_end → IsHand deck outputs outs new
+hand_after deck outputs outs old new n h is share told =
+    record {
+      of_deck = ap (λ (p : PassContent). p.deck) is ∙ h.of_deck;
+      unit = ap (λ (p : PassContent). p.units) is ∙ h.unit;
+      share = share;
+      tells = subst (λ (p : PassContent). Tells (length outs) p.numbers new.share.numbers.items new.share.gave_up new.share.past_end) (sym is) told;
+    }
+
+pub ready_of_new : {Rows T : Type 0} (deck : TableId) (outputs : Rows → List T) (outs : List T) (h : Hand Rows) → IsNew deck outputs outs h → IsReady deck outputs outs h
+ready_of_new deck outputs outs h new = record { right = new.right; room = (let none : length h.pass.numbers ≡ 0 = ap length new.fresh in omega arith) }
+
+-- at the end no number stands twice
+pub gathered_once : {Rows : Type 0} (end : ℕ) (drawn : List ℕ) (ss : List (Share Rows)) (g p : Bool) → Tells end drawn (numbers_of ss) g p → IsDistinct drawn → IsDistinct (numbers_of ss)
+gathered_once end drawn ss g p h distinct x = let o = h.once x in let d = distinct x in omega arith
+
+-- and where none was given up each is there
+pub gathered_each : {Rows : Type 0} (end count : ℕ) (drawn : List ℕ) (ss : List (Share Rows)) → Tells end drawn (numbers_of ss) (list_any (λ s. s.gave_up) ss) (list_any (λ s. s.past_end) ss)
+    → All (λ x. x < count) drawn → ((x : ℕ) → x < count → occurrences x drawn ≡ 1) → HasEachNumber end ss
+gathered_each {Rows = Rows} end count drawn ss h below each ended none x lt =
+    let gave_up : Share Rows → Bool = λ s. s.gave_up in
+    let past_end : Share Rows → Bool = λ s. s.past_end in
+    let there : (y : ℕ) × (end ≤ y) × (0 < occurrences y drawn) = h.ended (list_any-from_Any past_end ss ended) in
+    let last = found_below there.0 count drawn below there.2 in
+    let past = there.1 in
+    let kept = h.whole (list_any_none gave_up ss none) x lt in
+    let one = each x (omega arith) in
+    omega arith
