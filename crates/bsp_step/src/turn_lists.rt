@@ -82,19 +82,27 @@ impl TurnLists {
         self.puts.push(pid, start, words.as_slice())?;
         Ok(())
     }
+
+    /// Makes the requests of other lists, and their printed lines, those of these lists. After `OutOfMemory` some of them are.
+    fn copy_requests(&mut self, source: &TurnLists) -> Result<(), OutOfMemory>
+        ensures { OnOk result (self.new ≡ record source.now { memory = self.old.memory; stores = self.old.stores }) }
+    {
+        self.puts = source.puts.copy()?;
+        self.gets = source.gets.copy()?;
+        self.sends = source.sends.copy()?;
+        self.pops = source.pops.copy()?;
+        self.pushes = source.pushes.copy()?;
+        self.lines = source.lines.copy()?;
+        Ok(())
+    }
 }
 
 impl TryCopy for TurnLists {
     fn copy(&self) -> Result<TurnLists, OutOfMemory> {
-        Ok(TurnLists {
-            memory: self.memory.copy()?,
-            stores: self.stores.copy()?,
-            puts: self.puts.copy()?,
-            gets: self.gets.copy()?,
-            sends: self.sends.copy()?,
-            pops: self.pops.copy()?,
-            pushes: self.pushes.copy()?,
-            lines: self.lines.copy()?,
-        })
+        let mut copy = TurnLists::new(self.gets.allocator());
+        copy.memory.load_from(&self.memory.as_ref())?;
+        copy.stores = self.stores.copy()?;
+        copy.copy_requests(self)?;
+        Ok(copy)
     }
 }

@@ -5,7 +5,7 @@ use Rattle.bsp_run.proofs.lines.mark_others.Given as goal
 -- the processes below this one that have no mark have their lines
 abbrev pub invariant-loop-pid : goal.invariant-loop-pid
 invariant-loop-pid l = record {
-  count : length l.others ≡ length l.before;
+  count : length l.others ≡ l.count;
   same : (p : ℕ) → p < l.pid → get_or l.others p true ≡ false
       → get_or l.before p [] ≡ lines_of_process (map (λ o. o.now) l.turns) p;
 }

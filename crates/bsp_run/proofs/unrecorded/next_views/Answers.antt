@@ -1,7 +1,8 @@
-use Rattle.std.proofs.Common.{◌∙◌, List, ap, sym, subst, length, refl, arith}
+use Rattle.std.proofs.Common.{◌∙◌, ◌<◌, All, List, ap, sym, subst, length, refl, arith}
 use Rattle.bsp_step.specs.OutcomeParts.{OutcomeParts}
 use Rattle.bsp_table.specs.declared.area.Area.{Area}
-use Rattle.bsp_deliver.specs.Condition.{AreDeliverable}
+use Rattle.bsp_deliver.specs.Condition.{AreDeliverable, IsAscending}
+use Rattle.bsp_deliver.proofs.AllProcesses.{all_known, all_ascending}
 use Rattle.bsp_run.specs.Run.{Run}
 use Rattle.bsp_run.specs.Condition.{IsTurned, deliveries_of}
 use Rattle.bsp_run.specs.Inside.Condition.{CanSync}
@@ -36,16 +37,25 @@ deliver_some-requires-clause-deliverable c =
     let turned : IsTurned r = is_turned_run r t.run t.phase in
     subst AreDeliverable t.outcomes (AreDeliverable-from_turns r.args (length r.past) r.state r.outcomes t.run.state turned.turns)
 
+pub deliver_some-requires-clause-known : goal.deliver_some-requires-clause-known
+deliver_some-requires-clause-known c =
+    let n = length c.args.outcomes.now in
+    subst (All (λ d. d < n)) (sym c.requires.processes) (all_known n)
+
+pub deliver_some-requires-clause-ascending : goal.deliver_some-requires-clause-ascending
+deliver_some-requires-clause-ascending c =
+    subst IsAscending (sym c.requires.processes) (all_ascending (length c.args.outcomes.now))
+
 pub open-requires : goal.open-requires
 open-requires c =
     let r : Run = c.requires.turned.0 in
     let t : AreTurned r c.args.views c.args.outcomes.now = c.requires.turned.1 in
     let known = c.in_ok-setting.ensures ∙ setting_next r c.args.views c.args.outcomes.now c.into_parts-setting.result.0 t c.into_parts-setting.ensures.setting in
-    let made = deliveries_made c.args.outcomes.now (length c.args.outcomes.now) c.args.processes.now C refl c.requires.processes c.in_ok-cells.ensures.cells ∙ ap deliveries_of (sym t.outcomes) in
-    opens_next r c.in_ok-setting.setting C t.run t.phase known made
+    let made = deliveries_made c.args.outcomes.now (length c.args.outcomes.now) c.args.processes.now c.in_ok-cells.cells refl c.requires.processes c.in_ok-cells.ensures.cells ∙ ap deliveries_of (sym t.outcomes) in
+    opens_next r c.in_ok-setting.setting c.in_ok-cells.cells t.run t.phase known made
 
 pub returns-clause-views : goal.returns-clause-views
 returns-clause-views c = λ r t.
     let known = c.in_ok-setting.ensures ∙ setting_next r c.args.views c.args.outcomes.now c.into_parts-setting.result.0 t c.into_parts-setting.ensures.setting in
-    let made = deliveries_made c.args.outcomes.now (length c.args.outcomes.now) c.args.processes.now C refl c.requires.processes c.in_ok-cells.ensures.cells ∙ ap deliveries_of (sym t.outcomes) in
-    c.in_ok-open.ensures ∙ views_next r c.in_ok-setting.setting C known made
+    let made = deliveries_made c.args.outcomes.now (length c.args.outcomes.now) c.args.processes.now c.in_ok-cells.cells refl c.requires.processes c.in_ok-cells.ensures.cells ∙ ap deliveries_of (sym t.outcomes) in
+    c.in_ok-open.ensures ∙ views_next r c.in_ok-setting.setting c.in_ok-cells.cells known made

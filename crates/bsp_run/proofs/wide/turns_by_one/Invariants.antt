@@ -6,4 +6,4 @@ use Rattle.bsp_run.proofs.wide.turns_by_one.Given as goal
 -- the turns so far
 abbrev pub invariant-loop-place : goal.invariant-loop-place
 invariant-loop-place g l =
-    l.outcomes ≡ turns_of (turn_of (g.P.Program.acts l.program) (g.P.Program.ending l.program)) l.views (take l.place l.processes)
+    l.rows.outcomes ≡ turns_of (turn_of (g.P.Program.acts l.program) (g.P.Program.ending l.program)) l.views (take l.place l.processes)
