@@ -1,20 +1,20 @@
 -- What workers keep of the numbers that they draw, step by step.
-use Rattle.std.proofs.Common.{◌≡◌, ℕ, ◌<◌, ◌≤◌, List, [], ◌∷◌, ◌++◌, length, Bool, true, false, refl, sym, ap, ◌∙◌, subst, arith, inl, inr, ⊎_elim, zero, suc}
+use Rattle.std.proofs.Common.{take, ◌+◌, ◌-◌, ◌≡◌, ℕ, ◌<◌, ◌≤◌, List, [], ◌∷◌, ◌++◌, length, Bool, true, false, refl, sym, ap, ◌∙◌, subst, arith, inl, inr, ⊎_elim, zero, suc}
 use Rattle.std.specs.Prelude.{All, ◌||◌, ◌⊎◌}
 use Rattle.std.specs.List.{list_any}
 use Rattle.std.proofs.lemmas.Bool.Decides.{nat_tests}
 use Rattle.std.proofs.Math.Bool.{or-false}
 use Rattle.std.proofs.lemmas.Grind.{flat_map-append}
-use Rattle.std.proofs.lemmas.List.{append-nil}
-use Rattle.std.proofs.lemmas.List.Elements.{All-push}
+use Rattle.std.proofs.lemmas.List.{append-nil, take-append-le}
+use Rattle.std.proofs.lemmas.List.Elements.{All-push, All-take}
 use Rattle.std.proofs.lemmas.List.Folds.{list_any-append, list_any-from_Any, list_any_none}
 use Rattle.bsp_pool.specs.declared.share.Share.{Share}
 use Rattle.bsp_pool.specs.Numbers.{occurrences, IsDistinct}
 use Rattle.bsp_pool.specs.Shares.{IsShare, AreShares, HasEachNumber, numbers_of}
-use Rattle.bsp_pool.specs.Passes.{PassContent, drawn, joined}
+use Rattle.bsp_pool.specs.Passes.{PassContent, drawn, joined, pass_of}
 use Rattle.bsp_pool.specs.declared.worker.Hand.{Hand}
 use Rattle.atomic_table.specs.Seated.{TableId}
-use Rattle.bsp_pool.specs.Inside.Hands.{Tells, IsHand, IsReady, IsNew}
+use Rattle.bsp_pool.specs.Inside.Hands.{Tells, IsHand, IsReady, IsNew, IsSplit}
 use Rattle.bsp_pool.proofs.ClaimSteps.{occurrences-append, stands}
 
 pub tells_nothing : (end : ℕ) → Tells end [] [] false false
@@ -150,8 +150,45 @@ hand_after deck outputs outs old new n h is share told =
       tells = subst (λ (p : PassContent). Tells (length outs) p.numbers new.share.numbers.items new.share.gave_up new.share.past_end) (sym is) told;
     }
 
-pub ready_of_new : {Rows T : Type 0} (deck : TableId) (outputs : Rows → List T) (outs : List T) (h : Hand Rows) → IsNew deck outputs outs h → IsReady deck outputs outs h
-ready_of_new deck outputs outs h new = record { right = new.right; room = (let none : length h.pass.numbers ≡ 0 = ap length new.fresh in omega arith) }
+pub hand_past : {Rows T : Type 0} (deck : TableId) (outputs : Rows → List T) (outs : List T) (old new : Hand Rows) (end n : ℕ) → IsHand deck outputs outs old → new.pass ≡ drawn old.pass n → length outs ≡ end → end ≤ n
+    → new.share ≡ record old.share { past_end = true } → IsHand deck outputs outs new
+hand_past {Rows = Rows} deck outputs outs old new end n h is same past share =
+    let P : Share Rows → Type 0 = λ s. Tells (length outs) (old.pass.numbers ++ n ∷ []) s.numbers.items s.gave_up s.past_end in
+    hand_after deck outputs outs old new n h is (subst (IsShare outputs outs) (sym share) (record { in_order = h.share.in_order }))
+    (subst P (sym share) (tells_past (length outs) old.pass.numbers old.share.numbers.items old.share.gave_up old.share.past_end n h.tells (omega arith)))
+
+pub hand_gave_up : {Rows T : Type 0} (deck : TableId) (outputs : Rows → List T) (outs : List T) (old new : Hand Rows) (worked : Share Rows) (n : ℕ) → IsHand deck outputs outs old → new.pass ≡ drawn old.pass n → IsShare outputs outs worked
+    → worked.numbers.items ≡ old.share.numbers.items → worked.past_end ≡ old.share.past_end → new.share ≡ record worked { gave_up = true } → IsHand deck outputs outs new
+hand_gave_up {Rows = Rows} deck outputs outs old new worked n h is own numbers past share =
+    let P : Share Rows → Type 0 = λ s. Tells (length outs) (old.pass.numbers ++ n ∷ []) s.numbers.items s.gave_up s.past_end in
+    hand_after deck outputs outs old new n h is (subst (IsShare outputs outs) (sym share) (record { in_order = own.in_order }))
+    (subst P (sym share)
+    (same_tells (length outs) (old.pass.numbers ++ n ∷ []) old.share.numbers.items worked.numbers.items true true old.share.past_end worked.past_end numbers refl past
+    (tells_given_up (length outs) old.pass.numbers old.share.numbers.items old.share.gave_up old.share.past_end n h.tells)))
+
+pub hand_kept : {Rows T : Type 0} (deck : TableId) (outputs : Rows → List T) (outs : List T) (old new : Hand Rows) (n : ℕ) → IsHand deck outputs outs old → new.pass ≡ drawn old.pass n → IsShare outputs outs new.share
+    → new.share.numbers.items ≡ old.share.numbers.items ++ n ∷ [] → new.share.gave_up ≡ old.share.gave_up → new.share.past_end ≡ old.share.past_end → IsHand deck outputs outs new
+hand_kept deck outputs outs old new n h is own numbers gave_up past =
+    hand_after deck outputs outs old new n h is own
+    (same_tells (length outs) (old.pass.numbers ++ n ∷ []) (old.share.numbers.items ++ n ∷ []) new.share.numbers.items old.share.gave_up new.share.gave_up old.share.past_end new.share.past_end numbers gave_up past
+    (tells_kept (length outs) old.pass.numbers old.share.numbers.items old.share.gave_up old.share.past_end n h.tells))
+
+-- one worker more
+pub ready_more : {Rows T : Type 0} (deck : TableId) (outputs : Rows → List T) (outs : List T) (hands new : List (Hand Rows)) (h : Hand Rows) → All (IsReady deck outputs outs) hands → IsNew deck outputs outs h → new ≡ hands ++ h ∷ []
+    → All (IsReady deck outputs outs) new
+ready_more deck outputs outs hands new h all own is =
+    let ready : IsReady deck outputs outs h = record { right = own.right; room = (let none : length h.pass.numbers ≡ 0 = ap length own.fresh in omega arith) } in
+    subst (All (IsReady deck outputs outs)) (sym is) (All-push (IsReady deck outputs outs) hands h all ready)
+
+pub split_more : (deck : TableId) (before after : PassContent) (n m : ℕ) → IsSplit deck before n → after ≡ pass_of before.deck (before.units - 1) [] → m ≡ n + 1 → n < 16 → IsSplit deck after m
+split_more deck before after n m h is more few =
+    let units = ap (λ (p : PassContent). p.units) is in
+    let whole = h.units in
+    record { of_deck = ap (λ (p : PassContent). p.deck) is ∙ h.of_deck; fresh = ap (λ (p : PassContent). p.numbers) is; units = omega arith }
+
+-- the front of a list that is as long as its front
+pub front_all : {X : Type 0} (P : X → Type 0) (n : ℕ) (xs ys : List X) → n ≤ length xs → All P xs → All P (take n (xs ++ ys))
+front_all P n xs ys within all = subst (All P) (sym (take-append-le n xs ys within)) (All-take P n xs all)
 
 -- at the end no number stands twice
 pub gathered_once : {Rows : Type 0} (end : ℕ) (drawn : List ℕ) (ss : List (Share Rows)) (g p : Bool) → Tells end drawn (numbers_of ss) g p → IsDistinct drawn → IsDistinct (numbers_of ss)

@@ -3,7 +3,6 @@ pub mod Passes
 pub mod Rounds
 pub mod Machine
 pub mod EventLists
-pub mod Refusals
 pub mod Shares
 pub mod Runs
 pub mod Inside

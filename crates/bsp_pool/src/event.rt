@@ -4,8 +4,6 @@ ghost use Rattle.std.specs.Prelude.{◌≡◌};
 ghost use Rattle.bsp_pool.specs.declared.event.CoreRefusal.TheVariants.{OutOfMemory};
 
 use std::alloc::AllocError;
-use std::error::Error;
-use std::fmt;
 
 /// What may happen in a round machine. Workers have the numbers from 0 on.
 #[derive(Clone, Copy, Debug)]
@@ -29,21 +27,6 @@ pub enum CoreRefusal {
     /// The event is allowed, and memory for it was refused.
     OutOfMemory,
 }
-
-impl fmt::Display for CoreRefusal {
-    ghost use Rattle.bsp_pool.specs.Refusals.{message_of};
-
-    ghost output = { message_of };
-
-    fn fmt<W: fmt::Write>(&self, f: &mut fmt::Formatter<W>) -> fmt::Result {
-        match self {
-            CoreRefusal::NotNow => write!(f, "the event is not allowed now"),
-            CoreRefusal::OutOfMemory => write!(f, "out of memory"),
-        }
-    }
-}
-
-impl Error for CoreRefusal {}
 
 impl From<AllocError> for CoreRefusal {
     ghost from_gives = { λ _ refusal. refusal ≡ OutOfMemory };
