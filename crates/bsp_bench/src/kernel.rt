@@ -12,7 +12,7 @@ use std::alloc::Global;
 
 /// Each process starts with its own number as a word, squares the word and adds 1 to it, so many times in a row, modulo 2^64. It prints the
 /// last word, and halts. No multiplication can begin before the one before it has ended.
-#[derive(Clone, Copy, Debug, PartialEq, Eq)]
+#[derive(Clone, Copy)]
 pub struct Squaring {
     /// How many multiplications each process makes.
     pub times: u64,

@@ -4,7 +4,7 @@ ghost use Rattle.std.specs.Prelude.{◌≡◌};
 ghost use Rattle.bsp_collectives.specs.Operation.{neutral, applied, combined};
 
 /// An operation on words, by which those of several processes become one.
-#[derive(Clone, Copy, Debug, PartialEq, Eq)]
+#[derive(Clone, Copy)]
 pub enum Operation {
     /// The sum, modulo 2^64.
     Sum,

@@ -8,7 +8,7 @@ ghost use Rattle.bsp_script.specs.Shapes.{kinds_of};
 use toml::Value;
 
 /// The name of a call.
-#[derive(Clone, Copy, Debug, PartialEq, Eq)]
+#[derive(Clone, Copy)]
 pub enum Name {
     Store,
     Charge,
@@ -30,7 +30,7 @@ pub enum Name {
 }
 
 /// What stands at a place of a call.
-#[derive(Clone, Copy, Debug, PartialEq, Eq)]
+#[derive(Clone, Copy)]
 pub enum Kind {
     /// An operand: an integer, or a reference to an own word or argument.
     One,

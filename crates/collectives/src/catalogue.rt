@@ -9,7 +9,7 @@ use bsp_step::{Ctx, Program, View};
 use std::alloc::Global;
 
 /// A program that makes one collective call. Its answers are that program's.
-#[derive(Clone, Copy, Debug, PartialEq, Eq)]
+#[derive(Clone, Copy)]
 pub enum Collective {
     /// One that moves words.
     Moving(Moving),

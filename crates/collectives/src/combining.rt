@@ -15,7 +15,7 @@ use std::alloc::Global;
 /// missing.
 ///
 /// A missing operation ends the turn by `Abort(2)`, a missing word by `Abort(1)`, another operation by `Abort(3)`.
-#[derive(Clone, Copy, Debug, PartialEq, Eq)]
+#[derive(Clone, Copy)]
 pub enum Combining {
     /// What is made of the words of all, at the root.
     Reduce,

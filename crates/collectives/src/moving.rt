@@ -17,7 +17,7 @@ use std::alloc::Global;
 /// as they can be where each process has one.
 ///
 /// A missing number of words ends the turn by `Abort(2)`, a missing word by `Abort(1)`.
-#[derive(Clone, Copy, Debug, PartialEq, Eq)]
+#[derive(Clone, Copy)]
 pub enum Moving {
     /// The root tells its words to all.
     Broadcast,

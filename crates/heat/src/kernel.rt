@@ -21,7 +21,7 @@ const BLOCK: u64 = 64;
 /// rod, a fixed temperature; the others are own cells. Each of these two words is registered as an area of its own, so that neighbours reach it
 /// however long the memories are. Argument 0 is the number of time steps. A missing argument ends the turn by `Abort(2)`, a shorter memory by
 /// `Abort(1)`.
-#[derive(Clone, Copy, Debug, PartialEq, Eq)]
+#[derive(Clone, Copy)]
 pub struct Heat;
 
 impl Program for Heat {

@@ -26,4 +26,4 @@ pub touched_by_changes-requires-clause-unchanged : goal.touched_by_changes-requi
 touched_by_changes-requires-clause-unchanged c = λ p within unmarked. c.requires.doubtful.same p (omega (arith, within, c.requires.count)) within unmarked
 
 pub returns : goal.returns
-returns c = touched_are c.args.old.now c.args.new.now c.in_ok-touched_by_changes.field-0 c.requires.count c.in_ok-touched_by_changes.ensures
+returns c = touched_are c.args.old.now c.args.new.now c.touched_by_changes.result c.requires.count c.touched_by_changes.ensures

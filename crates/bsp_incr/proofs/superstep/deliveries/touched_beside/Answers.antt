@@ -1,5 +1,5 @@
 use Rattle.std.proofs.Common.{◌≡◌, ◌<◌, ◌∙◌, Option, None, Some, IfSome, List, ap, sym, subst, length, arith}
-use Rattle.std.specs.Prelude.{option_map, IfOk}
+use Rattle.std.specs.Prelude.{option_map}
 use Rattle.bsp_step.specs.OutcomeParts.{OutcomeParts}
 use Rattle.bsp_deliver.specs.Condition.{AreDeliverable}
 use Rattle.bsp_deliver.specs.Requests.{each_below}
@@ -49,5 +49,5 @@ returns g c =
     let os : List OutcomeParts = outcomes_if_any (option_map (λ o. o.now) c.delivered_outcomes-before.result) in
     let before = c.delivered_outcomes-before.ensures.outcomes ∙ ap (λ (x : Making _). delivered_outcomes x.before c.step.result) c.given.view_is ∙ ap (delivered_outcomes m.before) c.step.ensures in
     let now = c.outcomes.ensures.outcomes ∙ outcomes_shown-turned r c.requires.turned in
-    subst (λ (xs : List OutcomeParts). IfOk c.touched.result (λ all. all ≡ each_below (length r.outcomes) (is_touched xs r.outcomes))) before
-    (subst (λ (us : List OutcomeParts). IfOk c.touched.result (λ all. all ≡ each_below (length us) (is_touched os us))) now c.touched.ensures)
+    subst (λ (xs : List OutcomeParts). c.touched.result ≡ each_below (length r.outcomes) (is_touched xs r.outcomes)) before
+    (subst (λ (us : List OutcomeParts). c.touched.result ≡ each_below (length us) (is_touched os us)) now c.touched.ensures)

@@ -11,30 +11,30 @@ use Rattle.bsp_incr.proofs.superstep.ending.make_deliveries.Goals as goal
 pub deliveries_among-requires-clause-many : goal.deliveries_among-requires-clause-many
 deliveries_among-requires-clause-many g c κs within =
     let r : Run = c.args.tape.now in
-    ap (λ (bs : List Bool). length bs) c.in_ok-under_way.ensures ∙ length-map-range_with_len (is_touched (delivered_beside c.args.given.now r) r.outcomes) 0 (length r.outcomes)
+    ap (λ (bs : List Bool). length bs) c.touched_beside-touched.ensures ∙ length-map-range_with_len (is_touched (delivered_beside c.args.given.now r) r.outcomes) 0 (length r.outcomes)
 
 pub open_next-requires-clause-processes : goal.open_next-requires-clause-processes
 open_next-requires-clause-processes g c κs within =
     let r : Run = c.args.tape.now in
     let test : ℕ → Bool = is_touched (delivered_beside c.args.given.now r) r.outcomes in
-    c.in_ok-deliveries.ensures.processes ∙ processes_where-each_below (length r.outcomes) test c.in_ok-under_way.field-0 c.in_ok-under_way.ensures
+    c.in_ok-deliveries.ensures.processes ∙ processes_where-each_below (length r.outcomes) test c.touched_beside-touched.result c.touched_beside-touched.ensures
 
-pub insert_all-requires : goal.insert_all-requires
-insert_all-requires g c =
+pub union-under_way-requires : goal.union-under_way-requires
+union-under_way-requires g c =
     let r : Run = c.args.tape.now in
     let test : ℕ → Bool = is_touched (delivered_beside c.args.given.now r) r.outcomes in
     c.given.invariant.others.count ∙ ap (λ (m : Making _). length m.input.mems) c.given.view_is ∙ sym c.requires.many
-    ∙ sym (ap (λ (bs : List Bool). length bs) c.in_ok-under_way.ensures ∙ length-map-range_with_len test 0 (length r.outcomes))
+    ∙ sym (ap (λ (bs : List Bool). length bs) c.touched_beside-touched.ensures ∙ length-map-range_with_len test 0 (length r.outcomes))
 
 pub returns-clause-marks : goal.returns-clause-marks
 returns-clause-marks g c =
-    c.insert_all.ensures ∙ ap (λ (s : List Bool). union s c.given.inside.other_args.now) c.in_ok-under_way.ensures
+    c.union-under_way.ensures ∙ ap (λ (s : List Bool). union s c.given.inside.other_args.now) c.touched_beside-touched.ensures
     ∙ ap (λ (m : Making _). union (each_below (length c.args.tape.now.outcomes) (is_touched (delivered_beside c.args.given.now c.args.tape.now) c.args.tape.now.outcomes)) m.others) c.given.view_is
 
 pub returns-clause-redelivered : goal.returns-clause-redelivered
 returns-clause-redelivered g c =
     let r : Run = c.args.tape.now in
     let test : ℕ → Bool = is_touched (delivered_beside c.args.given.now r) r.outcomes in
-    let members = c.in_ok-deliveries.ensures.processes ∙ processes_where-each_below (length r.outcomes) test c.in_ok-under_way.field-0 c.in_ok-under_way.ensures in
+    let members = c.in_ok-deliveries.ensures.processes ∙ processes_where-each_below (length r.outcomes) test c.touched_beside-touched.result c.touched_beside-touched.ensures in
     c.in_ok-add_places.ensures ∙ ap (λ n. c.args.under_way.now.update.redelivered ++ places_of n c.as_slice.result.now) c.step-step.ensures
     ∙ ap (λ (ks : List ℕ). c.args.under_way.now.update.redelivered ++ places_of (length r.past) ks) (c.as_slice.ensures.value ∙ members)
