@@ -1,5 +1,5 @@
 -- The shares of all processes are a whole superstep.
-use Rattle.std.proofs.Common.{◌≡◌, ◌<◌, ℕ, List, [], map, length, All, get_or, true, sym, ap, ◌∙◌, subst, refl}
+use Rattle.std.proofs.Common.{◌≡◌, ◌<◌, ℕ, List, map, length, All, get_or, true, false, sym, ap, ◌∙◌, subst, refl}
 use Rattle.std.specs.List.{range_with_len}
 use Rattle.std.proofs.lemmas.List.{get_or-map, length-map}
 use Rattle.std.proofs.lemmas.List.FromFn.{fill_by_all}
@@ -9,13 +9,15 @@ use Rattle.bsp_step.specs.ViewParts.{ViewParts, IsView}
 use Rattle.bsp_step.specs.OutcomeParts.{OutcomeParts, no_outcome}
 use Rattle.bsp_step.specs.Act.{Act}
 use Rattle.bsp_step.specs.Turn.{turn_of}
-use Rattle.bsp_run.specs.Run.{Run, after_turns}
+use Rattle.bsp_run.specs.declared.phase.Phase.TheVariants.{Open}
+use Rattle.bsp_run.specs.Run.{Run, open_views, after_turns, after_delivery, advance}
+use Rattle.bsp_deliver.specs.Condition.{IsAscending}
 use Rattle.bsp_run.specs.Condition.{AreOutcomesOf, no_view, is_turned, deliveries_of}
 use Rattle.bsp_run.specs.Supersteps.{superstep_shown}
 use Rattle.bsp_run.specs.Shares.{turns_of, deliveries_to}
-use Rattle.bsp_run.proofs.Runs.{outcomes_shown-turned, turned_phase_is}
+use Rattle.bsp_run.proofs.Runs.{advance-delivers, advance-ends, outcomes_shown-turned, turned_phase_is}
 use Rattle.bsp_run.specs.Inside.Turns.{AreTurnsOf}
-use Rattle.bsp_run.proofs.Lists.{range_below}
+use Rattle.bsp_run.proofs.Lists.{range_ascending, range_below}
 use Rattle.bsp_run.proofs.Turns.{AreOutcomesOf-turns}
 
 -- the turns of all processes, by number, are those of all views
@@ -36,19 +38,43 @@ turns_made acts ending vs ws ps os same limits all made =
     let known : All IsView vs = subst (All IsView) same limits in
     record { turns = turns; within = subst (AreOutcomesOf vs) (sym turns) (AreOutcomesOf-turns acts ending vs known) }
 
--- processes of a superstep that are some of its outcomes
-pub are_known : (ps : List ℕ) (count : ℕ) (os : List OutcomeParts) → ps ≡ range_with_len 0 count → length os ≡ count → All (λ p. p < length os) ps
-are_known ps count os all long = subst (All (λ p. p < length os)) (sym (all ∙ ap (range_with_len 0) (sym long))) (range_below (length os))
+-- all processes are known
+pub are_known : {T : Type 0} (ps : List ℕ) (count : ℕ) (xs : List T) → ps ≡ range_with_len 0 count → length xs ≡ count → All (λ p. p < length xs) ps
+are_known ps count xs all long = subst (All (λ p. p < length xs)) (sym (all ∙ ap (range_with_len 0) (sym long))) (range_below (length xs))
 
 after_turns-outcomes : (r : Run) (os : List OutcomeParts) → (after_turns r os).outcomes ≡ os
 unfolding after_turns
 after_turns-outcomes r os = refl
 
--- the outcomes that a run shows once its turns are taken are those of the turns
-pub outcomes_made : (r t : Run) (os us : List OutcomeParts) → t ≡ after_turns r os → is_turned t.phase ≡ true → us ≡ (superstep_shown t).outcomes → (us ≡ t.outcomes) × (us ≡ os)
-outcomes_made r t os us turned h shown =
+-- What a run shows once the turns of all processes are taken, and it goes on by delivery.
+pub record AreShown (r t : Run) (os us : List OutcomeParts) (ps : List ℕ) : Type 0 where
+  pub kept : us ≡ t.outcomes
+  pub known : All (λ d. d < length us) ps
+  pub ascending : IsAscending ps
+  pub all : ps ≡ range_with_len 0 (length us)
+
+pub outcomes_made : (turn : ViewParts → OutcomeParts) (r t : Run) (os us : List OutcomeParts) (ps : List ℕ) → t ≡ after_turns r os → is_turned t.phase ≡ true → us ≡ (superstep_shown t).outcomes → AreTurnsOf turn (open_views r) os → ps ≡ range_with_len 0 (length (open_views r)) → AreShown r t os us ps
+outcomes_made turn r t os us ps turned h shown made all =
     let kept : us ≡ t.outcomes = shown ∙ outcomes_shown-turned t (turned_phase_is t.phase h) in
-    (kept, kept ∙ ap (λ (x : Run). x.outcomes) turned ∙ after_turns-outcomes r os)
+    let own : us ≡ os = kept ∙ ap (λ (x : Run). x.outcomes) turned ∙ after_turns-outcomes r os in
+    let long : length us ≡ length (open_views r) = ap (λ (xs : List OutcomeParts). length xs) own ∙ made.within.count in
+    record {
+      kept = kept;
+      known = are_known ps (length (open_views r)) us all long;
+      ascending = subst IsAscending (sym all) (range_ascending (length (open_views r)));
+      all = all ∙ ap (range_with_len 0) (sym long);
+    }
+
+-- One superstep is what its turns and its deliveries make of a run.
+pub superstep_made : (turn : ViewParts → OutcomeParts) (r t new : Run) (os : List OutcomeParts) → r.phase ≡ Open → AreTurnsOf turn (open_views r) os → t ≡ after_turns r os → is_turned t.phase ≡ true → new ≡ after_delivery t → new ≡ advance turn r
+superstep_made turn r t new os opened made turned h is =
+    let same : t ≡ after_turns r (map turn (open_views r)) = turned ∙ ap (after_turns r) made.turns in
+    is ∙ ap after_delivery same ∙ sym (advance-delivers turn r opened (ap (λ (x : Run). is_turned x.phase) (sym same) ∙ h))
+
+pub superstep_ended : (turn : ViewParts → OutcomeParts) (r t : Run) (os : List OutcomeParts) → r.phase ≡ Open → AreTurnsOf turn (open_views r) os → t ≡ after_turns r os → is_turned t.phase ≡ false → t ≡ advance turn r
+superstep_ended turn r t os opened made turned h =
+    let same : t ≡ after_turns r (map turn (open_views r)) = turned ∙ ap (after_turns r) made.turns in
+    same ∙ sym (advance-ends turn r opened (ap (λ (x : Run). is_turned x.phase) (sym same) ∙ h))
 
 pub deliveries_made : (os : List OutcomeParts) (count : ℕ) (ds : List ℕ) (cells : List (List ℕ × List Message)) → length os ≡ count → ds ≡ range_with_len 0 count → cells ≡ deliveries_to os ds → cells ≡ deliveries_of os
 deliveries_made os count ds cells long all made = made ∙ ap (deliveries_to os) (all ∙ ap (range_with_len 0) (sym long)) ∙ deliveries_to-all os

@@ -11,7 +11,7 @@ ghost use Rattle.bsp_run.specs.Result.{result_of};
 ghost use Rattle.bsp_run.specs.Law.{IsBspRun, IsBspResult};
 ghost use Rattle.bsp_run.specs.RunErrors.{input_fault_of};
 
-use crate::supersteps::numbers;
+use crate::numbers::numbers;
 use crate::tape::checked;
 use crate::unrecorded::{Taken, Unrecorded, all_turns};
 use crate::wide::turns_by_one;
@@ -38,15 +38,9 @@ fn plain_outcomes<P: Program>(
         outcomes: room,
         spare: None,
     };
-    turns_by_one(
-        alloc,
-        &mut rows,
-        program,
-        tape.open_views(),
-        processes,
-        &Open,
-    )?;
-    rows.outcomes.share()
+    let views = tape.open_views();
+    turns_by_one(alloc, &mut rows, program, views, processes, &Open)?;
+    Ok(rows.outcomes.share()?)
 }
 
 /// One superstep more of a run that has not ended.
@@ -61,7 +55,8 @@ fn plain_superstep<P: Program>(
     let processes = numbers(alloc, tape.open_views().len())?;
     let all = processes.as_slice();
     let outcomes = plain_outcomes(alloc, program, tape, all)?;
-    if tape.turned(outcomes)? {
+    let delivers = tape.turned(outcomes)?;
+    if delivers {
         let made = deliver_some(alloc, tape.outcomes(), all, Cells::new(alloc))?;
         let _ = tape.delivered(made)?;
     }

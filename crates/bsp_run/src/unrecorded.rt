@@ -14,8 +14,8 @@ ghost use Rattle.bsp_run.specs.Inside.IsUnrecorded.{IsUnrecorded, IsUnrecordedIn
 
 use crate::ending::end_of;
 use crate::history::{memories_of_outcomes, memories_of_views};
+use crate::numbers::numbers;
 use crate::opening::shared_args;
-use crate::supersteps::numbers;
 use crate::tally::Tally;
 use crate::wide::turns_by_one;
 use crate::{Phase, RunResult, Status, TurnRows, Views};

@@ -14,7 +14,7 @@ ghost use Rattle.bsp_run.specs.Law.{IsBspRun};
 ghost use Rattle.bsp_run.specs.RunErrors.{input_fault_of};
 
 use crate::in_order::in_order;
-use crate::supersteps::numbers;
+use crate::numbers::numbers;
 use crate::turn_rows::spare_of;
 use crate::works::{Deliveries, Turns};
 use crate::{History, RunError, Tape, TurnRows, Views};
@@ -194,7 +194,7 @@ fn wide_outcomes<P: Program, G: Gate, R: Threads + Sync>(
     };
     let views = tape.open_views();
     let taken = wide_turns(rt, alloc, rows, program, views, processes, workers, gate)?;
-    taken.outcomes.share()
+    Ok(taken.outcomes.share()?)
 }
 
 /// One superstep more of a run that has not ended, by the workers.
@@ -213,7 +213,8 @@ fn wide_superstep<P: Program, G: Gate, R: Threads + Sync>(
     let processes = numbers(alloc, tape.open_views().len())?;
     let all = processes.as_slice();
     let outcomes = wide_outcomes(rt, alloc, program, tape, all, workers, gate)?;
-    if tape.turned(outcomes)? {
+    let delivers = tape.turned(outcomes)?;
+    if delivers {
         let made = wide_deliveries(rt, alloc, tape.outcomes(), all, workers, gate)?;
         let _ = tape.delivered(made)?;
     }

@@ -29,3 +29,17 @@ loop-alloc-smaller g c =
     let whole : Run = run turn c.args.input.now in
     let open_now : is_open c.loop-alloc.tape.phase ≡ true = sym c.is_open.ensures ∙ c.loop-alloc-test.true in
     subst (λ (r : Run). supersteps_left r < supersteps_left c.loop-alloc.tape) (sym c.in_ok-plain_superstep.ensures) (fewer_left turn c.loop-alloc.tape whole c.loop-alloc.invariant open_now)
+
+pub returns-clause-run : goal.returns-clause-run
+returns-clause-run g c =
+    let turn = turn_of (g.P.Program.acts c.args.program.now) (g.P.Program.ending c.args.program.now) in
+    let closed : is_open c.loop-alloc.tape.phase ≡ false = sym c.is_open.ensures ∙ c.loop-alloc-test.false in
+    c.in_ok-finish.ensures ∙ (closed-leads turn c.loop-alloc.tape (run turn c.args.input.now) c.loop-alloc.invariant closed).1
+
+pub returns-clause-law : goal.returns-clause-law
+returns-clause-law g c =
+    let turn = turn_of (g.P.Program.acts c.args.program.now) (g.P.Program.ending c.args.program.now) in
+    let input : Input = c.args.input.now in
+    let closed : is_open c.loop-alloc.tape.phase ≡ false = sym c.is_open.ensures ∙ c.loop-alloc-test.false in
+    let made = c.in_ok-finish.ensures ∙ (closed-leads turn c.loop-alloc.tape (run turn input) c.loop-alloc.invariant closed).1 in
+    subst (IsBspRun turn input) (sym made) (IsBspRun-run turn input c.in_ok-tape.ensures.ok.0)

@@ -1,4 +1,7 @@
-use Rattle.std.proofs.Common.{◌∙◌, ◌<◌, All, List, ap, sym, subst, length, refl, arith}
+use Rattle.std.proofs.Common.{◌≡◌, ◌∙◌, ◌<◌, ℕ, All, List, ap, sym, subst, length, refl, arith}
+use Rattle.std.specs.Prelude.{is_some}
+use Rattle.std.proofs.lemmas.Bool.Decides.{nat_tests}
+use Rattle.std.proofs.lemmas.List.FromFn.{length-range_with_len}
 use Rattle.bsp_step.specs.OutcomeParts.{OutcomeParts}
 use Rattle.bsp_table.specs.declared.area.Area.{Area}
 use Rattle.bsp_deliver.specs.Condition.{AreDeliverable, IsAscending}
@@ -51,11 +54,17 @@ open-requires c =
     let r : Run = c.requires.turned.0 in
     let t : AreTurned r c.args.views c.args.outcomes.now = c.requires.turned.1 in
     let known = c.in_ok-setting.ensures ∙ setting_next r c.args.views c.args.outcomes.now c.into_parts-setting.result.0 t c.into_parts-setting.ensures.setting in
-    let made = deliveries_made c.args.outcomes.now (length c.args.outcomes.now) c.args.processes.now c.in_ok-cells.cells refl c.requires.processes c.in_ok-cells.ensures.cells ∙ ap deliveries_of (sym t.outcomes) in
-    opens_next r c.in_ok-setting.setting c.in_ok-cells.cells t.run t.phase known made
+    let made = deliveries_made c.args.outcomes.now (length c.args.outcomes.now) c.args.processes.now c.in_ok-cells.field-0.cells refl c.requires.processes c.in_ok-cells.ensures.cells ∙ ap deliveries_of (sym t.outcomes) in
+    opens_next r c.in_ok-setting.setting c.in_ok-cells.field-0.cells t.run t.phase known made
 
 pub returns-clause-views : goal.returns-clause-views
 returns-clause-views c = λ r t.
     let known = c.in_ok-setting.ensures ∙ setting_next r c.args.views c.args.outcomes.now c.into_parts-setting.result.0 t c.into_parts-setting.ensures.setting in
-    let made = deliveries_made c.args.outcomes.now (length c.args.outcomes.now) c.args.processes.now c.in_ok-cells.cells refl c.requires.processes c.in_ok-cells.ensures.cells ∙ ap deliveries_of (sym t.outcomes) in
-    c.in_ok-open.ensures ∙ views_next r c.in_ok-setting.setting c.in_ok-cells.cells known made
+    let made = deliveries_made c.args.outcomes.now (length c.args.outcomes.now) c.args.processes.now c.in_ok-cells.field-0.cells refl c.requires.processes c.in_ok-cells.ensures.cells ∙ ap deliveries_of (sym t.outcomes) in
+    c.in_ok-open.ensures ∙ views_next r c.in_ok-setting.setting c.in_ok-cells.field-0.cells known made
+
+pub unreachable-requires : goal.unreachable-requires
+unreachable-requires c =
+    let many : length c.args.processes.now ≡ length c.args.outcomes.now = ap (λ (ps : List ℕ). length ps) c.requires.processes ∙ length-range_with_len 0 (length c.args.outcomes.now) in
+    let fewer = sym c.in_ok-cells.ensures.counted ∙ ap is_some c.in_default.is in
+    grind (arith, nat_tests, fewer, many)

@@ -1,5 +1,6 @@
-use Rattle.std.proofs.Common.{◌≡◌, ◌∙◌, ◌++◌, ℕ, Bool, true, false, List, not, get_or, ap, sym}
+use Rattle.std.proofs.Common.{◌≡◌, ◌∙◌, ◌++◌, ℕ, Bool, true, false, List, [], not, get_or, ap, sym, rules}
 use Rattle.std.specs.Prelude.{filter}
+use Rattle.std.proofs.lemmas.List.{append-nil}
 use Rattle.bsp_incr.specs.Inside.Changes.{differs}
 use Rattle.bsp_incr.specs.Inside.Given.{Making}
 use Rattle.bsp_incr.proofs.Members.{are_members, first_has, later_have, listed_next, passed_over}
@@ -12,8 +13,32 @@ loop-process-init g c =
     let goes : ℕ → Bool = differs (g.P.Program.looks c.args.given.now.program) c.args.superstep.now.old_views c.args.superstep.now.views.now in
     let stays : ℕ → Bool = λ p. not (goes p) in
     let all = c.into_iter-process-iterator.ensures.into_iter_gives ∙ c.iter-process-items.ensures in
+    let no_taken : c.in_ok-taken.taken.items ≡ [] = search rules in
+    let no_served : c.in_ok-served.served.items ≡ [] = search rules in
     record {
-      taken = (λ i. c.in_ok-taken.ensures i ++ filter goes (all i));
-      served = (λ i. c.in_ok-served.ensures i ++ filter stays (all i));
+      taken = λ i. no_taken i ++ filter goes (all i);
+      served = λ i. no_served i ++ filter stays (all i);
       members = are_members set c.into_iter-process-iterator.result all;
     }
+
+pub needs_turn-requires-clause-place : goal.needs_turn-requires-clause-place
+needs_turn-requires-clause-place g c κs within =
+    first_has (λ p. get_or c.args.doubtful.now.processes p false ≡ true) c.in-Some.process c.next.new.self c.loop-process.process-iterator c.in-Some.ensures.steps c.loop-process.invariant.members
+
+pub returns-clause-taken : goal.returns-clause-taken
+returns-clause-taken g c =
+    let looks = g.P.Program.looks c.args.given.now.program in
+    let old = c.args.superstep.now.old_views in
+    let new = c.args.superstep.now.views.now in
+    sym (append-nil c.loop-process.taken.items)
+    ∙ ap (λ (ps : List ℕ). c.loop-process.taken.items ++ filter (differs looks old new) ps) (sym c.in-None.ensures.steps.0)
+    ∙ c.loop-process.invariant.taken ∙ needed_among looks old new c.args.doubtful.now.processes c.requires.doubtful.processes
+
+pub returns-clause-served : goal.returns-clause-served
+returns-clause-served g c =
+    let looks = g.P.Program.looks c.args.given.now.program in
+    let old = c.args.superstep.now.old_views in
+    let new = c.args.superstep.now.views.now in
+    sym (append-nil c.loop-process.served.items)
+    ∙ ap (λ (ps : List ℕ). c.loop-process.served.items ++ filter (λ p. not (differs looks old new p)) ps) (sym c.in-None.ensures.steps.0)
+    ∙ c.loop-process.invariant.served ∙ served_among looks old new c.args.doubtful.now.processes c.requires.doubtful.processes

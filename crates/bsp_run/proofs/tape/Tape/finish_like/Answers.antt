@@ -19,5 +19,5 @@ finish_sharing-requires-clause-marks c =
           (lines_stay other r c.args.marks.now (c.have_as_many.ensures w.if-have_as_many.true) differ))
       | else-have_as_many w ↦
           subst (λ (marks : Bor (List Bool)). AreLinesUnlessMarked c.other.inside.lines marks.now (outcomes_of (supersteps_of r))) (sym w.marks-is)
-          (subst (λ (marks : List Bool). AreLinesUnlessMarked c.other.inside.lines marks (outcomes_of (supersteps_of r))) (sym c.new-none.ensures) (none_known c.other.inside.lines (outcomes_of (supersteps_of r))))
+          (subst (λ (marks : List Bool). AreLinesUnlessMarked c.other.inside.lines marks (outcomes_of (supersteps_of r))) (sym c.none-none.ensures) (none_known c.other.inside.lines (outcomes_of (supersteps_of r))))
     ]

@@ -1,4 +1,4 @@
-//! All processes.
+//! The numbers of all processes.
 
 ghost use Rattle.std.specs.Prelude.{◌≡◌, IfOk};
 ghost use Rattle.std.specs.List.{range_with_len};
