@@ -1,4 +1,4 @@
-use Rattle.std.proofs.Common.{◌≡◌, ◌∙◌, sym, subst, Option, Some}
+use Rattle.std.proofs.Common.{◌≡◌, ◌∙◌, arith, sym, subst, Option, Some}
 use Rattle.std.specs.Prelude.{option_map}
 use Rattle.bsp_model.specs.declared.input.Input.{Input}
 use Rattle.bsp_model.proofs.Inputs.{lawful_input}
@@ -17,7 +17,7 @@ pub invariant_of-given : goal.invariant_of-given
 invariant_of-given g c = record { lawful = c.requires.lawful; before = c.requires.before; others = c.requires.args }
 
 pub finished-requires-clause-few : goal.finished-requires-clause-few
-finished-requires-clause-few g c = (lawful_input c.args.input.now c.requires.lawful).few_processes
+finished-requires-clause-few g c = omega (arith, c.len.ensures, (lawful_input c.args.input.now c.requires.lawful).few_processes)
 
 pub finished-requires-clause-executed : goal.finished-requires-clause-executed
 finished-requires-clause-executed g c = λ r e.

@@ -3,8 +3,8 @@ use Rattle.bsp_step.specs.Turn.{turn_of}
 use Rattle.bsp_incr.proofs.RunBefore.{before_edits}
 use Rattle.bsp_incr.proofs.rerun.rerun_from_edits.Goals as goal
 
-pub marks_of_edits-requires-clause-few : goal.marks_of_edits-requires-clause-few
-marks_of_edits-requires-clause-few g c = (lawful_input c.args.input.now c.requires.lawful).few_processes
+pub marks_of_edits-marks-requires-clause-few : goal.marks_of_edits-marks-requires-clause-few
+marks_of_edits-marks-requires-clause-few g c = (lawful_input c.args.input.now c.requires.lawful).few_processes
 
 pub rerun-requires-clause-before : goal.rerun-requires-clause-before
 rerun-requires-clause-before g c κs within =

@@ -4,8 +4,8 @@ use Rattle.bsp_run.proofs.OneRun.{one_run}
 use Rattle.bsp_incr.proofs.Exactness.{exact_of}
 use Rattle.bsp_incr.proofs.session.Session.open.Goals as goal
 
-pub all_marks-requires : goal.all_marks-requires
-all_marks-requires g c = (lawful_input c.args.input c.in-Ok.ensures.ok).few_processes
+pub all_marks-marks-requires : goal.all_marks-marks-requires
+all_marks-marks-requires g c = (lawful_input c.args.input c.in-Ok.ensures.ok).few_processes
 
 pub returns-clause-law : goal.returns-clause-law
 returns-clause-law g c =
