@@ -150,7 +150,7 @@ fn draw_together<W: Gathering, G: Gate, R: Threads + Sync>(
                 (map (W.does jobs.now.work.now) jobs.now.inputs.now) hand.now }
             ensures { IsHand jobs.entry.now.deck.now (W.outputs jobs.entry.now.work.now)
                 (map (W.does jobs.entry.now.work.now) jobs.entry.now.inputs.now) hand.exit.now }
-        { draw_all(jobs, hand, &mut Watch::none()) },
+        { draw_all(jobs, hand, &mut Watch::new(jobs.gate, 1)) },
     );
 }
 
