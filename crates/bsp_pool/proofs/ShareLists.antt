@@ -34,6 +34,11 @@ output_added outs ns os new n o before is new_is =
     ∙ (sym (map-append Some os (o ∷ []))
     ∙ ap (map Some) (sym new_is))))
 
+-- the same, where room for the number was made first
+pub share_added : {T : Type 0} (outs : List T) (ns mid new : List ℕ) (os os' : List T) (n : ℕ) (o : T) → map (slice_get outs) ns ≡ map Some os → mid ≡ ns → new ≡ mid ++ n ∷ [] → slice_get outs n ≡ Some o → os' ≡ os ++ o ∷ [] → map (slice_get outs) new ≡ map Some os'
+share_added outs ns mid new os os' n o before room more is new_is =
+    ap (map (slice_get outs)) (more ∙ ap (λ l. l ++ n ∷ []) room) ∙ output_added outs ns os os' n o before is new_is
+
 taken : {B : Type 0} (outs : List B) (i : ℕ) (out : B) → slice_get outs i ≡ Some out → take i outs ++ out ∷ [] ≡ take (i + 1) outs
 taken [] i out at = absurd (cc)
 taken (x ∷ xs) zero out at = grind (arith, common_steps)

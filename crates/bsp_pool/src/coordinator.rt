@@ -42,9 +42,11 @@ pub fn phase<W: Work, G: Gate, R: Threads + Sync>(
     Ok(merged(kept, missing))
 }
 
-/// What workers gather of the outputs of these inputs: for each worker a share, its rows with the numbers of the outputs in them. The workers
-/// are those of `phase`, and pass the gate as there. No number is worked twice. One that no share has was given up by a worker for want of memory,
-/// or no worker drew past the end; it is for the caller to work.
+/// What workers gather of the outputs of these inputs: for each worker a share, its rows with the numbers of the
+/// outputs in them. The workers are those of `phase`, and pass the gate as there. No number stands in two shares.
+///
+/// Where a worker drew past the end and none gave a number up, the shares have every number. A number that no share
+/// has is for the caller to work. Where memory for the deck, the lists or the first rows is refused, there is no share.
 pub fn gather<W: Gathering, G: Gate, R: Threads + Sync>(
     rt: &R,
     alloc: Global,

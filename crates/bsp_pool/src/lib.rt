@@ -1,8 +1,8 @@
 //! A worker pool over one claim word.
 //!
 //! `phase` works a list of inputs by 1 to 16 threads and gives the outputs in the order of the inputs. Its workers
-//! draw the numbers of the inputs from a `Deck`, each with a `Pass`. `gather` hands over what each worker has gathered. `Core` is the same pool as a machine on one
-//! thread, event by event.
+//! draw the numbers of the inputs from a `Deck`, each with a `Pass`. `gather` hands over what each worker has
+//! gathered. `Core` is the same pool as a machine on one thread, event by event.
 #![tactic(auto)]
 
 mod claim;

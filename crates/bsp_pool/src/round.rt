@@ -115,9 +115,12 @@ impl<T: Drop> Round<T> {
     pub(crate) fn is_over(&self) -> bool
         ensures { result ≡ list_all is_gone self.now.workers }
     {
-        self.workers
-            .iter()
-            .all(|worker| matches!(worker, Worker::Gone))
+        for worker in &self.workers {
+            if !matches!(worker, Worker::Gone) {
+                return false;
+            }
+        }
+        true
     }
 }
 

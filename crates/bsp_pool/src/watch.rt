@@ -37,19 +37,15 @@ struct Looks {
 }
 
 impl Watch {
-    /// The watch of a worker that never looks.
-    pub(crate) fn none() -> Watch {
-        Watch {
-            looks: None,
-            next_look: usize::MAX,
-            workers: 1,
-        }
-    }
-
-    /// The watch of the first of so many workers. Where the gate tells no time, it calls the others at once.
+    /// The watch of the first of so many workers. Where it is the only one, it never looks. Where the gate tells no time,
+    /// it calls the others at once.
     pub(crate) fn new<G: Gate>(gate: &G, workers: usize) -> Watch {
         if workers < 2 {
-            return Watch::none();
+            return Watch {
+                looks: None,
+                next_look: usize::MAX,
+                workers: 1,
+            };
         }
         match gate.now() {
             Some(now) => Watch {

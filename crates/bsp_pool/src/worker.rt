@@ -1,4 +1,5 @@
-//! The workers of a phase. Each has a pass of its own, made of the first one, and the passes are joined once all have left.
+//! The workers of a phase. Each has a pass of its own, made of the first one, and the passes are joined once all have
+//! left.
 
 ghost use Rattle.std.specs.Prelude.{◌≡◌, ◌+◌, ◌<◌, ◌≤◌, ◌++◌, ◌∷◌, [], All, IfNone, IfSome, OnErr, OnOk, ◌-◌, ◌^◌, length, map, max, vec_len};
 ghost use Rattle.std.specs.Vec.{vec_capacity};
@@ -31,7 +32,8 @@ pub(crate) struct Hand<Rows> {
     pub(crate) share: Share<Rows>,
 }
 
-/// The most numbers that a worker draws alone, and again beside other workers, so that its pass stays within 2^32 for its unit.
+/// The most numbers that a worker draws alone, and again beside other workers, so that its pass stays within 2^32 for
+/// its unit.
 const MOST_DRAWS: u64 = 2147483648;
 
 /// Works the input of this number, and keeps its output in the share. After `OutOfMemory` the share has what it had.
@@ -42,8 +44,10 @@ fn work_into<W: Gathering, G: Gate>(
 ) -> Result<(), OutOfMemory>
     requires number { number < length jobs.now.inputs.now }
     requires accepts { All (W.accepts jobs.now.work.now) jobs.now.inputs.now }
-    requires share { IsShare (W.outputs jobs.now.work.now) (map (W.does jobs.now.work.now) jobs.now.inputs.now) share.old }
-    ensures share { IsShare (W.outputs jobs.now.work.now) (map (W.does jobs.now.work.now) jobs.now.inputs.now) share.new }
+    requires share { IsShare (W.outputs jobs.now.work.now)
+        (map (W.does jobs.now.work.now) jobs.now.inputs.now) share.old }
+    ensures share { IsShare (W.outputs jobs.now.work.now)
+        (map (W.does jobs.now.work.now) jobs.now.inputs.now) share.new }
     ensures ok { OnOk result (share.new.numbers.items ≡ share.old.numbers.items ++ number ∷ []) }
     ensures err { OnErr result (share.new.numbers.items ≡ share.old.numbers.items) }
     ensures gave_up { share.new.gave_up ≡ share.old.gave_up }
@@ -56,13 +60,15 @@ fn work_into<W: Gathering, G: Gate>(
     Ok(())
 }
 
-/// Draws a number and works its input into the share. It answers whether the worker stays: it leaves where the number is past the end, or
-/// is given up for want of memory.
+/// Draws a number and works its input into the share. It answers whether the worker stays: it leaves where the number
+/// is past the end, or is given up for want of memory.
 fn draw_one<W: Gathering, G: Gate>(jobs: &Jobs<W, G>, hand: &mut Hand<W::Rows>) -> bool
     requires accepts { All (W.accepts jobs.now.work.now) jobs.now.inputs.now }
     requires room { length hand.old.pass.numbers < 2 ^ 32 }
-    requires hand { IsHand jobs.now.deck.now (W.outputs jobs.now.work.now) (map (W.does jobs.now.work.now) jobs.now.inputs.now) hand.old }
-    ensures hand { IsHand jobs.now.deck.now (W.outputs jobs.now.work.now) (map (W.does jobs.now.work.now) jobs.now.inputs.now) hand.new }
+    requires hand { IsHand jobs.now.deck.now (W.outputs jobs.now.work.now)
+        (map (W.does jobs.now.work.now) jobs.now.inputs.now) hand.old }
+    ensures hand { IsHand jobs.now.deck.now (W.outputs jobs.now.work.now)
+        (map (W.does jobs.now.work.now) jobs.now.inputs.now) hand.new }
     ensures drawn { length hand.new.pass.numbers ≡ length hand.old.pass.numbers + 1 }
 {
     let number = jobs.deck.draw(&mut hand.pass);
@@ -84,8 +90,10 @@ fn draw_one<W: Gathering, G: Gate>(jobs: &Jobs<W, G>, hand: &mut Hand<W::Rows>) 
 /// Draws numbers and works their inputs until the worker leaves, the watch calls others, or `MOST_DRAWS` numbers are drawn.
 fn draw_all<W: Gathering, G: Gate>(jobs: &Jobs<W, G>, hand: &mut Hand<W::Rows>, watch: &mut Watch)
     requires accepts { All (W.accepts jobs.now.work.now) jobs.now.inputs.now }
-    requires hand { IsReady jobs.now.deck.now (W.outputs jobs.now.work.now) (map (W.does jobs.now.work.now) jobs.now.inputs.now) hand.old }
-    ensures hand { IsHand jobs.now.deck.now (W.outputs jobs.now.work.now) (map (W.does jobs.now.work.now) jobs.now.inputs.now) hand.new }
+    requires hand { IsReady jobs.now.deck.now (W.outputs jobs.now.work.now)
+        (map (W.does jobs.now.work.now) jobs.now.inputs.now) hand.old }
+    ensures hand { IsHand jobs.now.deck.now (W.outputs jobs.now.work.now)
+        (map (W.does jobs.now.work.now) jobs.now.inputs.now) hand.new }
     ensures drawn { length hand.new.pass.numbers ≤ length hand.old.pass.numbers + 2 ^ 31 }
 {
     for draws in 0..MOST_DRAWS {
@@ -126,8 +134,10 @@ fn draw_together<W: Gathering, G: Gate, R: Threads + Sync>(
     hands: &mut [Hand<W::Rows>],
 )
     requires accepts { All (W.accepts jobs.now.work.now) jobs.now.inputs.now }
-    requires hands { All (IsReady jobs.now.deck.now (W.outputs jobs.now.work.now) (map (W.does jobs.now.work.now) jobs.now.inputs.now)) hands.old }
-    ensures { All (IsHand jobs.now.deck.now (W.outputs jobs.now.work.now) (map (W.does jobs.now.work.now) jobs.now.inputs.now)) hands.new }
+    requires hands { All (IsReady jobs.now.deck.now (W.outputs jobs.now.work.now)
+        (map (W.does jobs.now.work.now) jobs.now.inputs.now)) hands.old }
+    ensures { All (IsHand jobs.now.deck.now (W.outputs jobs.now.work.now)
+        (map (W.does jobs.now.work.now) jobs.now.inputs.now)) hands.new }
 {
     let threads = hands.len().max(1);
     for_each_mut(
@@ -136,14 +146,40 @@ fn draw_together<W: Gathering, G: Gate, R: Threads + Sync>(
         threads,
         &|_place: usize, hand: &mut Hand<W::Rows>|
             requires accepts { All (W.accepts jobs.now.work.now) jobs.now.inputs.now }
-            requires hand { IsReady jobs.now.deck.now (W.outputs jobs.now.work.now) (map (W.does jobs.now.work.now) jobs.now.inputs.now) hand.now }
+            requires hand { IsReady jobs.now.deck.now (W.outputs jobs.now.work.now)
+                (map (W.does jobs.now.work.now) jobs.now.inputs.now) hand.now }
             ensures { IsHand jobs.entry.now.deck.now (W.outputs jobs.entry.now.work.now)
                 (map (W.does jobs.entry.now.work.now) jobs.entry.now.inputs.now) hand.exit.now }
-        { draw_all(jobs, hand, &mut Watch::none()) },
+        { draw_all(jobs, hand, &mut Watch::new(jobs.gate, 1)) },
     );
 }
 
-/// Where there are to be several workers, they begin, and all draw. Fewer begin where there is no memory for their rows.
+/// Further workers, up to so many, as long as there is memory for their rows.
+fn begin_more<W: Gathering, G: Gate>(
+    jobs: &Jobs<W, G>,
+    pass: &mut Pass,
+    hands: &mut Vec<Hand<W::Rows>>,
+    workers: usize,
+)
+    requires workers { workers ≤ 16 }
+    requires room { workers ≤ vec_capacity hands.old }
+    requires split { IsSplit jobs.now.deck.now pass.old (vec_len hands.old) }
+    requires ready { All (IsReady jobs.now.deck.now (W.outputs jobs.now.work.now)
+        (map (W.does jobs.now.work.now) jobs.now.inputs.now)) hands.old.items }
+    ensures split { IsSplit jobs.now.deck.now pass.new (vec_len hands.new) }
+    ensures ready { All (IsReady jobs.now.deck.now (W.outputs jobs.now.work.now)
+        (map (W.does jobs.now.work.now) jobs.now.inputs.now)) hands.new.items }
+    ensures len { vec_len hands.new ≤ max (vec_len hands.old) workers }
+{
+    for _worker in hands.len()..workers {
+        let Some(hand) = begin(jobs, pass) else {
+            return;
+        };
+        hands.push_reserved(hand);
+    }
+}
+
+/// Where there are to be several workers, the others begin, and all draw.
 fn draw_beside<W: Gathering, G: Gate, R: Threads + Sync>(
     rt: &R,
     jobs: &Jobs<W, G>,
@@ -155,20 +191,17 @@ fn draw_beside<W: Gathering, G: Gate, R: Threads + Sync>(
     requires workers { workers ≤ 16 }
     requires room { workers ≤ vec_capacity hands.old }
     requires split { IsSplit jobs.now.deck.now pass.old (vec_len hands.old) }
-    requires ready { All (IsReady jobs.now.deck.now (W.outputs jobs.now.work.now) (map (W.does jobs.now.work.now) jobs.now.inputs.now)) hands.old.items }
+    requires ready { All (IsReady jobs.now.deck.now (W.outputs jobs.now.work.now)
+        (map (W.does jobs.now.work.now) jobs.now.inputs.now)) hands.old.items }
     ensures split { IsSplit jobs.now.deck.now pass.new (vec_len hands.new) }
-    ensures hands { All (IsHand jobs.now.deck.now (W.outputs jobs.now.work.now) (map (W.does jobs.now.work.now) jobs.now.inputs.now)) hands.new.items }
+    ensures hands { All (IsHand jobs.now.deck.now (W.outputs jobs.now.work.now)
+        (map (W.does jobs.now.work.now) jobs.now.inputs.now)) hands.new.items }
     ensures len { vec_len hands.new ≤ max (vec_len hands.old) workers }
 {
     if workers < 2 {
         return;
     }
-    for _worker in hands.len()..workers {
-        let Some(hand) = begin(jobs, pass) else {
-            break;
-        };
-        hands.push_reserved(hand);
-    }
+    begin_more(jobs, pass, hands, workers);
     draw_together(rt, jobs, hands.as_mut_slice());
 }
 
@@ -182,8 +215,10 @@ fn hand_over<W: Gathering, G: Gate>(
     requires empty { shares.old.items ≡ [] }
     requires room { vec_len hands ≤ vec_capacity shares.old }
     requires split { IsSplit jobs.now.deck.now pass.old (vec_len hands) }
-    requires hands { All (IsHand jobs.now.deck.now (W.outputs jobs.now.work.now) (map (W.does jobs.now.work.now) jobs.now.inputs.now)) hands.items }
-    ensures { IsGathered jobs.now.deck.now (W.outputs jobs.now.work.now) (map (W.does jobs.now.work.now) jobs.now.inputs.now)
+    requires hands { All (IsHand jobs.now.deck.now (W.outputs jobs.now.work.now)
+        (map (W.does jobs.now.work.now) jobs.now.inputs.now)) hands.items }
+    ensures { IsGathered jobs.now.deck.now (W.outputs jobs.now.work.now)
+        (map (W.does jobs.now.work.now) jobs.now.inputs.now)
         pass.new shares.new.items }
 {
     let mut hands = hands;
@@ -193,8 +228,8 @@ fn hand_over<W: Gathering, G: Gate>(
     }
 }
 
-/// So many workers at most, and the shares that they hand over. The calling thread is the first of them and begins alone; it starts threads for
-/// others once its watch calls them.
+/// So many workers at most, and the shares that they hand over. The calling thread is the first of them and begins
+/// alone. It starts threads for the others once its watch calls them.
 pub(crate) fn run_workers<W: Gathering, G: Gate, R: Threads + Sync>(
     rt: &R,
     jobs: &Jobs<W, G>,
@@ -207,7 +242,8 @@ pub(crate) fn run_workers<W: Gathering, G: Gate, R: Threads + Sync>(
     requires pass { pass.old ≡ pass_of jobs.now.deck.now all_units [] }
     requires empty { shares.old.items ≡ [] }
     requires room { workers ≤ vec_capacity shares.old }
-    ensures { IsGathered jobs.now.deck.now (W.outputs jobs.now.work.now) (map (W.does jobs.now.work.now) jobs.now.inputs.now)
+    ensures { IsGathered jobs.now.deck.now (W.outputs jobs.now.work.now)
+        (map (W.does jobs.now.work.now) jobs.now.inputs.now)
         pass.new shares.new.items }
 {
     let Ok(mut hands) = Vec::with_capacity(jobs.alloc, workers) else {
