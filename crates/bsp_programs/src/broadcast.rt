@@ -12,7 +12,7 @@ use std::alloc::Global;
 /// One process, the root, tells its memory word 0 to all others, and all print it.
 ///
 /// Argument 0 is the root's number. A missing argument ends the turn by `Abort(2)`, a missing word by `Abort(1)`.
-#[derive(Clone, Copy, Debug, PartialEq, Eq)]
+#[derive(Clone, Copy)]
 pub struct Broadcast;
 
 impl Program for Broadcast {

@@ -8,7 +8,7 @@ use bsp_step::{Ctx, Program, View};
 use std::alloc::Global;
 
 /// One of the bundled programs. Its answers are that program's.
-#[derive(Clone, Copy, Debug, PartialEq, Eq)]
+#[derive(Clone, Copy)]
 pub enum Bundled {
     /// One process tells a word to all others.
     Broadcast(Broadcast),

@@ -19,7 +19,7 @@ use std::alloc::Global;
 /// Argument 0 is b, the number of rows of each process, at most 64; so there are n = P times b columns, with P processes. The memory has
 /// b rows of n words, the own b words of the vector, the whole vector of n words, and b words of the product. A missing argument or a b
 /// over 64 ends the turn by `Abort(2)`, a missing word by `Abort(1)`, a message that is no process's block of b words by `Abort(3)`.
-#[derive(Clone, Copy, Debug, PartialEq, Eq)]
+#[derive(Clone, Copy)]
 pub struct MatVec;
 
 impl Program for MatVec {

@@ -12,7 +12,7 @@ use std::alloc::Global;
 /// Each process prints the sum, modulo 2^64, of the words of all processes up to itself.
 ///
 /// Memory word 0 is the own word and then the sum so far; word 1 receives. It takes no arguments. A missing word ends the turn by `Abort(1)`.
-#[derive(Clone, Copy, Debug, PartialEq, Eq)]
+#[derive(Clone, Copy)]
 pub struct Prefix;
 
 impl Program for Prefix {

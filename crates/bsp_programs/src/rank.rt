@@ -13,7 +13,7 @@ use std::alloc::Global;
 ///
 /// Memory word 0 is the number of the element's successor, word 1 its rank so far, words 2 and 3 receive those of the successor. The last
 /// element is its own successor and starts with rank 0, every other with rank 1. It takes no arguments. A missing word ends the turn by `Abort(1)`.
-#[derive(Clone, Copy, Debug, PartialEq, Eq)]
+#[derive(Clone, Copy)]
 pub struct Rank;
 
 impl Program for Rank {

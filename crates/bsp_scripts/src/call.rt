@@ -17,7 +17,7 @@ use bsp_step::Ctx;
 use std::alloc::Global;
 
 /// A call of a turn, with its operands in their order: first they are read, from left to right, and then the call is made.
-#[derive(Debug, Drop)]
+#[derive(Drop)]
 pub enum Call {
     /// `store(address, value)`.
     Store(Operand, Operand),

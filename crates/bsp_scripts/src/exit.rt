@@ -9,7 +9,7 @@ use bsp_step::Stop;
 use std::alloc::AllocError;
 
 /// Why a turn makes no further call.
-#[derive(Clone, Copy, Debug, PartialEq, Eq)]
+#[derive(Clone, Copy)]
 pub enum Exit {
     /// The turn has ended so: by a call, or by an operand that stands for no word.
     Ended(End),

@@ -11,7 +11,7 @@ use bsp_step::Ctx;
 use std::alloc::Global;
 
 /// What stands for a word in a call.
-#[derive(Clone, Copy, Debug, PartialEq, Eq)]
+#[derive(Clone, Copy)]
 pub enum Operand {
     /// This word.
     Number(u64),

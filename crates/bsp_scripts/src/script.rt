@@ -14,7 +14,7 @@ use bsp_step::{Ctx, Program, Stop, View, settle};
 use std::alloc::Global;
 
 /// What a process does in a superstep: calls, in order. A turn that none of them ends syncs.
-#[derive(Debug, Drop)]
+#[derive(Drop)]
 pub struct Turn {
     /// The calls.
     pub calls: Seq<Call>,
@@ -54,7 +54,7 @@ impl Turn {
 }
 
 /// A program that is given by the turns of all processes in each superstep. A process for which no turn is given halts.
-#[derive(Debug, Drop)]
+#[derive(Drop)]
 pub struct Script {
     /// The turns, by superstep and then by process.
     pub supersteps: Seq<Seq<Turn>>,

@@ -4,7 +4,7 @@ ghost use Rattle.std.specs.Prelude.{◌≡◌, ◌≤◌, ◌<◌, ◌+◌, ◌*
 ghost use Rattle.bsp_programs.specs.MatVec.{columns, block_start, vector_start, product_start, is_within};
 
 /// Where the parts of a matrix product lie in the memory of each process.
-#[derive(Clone, Copy, Debug)]
+#[derive(Clone, Copy)]
 pub(super) struct Layout {
     /// The number of processes, at most 64.
     pub nprocs: u64,
