@@ -21,6 +21,47 @@ loop-process-init g c =
       members = are_members set c.into_iter-process-iterator.result all;
     }
 
+-- one more is put into one of the lists
+pub loop-process-preserved-in-Continue-branch-3 : goal.loop-process-preserved-in-Continue-branch-3
+loop-process-preserved-in-Continue-branch-3 g c =
+    let set : List Bool = c.args.doubtful.now.processes in
+    let goes : ℕ → Bool = differs (g.P.Program.looks c.args.given.now.program) c.args.superstep.now.old_views c.args.superstep.now.views.now in
+    let stays : ℕ → Bool = λ p. not (goes p) in
+    let p = c.in-Some.process in
+    let later : List ℕ = c.next.new.self in
+    let left : List ℕ = c.loop-process.process-iterator in
+    let kept = c.loop-process.invariant in
+    let taken : List ℕ = c.loop-process.taken.items in
+    let served : List ℕ = c.loop-process.served.items in
+    let rest = c.in-Some.ensures.steps in
+    let is = c.needs_turn.ensures ∙ ap (λ (m : Making _). differs (g.P.Program.looks m.program) c.args.superstep.now.old_views c.args.superstep.now.views.now p) c.given.view_is in
+    let here : goes p ≡ true = sym is ∙ c.if-needs_turn.true in
+    record {
+      taken = ap (λ (ps : List ℕ). ps ++ filter goes later) c.in_ok-push.ensures.items ∙ listed_next goes taken p later here ∙ ap (λ (ps : List ℕ). taken ++ filter goes ps) (sym rest) ∙ kept.taken;
+      served = passed_over stays served p later (ap not here) ∙ ap (λ (ps : List ℕ). served ++ filter stays ps) (sym rest) ∙ kept.served;
+      members = later_have (λ q. get_or set q false ≡ true) p later left rest kept.members;
+    }
+
+pub loop-process-preserved : goal.loop-process-preserved
+loop-process-preserved g c =
+    let set : List Bool = c.args.doubtful.now.processes in
+    let goes : ℕ → Bool = differs (g.P.Program.looks c.args.given.now.program) c.args.superstep.now.old_views c.args.superstep.now.views.now in
+    let stays : ℕ → Bool = λ p. not (goes p) in
+    let p = c.in-Some.process in
+    let later : List ℕ = c.next.new.self in
+    let left : List ℕ = c.loop-process.process-iterator in
+    let kept = c.loop-process.invariant in
+    let taken : List ℕ = c.loop-process.taken.items in
+    let served : List ℕ = c.loop-process.served.items in
+    let rest = c.in-Some.ensures.steps in
+    let is = c.needs_turn.ensures ∙ ap (λ (m : Making _). differs (g.P.Program.looks m.program) c.args.superstep.now.old_views c.args.superstep.now.views.now p) c.given.view_is in
+    let here : goes p ≡ false = sym is ∙ c.if-needs_turn.false in
+    record {
+      taken = passed_over goes taken p later here ∙ ap (λ (ps : List ℕ). taken ++ filter goes ps) (sym rest) ∙ kept.taken;
+      served = ap (λ (ps : List ℕ). ps ++ filter stays later) c.in_ok-push-2.ensures.items ∙ listed_next stays served p later (ap not here) ∙ ap (λ (ps : List ℕ). served ++ filter stays ps) (sym rest) ∙ kept.served;
+      members = later_have (λ q. get_or set q false ≡ true) p later left rest kept.members;
+    }
+
 pub needs_turn-requires-clause-place : goal.needs_turn-requires-clause-place
 needs_turn-requires-clause-place g c κs within =
     first_has (λ p. get_or c.args.doubtful.now.processes p false ≡ true) c.in-Some.process c.next.new.self c.loop-process.process-iterator c.in-Some.ensures.steps c.loop-process.invariant.members
