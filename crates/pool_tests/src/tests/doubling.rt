@@ -44,7 +44,7 @@ impl Work for Doubling {
     }
 }
 
-pub(crate) const EIGHT: [u32; 8] = [0, 1, 2, 3, 4, 5, 6, 7];
+pub(crate) static EIGHT: [u32; 8] = [0, 1, 2, 3, 4, 5, 6, 7];
 
 fn are_doubles(outputs: &[u64], inputs: &[u32]) -> bool {
     if outputs.len() != inputs.len() {

@@ -6,7 +6,7 @@ use std::alloc::Global;
 type Played = (Event, bool, usize);
 
 /// What two workers do over phases of three inputs and of one input.
-const EVENTS: [Played; 17] = [
+static EVENTS: [Played; 17] = [
     (Event::Draw(0), true, 0),
     (Event::Draw(1), true, 0),
     (Event::Ran(1), true, 0),

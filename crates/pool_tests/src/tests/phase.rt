@@ -2,7 +2,7 @@ use crate::tests::doubling::{Doubling, doubles};
 use crate::tests::meeting::{FAILS, Meeting};
 use std::sync::atomic::Ordering::SeqCst;
 
-const MANY: [u32; 1000] = [7; 1000];
+static MANY: [u32; 1000] = [7; 1000];
 
 /// Each of 1000 jobs passes the gate, on any of 16 threads, and is worked. No job is called twice.
 #[test]
@@ -15,7 +15,7 @@ fn each_of_1000_jobs_passes_the_gate_once_and_is_worked_once(rt: HostRuntime) {
 }
 
 /// The readings of a clock, the first job that waits until two such jobs were called, after how many looks it gives up, and how many give up.
-const MEETINGS: [(&[u64], usize, u32, u64); 4] = [
+static MEETINGS: [(&[u64], usize, u32, u64); 4] = [
     // Without a clock two threads start at once.
     (&[FAILS], 0, 10_000_000, 0),
     // The first job was long.

@@ -6,7 +6,7 @@ use std::sync::atomic::Ordering::SeqCst;
 use std::time::Instant;
 
 /// Clocks that stand still, fail at once, fail later, jump back and stay there, and jump back and go on.
-const CLOCKS: [&[u64]; 5] = [
+static CLOCKS: [&[u64]; 5] = [
     &[7],
     &[FAILS],
     &[0, 100, FAILS],
@@ -45,7 +45,7 @@ impl Gate for Reading {
 }
 
 /// The readings of a clock, and how often it was read before each of twelve jobs.
-const READINGS: [(&[u64], &[u64]); 3] = [
+static READINGS: [(&[u64], &[u64]); 3] = [
     (
         &[0, 100, 200, 300, 400, 800],
         &[1, 2, 3, 4, 5, 5, 5, 5, 6, 6, 6, 6],
