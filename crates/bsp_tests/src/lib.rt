@@ -1,17 +1,7 @@
-//! Small programs, a gate, and tests that cross crates.
+//! The program that the README shows, and tests that cross crates. They stand beside the libraries, since a crate with tests is proved twice.
 #![tactic(auto)]
 
-mod asks;
-mod clash;
+#[cfg(test)]
 mod hello;
-mod pairs;
-mod ring;
-
-pub use asks::{Ask, Asks};
-pub use clash::Clash;
-pub use hello::Hello;
-pub use pairs::Pairs;
-pub use ring::Ring;
-
 #[cfg(test)]
 mod tests;

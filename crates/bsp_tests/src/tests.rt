@@ -1,22 +1,13 @@
-//! Memories, deliveries, runs of small programs, runs by workers, and what a run records.
+//! Runs and sessions by each call, what they record, and what they ask of a program, of its workers and of memory.
 
-mod changes;
-mod computed;
-mod copies;
+mod batches;
 mod counted;
-mod deliveries;
-mod kernels;
 mod known;
+mod meeting;
 mod memories;
+mod pairs;
+mod records;
 mod refusals;
-mod refused;
-mod replies;
 mod running;
 mod sessions;
-mod starts;
-mod switched;
-mod undone;
-mod updated_programs;
-mod updated_sums;
-mod updates;
-mod wide;
+mod sittings;

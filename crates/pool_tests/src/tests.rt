@@ -1,8 +1,7 @@
 mod deck;
 mod doubling;
-mod gathering;
 mod machine;
+mod meeting;
 mod phase;
 mod refusals;
-mod rows;
 mod timed;

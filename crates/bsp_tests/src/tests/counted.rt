@@ -1,17 +1,20 @@
-//! Programs that count what is asked of them, and a gate that counts the jobs.
+//! A program that is watched, with its workers.
 
 use bsp_model::{End, OutOfMemory};
 use bsp_pool::Gate;
 use bsp_step::{Ctx, Program, View};
-use std::alloc::Global;
-use std::sync::atomic::AtomicU64;
+use std::alloc::{AllocError, Global};
 use std::sync::atomic::Ordering::SeqCst;
+use std::sync::atomic::{AtomicBool, AtomicU64};
 
-/// How often a program was asked for a step, and at how many words whether it looks there.
+/// How often a program was asked for a step, and at how many words whether it looks there; how many jobs passed the gate; and whether the steps
+/// find no memory for now.
 #[derive(Drop)]
 pub struct Calls {
     pub steps: AtomicU64,
     pub looks: AtomicU64,
+    pub jobs: AtomicU64,
+    pub refuses: AtomicBool,
 }
 
 impl Calls {
@@ -19,18 +22,34 @@ impl Calls {
         Calls {
             steps: AtomicU64::new(0),
             looks: AtomicU64::new(0),
+            jobs: AtomicU64::new(0),
+            refuses: AtomicBool::new(false),
         }
+    }
+
+    /// Whether there were so many turns, deliveries and looks on all threads together. Then it counts from 0 again.
+    pub fn were(&self, turns: u64, deliveries: u64, looks: u64) -> bool {
+        let steps = self.steps.swap(0, SeqCst);
+        let delivered = self.jobs.swap(0, SeqCst).wrapping_sub(steps);
+        steps == turns && delivered == deliveries && self.looks.swap(0, SeqCst) == looks
     }
 }
 
-/// A program, with its footprint, that counts the calls.
+/// Each turn and each delivery passes the gate once, on the thread that makes it.
+impl Gate for Calls {
+    fn pass(&self, _job: usize) {
+        self.jobs.fetch_add(1, SeqCst);
+    }
+}
+
+/// A program, with its footprint, whose calls are counted. That its steps may find no memory changes nothing of what they do else.
 #[derive(Drop)]
-pub struct Counting<'a, P> {
+pub struct Counted<'a, P> {
     pub program: P,
     pub calls: &'a Calls,
 }
 
-impl<P: Program> Program for Counting<'_, P> {
+impl<P: Program> Program for Counted<'_, P> {
     ghost acts = { λ c. P.acts c.program };
 
     ghost ending = { λ c. P.ending c.program };
@@ -48,32 +67,10 @@ impl<P: Program> Program for Counting<'_, P> {
     fn step(&self, alloc: Global, ctx: &mut Ctx<'_>) -> Result<End, OutOfMemory> {
         let calls = self.calls;
         calls.steps.fetch_add(1, SeqCst);
-        self.program.step(alloc, ctx)
-    }
-}
-
-/// Counts the turns and the deliveries that workers make: each passes the gate once, on the thread that makes it.
-#[derive(Drop)]
-pub struct Passing {
-    jobs: AtomicU64,
-}
-
-impl Passing {
-    pub fn new() -> Passing {
-        Passing {
-            jobs: AtomicU64::new(0),
+        if calls.refuses.load(SeqCst) {
+            return Err(AllocError);
         }
-    }
-
-    /// How many jobs have passed.
-    pub fn jobs(&self) -> u64 {
-        self.jobs.load(SeqCst)
-    }
-}
-
-impl Gate for Passing {
-    fn pass(&self, _job: usize) {
-        self.jobs.fetch_add(1, SeqCst);
+        self.program.step(alloc, ctx)
     }
 }
 

@@ -1,227 +1,222 @@
-//! Runs whose results are known.
+//! Inputs whose runs are known.
 
-use super::running::{Finish, Row};
-use bsp_model::Fault;
+ghost use Rattle.std.specs.Prelude.{◌<◌};
 
-/// A run whose result is known.
+use bsp_model::{Input, Memory, MemoryRef, OutOfMemory, Seq, Words};
+use bsp_programs::{Broadcast, Bundled, MatVec, Prefix, Rank};
+use bsp_run::History;
+use std::alloc::Global;
+
+/// What a run leaves.
 #[derive(Clone, Copy)]
-pub enum Known {
-    Numbers,
-    Neighbours,
-    Moved,
-    Chosen,
-    Acted,
-    Clash,
-    Told,
-    Product,
-    OtherProduct,
-    Ranks,
-    BrokenRanks,
-    Sums,
-    OtherSums,
-    CutSums,
-    SumsOfOnes,
+pub struct End {
+    /// The memories of the first processes.
+    pub memories: &'static [&'static [u64]],
+    /// The first word that each of the first processes printed.
+    pub prints: &'static [u64],
+    pub total: u64,
 }
 
-/// The input of a known run, and what it gives.
-pub fn row(known: Known) -> &'static Row {
-    match known {
-        Known::Numbers => &NUMBERS,
-        Known::Neighbours => &NEIGHBOURS,
-        Known::Moved => &MOVED,
-        Known::Chosen => &CHOSEN,
-        Known::Acted => &ACTED,
-        Known::Clash => &CLASH,
-        Known::Told => &TOLD,
-        Known::Product => &PRODUCT,
-        Known::OtherProduct => &OTHER_PRODUCT,
-        Known::Ranks => &RANKS,
-        Known::BrokenRanks => &BROKEN_RANKS,
-        Known::Sums => &SUMS,
-        Known::OtherSums => &OTHER_SUMS,
-        Known::CutSums => &CUT_SUMS,
-        Known::SumsOfOnes => &SUMS_OF_ONES,
+fn is_memory(memory: &MemoryRef<'_>, want: &[u64]) -> bool {
+    for address in 0..want.len() {
+        if memory.load(address as u64) != Some(want[address]) {
+            return false;
+        }
+    }
+    memory.len() == want.len()
+}
+
+/// The first word that a process printed.
+fn first_print(history: &History, pid: u64) -> Option<u64> {
+    history.lines(pid)?.get(0)?.first().copied()
+}
+
+impl End {
+    fn has_memories(&self, history: &History) -> bool {
+        for pid in 0..self.memories.len() {
+            match history.memory(pid as u64) {
+                Some(memory) if is_memory(&memory, self.memories[pid]) => {}
+                _ => return false,
+            }
+        }
+        true
+    }
+
+    fn has_prints(&self, history: &History) -> bool {
+        for pid in 0..self.prints.len() {
+            if first_print(history, pid as u64) != Some(self.prints[pid]) {
+                return false;
+            }
+        }
+        true
+    }
+
+    /// Whether the run leaves this.
+    pub fn is_of(&self, history: &History) -> bool {
+        history.total() == self.total && self.has_memories(history) && self.has_prints(history)
     }
 }
 
-/// Each of 3 processes prints its number.
-const NUMBERS: Row = Row {
-    name: "numbers",
-    start: &[&[], &[], &[]],
-    arguments: &[],
-    limit: 16,
-    finish: Finish::Halted,
-    memories: &[&[], &[], &[]],
-    lines: &[&[&[0]], &[&[1]], &[&[2]]],
-    costs: &[0],
-};
+/// A program and an input with the prices 4 and 10, and what its run leaves.
+#[derive(Clone, Copy)]
+pub struct Known {
+    pub name: &'static str,
+    pub program: Bundled,
+    pub memories: &'static [&'static [u64]],
+    pub arguments: &'static [&'static [u64]],
+    pub limit: u64,
+    /// How many turns the run takes, and how many deliveries.
+    pub turns: u64,
+    pub deliveries: u64,
+    pub end: End,
+}
 
-/// Each of 3 processes prints the number before its own.
-const NEIGHBOURS: Row = Row {
-    name: "neighbours",
-    start: &[&[9], &[9], &[9]],
-    arguments: &[],
-    limit: 16,
-    finish: Finish::Halted,
-    memories: &[&[2], &[0], &[1]],
-    lines: &[&[&[2]], &[&[0]], &[&[1]]],
-    costs: &[10, 15, 1],
-};
+impl Known {
+    fn fill(&self, alloc: Global, input: &mut Input) -> Result<(), OutOfMemory> {
+        for words in self.memories {
+            input.mems.push(Memory::from_words(alloc, words)?)?;
+        }
+        for words in self.arguments {
+            input.args.push(Words::from_slice(alloc, words)?)?;
+        }
+        Ok(())
+    }
 
-/// Messages of 3, 1 and no words are moved to a buffer of 2, and then there is none.
-const MOVED: Row = Row {
-    name: "moved",
-    start: &[&[]],
-    arguments: &[],
-    limit: 16,
-    finish: Finish::Faulted(1, Fault::EmptyQueue),
-    memories: &[&[]],
-    lines: &[&[&[2, 4, 5], &[1, 4, 9], &[0, 8, 9]]],
-    costs: &[10, 0],
-};
+    /// The input.
+    pub fn input(&self, alloc: Global) -> Result<Input, OutOfMemory> {
+        let mut input = Input {
+            mems: Seq::new(alloc),
+            args: Seq::new(alloc),
+            limit: self.limit,
+            g: 4,
+            l: 10,
+        };
+        self.fill(alloc, &mut input)?;
+        Ok(input)
+    }
+}
 
-/// Tag sizes are chosen, 2 and then 1, and afterwards 0.
-const CHOSEN: Row = Row {
-    name: "chosen",
-    start: &[&[]],
-    arguments: &[],
-    limit: 16,
-    finish: Finish::Halted,
-    memories: &[&[]],
-    lines: &[&[&[0], &[0], &[1]]],
-    costs: &[10, 10, 0],
-};
+const NO_WORDS: &[u64] = &[];
 
-/// A process registers words and takes that back, stores, and sends itself a message.
-const ACTED: Row = Row {
-    name: "acted",
-    start: &[&[1, 2, 3]],
-    arguments: &[],
-    limit: 16,
-    finish: Finish::Halted,
-    memories: &[&[1, 2, 9]],
-    lines: &[&[&[0]]],
-    costs: &[10, 10, 0],
-};
-
-/// Puts and gets meet.
-const CLASH: Row = Row {
-    name: "clash",
-    start: &[&[10, 11], &[20, 21]],
-    arguments: &[],
-    limit: 16,
-    finish: Finish::Halted,
-    memories: &[&[77, 21], &[88, 89]],
-    lines: &[&[], &[]],
-    costs: &[10, 22, 0],
+pub const TOLD_END: End = End {
+    memories: &[&[7], &[7], &[7], &[7]],
+    prints: &[7, 7, 7, 7],
+    total: 32,
 };
 
 /// Process 0 tells 3 others the word 7.
-const TOLD: Row = Row {
+pub const TOLD: Known = Known {
     name: "told",
-    start: &[&[7], &[0], &[0], &[0]],
-    arguments: &[0],
+    program: Bundled::Broadcast(Broadcast),
+    memories: &[&[7], &[0], &[0], &[0]],
+    arguments: &[&[0], &[0], &[0], &[0]],
     limit: 16,
-    finish: Finish::Halted,
-    memories: &[&[7], &[7], &[7], &[7]],
-    lines: &[&[&[7]], &[&[7]], &[&[7]], &[&[7]]],
-    costs: &[10, 22, 0],
+    turns: 12,
+    deliveries: 8,
+    end: TOLD_END,
+};
+
+pub const PRODUCT_END: End = End {
+    memories: &[&[1, 2, 5, 5, 6, 17], &[3, 4, 6, 5, 6, 39]],
+    prints: &[17, 39],
+    total: 30,
 };
 
 /// The matrix of the rows 1, 2 and 3, 4 by the vector 5, 6: a row and a word of the vector for each of 2 processes.
-const PRODUCT: Row = Row {
+pub const PRODUCT: Known = Known {
     name: "product",
-    start: &[&[1, 2, 5, 0, 0, 0], &[3, 4, 6, 0, 0, 0]],
-    arguments: &[1],
+    program: Bundled::MatVec(MatVec),
+    memories: &[&[1, 2, 5, 0, 0, 0], &[3, 4, 6, 0, 0, 0]],
+    arguments: &[&[1], &[1]],
     limit: 16,
-    finish: Finish::Halted,
-    memories: &[&[1, 2, 5, 5, 6, 17], &[3, 4, 6, 5, 6, 39]],
-    lines: &[&[&[17]], &[&[39]]],
-    costs: &[10, 18, 2],
+    turns: 6,
+    deliveries: 4,
+    end: PRODUCT_END,
 };
 
-/// The same matrix by the vector 7, 8.
-const OTHER_PRODUCT: Row = Row {
-    name: "other product",
-    start: &[&[1, 2, 7, 0, 0, 0], &[3, 4, 8, 0, 0, 0]],
-    arguments: &[1],
-    limit: 16,
-    finish: Finish::Halted,
-    memories: &[&[1, 2, 7, 7, 8, 23], &[3, 4, 8, 7, 8, 53]],
-    lines: &[&[&[23]], &[&[53]]],
-    costs: &[10, 18, 2],
+/// Process 1 takes its blocks for empty, so both abort.
+pub const NO_PRODUCT: Known = Known {
+    name: "no product",
+    arguments: &[&[1], &[0]],
+    end: End {
+        memories: &[&[1, 2, 5, 5, 0, 0], &[3, 4, 6, 0, 0, 0]],
+        prints: &[],
+        total: 28,
+    },
+    ..PRODUCT
+};
+
+pub const RANKS_END: End = End {
+    memories: &[&[1, 2, 1, 0], &[1, 0, 1, 0], &[1, 3, 1, 1], &[1, 1, 1, 0]],
+    prints: &[2, 0, 3, 1],
+    total: 56,
 };
 
 /// The ranks of the list 2, 0, 3, 1.
-const RANKS: Row = Row {
+pub const RANKS: Known = Known {
     name: "ranks",
-    start: &[&[3, 1, 0, 0], &[1, 0, 0, 0], &[0, 1, 0, 0], &[1, 1, 0, 0]],
-    arguments: &[],
+    program: Bundled::Rank(Rank),
+    memories: &[&[3, 1, 0, 0], &[1, 0, 0, 0], &[0, 1, 0, 0], &[1, 1, 0, 0]],
+    arguments: &[NO_WORDS; 4],
     limit: 16,
-    finish: Finish::Halted,
-    memories: &[&[1, 2, 1, 0], &[1, 0, 1, 0], &[1, 3, 1, 1], &[1, 1, 1, 0]],
-    lines: &[&[&[2]], &[&[0]], &[&[3]], &[&[1]]],
-    costs: &[10, 18, 27, 1],
+    turns: 16,
+    deliveries: 12,
+    end: RANKS_END,
+};
+
+pub const BROKEN_RANKS_END: End = End {
+    memories: &[&[9, 1, 0, 0], &[1, 0, 0, 0], &[0, 1, 0, 0], &[1, 1, 0, 0]],
+    prints: &[],
+    total: 10,
 };
 
 /// Element 0 of the list has a successor that there is not.
-const BROKEN_RANKS: Row = Row {
+pub const BROKEN_RANKS: Known = Known {
     name: "broken ranks",
-    start: &[&[9, 1, 0, 0], &[1, 0, 0, 0], &[0, 1, 0, 0], &[1, 1, 0, 0]],
-    arguments: &[],
-    limit: 16,
-    finish: Finish::Faulted(1, Fault::BadPid(9)),
     memories: &[&[9, 1, 0, 0], &[1, 0, 0, 0], &[0, 1, 0, 0], &[1, 1, 0, 0]],
-    lines: &[&[], &[], &[], &[]],
-    costs: &[10, 0],
+    turns: 8,
+    deliveries: 4,
+    end: BROKEN_RANKS_END,
+    ..RANKS
+};
+
+pub const SUMS_END: End = End {
+    memories: &[&[1, 0], &[3, 1], &[6, 1], &[10, 3]],
+    prints: &[1, 3, 6, 10],
+    total: 40,
 };
 
 /// The sums of 1, 2, 3, 4.
-const SUMS: Row = Row {
+pub const SUMS: Known = Known {
     name: "sums",
-    start: &[&[1, 0], &[2, 0], &[3, 0], &[4, 0]],
-    arguments: &[],
+    program: Bundled::Prefix(Prefix),
+    memories: &[&[1, 0], &[2, 0], &[3, 0], &[4, 0]],
+    arguments: &[NO_WORDS; 4],
     limit: 16,
-    finish: Finish::Halted,
-    memories: &[&[1, 0], &[3, 1], &[6, 1], &[10, 3]],
-    lines: &[&[&[1]], &[&[3]], &[&[6]], &[&[10]]],
-    costs: &[10, 14, 15, 1],
+    turns: 16,
+    deliveries: 12,
+    end: SUMS_END,
 };
 
-/// The sums of 2, 2, 3, 4.
-const OTHER_SUMS: Row = Row {
-    name: "other sums",
-    start: &[&[2, 0], &[2, 0], &[3, 0], &[4, 0]],
-    arguments: &[],
-    limit: 16,
-    finish: Finish::Halted,
-    memories: &[&[2, 0], &[4, 2], &[7, 2], &[11, 4]],
-    lines: &[&[&[2]], &[&[4]], &[&[7]], &[&[11]]],
-    costs: &[10, 14, 15, 1],
+pub const CUT_SUMS_END: End = End {
+    memories: &[&[1, 0], &[2, 1], &[3, 2], &[4, 3]],
+    prints: &[],
+    total: 24,
 };
 
 /// The sums of 1, 2, 3, 4, cut after 2 supersteps.
-const CUT_SUMS: Row = Row {
+pub const CUT_SUMS: Known = Known {
     name: "cut sums",
-    start: &[&[1, 0], &[2, 0], &[3, 0], &[4, 0]],
-    arguments: &[],
     limit: 2,
-    finish: Finish::Limit,
-    memories: &[&[1, 0], &[2, 1], &[3, 2], &[4, 3]],
-    lines: &[&[], &[], &[], &[]],
-    costs: &[10, 14],
+    turns: 8,
+    deliveries: 8,
+    end: CUT_SUMS_END,
+    ..SUMS
 };
 
 const ONE: &[u64] = &[1, 0];
 
-/// The sums of a 1 for each of 16 processes. Process p receives for the last time from p - d, for the largest power of two d up to p, which has added
-/// up all of its own by then.
-const SUMS_OF_ONES: Row = Row {
-    name: "sums of ones",
-    start: &[ONE; 16],
-    arguments: &[],
-    limit: 16,
-    finish: Finish::Halted,
+pub const SUMS_OF_ONES_END: End = End {
     memories: &[
         &[1, 0],
         &[2, 1],
@@ -231,32 +226,31 @@ const SUMS_OF_ONES: Row = Row {
         &[6, 2],
         &[7, 3],
         &[8, 4],
-        &[9, 1],
-        &[10, 2],
-        &[11, 3],
-        &[12, 4],
-        &[13, 5],
-        &[14, 6],
-        &[15, 7],
-        &[16, 8],
     ],
-    lines: &[
-        &[&[1]],
-        &[&[2]],
-        &[&[3]],
-        &[&[4]],
-        &[&[5]],
-        &[&[6]],
-        &[&[7]],
-        &[&[8]],
-        &[&[9]],
-        &[&[10]],
-        &[&[11]],
-        &[&[12]],
-        &[&[13]],
-        &[&[14]],
-        &[&[15]],
-        &[&[16]],
-    ],
-    costs: &[10, 14, 15, 15, 15, 1],
+    prints: &[1, 2, 3, 4, 5, 6, 7, 8, 9, 10, 11, 12, 13, 14, 15, 16],
+    total: 100,
 };
+
+/// The sums of a 1 for each of 64 processes. Process p receives for the last time from p - d, for the largest power of two d up to p, which has added
+/// up all of its own by then.
+pub const SUMS_OF_ONES: Known = Known {
+    name: "sums of ones",
+    memories: &[ONE; 64],
+    arguments: &[NO_WORDS; 64],
+    turns: 512,
+    deliveries: 448,
+    end: SUMS_OF_ONES_END,
+    ..SUMS
+};
+
+/// Runs that halt, fault, and are cut.
+static KNOWN: [Known; 6] = [TOLD, PRODUCT, NO_PRODUCT, RANKS, BROKEN_RANKS, CUT_SUMS];
+
+pub const COUNT_OF_KNOWN: usize = 6;
+
+/// The known run of this number.
+pub fn known_run(number: usize) -> &'static Known
+    requires { number < COUNT_OF_KNOWN }
+{
+    &KNOWN[number]
+}

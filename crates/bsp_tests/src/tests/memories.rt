@@ -1,136 +1,36 @@
-//! Pages, shared and replaced.
+//! Memories of several pages.
 
 use bsp_model::{Memory, OutOfMemory, Same, TryCopy};
 use std::alloc::Global;
-use std::process::Abort;
-use std::test::Fail;
 
-/// A memory of so many zeros.
-fn zeros(alloc: Global, count: usize) -> Result<Memory, OutOfMemory> {
-    let words = vec![in alloc; 0; count]?;
-    Memory::from_words(alloc, words.as_slice())
+/// Whether words are written up to the end, and not past it.
+fn is_written(memory: &mut Memory) -> Result<bool, OutOfMemory> {
+    let is_stored = memory.store(63, 1)? && memory.store(129, 2)?;
+    let is_written = memory.write(60, &[3, 4, 5, 6, 7, 8])? && memory.write(130, &[])?;
+    let is_past = memory.store(130, 1)? || memory.write(129, &[1, 2])? || memory.write(131, &[])?;
+    Ok(is_stored && is_written && !is_past)
 }
 
-/// The words 1 to 70.
-fn first_numbers(alloc: Global) -> Result<Vec<u64>, OutOfMemory> {
-    let mut words = Vec::new(alloc);
-    for word in 1..71 {
-        words.push(word)?;
-    }
-    Ok(words)
-}
-
-/// Whether the words from 60 on are 1 to 70.
-fn has_first_numbers(memory: &Memory) -> bool {
-    for word in 1..71 {
-        if memory.load(59 + word) != Some(word) {
-            return false;
-        }
-    }
-    true
-}
-
-/// Numbers of words, and those of their pages.
-const PAGES: [(usize, usize); 4] = [(4096, 64), (65, 2), (64, 1), (0, 0)];
-
-fn find_pages(
-    rt: &impl Abort,
-    alloc: Global,
-    words: usize,
-    pages: usize,
-) -> Result<(), OutOfMemory> {
-    let memory = zeros(alloc, words)?;
-    assert_eq!(rt; memory.count_of_pages(), pages);
-    drop(memory);
-    Ok(())
-}
-
-#[test]
-fn pages_have_64_words(rt: HostRuntime) -> Result<(), Fail> {
-    for i in 0..PAGES.len() {
-        let (words, pages) = PAGES[i];
-        find_pages(&rt, rt.alloc(), words, pages)?;
-    }
-    Ok(())
-}
-
-fn find_zeros(
-    rt: &impl Abort,
-    alloc: Global,
-    memory: &Memory,
-    count: usize,
-) -> Result<(), OutOfMemory> {
-    let zeros = zeros(alloc, count)?;
-    assert!(rt; memory.same(&zeros));
-    drop(zeros);
-    Ok(())
-}
-
-fn write_numbers(rt: &impl Abort, alloc: Global, memory: &mut Memory) -> Result<(), OutOfMemory> {
-    let numbers = first_numbers(alloc)?;
-    let is_written = memory.write(60, numbers.as_slice());
-    drop(numbers);
-    assert!(rt; is_written?);
-    Ok(())
-}
-
-fn change(rt: &impl Abort, alloc: Global, memory: &mut Memory) -> Result<(), OutOfMemory> {
-    assert!(rt; memory.store(63, 1)?);
-    assert!(rt; memory.store(4095, 2)?);
-    write_numbers(rt, alloc, memory)
-}
-
-fn find_changed(rt: &impl Abort, memory: &Memory) {
-    assert!(rt; has_first_numbers(memory));
-    assert_eq!(rt; memory.load(130), Some(0));
-    assert_eq!(rt; memory.load(4095), Some(2));
-}
-
-fn find_alone(rt: &impl Abort, alloc: Global, first: &Memory) -> Result<(), OutOfMemory> {
+/// Whether a copy of 130 zeros changes alone.
+fn changes_alone(first: &Memory) -> Result<bool, OutOfMemory> {
     let mut copy = first.copy()?;
-    let changed = change(rt, alloc, &mut copy);
-    find_changed(rt, &copy);
-    let found = find_zeros(rt, alloc, first, 4096);
+    let is_equal = copy.same(first);
+    let is_written = is_written(&mut copy);
+    let is_changed = copy.load(63) == Some(6) && copy.load(65) == Some(8);
+    let is_kept = first.load(63) == Some(0) && first.load(65) == Some(0);
     drop(copy);
-    changed?;
-    found
+    Ok(is_equal && is_written? && is_changed && is_kept)
 }
 
-#[test]
-fn a_copy_changes_alone(rt: HostRuntime) -> Result<(), Fail> {
-    let first = zeros(rt.alloc(), 4096)?;
-    let found = find_alone(&rt, rt.alloc(), &first);
+fn is_copied(alloc: Global) -> Result<bool, OutOfMemory> {
+    let first = Memory::from_words(alloc, &[0; 130])?;
+    let is_paged = first.count_of_pages() == 3;
+    let changes_alone = changes_alone(&first);
     drop(first);
-    Ok(found?)
-}
-
-fn find_past_the_end(rt: &impl Abort, memory: &mut Memory) -> Result<(), OutOfMemory> {
-    assert!(rt; !memory.write(4095, &[1, 2])?);
-    assert!(rt; !memory.store(4096, 1)?);
-    assert!(rt; !memory.write(4097, &[])?);
-    assert!(rt; memory.write(4096, &[])?);
-    Ok(())
-}
-
-fn find_unchanged(rt: &impl Abort, alloc: Global) -> Result<(), OutOfMemory> {
-    let mut memory = zeros(alloc, 4096)?;
-    let refused = find_past_the_end(rt, &mut memory);
-    let found = find_zeros(rt, alloc, &memory, 4096);
-    drop(memory);
-    refused?;
-    found
-}
-
-fn find_none(rt: &impl Abort, alloc: Global) -> Result<(), OutOfMemory> {
-    let mut none = zeros(alloc, 0)?;
-    let is_stored = none.store(0, 1);
-    drop(none);
-    assert!(rt; !is_stored?);
-    Ok(())
+    Ok(is_paged && changes_alone?)
 }
 
 #[test]
-fn nothing_is_written_past_the_end(rt: HostRuntime) -> Result<(), Fail> {
-    find_unchanged(&rt, rt.alloc())?;
-    Ok(find_none(&rt, rt.alloc())?)
+fn a_copy_changes_alone(rt: HostRuntime) {
+    assert!(rt; is_copied(rt.alloc()) == Ok(true));
 }

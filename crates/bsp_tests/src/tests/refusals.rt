@@ -1,20 +1,18 @@
-//! Calls that find no memory. `ci/refuse_allocations` runs the tests of this file that say so with each allocation refused in turn that is made between
-//! the lines `begin` and `end` of their output.
+//! Calls that find no memory. `ci/refuse_allocations` runs the tests of this file with each allocation refused in turn that is made between the lines
+//! `begin` and `end` of their output.
 
-use super::changes::{Change, LONGER, SUCCESSORS, TwoChanges, WORDS};
-use super::known::{Known, row};
-use super::running::{plain, unrecorded};
-use super::sessions::{both_change, changes, has, opened};
-use super::wide::wide;
-use crate::Clash;
-use bsp_incr::{Edit, EditError, Session};
+use super::counted::Calls;
+use super::known::{COUNT_OF_KNOWN, CUT_SUMS, End, Known, RANKS, SUMS, known_run};
+use super::running::{Way, is_run};
+use super::sessions::{CountedSession, is_changed, is_changed_at_last, opened};
+use super::sittings::{
+    CUT, Change, FIRST_WORD, FIRST_WORD_AGAIN, LONGER, NO_SUCCESSOR, SUCCESSOR_AGAIN,
+};
 use bsp_pool::Open;
-use bsp_programs::{MatVec, Prefix, Rank};
 use bsp_run::RunError;
 use bsp_step::Program;
 use std::alloc::Global;
 use std::process::Abort;
-use std::test::Fail;
 use std::thread::Threads;
 
 /// Begins the allocations that are refused in turn, and answers whether the line was written.
@@ -27,178 +25,94 @@ fn end(rt: &impl Print) -> bool {
     println!(rt; "end").is_ok()
 }
 
-/// Finds that a run is the known one or was refused memory, between the two lines, and that the same run after them, where nothing is refused any
-/// more, is the known one.
-fn find_run(
-    rt: &impl Abort,
-    begun: bool,
-    found: Result<bool, RunError>,
-    ended: bool,
-    again: Result<bool, RunError>,
-    known: Known,
-) {
-    let is_run = found == Ok(true) || found == Err(RunError::OutOfMemory);
+/// Finds that a call makes a known run or is refused memory, and that the same call then makes the run.
+fn find_run<R: Threads + Sync + Print + Abort>(rt: &R, alloc: Global, way: Way, known: &Known) {
+    let begun = begin(rt);
+    let found = is_run(rt, alloc, way, known, 2, &Open);
+    let ended = end(rt);
+    let is_right = found == Ok(true) || found == Err(RunError::OutOfMemory);
+    let again = is_run(rt, alloc, way, known, 2, &Open);
     assert!(rt;
-        begun && is_run && ended && again == Ok(true),
+        begun && is_right && ended && again == Ok(true),
         "{}",
-        row(known).name
+        known.name
     );
 }
 
-/// Runs a program by the calling thread.
-fn find_plain<P: Program, R: Print + Abort>(rt: &R, alloc: Global, program: &P, known: Known) {
-    let begun = begin(rt);
-    let found = plain(alloc, program, known);
-    let ended = end(rt);
-    let again = plain(alloc, program, known);
-    find_run(rt, begun, found, ended, again, known);
-}
-
-/// Runs a program by the calling thread, without a record.
-fn find_unrecorded<P: Program, R: Print + Abort>(rt: &R, alloc: Global, program: &P, known: Known) {
-    let begun = begin(rt);
-    let found = unrecorded(alloc, program, known);
-    let ended = end(rt);
-    let again = unrecorded(alloc, program, known);
-    find_run(rt, begun, found, ended, again, known);
-}
-
-/// Runs a program by 2 workers.
-fn find_wide<P: Program, R: Threads + Sync + Print + Abort>(
-    rt: &R,
-    alloc: Global,
-    program: &P,
-    known: Known,
-) {
-    let begun = begin(rt);
-    let found = wide(rt, alloc, program, known, 2, &Open);
-    let ended = end(rt);
-    let again = wide(rt, alloc, program, known, 2, &Open);
-    find_run(rt, begun, found, ended, again, known);
+fn find_runs<R: Threads + Sync + Print + Abort>(rt: &R, alloc: Global, way: Way) {
+    for number in 0..COUNT_OF_KNOWN {
+        find_run(rt, alloc, way, known_run(number));
+    }
 }
 
 #[test]
 fn plain_runs_with_an_allocation_refused(rt: HostRuntime) {
-    find_plain(&rt, rt.alloc(), &MatVec, Known::Product);
-    find_plain(&rt, rt.alloc(), &Rank, Known::Ranks);
-    find_plain(&rt, rt.alloc(), &Clash, Known::Clash);
+    find_runs(&rt, rt.alloc(), Way::Plain);
 }
 
 #[test]
 fn unrecorded_runs_with_an_allocation_refused(rt: HostRuntime) {
-    find_unrecorded(&rt, rt.alloc(), &MatVec, Known::Product);
-    find_unrecorded(&rt, rt.alloc(), &Rank, Known::BrokenRanks);
-    find_unrecorded(&rt, rt.alloc(), &Prefix, Known::CutSums);
+    find_runs(&rt, rt.alloc(), Way::Unrecorded);
 }
 
 #[test]
 fn wide_runs_with_an_allocation_refused(rt: HostRuntime) {
-    find_wide(&rt, rt.alloc(), &MatVec, Known::Product);
-    find_wide(&rt, rt.alloc(), &Rank, Known::Ranks);
-    find_wide(&rt, rt.alloc(), &Clash, Known::Clash);
-}
-
-/// Whether an opening by the calling thread gives the known run.
-fn opens<P: Program + Drop, R: Threads + Sync>(
-    rt: &R,
-    alloc: Global,
-    program: P,
-    known: Known,
-) -> Result<bool, RunError> {
-    let (session, is_right) = opened(rt, alloc, program, known, 1, &Open)?;
-    drop(session);
-    Ok(is_right)
+    find_runs(&rt, rt.alloc(), Way::Wide);
 }
 
 #[test]
 fn an_opening_with_an_allocation_refused(rt: HostRuntime) {
-    let begun = begin(&rt);
-    let found = opens(&rt, rt.alloc(), Prefix, Known::Sums);
-    let ended = end(&rt);
-    let again = opens(&rt, rt.alloc(), Prefix, Known::Sums);
-    find_run(&rt, begun, found, ended, again, Known::Sums);
+    find_run(&rt, rt.alloc(), Way::Opened, &SUMS);
 }
 
-/// Changes a session by 2 workers; where memory is refused, nothing has changed, and the same call then succeeds.
-fn find_change<P: Program + Drop, R: Threads + Sync + Print + Abort>(
+/// Whether a batch changes a session, or is refused memory, changes nothing, and then changes the session.
+fn is_changed_between_marks<P: Program + Drop, R: Threads + Sync + Print>(
     rt: &R,
     alloc: Global,
-    session: &mut Session<P>,
-    before: Known,
+    session: &mut CountedSession<'_, P>,
+    before: &End,
     change: &Change,
-) {
+) -> bool {
     let begun = begin(rt);
-    let found = changes(rt, alloc, session, change, 2, &Open);
+    let found = is_changed(rt, alloc, session, change, 2, &Open);
     let ended = end(rt);
-    let is_refused = found == Err(EditError::OutOfMemory) && has(session, before);
-    let is_changed = found == Ok(true)
-        || is_refused && changes(rt, alloc, session, change, 2, &Open) == Ok(true);
-    assert!(rt; begun && is_changed && ended, "{}", row(change.after).name);
+    let is_right = match found {
+        Ok(is_right) => is_right,
+        Err(_) => is_changed_at_last(rt, alloc, session, before, change),
+    };
+    begun && is_right && ended
 }
 
-/// Changes a session two times, of which each may be refused memory.
-fn find_changes<P: Program + Drop, R: Threads + Sync + Print + Abort>(
+/// Whether two batches change the session of a known run.
+fn are_changed<R: Threads + Sync + Print>(
     rt: &R,
     alloc: Global,
-    program: P,
-    changing: &TwoChanges,
-) -> Result<(), Fail> {
-    let (mut session, is_right) = opened(rt, alloc, program, changing.before, 1, &Open)?;
-    find_change(rt, alloc, &mut session, changing.before, &changing.first);
-    find_change(
-        rt,
-        alloc,
-        &mut session,
-        changing.first.after,
-        &changing.second,
-    );
+    known: &Known,
+    first: &Change,
+    second: &Change,
+) -> Result<bool, RunError> {
+    let calls = Calls::new();
+    let mut session = opened(rt, alloc, known.program, &calls, known, 1)?;
+    let is_first = is_changed_between_marks(rt, alloc, &mut session, &known.end, first);
+    let is_second = is_changed_between_marks(rt, alloc, &mut session, &first.end, second);
     drop(session);
-    assert!(rt; is_right);
-    Ok(())
-}
-
-/// Changes another session two times, where nothing is refused.
-fn find_both<P: Program + Drop, R: Threads + Sync + Abort>(
-    rt: &R,
-    alloc: Global,
-    program: P,
-    changing: &TwoChanges,
-) {
-    let found = both_change(rt, alloc, program, changing, 1, 2, 2);
-    assert!(rt; found == Ok(true), "{}", row(changing.before).name);
+    Ok(is_first && is_second)
 }
 
 #[test]
-fn an_update_with_an_allocation_refused(rt: HostRuntime) -> Result<(), Fail> {
-    find_changes(&rt, rt.alloc(), Prefix, &WORDS)?;
-    find_both(&rt, rt.alloc(), Prefix, &WORDS);
-    Ok(())
+fn an_update_with_an_allocation_refused(rt: HostRuntime) {
+    let found = are_changed(&rt, rt.alloc(), &SUMS, &FIRST_WORD, &FIRST_WORD_AGAIN);
+    assert!(rt; found == Ok(true));
 }
 
 #[test]
-fn runs_that_become_shorter_and_longer_with_an_allocation_refused(
-    rt: HostRuntime,
-) -> Result<(), Fail> {
-    find_changes(&rt, rt.alloc(), Rank, &SUCCESSORS)?;
-    find_both(&rt, rt.alloc(), Rank, &SUCCESSORS);
-    Ok(())
+fn runs_that_become_shorter_and_longer_with_an_allocation_refused(rt: HostRuntime) {
+    let found = are_changed(&rt, rt.alloc(), &RANKS, &NO_SUCCESSOR, &SUCCESSOR_AGAIN);
+    assert!(rt; found == Ok(true));
 }
 
-/// The limit becomes 2, and 16 again.
-const LIMITS: TwoChanges = TwoChanges {
-    before: Known::Sums,
-    first: Change {
-        batch: &[Edit::Limit(2)],
-        executed: &[],
-        redelivered: &[],
-        after: Known::CutSums,
-    },
-    second: LONGER,
-};
-
 #[test]
-fn limits_with_an_allocation_refused(rt: HostRuntime) -> Result<(), Fail> {
-    find_changes(&rt, rt.alloc(), Prefix, &LIMITS)?;
-    find_both(&rt, rt.alloc(), Prefix, &LIMITS);
-    Ok(())
+fn limits_with_an_allocation_refused(rt: HostRuntime) {
+    let found = are_changed(&rt, rt.alloc(), &CUT_SUMS, &LONGER, &CUT);
+    assert!(rt; found == Ok(true));
 }

@@ -1,132 +1,157 @@
-//! Sessions by workers.
+//! Sessions, whose every turn, delivery and look is counted.
 
 ghost use Rattle.std.specs.Prelude.{◌<◌, ◌≤◌};
 
-use super::changes::{Change, OTHER_VECTOR, SUCCESSORS, TwoChanges, WORDS, is_update};
-use super::known::{Known, row};
-use super::running::{Finish, Row, is_input, is_run};
-use super::wide::is_met;
-use crate::Pairs;
-use bsp_incr::{EditError, Session, Update};
+use super::counted::{Calls, Counted, Everywhere};
+use super::known::{End, Known, SUMS};
+use super::sittings::{Change, EVERYWHERE, FIRST_WORD, SITTINGS, Sitting};
+use bsp_incr::{EditError, Session};
+use bsp_model::OutOfMemory;
 use bsp_pool::{Gate, Open};
-use bsp_programs::{MatVec, Prefix, Rank};
+use bsp_programs::Prefix;
 use bsp_run::RunError;
 use bsp_step::Program;
-use std::alloc::Global;
+use std::alloc::{AllocError, Global};
+use std::process::Abort;
+use std::sync::atomic::Ordering::SeqCst;
 use std::thread::Threads;
 
-/// Whether the update has each turn of the row's run, and a delivery to each process after each superstep but the one that ended the run.
-pub fn has_all(update: &Update, row: &Row) -> bool {
-    let turns = row.start.len().wrapping_mul(row.costs.len());
-    let deliveries = match row.finish {
-        Finish::Limit => turns,
-        _ => turns.wrapping_sub(row.start.len()),
-    };
-    update.executed.len() == turns && update.redelivered.len() == deliveries
-}
+/// The session of a program that is counted.
+pub type CountedSession<'a, P> = Session<Counted<'a, P>>;
 
-/// The session of a known run, opened by so many workers that pass a gate, and whether it has that run with all turns and deliveries.
-pub fn opened<P: Program + Drop, R: Threads + Sync, G: Gate>(
+/// The session of a program on a known input, opened by so many workers that pass the gate of its calls.
+pub fn opened<'a, P: Program + Drop, R: Threads + Sync>(
     rt: &R,
     alloc: Global,
     program: P,
-    known: Known,
+    calls: &'a Calls,
+    known: &Known,
     workers: usize,
-    gate: &G,
-) -> Result<(Session<P>, bool), RunError>
+) -> Result<CountedSession<'a, P>, RunError>
     requires { (0 < workers) × (workers ≤ 16) }
 {
-    let row = row(known);
-    let input = row.input(alloc)?;
-    let (session, opening) = Session::open(rt, alloc, program, input, workers, gate)?;
-    let is_right = has_all(&opening, row) && is_run(session.history(), row);
+    let program = Counted { program, calls };
+    let input = known.input(alloc)?;
+    let (session, opening) = Session::open(rt, alloc, program, input, workers, calls)?;
     drop(opening);
-    Ok((session, is_right))
+    Ok(session)
 }
 
-/// Whether the session has a known run and its input.
-pub fn has<P: Program + Drop>(session: &Session<P>, known: Known) -> bool {
-    let row = row(known);
-    is_run(session.history(), row) && is_input(session.input(), row)
-}
-
-/// Whether a change comes out as it has to by so many workers that pass a gate.
-pub fn changes<P: Program + Drop, R: Threads + Sync, G: Gate>(
+/// Whether a batch changes a session as it has to, or is refused and changes nothing.
+pub fn is_changed<P: Program + Drop, R: Threads + Sync, G: Gate>(
     rt: &R,
     alloc: Global,
-    session: &mut Session<P>,
+    session: &mut CountedSession<'_, P>,
     change: &Change,
     workers: usize,
     gate: &G,
-) -> Result<bool, EditError>
+) -> Result<bool, OutOfMemory>
     requires { (0 < workers) × (workers ≤ 16) }
 {
-    let update = session.apply(rt, alloc, change.batch, workers, gate)?;
-    let is_right = is_update(&update, change);
-    drop(update);
-    Ok(is_right && has(session, change.after))
+    let is_right = match session.apply(rt, alloc, change.batch, workers, gate) {
+        Ok(update) => {
+            change.refusal.is_none()
+                && update.executed.as_slice() == change.executed
+                && update.redelivered.as_slice() == change.redelivered
+        }
+        Err(EditError::Refused(refusal)) => change.refusal == Some(refusal),
+        Err(EditError::OutOfMemory) => return Err(AllocError),
+    };
+    Ok(is_right && change.end.is_of(session.history()))
 }
 
-/// Whether 2 workers meet at each pair of 8 calls of a gate, where the vector of a product is edited.
-fn meet_in_edits<P: Program + Drop, R: Threads + Sync>(
+/// How many batches, from the first one on, change a session as they have to, with a step for each turn. Each has another number of workers.
+fn count_of_right<P: Program + Drop, R: Threads + Sync>(
     rt: &R,
     alloc: Global,
-    session: &mut Session<P>,
-) -> bool {
-    let gate = Pairs::new();
-    let found = changes(rt, alloc, session, &OTHER_VECTOR, 2, &gate);
-    found == Ok(true) && is_met(&gate, 8)
+    session: &mut CountedSession<'_, P>,
+    calls: &Calls,
+    changes: &[Change],
+    workers: usize,
+) -> usize {
+    for i in 0..changes.len() {
+        let change = &changes[i];
+        let workers = workers.wrapping_add(i) % 16 + 1;
+        let found = is_changed(rt, alloc, session, change, workers, calls);
+        let turns = change.executed.len() as u64;
+        let deliveries = change.redelivered.len() as u64;
+        if found != Ok(true) || !calls.were(turns, deliveries, change.looks) {
+            return i;
+        }
+    }
+    changes.len()
 }
 
-/// Whether 2 workers meet at each pair of 10 calls of a gate, where a product is opened, and then in edits.
-fn meet<P: Program + Drop, R: Threads + Sync>(
+/// Whether a session is opened and changed as it has to be.
+fn is_sitting<P: Program + Drop, R: Threads + Sync>(
     rt: &R,
     alloc: Global,
     program: P,
-) -> Result<bool, RunError> {
-    let gate = Pairs::new();
-    let (mut session, is_right) = opened(rt, alloc, program, Known::Product, 2, &gate)?;
-    let is_edited = meet_in_edits(rt, alloc, &mut session);
-    drop(session);
-    Ok(is_right && is_edited && is_met(&gate, 10))
-}
-
-#[test]
-fn two_workers_meet_in_each_phase_of_a_session(rt: HostRuntime) {
-    assert!(rt; meet(&rt, rt.alloc(), MatVec) == Ok(true));
-}
-
-/// Whether two changes come out as they have to, with these numbers of workers for the opening and for each.
-pub fn both_change<P: Program + Drop, R: Threads + Sync>(
-    rt: &R,
-    alloc: Global,
-    program: P,
-    changing: &TwoChanges,
-    opening: usize,
-    first: usize,
-    second: usize,
+    sitting: &Sitting,
+    workers: usize,
 ) -> Result<bool, RunError>
-    requires opening { (0 < opening) × (opening ≤ 16) }
-    requires first { (0 < first) × (first ≤ 16) }
-    requires second { (0 < second) × (second ≤ 16) }
+    requires { (0 < workers) × (workers ≤ 16) }
 {
-    let (mut session, is_right) = opened(rt, alloc, program, changing.before, opening, &Open)?;
-    let is_first = changes(rt, alloc, &mut session, &changing.first, first, &Open);
-    let is_second = changes(rt, alloc, &mut session, &changing.second, second, &Open);
+    let known = &sitting.known;
+    let calls = Calls::new();
+    let mut session = opened(rt, alloc, program, &calls, known, workers)?;
+    let is_open = known.end.is_of(session.history())
+        && calls.were(known.turns, known.deliveries, 0);
+    let count = count_of_right(rt, alloc, &mut session, &calls, sitting.changes, workers);
     drop(session);
-    Ok(is_right && is_first == Ok(true) && is_second == Ok(true))
+    Ok(is_open && count == sitting.changes.len())
+}
+
+fn find_sitting<R: Threads + Sync + Abort>(rt: &R, alloc: Global, sitting: &Sitting) {
+    let known = &sitting.known;
+    let few = is_sitting(rt, alloc, known.program, sitting, 1);
+    let many = is_sitting(rt, alloc, known.program, sitting, 15);
+    assert!(rt; few == Ok(true) && many == Ok(true), "{}", known.name);
 }
 
 #[test]
-fn any_numbers_of_workers_change_the_sums(rt: HostRuntime) {
-    assert!(rt; both_change(&rt, rt.alloc(), Prefix, &WORDS, 1, 2, 16) == Ok(true));
-    assert!(rt; both_change(&rt, rt.alloc(), Prefix, &WORDS, 2, 16, 1) == Ok(true));
-    assert!(rt; both_change(&rt, rt.alloc(), Prefix, &WORDS, 16, 1, 2) == Ok(true));
+fn each_call_has_another_number_of_workers(rt: HostRuntime) {
+    for i in 0..SITTINGS.len() {
+        find_sitting(&rt, rt.alloc(), &SITTINGS[i]);
+    }
 }
 
 #[test]
-fn any_numbers_of_workers_break_and_mend_the_ranks(rt: HostRuntime) {
-    assert!(rt; both_change(&rt, rt.alloc(), Rank, &SUCCESSORS, 1, 2, 16) == Ok(true));
-    assert!(rt; both_change(&rt, rt.alloc(), Rank, &SUCCESSORS, 16, 1, 2) == Ok(true));
-    assert!(rt; both_change(&rt, rt.alloc(), Rank, &SUCCESSORS, 2, 16, 1) == Ok(true));
+fn a_program_that_looks_everywhere(rt: HostRuntime) {
+    let program = Everywhere(Prefix);
+    assert!(rt; is_sitting(&rt, rt.alloc(), program, &EVERYWHERE, 3) == Ok(true));
+}
+
+/// Whether a batch that found no memory had changed nothing, and now changes a session as it has to.
+pub fn is_changed_at_last<P: Program + Drop, R: Threads + Sync>(
+    rt: &R,
+    alloc: Global,
+    session: &mut CountedSession<'_, P>,
+    before: &End,
+    change: &Change,
+) -> bool {
+    before.is_of(session.history()) && is_changed(rt, alloc, session, change, 2, &Open) == Ok(true)
+}
+
+/// Whether a batch finds no memory where a session's program finds none, and changes the session once the program does.
+fn is_refused_for_a_while<R: Threads + Sync>(
+    rt: &R,
+    alloc: Global,
+    known: &Known,
+    change: &Change,
+) -> Result<bool, RunError> {
+    let calls = Calls::new();
+    let mut session = opened(rt, alloc, known.program, &calls, known, 1)?;
+    calls.refuses.store(true, SeqCst);
+    let refused = is_changed(rt, alloc, &mut session, change, 2, &Open);
+    calls.refuses.store(false, SeqCst);
+    let is_changed = is_changed_at_last(rt, alloc, &mut session, &known.end, change);
+    drop(session);
+    Ok(refused.is_err() && is_changed)
+}
+
+#[test]
+fn a_program_that_finds_no_memory_for_a_while(rt: HostRuntime) {
+    let found = is_refused_for_a_while(&rt, rt.alloc(), &SUMS, &FIRST_WORD);
+    assert!(rt; found == Ok(true));
 }

@@ -1,72 +1,75 @@
-use crate::tests::doubling::{Doubling, find_outputs};
+use crate::tests::doubling::Doubling;
 use bsp_pool::{Core, CoreRefusal, Event, OutOfMemory, Row};
 use std::alloc::Global;
-use std::process::Abort;
-use std::test::Fail;
 
-const ALLOWED: Result<(), CoreRefusal> = Ok(());
-
-const NOT_NOW: Result<(), CoreRefusal> = Err(CoreRefusal::NotNow);
-
-/// An event, its answer, and how many phases are committed after it.
-type Played = (Event, Result<(), CoreRefusal>, usize);
+/// An event, whether it is allowed, and how many phases are committed after it.
+type Played = (Event, bool, usize);
 
 /// What two workers do over phases of three inputs and of one input.
-const EVENTS: [Played; 17] = [
-    (Event::Draw(0), ALLOWED, 0),
-    (Event::Draw(1), ALLOWED, 0),
-    (Event::Ran(1), ALLOWED, 0),
-    (Event::Draw(1), ALLOWED, 0),
-    (Event::Turn, NOT_NOW, 0),
-    (Event::Ran(0), ALLOWED, 0),
-    (Event::Left(0), ALLOWED, 0),
+static EVENTS: [Played; 17] = [
+    (Event::Draw(0), true, 0),
+    (Event::Draw(1), true, 0),
+    (Event::Ran(1), true, 0),
+    (Event::Draw(1), true, 0),
+    (Event::Turn, false, 0),
+    (Event::Ran(0), true, 0),
+    (Event::Left(0), true, 0),
     // Number 2 is given up, so the turn runs it.
-    (Event::Left(1), ALLOWED, 0),
-    (Event::Turn, ALLOWED, 1),
-    (Event::Draw(0), ALLOWED, 1),
-    (Event::Ran(0), ALLOWED, 1),
-    (Event::Draw(0), ALLOWED, 1),
-    (Event::Ran(0), NOT_NOW, 1),
-    (Event::Left(0), ALLOWED, 1),
-    (Event::Left(1), ALLOWED, 1),
-    (Event::Turn, ALLOWED, 2),
-    (Event::Draw(0), NOT_NOW, 2),
+    (Event::Left(1), true, 0),
+    (Event::Turn, true, 1),
+    (Event::Draw(0), true, 1),
+    (Event::Ran(0), true, 1),
+    (Event::Draw(0), true, 1),
+    (Event::Ran(0), false, 1),
+    (Event::Left(0), true, 1),
+    (Event::Left(1), true, 1),
+    (Event::Turn, true, 2),
+    (Event::Draw(0), false, 2),
 ];
 
-/// What the two phases commit.
-const OUTPUTS: [&[u64]; 2] = [&[10, 12, 14], &[16]];
-
-/// Hands in the events, and finds after each its answer and what is committed.
-fn play(rt: &impl Abort, core: &mut Core<Doubling>, events: &[Played], outputs: &[&[u64]]) {
-    for (event, answer, committed) in events {
-        assert_eq!(rt; core.apply(*event), *answer, "{event:?}");
-        find_committed(rt, core, outputs, *committed);
+/// How many of the events, from the first one on, are answered and commit as they have to.
+fn count_of_right(core: &mut Core<Doubling>) -> usize {
+    for i in 0..EVENTS.len() {
+        let (event, is_allowed, committed) = EVENTS[i];
+        let is_right = match core.apply(event) {
+            Ok(()) => is_allowed,
+            Err(CoreRefusal::NotNow) => !is_allowed,
+            Err(CoreRefusal::OutOfMemory) => false,
+        };
+        if !is_right || core.committed().len() != committed {
+            return i;
+        }
     }
+    EVENTS.len()
 }
 
-/// Finds that the outputs of so many phases, the first ones, are committed.
-fn find_committed(rt: &impl Abort, core: &Core<Doubling>, outputs: &[&[u64]], phases: usize) {
-    let rows = core.committed();
-    assert_eq!(rt; rows.len(), phases);
-    for (row, outputs) in rows.iter().zip(outputs) {
-        find_outputs(rt, row.as_slice(), outputs);
+fn are_committed(rows: &[Row<u64>]) -> bool {
+    match rows {
+        [first, second] => {
+            first.as_slice() == [10, 12, 14].as_slice() && second.as_slice() == [16].as_slice()
+        }
+        _ => false,
     }
 }
 
 /// Two workers over the phases [5, 6, 7] and [8].
 fn two_phases(alloc: Global) -> Result<Core<Doubling>, OutOfMemory> {
-    let first = Row::from_vec(vec![in alloc; 5, 6, 7]?);
-    let second = Row::from_vec(vec![in alloc; 8]?);
     let mut phases = Vec::new(alloc);
-    phases.push(first)?;
-    phases.push(second)?;
-    Core::new(alloc, Doubling, phases, 2)
+    phases.push(Row::from_vec(vec![in alloc; 5, 6, 7]?))?;
+    phases.push(Row::from_vec(vec![in alloc; 8]?))?;
+    Core::new(alloc, Doubling::refusing(0), phases, 2)
+}
+
+/// How many of the events go right, and whether the outputs of the phases are committed then.
+fn played(alloc: Global) -> Result<(usize, bool), OutOfMemory> {
+    let mut core = two_phases(alloc)?;
+    let count = count_of_right(&mut core);
+    let are_committed = are_committed(core.committed());
+    drop(core);
+    Ok((count, are_committed))
 }
 
 #[test]
-fn two_phases_event_by_event(rt: HostRuntime) -> Result<(), Fail> {
-    let mut core = two_phases(rt.alloc())?;
-    play(&rt, &mut core, &EVENTS, &OUTPUTS);
-    drop(core);
-    Ok(())
+fn two_phases_event_by_event(rt: HostRuntime) {
+    assert!(rt; played(rt.alloc()) == Ok((17, true)));
 }

@@ -1,4 +1,4 @@
-//! A gate for tests.
+//! A gate where workers meet.
 
 use bsp_pool::Gate;
 use std::sync::atomic::AtomicU64;
@@ -12,7 +12,7 @@ pub struct Pairs {
     gave_up: AtomicU64,
 }
 
-/// How often a call looks for the next one before it gives up.
+/// How often a call looks for the next one before it gives up, as the first one does where all jobs run on one thread.
 const MOST_LOOKS: u32 = 10_000_000;
 
 impl Pairs {
@@ -24,14 +24,9 @@ impl Pairs {
         }
     }
 
-    /// How many calls were made.
-    pub fn calls(&self) -> u64 {
-        self.calls.load(SeqCst)
-    }
-
-    /// How many calls gave up waiting, as the first one does where all jobs run on one thread.
-    pub fn gave_up(&self) -> u64 {
-        self.gave_up.load(SeqCst)
+    /// Whether so many calls were made, and none gave up waiting.
+    pub fn is_met(&self, calls: u64) -> bool {
+        self.calls.load(SeqCst) == calls && self.gave_up.load(SeqCst) == 0
     }
 }
 
@@ -42,7 +37,7 @@ impl Gate for Pairs {
             return;
         }
         for _look in 0..MOST_LOOKS {
-            if self.calls() > earlier.wrapping_add(1) {
+            if self.calls.load(SeqCst) > earlier.wrapping_add(1) {
                 return;
             }
             thread::yield_now();
