@@ -20,7 +20,7 @@ returns-clause-doubtful c =
           }
       | else-same_table w ↦
           record {
-            processes = subst (ViewsDifferAtMost old new) (sym (w.processes-is ∙ w.all-processes.ensures ∙ ap (λ n. replicate n true) w.count.ensures.count)) (all_differ old new);
+            processes = subst (ViewsDifferAtMost old new) (sym (w.processes-is ∙ w.all-processes.ensures ∙ ap (λ n. replicate n true) (w.count.ensures.count ∙ c.requires.marks.count))) (all_differ old new);
             same_table = c.is_same_table-same_table.ensures.0;
           }
     ]
