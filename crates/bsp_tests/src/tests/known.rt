@@ -171,7 +171,7 @@ pub const BROKEN_RANKS_END: End = End {
 };
 
 /// Element 0 of the list has a successor that there is not.
-pub const BROKEN_RANKS: Known = Known {
+const BROKEN_RANKS: Known = Known {
     name: "broken ranks",
     memories: &[&[9, 1, 0, 0], &[1, 0, 0, 0], &[0, 1, 0, 0], &[1, 1, 0, 0]],
     turns: 8,
@@ -247,6 +247,13 @@ pub const SUMS_OF_ONES: Known = Known {
 static KNOWN: [Known; 6] = [TOLD, PRODUCT, NO_PRODUCT, RANKS, BROKEN_RANKS, CUT_SUMS];
 
 pub const COUNT_OF_KNOWN: usize = 6;
+
+/// The numbers of three of them.
+pub const TOLD_AT: usize = 0;
+
+pub const PRODUCT_AT: usize = 1;
+
+pub const RANKS_AT: usize = 3;
 
 /// The known run of this number.
 pub fn known_run(number: usize) -> &'static Known

@@ -1,34 +1,33 @@
 //! Workers that have to meet.
 
 use super::counted::Calls;
-use super::known::{Known, PRODUCT};
+use super::known::{PRODUCT_AT, known_run};
 use super::pairs::Pairs;
 use super::running::{Way, is_run};
 use super::sessions::{is_changed, opened};
-use super::sittings::{Change, OTHER_VECTOR};
+use super::sittings::{OTHER_PRODUCT, Sitting};
 use bsp_run::RunError;
 use std::alloc::Global;
 use std::thread::Threads;
 
-const WAYS: [Way; 3] = [Way::Wide, Way::Opened, Way::Replied];
+static WAYS: [Way; 3] = [Way::Wide, Way::Opened, Way::Replied];
 
 /// Two workers meet at each pair of 10 calls of a gate.
 #[test]
 fn two_workers_meet_in_each_phase(rt: HostRuntime) {
     for i in 0..WAYS.len() {
         let gate = Pairs::new();
-        let found = is_run(&rt, rt.alloc(), WAYS[i], &PRODUCT, 2, &gate);
+        let found = is_run(&rt, rt.alloc(), WAYS[i], known_run(PRODUCT_AT), 2, &gate);
         assert!(rt; found == Ok(true) && gate.is_met(10), "{i}");
     }
 }
 
 /// Whether 2 workers meet at each pair of 8 calls of a gate, where a session is changed.
-fn meet<R: Threads + Sync>(
-    rt: &R,
-    alloc: Global,
-    known: &Known,
-    change: &Change,
-) -> Result<bool, RunError> {
+fn meet<R: Threads + Sync>(rt: &R, alloc: Global, sitting: &Sitting) -> Result<bool, RunError> {
+    let [change] = sitting.changes else {
+        return Ok(false);
+    };
+    let known = &sitting.known;
     let calls = Calls::new();
     let mut session = opened(rt, alloc, known.program, &calls, known, 1)?;
     let gate = Pairs::new();
@@ -39,6 +38,6 @@ fn meet<R: Threads + Sync>(
 
 #[test]
 fn two_workers_meet_in_an_update(rt: HostRuntime) {
-    let found = meet(&rt, rt.alloc(), &PRODUCT, &OTHER_VECTOR);
+    let found = meet(&rt, rt.alloc(), &OTHER_PRODUCT);
     assert!(rt; found == Ok(true));
 }

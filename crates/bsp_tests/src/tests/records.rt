@@ -3,7 +3,7 @@
 ghost use Rattle.std.specs.Prelude.{◌<◌, length};
 ghost use Rattle.bsp_deliver.specs.Condition.{AreDeliverable};
 
-use super::known::{COUNT_OF_KNOWN, Known, RANKS, SUMS, known_run};
+use super::known::{COUNT_OF_KNOWN, Known, RANKS_AT, TOLD_AT, known_run};
 use bsp_deliver::{answers_same, deliver, deliver_inbox, inbox, parcel_same};
 use bsp_model::{Memory, OutOfMemory, Same, TryCopy};
 use bsp_programs::Bundled;
@@ -153,6 +153,6 @@ fn are_same_in(alloc: Global, known: &Known) -> Result<Option<(bool, bool)>, Run
 
 #[test]
 fn what_a_delivery_depends_on_is_compared(rt: HostRuntime) {
-    assert!(rt; are_same_in(rt.alloc(), &SUMS) == Ok(Some((false, true))));
-    assert!(rt; are_same_in(rt.alloc(), &RANKS) == Ok(Some((true, false))));
+    assert!(rt; are_same_in(rt.alloc(), known_run(TOLD_AT)) == Ok(Some((false, true))));
+    assert!(rt; are_same_in(rt.alloc(), known_run(RANKS_AT)) == Ok(Some((true, false))));
 }

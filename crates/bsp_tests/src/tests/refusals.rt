@@ -2,17 +2,16 @@
 //! `begin` and `end` of their output.
 
 use super::counted::Calls;
-use super::known::{COUNT_OF_KNOWN, CUT_SUMS, End, Known, RANKS, SUMS, known_run};
+use super::known::{COUNT_OF_KNOWN, End, Known, known_run};
 use super::running::{Way, is_run};
 use super::sessions::{CountedSession, is_changed, is_changed_at_last, opened};
-use super::sittings::{
-    CUT, Change, FIRST_WORD, FIRST_WORD_AGAIN, LONGER, NO_SUCCESSOR, SUCCESSOR_AGAIN,
-};
+use super::sittings::{Change, Sitting, UPDATES};
 use bsp_pool::Open;
 use bsp_run::RunError;
 use bsp_step::Program;
 use std::alloc::Global;
 use std::process::Abort;
+use std::sync::atomic::Ordering::SeqCst;
 use std::thread::Threads;
 
 /// Begins the allocations that are refused in turn, and answers whether the line was written.
@@ -61,8 +60,8 @@ fn wide_runs_with_an_allocation_refused(rt: HostRuntime) {
 }
 
 #[test]
-fn an_opening_with_an_allocation_refused(rt: HostRuntime) {
-    find_run(&rt, rt.alloc(), Way::Opened, &SUMS);
+fn openings_with_an_allocation_refused(rt: HostRuntime) {
+    find_runs(&rt, rt.alloc(), Way::Opened);
 }
 
 /// Whether a batch changes a session, or is refused memory, changes nothing, and then changes the session.
@@ -83,36 +82,44 @@ fn is_changed_between_marks<P: Program + Drop, R: Threads + Sync + Print>(
     begun && is_right && ended
 }
 
-/// Whether two batches change the session of a known run.
+/// Whether a batch is refused memory where a session's program finds none, and changes nothing.
+fn is_refused<P: Program + Drop, R: Threads + Sync>(
+    rt: &R,
+    alloc: Global,
+    session: &mut CountedSession<'_, P>,
+    calls: &Calls,
+    before: &End,
+    change: &Change,
+) -> bool {
+    calls.refuses.store(true, SeqCst);
+    let found = is_changed(rt, alloc, session, change, 2, &Open);
+    calls.refuses.store(false, SeqCst);
+    found.is_err() && before.is_of(session.history())
+}
+
+/// Whether two batches change a session, once its program finds memory.
 fn are_changed<R: Threads + Sync + Print>(
     rt: &R,
     alloc: Global,
-    known: &Known,
-    first: &Change,
-    second: &Change,
+    sitting: &Sitting,
 ) -> Result<bool, RunError> {
+    let [first, second] = sitting.changes else {
+        return Ok(false);
+    };
+    let known = &sitting.known;
     let calls = Calls::new();
     let mut session = opened(rt, alloc, known.program, &calls, known, 1)?;
+    let is_refused = is_refused(rt, alloc, &mut session, &calls, &known.end, first);
     let is_first = is_changed_between_marks(rt, alloc, &mut session, &known.end, first);
     let is_second = is_changed_between_marks(rt, alloc, &mut session, &first.end, second);
     drop(session);
-    Ok(is_first && is_second)
+    Ok(is_refused && is_first && is_second)
 }
 
 #[test]
-fn an_update_with_an_allocation_refused(rt: HostRuntime) {
-    let found = are_changed(&rt, rt.alloc(), &SUMS, &FIRST_WORD, &FIRST_WORD_AGAIN);
-    assert!(rt; found == Ok(true));
-}
-
-#[test]
-fn runs_that_become_shorter_and_longer_with_an_allocation_refused(rt: HostRuntime) {
-    let found = are_changed(&rt, rt.alloc(), &RANKS, &NO_SUCCESSOR, &SUCCESSOR_AGAIN);
-    assert!(rt; found == Ok(true));
-}
-
-#[test]
-fn limits_with_an_allocation_refused(rt: HostRuntime) {
-    let found = are_changed(&rt, rt.alloc(), &CUT_SUMS, &LONGER, &CUT);
-    assert!(rt; found == Ok(true));
+fn updates_with_an_allocation_refused(rt: HostRuntime) {
+    for i in 0..UPDATES.len() {
+        let found = are_changed(&rt, rt.alloc(), &UPDATES[i]);
+        assert!(rt; found == Ok(true), "{i}");
+    }
 }

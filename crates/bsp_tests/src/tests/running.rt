@@ -2,7 +2,8 @@
 
 ghost use Rattle.std.specs.Prelude.{◌<◌, ◌≤◌};
 
-use super::known::{COUNT_OF_KNOWN, End, Known, SUMS_OF_ONES, TOLD, known_run};
+use super::known::{COUNT_OF_KNOWN, End, Known, TOLD_AT, known_run};
+use super::sittings::{SITTINGS, SUMS_OF_ONES_AT};
 use crate::hello::Hello;
 use bsp_incr::{Reply, Session, session_run};
 use bsp_model::{Input, TryCopy};
@@ -134,7 +135,7 @@ pub fn is_run<R: Threads + Sync, G: Gate>(
     found
 }
 
-const WAYS: [Way; 6] = [
+static WAYS: [Way; 6] = [
     Way::Plain,
     Way::Computing,
     Way::Wide,
@@ -159,21 +160,22 @@ fn each_call_runs_each_program(rt: HostRuntime) {
 
 #[test]
 fn any_number_of_workers_gives_the_sums(rt: HostRuntime) {
+    let known = &SITTINGS[SUMS_OF_ONES_AT].known;
     for workers in 1..17 {
-        let found = is_run(&rt, rt.alloc(), Way::Wide, &SUMS_OF_ONES, workers, &Open);
+        let found = is_run(&rt, rt.alloc(), Way::Wide, known, workers, &Open);
         assert!(rt; found == Ok(true), "{workers} workers");
     }
 }
 
 /// What a run of `Hello` leaves.
-const NUMBERS: End = End {
+static NUMBERS: End = End {
     memories: &[&[7], &[0], &[0], &[0]],
     prints: &[0, 1, 2, 3],
     total: 0,
 };
 
 fn prints_its_numbers(alloc: Global) -> Result<bool, RunError> {
-    let input = TOLD.input(alloc)?;
+    let input = known_run(TOLD_AT).input(alloc)?;
     let found = is_recorded(run_plain(alloc, &Hello, &input), &NUMBERS);
     drop(input);
     found

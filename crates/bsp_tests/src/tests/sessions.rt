@@ -3,8 +3,8 @@
 ghost use Rattle.std.specs.Prelude.{◌<◌, ◌≤◌};
 
 use super::counted::{Calls, Counted, Everywhere};
-use super::known::{End, Known, SUMS};
-use super::sittings::{Change, EVERYWHERE, FIRST_WORD, SITTINGS, Sitting};
+use super::known::{End, Known};
+use super::sittings::{Change, EVERYWHERE, SITTINGS, Sitting};
 use bsp_incr::{EditError, Session};
 use bsp_model::OutOfMemory;
 use bsp_pool::{Gate, Open};
@@ -13,7 +13,6 @@ use bsp_run::RunError;
 use bsp_step::Program;
 use std::alloc::{AllocError, Global};
 use std::process::Abort;
-use std::sync::atomic::Ordering::SeqCst;
 use std::thread::Threads;
 
 /// The session of a program that is counted.
@@ -131,27 +130,4 @@ pub fn is_changed_at_last<P: Program + Drop, R: Threads + Sync>(
     change: &Change,
 ) -> bool {
     before.is_of(session.history()) && is_changed(rt, alloc, session, change, 2, &Open) == Ok(true)
-}
-
-/// Whether a batch finds no memory where a session's program finds none, and changes the session once the program does.
-fn is_refused_for_a_while<R: Threads + Sync>(
-    rt: &R,
-    alloc: Global,
-    known: &Known,
-    change: &Change,
-) -> Result<bool, RunError> {
-    let calls = Calls::new();
-    let mut session = opened(rt, alloc, known.program, &calls, known, 1)?;
-    calls.refuses.store(true, SeqCst);
-    let refused = is_changed(rt, alloc, &mut session, change, 2, &Open);
-    calls.refuses.store(false, SeqCst);
-    let is_changed = is_changed_at_last(rt, alloc, &mut session, &known.end, change);
-    drop(session);
-    Ok(refused.is_err() && is_changed)
-}
-
-#[test]
-fn a_program_that_finds_no_memory_for_a_while(rt: HostRuntime) {
-    let found = is_refused_for_a_while(&rt, rt.alloc(), &SUMS, &FIRST_WORD);
-    assert!(rt; found == Ok(true));
 }

@@ -1,7 +1,7 @@
 //! Sessions, the batches that they take, and what comes of each.
 
 use super::known::{
-    BROKEN_RANKS_END, CUT_SUMS, CUT_SUMS_END, End, Known, NO_PRODUCT, PRODUCT_END, RANKS,
+    BROKEN_RANKS_END, CUT_SUMS, CUT_SUMS_END, End, Known, NO_PRODUCT, PRODUCT, PRODUCT_END, RANKS,
     RANKS_END, SUMS, SUMS_END, SUMS_OF_ONES, SUMS_OF_ONES_END, TOLD, TOLD_END,
 };
 use bsp_incr::{Edit, EditFault, EditRefusal, Place};
@@ -61,7 +61,7 @@ const FIRST: Change = Change {
 };
 
 /// The first word becomes 2. Of two edits of it the last counts.
-pub const FIRST_WORD: Change = Change {
+const FIRST_WORD: Change = Change {
     batch: &[word!(0, 0, 9), word!(0, 0, 2)],
     end: End {
         memories: &[&[2, 0], &[4, 2], &[7, 2], &[11, 4]],
@@ -71,7 +71,7 @@ pub const FIRST_WORD: Change = Change {
     ..FIRST
 };
 
-pub const FIRST_WORD_AGAIN: Change = Change {
+const FIRST_WORD_AGAIN: Change = Change {
     batch: &[word!(0, 0, 1)],
     ..FIRST
 };
@@ -165,7 +165,7 @@ const CHANGES_OF_SUMS: [Change; 13] = [
 ];
 
 /// The limit becomes 16 after 2.
-pub const LONGER: Change = Change {
+const LONGER: Change = Change {
     batch: &[Edit::Limit(16)],
     executed: places![
         (2, 0),
@@ -181,7 +181,7 @@ pub const LONGER: Change = Change {
     ..NOTHING
 };
 
-pub const CUT: Change = Change {
+const CUT: Change = Change {
     batch: &[Edit::Limit(2)],
     end: CUT_SUMS_END,
     ..NOTHING
@@ -230,7 +230,7 @@ const OVERWRITTEN_WORD: Change = Change {
 };
 
 /// Element 0 of the list gets a successor that there is not.
-pub const NO_SUCCESSOR: Change = Change {
+const NO_SUCCESSOR: Change = Change {
     batch: &[word!(0, 0, 9)],
     executed: places![(1, 0)],
     redelivered: places![(0, 0)],
@@ -240,7 +240,7 @@ pub const NO_SUCCESSOR: Change = Change {
 };
 
 /// Element 0 of the list gets its former successor again.
-pub const SUCCESSOR_AGAIN: Change = Change {
+const SUCCESSOR_AGAIN: Change = Change {
     batch: &[word!(0, 0, 3)],
     executed: places![
         (1, 0),
@@ -282,6 +282,9 @@ const EVEN_BLOCKS: Change = Change {
     ..NOTHING
 };
 
+/// The number of the sums of ones.
+pub const SUMS_OF_ONES_AT: usize = 2;
+
 pub static SITTINGS: [Sitting; 6] = [
     Sitting {
         known: SUMS,
@@ -310,7 +313,7 @@ pub static SITTINGS: [Sitting; 6] = [
 ];
 
 /// The sums by a program that looks everywhere.
-pub const EVERYWHERE: Sitting = Sitting {
+pub static EVERYWHERE: Sitting = Sitting {
     known: SUMS,
     changes: &[Change {
         executed: places![
@@ -328,7 +331,7 @@ pub const EVERYWHERE: Sitting = Sitting {
 };
 
 /// The vector of the product becomes 7, 8.
-pub const OTHER_VECTOR: Change = Change {
+const OTHER_VECTOR: Change = Change {
     batch: &[word!(0, 2, 7), word!(1, 2, 8)],
     executed: places![(1, 0), (1, 1), (2, 0), (2, 1)],
     redelivered: places![(0, 0), (0, 1), (1, 0), (1, 1)],
@@ -339,3 +342,24 @@ pub const OTHER_VECTOR: Change = Change {
     },
     ..NOTHING
 };
+
+pub static OTHER_PRODUCT: Sitting = Sitting {
+    known: PRODUCT,
+    changes: &[OTHER_VECTOR],
+};
+
+/// Updates whose first one takes turns again, as runs that become shorter and longer.
+pub static UPDATES: [Sitting; 3] = [
+    Sitting {
+        known: SUMS,
+        changes: &[FIRST_WORD, FIRST_WORD_AGAIN],
+    },
+    Sitting {
+        known: RANKS,
+        changes: &[NO_SUCCESSOR, SUCCESSOR_AGAIN],
+    },
+    Sitting {
+        known: CUT_SUMS,
+        changes: &[LONGER, CUT],
+    },
+];

@@ -37,8 +37,6 @@ pub struct Flow {
     /// How many bytes are written before a write takes none, or fails.
     pub room: usize,
     pub takes_none: bool,
-    /// Whether each input is run from its start.
-    pub scratch: bool,
 }
 
 /// A flow that does not fail.
@@ -47,31 +45,19 @@ pub const STEADY: Flow = Flow {
     reads_left: usize::MAX,
     room: usize::MAX,
     takes_none: false,
-    scratch: false,
 };
 
-/// What came of a document.
-#[derive(Clone, Copy)]
-pub struct Answer {
-    pub done: Result<(), EngineError>,
-    /// Whether just the wanted bytes were written.
-    pub is_written: bool,
-    /// How many bytes were not read.
-    pub unread: usize,
-    /// How many reads and writes failed.
-    pub failures: u64,
-}
-
-/// What the engine answers with the bundled programs, where these bytes are wanted.
-pub fn run<R: Threads + Sync, G: Gate>(
+/// Whether the engine with the bundled programs writes these bytes for a document, and ends so, after one failure where it ends by an error.
+pub fn writes<R: Threads + Sync, G: Gate>(
     rt: &R,
     alloc: Global,
     document: &[u8],
     flow: Flow,
-    want: &[u8],
+    written: &[u8],
+    want: Result<(), EngineError>,
     workers: usize,
     gate: &G,
-) -> Answer
+) -> bool
     requires { (0 < workers) × (workers ≤ 16) }
 {
     let mut reader = source(document, flow);
@@ -79,7 +65,7 @@ pub fn run<R: Threads + Sync, G: Gate>(
     let mut left = Vec::new(alloc);
     let options = Options {
         workers,
-        scratch: flow.scratch,
+        scratch: false,
         detail: Detail {
             places: false,
             changes: false,
@@ -94,12 +80,8 @@ pub fn run<R: Threads + Sync, G: Gate>(
         &mut left,
         gate,
     );
-    let answer = Answer {
-        done,
-        is_written: writer.bytes.as_slice() == want,
-        unread: reader.bytes.len(),
-        failures: reader.failures.wrapping_add(writer.failures),
-    };
+    let failures = reader.failures.wrapping_add(writer.failures);
+    let is_written = writer.bytes.as_slice() == written;
     drop(writer);
-    answer
+    done == want && is_written && failures == u64::from(want.is_err())
 }
