@@ -7,6 +7,7 @@ pub mod Counting
 pub mod Document
 pub mod Faults
 pub mod Flow
+pub mod Followed
 pub mod JobOf
 pub mod Keys
 pub mod Limits
