@@ -2,6 +2,7 @@
 #![tactic(auto)]
 
 mod accepted;
+mod answers;
 mod asking;
 mod attending;
 mod blocks;
@@ -37,6 +38,7 @@ pub mod tree;
 mod unread;
 mod writing;
 
+pub use answers::{lines_are_batches, undo_takes_back};
 pub use blocks::report;
 pub use catalogue::Catalogue;
 pub use changes::{changes_tell_the_rest, untouched_processes_stay};
