@@ -50,6 +50,6 @@ pub use following::follow;
 pub use jobs::{Job, read_job};
 pub use naming::{ByName, Named};
 pub use options::{Detail, Options, Tool, VERSION, read_options, words_status};
-pub use rereading::{documents_read_back, named_keys_are_apart};
+pub use rereading::documents_read_back;
 pub use terminal::{Console, Terminal};
 pub use tool::run_tool;
