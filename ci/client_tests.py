@@ -59,7 +59,7 @@ class Live(InAPlace):
     FLAWS = {
         "late": (0, "line 0"),
         "unread_edits": (9, "in place of"),
-        "undoes_refused": (12, "b'undo'"),
+        "undoes_refused": (12, "undo"),
         "numbers": (10, "b'run "),
         "forgets": (2, "its first lines"),
         "stays": (0, "no end after"),

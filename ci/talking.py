@@ -10,7 +10,7 @@ from drawn import Draw, drawn_document
 from judge import Judge
 from model import answer
 from modelled.documents import TOOLS, job_of
-from talks import Ask, draw_ask, long_lines
+from talks import Ask, draw_ask, long_lines, word_ask
 
 SECONDS = float(os.environ.get("LIVE_SECONDS") or 60)  # that an answer may take
 LINES = 14  # of a talk
@@ -141,7 +141,7 @@ def drawn_asks(draw, crate, document, rates):
     given = job_of(TOOLS[crate], document).input
     lists = [[list(words) for words in each] for each in (given.memories, given.args)]
     asks = [draw_ask(draw, *lists, rates) for _ in range(LINES)]
-    return [*asks[:-1], Ask(b"document"), asks[-1]]
+    return [*asks[:-1], word_ask(draw, "document"), asks[-1]]
 
 
 class Talk:

@@ -11,6 +11,7 @@ UNREAD = (
     (b"foo", "J1"),
     (b"Undo", "J1"),
     (b"undo 2", "J1"),
+    (b"undo undo", "J1"),
     (b"documents", "J1"),
     (b"\xff", "J1"),
     (b"\x00", "J1"),
@@ -50,14 +51,22 @@ class Ask:
     line: bytes
     batch: list | None = None
     unread: str = ""
+    word: str = ""
 
     @property
     def is_undo(self):
-        return self.line == b"undo"
+        return self.word == "undo"
 
     @property
     def is_document(self):
-        return self.line == b"document"
+        return self.word == "document"
+
+
+def word_ask(draw, word):
+    """A line with this word. Spaces may stand around it, and a comment behind it."""
+    before = draw.choice(("", "", "", " ", "\t", " \t "))
+    after = draw.choice(("", "", "", " ", "\t", "# why", " #undo", " \t# document"))
+    return Ask(f"{before}{word}{after}".encode(), word=word)
 
 
 def number_text(draw, number):
@@ -80,9 +89,9 @@ def draw_ask(draw, memories, args, rates):
     """A line: mostly a batch. `rates` gives how often it is an `undo` and a `document`."""
     kind = draw.random()
     if kind < rates["undo"]:
-        return Ask(b"undo")
+        return word_ask(draw, "undo")
     if kind < rates["undo"] + rates["document"]:
-        return Ask(b"document")
+        return word_ask(draw, "document")
     if kind > 0.9:
         line, why = draw.choice(UNREAD)
         return Ask(line, unread=why)
@@ -93,6 +102,7 @@ def draw_ask(draw, memories, args, rates):
 
 
 def long_lines():
-    """A line that is as long as a line may be, and one that is longer."""
+    """Lines that are as long as a line may be, and longer ones."""
     longest = b"[] #".ljust(MOST_BYTES, b"x")
-    return [Ask(longest, []), Ask(longest + b"x", unread="long")]
+    longer = b"document #".ljust(MOST_BYTES + 1, b"x")
+    return [Ask(longest, []), Ask(longest + b"x", unread="long"), Ask(longer, unread="long")]

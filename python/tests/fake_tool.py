@@ -106,22 +106,18 @@ class Live:
     def answer(self, text: bytes) -> list[str]:
         """The answer to a line."""
         text = text.removesuffix(b"\n")
-        word = text.removesuffix(b"\r")
-        if word in (b"undo", b"document"):
-            return self.undo() if word == b"undo" else self.document()
         if len(text) > MOST_BYTES:
             return self.block(["unread long"])
+        word = text.partition(b"#")[0].strip(b" \t\r")
+        if word in (b"undo", b"document"):
+            return self.undo() if word == b"undo" else self.document()
         try:
-            return self.batch(batch_of(b"[] " + text if begins_nothing(word) else text))
+            return self.batch(batch_of(text if word else b"[] " + text))
         except Refused as fault:
             if self.flaw == "unread_edits" and str(fault) == "J7":
                 self.batch([Edit("limit", [1])])
                 self.number -= 1
             return self.block([line("unread", fault)])
-
-
-def begins_nothing(text: bytes) -> bool:
-    return text.strip(b" \t")[:1] in (b"", b"#")
 
 
 def batch_of(text: bytes) -> list[Edit]:

@@ -11,7 +11,7 @@ use Rattle.bsp_engine.specs.Answer.{IsFailure, Answers}
 use Rattle.bsp_engine.specs.Refusal.{IfFault}
 use Rattle.bsp_engine.specs.Inside.Refusal.{job_error_of, read_error_of}
 
-err_of : (r : Result (Unit {0}) EngineError) (x : EngineError) → IsErrAnd r (λ y. y ≡ x) → r ≡ Err x
+pub err_of : (r : Result (Unit {0}) EngineError) (x : EngineError) → IsErrAnd r (λ y. y ≡ x) → r ≡ Err x
 err_of (Ok u) x h = absurd h
 err_of (Err y) x h = ap Err h
 

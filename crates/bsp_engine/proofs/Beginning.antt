@@ -1,6 +1,6 @@
 -- A live session from its job on.
-use Rattle.std.proofs.Common.{◌≡◌, ℕ, ◌+◌, Bool, true, false, cond, List, [], ◌∷◌, ◌++◌, length, Option, None, Some, Result, Ok, Err, refl, sym, ap, subst, ◌∙◌, ◌⊎◌, inl, inr, append_assoc, codes}
-use Rattle.std.specs.Prelude.{IfSome, IfOk, IfErr, IsOkAnd, IsSomeAnd}
+use Rattle.std.proofs.Common.{◌≡◌, ℕ, ◌+◌, Bool, true, false, cond, List, [], ◌∷◌, ◌++◌, length, Option, None, Some, Result, Ok, refl, sym, ap, subst, ◌∙◌, append_assoc, codes}
+use Rattle.std.specs.Prelude.{IfSome, IsOkAnd}
 use Rattle.bsp_model.specs.declared.fault.End.{End}
 use Rattle.bsp_model.specs.Input.{input_fault}
 use Rattle.bsp_step.specs.ViewParts.{ViewParts}
@@ -17,13 +17,11 @@ use Rattle.bsp_incr.specs.Inside.Changes.{update_of}
 use Rattle.bsp_incr.specs.Edits.{refusal_of, edited}
 use Rattle.bsp_incr.specs.Replies.{input_if}
 use Rattle.bsp_incr.specs.Inside.Replies.{done, reply_if, replies_from}
-use Rattle.bsp_engine.specs.declared.errors.EngineError.{EngineError}
 use Rattle.bsp_engine.specs.declared.errors.JobFault.{JobFault}
 use Rattle.bsp_engine.specs.declared.jobs.Job.{Job}
 use Rattle.bsp_engine.specs.declared.options.Detail.{Detail}
 use Rattle.bsp_engine.specs.Asked.{asked_of, is_document}
-use Rattle.bsp_engine.specs.Document.{IsPrinted, WithOwnText, document_block, own_members}
-use Rattle.bsp_engine.specs.Tree.{tree_of}
+use Rattle.bsp_engine.specs.Document.{document_block}
 use Rattle.bsp_engine.specs.declared.attending.Attendant.{Attendant}
 use Rattle.bsp_engine.specs.Inside.DueAt.{due_at, due_from}
 use Rattle.bsp_engine.specs.Live.{LiveParts, after, after_batch, after_batches, opened, last_result, answer_to, answer_block, blocks, first_text, due_of}
@@ -60,7 +58,7 @@ module _ {P : Type 0} (acts : P → ViewParts → List Act) (ending : P → View
       ∙ ap (λ (v : LiveParts P). reply_block detail.places k (last_result acts ending live) reply ++ blocks_after detail (k + 1) (last_result acts ending v) (live_replies acts ending looks v later)) (sym is)
 
   -- the opening and the batches make the report
-  report_is : (detail : Detail) (job : Job P) (live : LiveParts P) → live ≡ opened detail.changes job.program job.input
+  pub report_is : (detail : Detail) (job : Job P) (live : LiveParts P) → live ≡ opened detail.changes job.program job.input
       → opening_block acts ending looks detail.places job.program job.input ++ blocks_after detail 1 (last_result acts ending live) (live_replies acts ending looks live job.batches) ≡ text_of detail (replies_of acts ending looks false job)
   unfolding replies_of last_result
   report_is detail job live is =
@@ -151,33 +149,3 @@ when_read (Some all) slice bytes F same read fact = subst F (same ∙ read) fact
 
 pub for_job : {P : Type 0} (r : Result (Job P) JobFault) (job : Job P) (X : Job P → Type 0) → r ≡ Ok job → X job → IsOkAnd r X
 for_job r job X is fact = subst (λ (s : Result (Job _) JobFault). IsOkAnd s X) (sym is) fact
-
-pub if_job : {P : Type 0} (r : Result (Job P) JobFault) (job : Job P) (X : Job P → Type 0) → r ≡ Ok job → X job → IfOk r X
-if_job r job X is fact = subst (λ (s : Result (Job _) JobFault). IfOk s X) (sym is) fact
-
--- What is known of the job and of the text of its keys is known of all that the source had ..
-pub told_whole : {P : Type 0} (source : Option (List ℕ)) (read : List ℕ → Result (Job P) JobFault) (F : List ℕ → Job P → Type 0) (slice bytes : List ℕ) (job : Job P) (own : List ℕ)
-    → slice ≡ bytes → IfSome source (λ all. bytes ≡ all) → read slice ≡ Ok job → IsSomeAnd (tree_of slice) (λ t. IsPrinted (own_members t) own) → F own job
-    → IfSome source (λ all. IsOkAnd (read all) (λ j. WithOwnText all (λ w. F w j)))
-told_whole source read F slice bytes job own same all is printed fact =
-    when_read source slice bytes (λ bs. IsOkAnd (read bs) (λ j. WithOwnText bs (λ w. F w j))) same all
-    (for_job (read slice) job (λ j. WithOwnText slice (λ w. F w j)) is (own, printed, fact))
-
--- .. and so it is where the conversation broke off
-pub told_part : {P X : Type 0} (source : Option (List ℕ)) (read : List ℕ → Result (Job P) JobFault) (F : List ℕ → Job P → Type 0) (slice bytes : List ℕ) (job : Job P) (own : List ℕ) (before after : X)
-    → slice ≡ bytes → IfSome source (λ all. bytes ≡ all) → read slice ≡ Ok job → IsSomeAnd (tree_of slice) (λ t. IsPrinted (own_members t) own) → F own job
-    → IfSome source (λ all. IfOk (read all) (λ j. (after ≡ before) ⊎ WithOwnText all (λ w. F w j)))
-told_part source read F slice bytes job own before after same all is printed fact =
-    when_read source slice bytes (λ bs. IfOk (read bs) (λ j. (after ≡ before) ⊎ WithOwnText bs (λ w. F w j))) same all
-    (if_job (read slice) job (λ j. (after ≡ before) ⊎ WithOwnText slice (λ w. F w j)) is (inr (own, printed, fact)))
-
-said_none : {P X : Type 0} (r : Result (Job P) JobFault) (before after : X) (F : Job P → Type 0) → after ≡ before → IfOk r (λ job. (after ≡ before) ⊎ F job)
-said_none (Ok job) before after F same = inl same
-said_none (Err fault) before after F same = tt
-
--- it ended before anything was said
-pub nothing_said : {P X : Type 0} (r : Result (Unit {0}) EngineError) (source : Option (List ℕ)) (read : List ℕ → Result (Job P) JobFault) (before after : X) (F : List ℕ → Job P → EngineError → Type 0) → after ≡ before
-    → IfErr r (λ e. IfSome source (λ bytes. IfOk (read bytes) (λ job. (after ≡ before) ⊎ F bytes job e)))
-nothing_said (Ok u) source read before after F same = tt
-nothing_said (Err e) None read before after F same = tt
-nothing_said (Err e) (Some bytes) read before after F same = said_none (read bytes) before after (λ job. F bytes job e) same

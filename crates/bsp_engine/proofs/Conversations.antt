@@ -4,16 +4,17 @@ use Rattle.std.proofs.lemmas.Bool.Decides.{nat_tests}
 use Rattle.std.specs.Prelude.{◌==◌, IfErr, IsErrAnd, OnErr, OnOk}
 use Rattle.std.proofs.lemmas.List.{append-nil}
 use Rattle.bsp_engine.specs.declared.errors.EngineError.{EngineError}
-use Rattle.bsp_engine.specs.declared.errors.EngineError.TheVariants.{Write}
-use Rattle.bsp_engine.specs.Talk.{Event, heard, Goes, heard_in, said_in, kept, lines_from, rest_from, whole_lines, unless_empty, all_lines, Due, Talks, Breaks}
+use Rattle.bsp_engine.specs.declared.errors.EngineError.TheVariants.{Read, Write, OutOfMemory}
+use Rattle.bsp_engine.specs.Talk.{Event, failed, heard, Fails, Goes, HasFailed, HasNotWritten, heard_in, said_in, kept, lines_from, rest_from, whole_lines, unless_empty, all_lines, Due, Talks, Breaks, IsBeginning, IsDueForSome, TalksUntil}
 use Rattle.bsp_engine.specs.Inside.Talk.{Says, SaysPart, Answered, Stopped, AttendedIf, Attended, UnattendedIf, Unattended, IsGoing, BreaksOff, Ends, TalksOn}
-use Rattle.bsp_engine.proofs.Logs.{goes_more, goes_none, said_append, heard_only, heard_none, prompt_only, prompt_first, ended_only}
+use Rattle.bsp_engine.proofs.Logs.{goes_more, said_append, heard_only, heard_none, prompt_only, prompt_first, ended_only, says_nothing}
 
 -- the answer to a line broke off in its text
 stopped_write : (due now : Due) (line : List ℕ) (old new : Option (List Event)) (text : List ℕ) → ((later : List (List ℕ)) → due (line ∷ later) ≡ text ++ now later) → SaysPart old new text → Stopped due line old new Write
 stopped_write due now line old new text next p = record {
   text = p.text;
   says = p.says;
+  reason = p.unwritten;
   begins = λ later. (p.begins.0 ++ now later, next later ∙ (ap (λ l. l ++ now later) p.begins.1 ∙ append_assoc p.text p.begins.0 (now later)));
   whole = λ other. absurd (other refl);
 }
@@ -22,6 +23,16 @@ pub stopped_part : (r : Result (Unit {0}) EngineError) (due now : Due) (line : L
     → OnErr r (SaysPart old new text) → IfErr r (λ e. e ≡ Write) → IfErr r (λ e. Stopped due line old new e)
 stopped_part (Ok u) due now line old new text next part is = tt
 stopped_part (Err e) due now line old new text next part is = subst (λ (x : EngineError). Stopped due line old new x) (sym is) (stopped_write due now line old new text next part)
+
+-- there was no memory for it
+pub stopped_before : (due : Due) (line : List ℕ) (log : Option (List Event)) → Stopped due line log log OutOfMemory
+stopped_before due line log = record {
+  text = [];
+  says = says_nothing log;
+  reason = tt;
+  begins = λ later. (due (line ∷ later), refl);
+  whole = λ other. refl;
+}
 
 -- lines of a text that comes in two pieces
 lines_append : (begun xs ys : List ℕ) → lines_from begun (xs ++ ys) ≡ lines_from begun xs ++ lines_from (rest_from begun xs) ys
@@ -130,26 +141,51 @@ goes_line due now after old mid new begun b left h is a =
       rest = sym (rest_append [] h.done (b ∷ []) ∙ ap (λ t. cond t [] (kept (rest_from [] h.done) b)) is);
     }
 
--- it breaks off where nothing goes out any more
-pub breaks_here : (due now : Due) (old mid new : Option (List Event)) (begun left : List ℕ) (error : EngineError) → IsGoing due now old mid begun left → now [] ≡ [] → Goes mid new [] → Breaks due old new error
-breaks_here due now old mid new begun left error h none g =
-    let lines : all_lines (heard_in h.events) ≡ whole_lines h.done ++ others_of (rest_from [] h.done) left = ap all_lines h.heard_all ∙ all_split h.done left in
-    record {
-      events = h.events;
-      goes = goes_more old mid new h.events [] h.goes g;
-      prompt = h.prompt;
-      said = (now (others_of (rest_from [] h.done) left), ap due lines ∙ h.next (others_of (rest_from [] h.done) left));
-      whole = λ _. inr (record {
-        answered = whole_lines h.done;
-        others = others_of (rest_from [] h.done) left;
-        all = lines;
-        is = said_due due now old mid begun left h none;
-      });
-    }
+-- the whole lines were answered
+whole_so_far : (due now : Due) (old new : Option (List Event)) (begun left : List ℕ) (h : IsGoing due now old new begun left) → now [] ≡ [] → IsDueForSome due (all_lines (heard_in h.events)) (said_in h.events)
+whole_so_far due now old new begun left h none = record {
+  answered = whole_lines h.done;
+  others = others_of (rest_from [] h.done) left;
+  all = ap all_lines h.heard_all ∙ all_split h.done left;
+  is = said_due due now old new begun left h none;
+}
 
--- the same, with no event since
-pub breaks_now : (due now : Due) (old new : Option (List Event)) (begun left : List ℕ) (error : EngineError) → IsGoing due now old new begun left → now [] ≡ [] → Breaks due old new error
-breaks_now due now old new begun left error h none = breaks_here due now old new new begun left error h none (goes_none new)
+begins_so_far : (due now : Due) (old new : Option (List Event)) (begun left : List ℕ) (h : IsGoing due now old new begun left) → IsBeginning (said_in h.events) (due (all_lines (heard_in h.events)))
+begins_so_far due now old new begun left h =
+    (now (others_of (rest_from [] h.done) left), ap due (ap all_lines h.heard_all ∙ all_split h.done left) ∙ h.next (others_of (rest_from [] h.done) left))
+
+-- it breaks off for want of memory
+pub breaks_now : (due now : Due) (old new : Option (List Event)) (begun left : List ℕ) → IsGoing due now old new begun left → now [] ≡ [] → Breaks due old new OutOfMemory
+breaks_now due now old new begun left h none = record {
+  events = h.events;
+  goes = h.goes;
+  reason = tt;
+  prompt = h.prompt;
+  said = begins_so_far due now old new begun left h;
+  whole = λ _. inr (whole_so_far due now old new begun left h none);
+}
+
+-- it breaks off where a read failed
+pub breaks_read : (due now : Due) (old mid new : Option (List Event)) (begun : List ℕ) → IsGoing due now old mid begun [] → now [] ≡ [] → Fails mid new → Breaks due old new Read
+breaks_read due now old mid new begun h none g =
+    elim g.1 as (λ _. Breaks due old new Read) [
+      | inl more ↦ record {
+        events = failed ∷ h.events;
+        goes = goes_more old mid new h.events (failed ∷ []) h.goes more;
+        reason = g.0;
+        prompt = h.prompt;
+        said = begins_so_far due now old mid begun [] h;
+        whole = λ _. inr (whole_so_far due now old mid begun [] h none);
+      }
+      | inr same ↦ record {
+        events = h.events;
+        goes = goes_more old mid new h.events [] h.goes same;
+        reason = g.0;
+        prompt = h.prompt;
+        said = begins_so_far due now old mid begun [] h;
+        whole = λ _. inr (whole_so_far due now old mid begun [] h none);
+      }
+    ]
 
 -- it breaks off in the first text
 breaks_first : (now : Due) (old new : Option (List Event)) (first : List ℕ) → SaysPart old new first → Breaks (λ lines. first ++ now lines) old new Write
@@ -158,6 +194,7 @@ breaks_first now old new first p =
     record {
       events = s.events;
       goes = s.goes;
+      reason = p.unwritten;
       prompt = prompt_first (λ lines. first ++ now lines) s.events s.only;
       said = (
         p.begins.0 ++ now (all_lines (heard_in s.events)),
@@ -182,6 +219,7 @@ stops_in due now old mid new begun left others error h none due_still t =
     record {
       events = events;
       goes = goes_more old mid new h.events s.events h.goes s.goes;
+      reason = t.reason;
       prompt = prompt_only due s.events h.events s.only h.prompt;
       said = (
         part.0,
@@ -256,13 +294,14 @@ rest_breaks (Ok u) now begun old new none some t = tt
 rest_breaks (Err e) now begun old new none some t = λ due start h. breaks_in_last due now start old new begun e h none some t
 
 -- a conversation that has come somewhere goes on from there
-pub talks_from : (r : Result (Unit {0}) EngineError) (due now : Due) (start old new : Option (List Event)) (begun : List ℕ) → IsGoing due now start old begun [] → OnOk r (TalksOn now begun old new) → OnOk r (Talks due start new)
-talks_from (Err e) due now start old new begun h t = tt
-talks_from (Ok u) due now start old new begun h t = t due start h
+pub until_from : (r : Result (Unit {0}) EngineError) (due now : Due) (start old new : Option (List Event)) (begun : List ℕ) → IsGoing due now start old begun []
+    → OnOk r (TalksOn now begun old new) → IfErr r (λ e. BreaksOff now begun [] old new e) → TalksUntil due start new r
+until_from (Ok u) due now start old new begun h whole broken = whole due start h
+until_from (Err e) due now start old new begun h whole broken = broken due start h
 
-pub breaks_from : (r : Result (Unit {0}) EngineError) (due now : Due) (start old new : Option (List Event)) (begun : List ℕ) → IsGoing due now start old begun [] → IfErr r (λ e. BreaksOff now begun [] old new e) → IfErr r (λ e. Breaks due start new e)
-breaks_from (Ok u) due now start old new begun h t = tt
-breaks_from (Err e) due now start old new begun h t = t due start h
+pub until_error : (r : Result (Unit {0}) EngineError) (e : EngineError) (due : Due) (old new : Option (List Event)) → IsErrAnd r (λ y. y ≡ e) → Breaks due old new e → TalksUntil due old new r
+until_error (Ok u) e due old new h b = absurd h
+until_error (Err y) e due old new h b = subst (Breaks due old new) (sym h) b
 
 -- the answer to one byte, at an LF and at another
 pub going_byte : (due now after : Due) (old mid new : Option (List Event)) (begun left : List ℕ) (b : ℕ) (next later : List ℕ) → IsGoing due now old mid begun left → left ≡ b ∷ later → Attended now after begun b next mid new → IsGoing due after old new next later
@@ -277,7 +316,7 @@ pub breaks_in_byte : (due now : Due) (old mid new : Option (List Event)) (begun 
 breaks_in_byte due now old mid new begun left b later error h none is a =
     elim (b == 10) as (λ t. (b == 10) ≡ t → UnattendedIf t now begun mid new error → Breaks due old new error) [
       | true ↦ λ e a. breaks_in_line due now old mid new begun b later error (goes_as due now old mid begun left begun (b ∷ later) h refl is) none e a
-      | false ↦ λ e a. subst (λ (l : Option (List Event)). Breaks due old l error) (sym a) (breaks_now due now old mid begun left error h none)
+      | false ↦ λ e a. subst (λ (x : EngineError). Breaks due old new x) (sym a.0) (subst (λ (l : Option (List Event)). Breaks due old l OutOfMemory) (sym a.1) (breaks_now due now old mid begun left h none))
     ] refl a
 
 -- an error that was handed on
@@ -300,7 +339,9 @@ some_begun items n same test none =
     let no : true ≡ false = sym (ap (λ (k : ℕ). k == 0) zero) ∙ test in
     cc
 
--- it breaks off before it has begun
-pub breaks_before : (due : Due) (log : Option (List Event)) (error : EngineError) → Breaks due log log error
-breaks_before due log error =
-    record { events = []; goes = goes_none log; prompt = tt; said = (due (all_lines []), refl); whole = λ _. inl refl }
+-- a failure at the terminal is there to see
+pub reads_fail : (r : Result (Unit {0}) EngineError) (due : Due) (old new : Option (List Event)) → TalksUntil due old new r → r ≡ Err Read → HasFailed new
+reads_fail r due old new talks is = let b = subst (TalksUntil due old new) is talks in b.reason
+
+pub writes_fail : (r : Result (Unit {0}) EngineError) (due : Due) (old new : Option (List Event)) → TalksUntil due old new r → r ≡ Err Write → HasNotWritten new
+writes_fail r due old new talks is = let b = subst (TalksUntil due old new) is talks in b.reason

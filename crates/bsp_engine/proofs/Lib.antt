@@ -16,6 +16,7 @@ pub mod OwnKeys
 pub mod ReadAgain
 pub mod SameDocument
 pub mod SameJob
+pub mod SessionOf
 pub mod Optional
 pub mod Telling
 pub mod TooLong

@@ -25,9 +25,9 @@ use Rattle.bsp_engine.specs.declared.jobs.Job.{Job}
 use Rattle.bsp_engine.specs.Catalogue.{Meaning, AgreeOnKeys, ReadsOwnKeys}
 use Rattle.bsp_engine.specs.Document.{IsPrinted, array_text, comma, document_text, entry, own_members, rows_line, words_text}
 use Rattle.bsp_engine.specs.JobOf.{job_of, job_of_tree}
-use Rattle.bsp_engine.specs.Keys.{common_keys, has_known_keys}
+use Rattle.bsp_engine.specs.Keys.{HasKeysApart, common_keys, has_known_keys}
 use Rattle.bsp_engine.specs.Lines.{field, fields, line, numbered}
-use Rattle.bsp_engine.specs.ReadsBack.{DocumentsReadBack, HasKeysApart, can_be_written}
+use Rattle.bsp_engine.specs.ReadsBack.{DocumentsReadBack, can_be_written}
 use Rattle.bsp_engine.specs.Tree.{tree_of}
 use Rattle.bsp_engine.proofs.Beside.{AllOwn, IsBeside, keeps_fill}
 use Rattle.bsp_engine.proofs.Described.{last_two}
@@ -236,11 +236,11 @@ bounds i none =
     let (g, l) = and_parts (nat_le i.g 1000000) (nat_le i.l 1000000) prices in
     (small i.limit (grind (arith, nat_tests)), small i.g (grind (arith, nat_tests)), small i.l (grind (arith, nat_tests)))
 
-module _ {P : Type 0} (meaning : Meaning P) (reads : ReadsOwnKeys meaning) where
-  law_for : (o : Option Members) (own : List ℕ) (job : Job P) (i : Input) → HasKeysApart meaning → job_of_tree meaning o ≡ Ok job → IsSomeAnd o (λ t. IsPrinted (own_members t) own × (members_depth (own_members t) ≤ 80))
+module _ {P : Type 0} (meaning : Meaning P) (reads : ReadsOwnKeys meaning) (apart : HasKeysApart meaning) where
+  law_for : (o : Option Members) (own : List ℕ) (job : Job P) (i : Input) → job_of_tree meaning o ≡ Ok job → IsSomeAnd o (λ t. IsPrinted (own_members t) own × (members_depth (own_members t) ≤ 80))
       → input_fault i ≡ None → can_be_written i.mems ≡ true → can_be_written i.args ≡ true → job_of meaning (document_text own i) ≡ Ok (record { program = job.program; input = i; batches = [] })
-  law_for None own job i apart is given none mems args = absurd given
-  law_for (Some ft) own job i apart is given none mems args =
+  law_for None own job i is given none mems args = absurd given
+  law_for (Some ft) own job i is given none mems args =
       let ms = own_members ft in
       let (limit, g, l) = bounds i none in
       let (a, b, closed, parsed, beside) = read_document ms own i given.0 given.1 (own_keys ft) (text_printed i limit g l mems args) in
@@ -263,4 +263,4 @@ module _ {P : Type 0} (meaning : Meaning P) (reads : ReadsOwnKeys meaning) where
       ∙ same_job meaning reads t ft i job.program agree has accepts known none
 
   pub documents_read_back : DocumentsReadBack meaning
-  documents_read_back bytes own job i apart is given none mems args = law_for (tree_of bytes) own job i apart is given none mems args
+  documents_read_back bytes own job i is given none mems args = law_for (tree_of bytes) own job i is given none mems args

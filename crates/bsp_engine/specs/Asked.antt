@@ -1,5 +1,5 @@
 -- What a line asks of a live session (this profile).
-use Rattle.std.specs.Prelude.{ℕ, Bool, true, ◌==◌, ◌||◌, not, List, [], ◌∷◌, ◌++◌, length, codes, Option, None, Some, nat_lt, if◌then◌else◌}
+use Rattle.std.specs.Prelude.{ℕ, Bool, true, false, ◌==◌, ◌&&◌, ◌||◌, not, List, [], ◌∷◌, ◌++◌, length, take, drop, codes, Option, None, Some, nat_lt, if◌then◌else◌}
 use Rattle.std.specs.Str.{bytes_eq}
 use Rattle.toml.specs.Data.{Data, Members, get_member}
 use Rattle.bsp_engine.specs.declared.asking.Asked.{Asked}
@@ -41,17 +41,26 @@ abbrev pub asked_at : Option Members → Asked
 asked_at None = Nothing NotToml
 asked_at (Some t) = asked_in (get_member (codes "batch") t)
 
--- the word alone; CR before LF counts for nothing
+-- the text begins with the word, and has nothing behind it but spaces and a comment
+abbrev pub begins_with_word : List ℕ → List ℕ → Bool
+begins_with_word word text = bytes_eq word (take (length word) text) && is_blank (drop (length word) text)
+
+-- The word stands on the line: spaces may stand around it, and a comment behind it.
 abbrev pub is_word : List ℕ → List ℕ → Bool
-is_word word line = bytes_eq line word || bytes_eq line (word ++ 13 ∷ [])
+is_word word [] = false
+is_word word (byte ∷ later) = if is_space byte then is_word word later else begins_with_word word (byte ∷ later)
+
+-- the line has more bytes than a document may have
+abbrev pub is_long : List ℕ → Bool
+is_long line = nat_lt most_document_bytes (length line)
 
 -- the line asks for the document
 abbrev pub is_document : List ℕ → Bool
-is_document line = is_word (codes "document") line
+is_document line = not (is_long line) && is_word (codes "document") line
 
 -- What a line asks, of which no more is kept than a document may have and one byte.
 unfoldable pub asked_of : List ℕ → Asked
 asked_of line =
-    if nat_lt most_document_bytes (length line) then Nothing TooLong
+    if is_long line then Nothing TooLong
     else (if is_word (codes "undo") line then Undo
     else asked_at (tree_of (document_of line)))

@@ -1,5 +1,5 @@
 -- Which keys a document has, and of what shape their values are: J2, J3 and J4 (this profile).
-use Rattle.std.specs.Prelude.{ℕ, Bool, true, ◌&&◌, ◌||◌, ◌==◌, not, List, [], ◌∷◌, length, drop, codes, Option, None, Some, is_some, if◌then◌else◌}
+use Rattle.std.specs.Prelude.{◌≡◌, ℕ, Bool, true, false, ◌&&◌, ◌||◌, ◌==◌, not, List, [], ◌∷◌, length, drop, codes, Option, None, Some, is_some, if◌then◌else◌}
 use Rattle.std.specs.List.{list_all, list_any}
 use Rattle.std.specs.Str.{bytes_eq}
 use Rattle.toml.specs.Data.{Data, Members, no_members, member, get_member, as_str, as_integer, as_array}
@@ -65,6 +65,10 @@ has_right_shapes meaning t =
 -- the keys that a document may have beside those of the catalogue
 abbrev pub common_keys : List (List ℕ)
 common_keys = codes "limit" ∷ codes "g" ∷ codes "l" ∷ codes "memory" ∷ codes "args" ∷ codes "batches" ∷ []
+
+-- No key of the catalogue's own is one that every document may have.
+abbrev pub HasKeysApart : {P : Type 0} → Meaning P → Type 0
+HasKeysApart meaning = (key : List ℕ) → meaning.is_key key ≡ true → list_any (bytes_eq key) common_keys ≡ false
 
 abbrev pub is_known_key : {P : Type 0} → Meaning P → List ℕ → Bool
 is_known_key meaning key = meaning.is_key key || list_any (bytes_eq key) common_keys

@@ -1,4 +1,5 @@
 pub mod Answer
+pub mod Answers
 pub mod Asked
 pub mod Blocks
 pub mod Catalogue
@@ -7,6 +8,7 @@ pub mod Counting
 pub mod Document
 pub mod Faults
 pub mod Flow
+pub mod Followed
 pub mod JobOf
 pub mod Keys
 pub mod Limits

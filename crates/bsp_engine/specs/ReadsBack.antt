@@ -1,7 +1,6 @@
 -- That the document of a session is a job again (this profile).
-use Rattle.std.specs.Prelude.{◌≡◌, ◌≤◌, ◌^◌, ℕ, Bool, true, false, List, [], None, Ok, IsSomeAnd, nat_lt}
-use Rattle.std.specs.List.{list_all, list_any}
-use Rattle.std.specs.Str.{bytes_eq}
+use Rattle.std.specs.Prelude.{◌≡◌, ◌≤◌, ◌^◌, ℕ, Bool, true, List, [], None, Ok, IsSomeAnd, nat_lt}
+use Rattle.std.specs.List.{list_all}
 use Rattle.toml.specs.Data.{members_depth}
 use Rattle.bsp_model.specs.declared.input.Input.{Input}
 use Rattle.bsp_model.specs.Input.{input_fault}
@@ -9,12 +8,7 @@ use Rattle.bsp_engine.specs.declared.jobs.Job.{Job}
 use Rattle.bsp_engine.specs.Catalogue.{Meaning}
 use Rattle.bsp_engine.specs.Document.{IsPrinted, document_text, most_depth, own_members}
 use Rattle.bsp_engine.specs.JobOf.{job_of}
-use Rattle.bsp_engine.specs.Keys.{common_keys}
 use Rattle.bsp_engine.specs.Tree.{tree_of}
-
--- No key of the catalogue's own is one that every document may have.
-abbrev pub HasKeysApart : {P : Type 0} → Meaning P → Type 0
-HasKeysApart meaning = (key : List ℕ) → meaning.is_key key ≡ true → list_any (bytes_eq key) common_keys ≡ false
 
 -- Each word can be written as an integer of a document.
 abbrev pub can_be_written : List (List ℕ) → Bool
@@ -24,7 +18,7 @@ can_be_written rows = list_all (list_all (λ w. nat_lt w (2 ^ 63))) rows
 -- is the job of the same program, with this input and no batches.
 abbrev pub DocumentsReadBack : {P : Type 0} → Meaning P → Type 0
 DocumentsReadBack {P} meaning =
-    (bytes own : List ℕ) (job : Job P) (input : Input) → HasKeysApart meaning → job_of meaning bytes ≡ Ok job
+    (bytes own : List ℕ) (job : Job P) (input : Input) → job_of meaning bytes ≡ Ok job
     → IsSomeAnd (tree_of bytes) (λ t. IsPrinted (own_members t) own × (members_depth (own_members t) ≤ most_depth))
     → input_fault input ≡ None → can_be_written input.mems ≡ true → can_be_written input.args ≡ true
     → job_of meaning (document_text own input) ≡ Ok (record { program = job.program; input = input; batches = [] })

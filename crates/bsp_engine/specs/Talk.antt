@@ -1,8 +1,8 @@
 -- What happens at a terminal, the lines that are heard there, and whole conversations (this profile).
-use Rattle.std.specs.Prelude.{◌≡◌, ◌≢◌, ◌⊎◌, ℕ, ◌==◌, List, [], ◌∷◌, ◌++◌, length, Option, None, Some, ⊤, nat_lt, if◌then◌else◌}
+use Rattle.std.specs.Prelude.{◌≡◌, ◌≢◌, ◌⊎◌, ℕ, ◌==◌, List, [], ◌∷◌, ◌++◌, length, Option, None, Some, Result, Ok, Err, ⊤, nat_lt, if◌then◌else◌}
 use Rattle.bsp_engine.specs.Limits.{most_document_bytes}
 use Rattle.bsp_engine.specs.declared.errors.EngineError.{EngineError}
-use Rattle.bsp_engine.specs.declared.errors.EngineError.TheVariants.{Write}
+use Rattle.bsp_engine.specs.declared.errors.EngineError.TheVariants.{Read, Write, OutOfMemory}
 
 -- an event at a terminal
 pub data Event : Type 0 where
@@ -10,10 +10,13 @@ pub data Event : Type 0 where
   heard : List ℕ → Event
   -- these bytes went out
   said : List ℕ → Event
+  -- a read or a write failed
+  failed : Event
 
 -- a log, where it is known, goes on with these events, the newest first
 abbrev pub Goes : Option (List Event) → Option (List Event) → List Event → Type 0
-Goes None new es = ⊤
+Goes None None es = ⊤
+Goes None (Some grown) es = ⊥
 Goes (Some log) None es = ⊥
 Goes (Some log) (Some grown) es = grown ≡ es ++ log
 
@@ -22,12 +25,14 @@ abbrev pub heard_in : List Event → List ℕ
 heard_in [] = []
 heard_in (heard bytes ∷ before) = heard_in before ++ bytes
 heard_in (said bytes ∷ before) = heard_in before
+heard_in (failed ∷ before) = heard_in before
 
 -- all that went out
 abbrev pub said_in : List Event → List ℕ
 said_in [] = []
 said_in (heard bytes ∷ before) = said_in before
 said_in (said bytes ∷ before) = said_in before ++ bytes
+said_in (failed ∷ before) = said_in before
 
 -- What is kept of a line of which one more byte was heard. Of a line that is longer than a document may be, so many bytes and one more are kept.
 unfoldable pub kept : List ℕ → ℕ → List ℕ
@@ -60,6 +65,27 @@ abbrev pub HasEnded : List Event → Type 0
 HasEnded [] = ⊥
 HasEnded (heard bytes ∷ before) = bytes ≡ []
 HasEnded (said bytes ∷ before) = HasEnded before
+HasEnded (failed ∷ before) = HasEnded before
+
+-- the newest event, where it is known, is a failure
+abbrev pub HasFailed : Option (List Event) → Type 0
+HasFailed (Some []) = ⊥
+HasFailed (Some (heard bytes ∷ before)) = ⊥
+HasFailed (Some (said bytes ∷ before)) = ⊥
+HasFailed (Some (failed ∷ before)) = ⊤
+HasFailed None = ⊤
+
+-- the newest event, where it is known, is a failure, or a write that took no byte
+abbrev pub HasNotWritten : Option (List Event) → Type 0
+HasNotWritten (Some []) = ⊥
+HasNotWritten (Some (heard bytes ∷ before)) = ⊥
+HasNotWritten (Some (said bytes ∷ before)) = bytes ≡ []
+HasNotWritten (Some (failed ∷ before)) = ⊤
+HasNotWritten None = ⊤
+
+-- A failure, where the log is known, is its newest event: a new one, or the one that was the newest before.
+abbrev pub Fails : Option (List Event) → Option (List Event) → Type 0
+Fails old new = HasFailed new × (Goes old new (failed ∷ []) ⊎ Goes old new [])
 
 -- the text is a beginning of this one
 abbrev pub IsBeginning : List ℕ → List ℕ → Type 0
@@ -74,6 +100,7 @@ abbrev pub IsPrompt : Due → List Event → Type 0
 IsPrompt due [] = ⊤
 IsPrompt due (heard bytes ∷ before) = (said_in before ≡ due (whole_lines (heard_in before))) × IsPrompt due before
 IsPrompt due (said bytes ∷ before) = IsPrompt due before
+IsPrompt due (failed ∷ before) = IsPrompt due before
 
 -- a whole conversation: all was heard and answered, each line before more was waited for
 pub record Talks (due : Due) (old new : Option (List Event)) : Type 0 where
@@ -90,11 +117,24 @@ pub record IsDueForSome (due : Due) (lines : List (List ℕ)) (text : List ℕ) 
   pub all : lines ≡ answered ++ others
   pub is : text ≡ due answered
 
+-- Why a conversation may break off, by its log: a read or a write failed, or memory was refused.
+abbrev pub IsReason : EngineError → Option (List Event) → Type 0
+IsReason Read log = HasFailed log
+IsReason Write log = HasNotWritten log
+IsReason OutOfMemory log = ⊤
+IsReason error log = ⊥
+
 -- A conversation that broke off for this reason: each line that was heard before was answered, and a beginning of what is due went out. Unless a write
 -- failed, that is nothing, or what is due for the first of the lines: whole blocks.
 pub record Breaks (due : Due) (old new : Option (List Event)) (error : EngineError) : Type 0 where
   pub events : List Event
   pub goes : Goes old new events
+  pub reason : IsReason error new
   pub prompt : IsPrompt due events
   pub said : IsBeginning (said_in events) (due (all_lines (heard_in events)))
   pub whole : error ≢ Write → (said_in events ≡ []) ⊎ IsDueForSome due (all_lines (heard_in events)) (said_in events)
+
+-- The conversation was whole, or it broke off for the reason that is answered.
+abbrev pub TalksUntil : Due → Option (List Event) → Option (List Event) → Result (Unit {0}) EngineError → Type 0
+TalksUntil due old new (Ok u) = Talks due old new
+TalksUntil due old new (Err error) = Breaks due old new error

@@ -1,25 +1,81 @@
--- A result again, out of the result before and what has changed (this profile).
-use Rattle.std.specs.Prelude.{◌≡◌, List, [], ◌∷◌, drop, Option, None, Some}
+-- A result again, out of the result before and what the lines of changes say (this profile).
+use Rattle.std.specs.Prelude.{◌≡◌, ℕ, zero, suc, ◌+◌, ◌==◌, List, [], ◌∷◌, ◌++◌, drop, length, codes, Option, None, Some, if◌then◌else◌}
+use Rattle.bsp_model.specs.declared.cost.CostRow.{CostRow}
 use Rattle.bsp_run.specs.declared.result.RunResult.{RunResult}
-use Rattle.bsp_engine.specs.Changes.{Changes, changes_of}
+use Rattle.bsp_run.specs.declared.result.Status.{Status}
+use Rattle.bsp_engine.specs.Changes.{Changes, changes_of, changes_lines, count_line, other_lines}
+use Rattle.bsp_engine.specs.Lines.{line}
+use Rattle.bsp_engine.specs.Text.{cost_line, memory_line, status_lines}
 
--- each item that has changed; where none has, the item of the list before
-abbrev pub with_others : {A : Type 0} → List A → List (Option A) → List A
-with_others olds [] = []
-with_others olds (Some new ∷ later) = new ∷ with_others (drop 1 olds) later
-with_others [] (None ∷ later) = with_others [] later
-with_others (old ∷ olds) (None ∷ later) = old ∷ with_others olds later
+-- What the lines of changes say: each names the number of its process or superstep.
+pub record Told : Type 0 where
+  pub status : Status
+  pub memories : List (ℕ × List ℕ)
+  pub lines : List (ℕ × List (List ℕ))
+  pub costs : List (ℕ × CostRow)
+  pub supersteps : Option ℕ
+  pub total : ℕ
 
-abbrev pub whole_of : RunResult → Changes → RunResult
-whole_of old c =
+-- the items that have changed, with their numbers; n is that of the first
+abbrev pub numbers_of : {A : Type 0} → ℕ → List (Option A) → List (ℕ × A)
+numbers_of n [] = []
+numbers_of n (None ∷ later) = numbers_of (n + 1) later
+numbers_of n (Some x ∷ later) = (n, x) ∷ numbers_of (n + 1) later
+
+abbrev pub told_of : Changes → Told
+told_of c =
     record {
       status = c.status;
-      memories = with_others old.memories c.memories;
-      lines = with_others old.lines c.lines;
-      costs = with_others old.costs c.costs;
+      memories = numbers_of 0 c.memories;
+      lines = numbers_of 0 c.lines;
+      costs = numbers_of 0 c.costs;
+      supersteps = c.supersteps;
       total = c.total;
     }
 
--- The result before and what has changed give the whole result.
+-- a piece for each item that is told
+abbrev pub pieces : {A : Type 0} → (ℕ → A → List ℕ) → List (ℕ × A) → List ℕ
+pieces piece [] = []
+pieces piece (item ∷ later) = piece item.0 item.1 ++ pieces piece later
+
+-- the lines that say so
+abbrev pub told_lines : Told → List ℕ
+told_lines t =
+    status_lines t.status ++ pieces memory_line t.memories ++ pieces other_lines t.lines ++ pieces cost_line t.costs
+    ++ count_line t.supersteps ++ line (codes "total") (t.total ∷ [])
+
+-- the item that was there, if there was one
+abbrev pub first_of : {A : Type 0} → List A → List A
+first_of [] = []
+first_of (old ∷ olds) = old ∷ []
+
+-- So many items, of which the first has the number n: each as it is told, in their order, or as it was before.
+abbrev pub items_with : {A : Type 0} → ℕ → ℕ → List A → List (ℕ × A) → List A
+items_with zero n olds told = []
+items_with (suc count) n olds [] = first_of olds ++ items_with count (n + 1) (drop 1 olds) []
+items_with (suc count) n olds (item ∷ later) =
+    if item.0 == n then item.1 ∷ items_with count (n + 1) (drop 1 olds) later
+    else first_of olds ++ items_with count (n + 1) (drop 1 olds) (item ∷ later)
+
+abbrev pub count_with : ℕ → Option ℕ → ℕ
+count_with old None = old
+count_with old (Some new) = new
+
+-- There are as many processes as before, and as many supersteps unless their number is told.
+abbrev pub whole_of : RunResult → Told → RunResult
+whole_of old t =
+    record {
+      status = t.status;
+      memories = items_with (length old.memories) 0 old.memories t.memories;
+      lines = items_with (length old.lines) 0 old.lines t.lines;
+      costs = items_with (count_with (length old.costs) t.supersteps) 0 old.costs t.costs;
+      total = t.total;
+    }
+
+-- The lines of changes say this, and with the result before, that of as many processes, it gives the whole result.
+pub record ChangesTell (old new : RunResult) : Type 0 where
+  pub say : changes_lines (changes_of old new) ≡ told_lines (told_of (changes_of old new))
+  pub give : whole_of old (told_of (changes_of old new)) ≡ new
+
 abbrev pub ChangesTellTheRest : Type 0
-ChangesTellTheRest = (old new : RunResult) → whole_of old (changes_of old new) ≡ new
+ChangesTellTheRest = (old new : RunResult) → length old.memories ≡ length new.memories → length old.lines ≡ length new.lines → ChangesTell old new

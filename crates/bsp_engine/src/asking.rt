@@ -1,8 +1,8 @@
 //! What a line asks of a live session.
 
-ghost use Rattle.std.specs.Prelude.{◌≡◌, IfOk, Some, codes};
+ghost use Rattle.std.specs.Prelude.{◌≡◌, IfOk, Some};
 ghost use Rattle.toml.specs.View.{table_view};
-ghost use Rattle.bsp_engine.specs.Asked.{asked_at, asked_of, document_of, is_blank, is_document, is_space, is_word, no_edits};
+ghost use Rattle.bsp_engine.specs.Asked.{asked_at, asked_of, begins_with_word, document_of, is_blank, is_document, is_space, is_word, no_edits};
 ghost use Rattle.bsp_engine.specs.Tree.{tree_of};
 
 use crate::errors::JobError;
@@ -58,18 +58,30 @@ fn is_blank(line: &[u8]) -> bool
     true
 }
 
-/// Whether the word `undo` stands on the line alone.
-fn is_undo(line: &[u8]) -> bool
-    ensures { result ≡ is_word (codes "undo") line.now }
+/// Whether the text begins with the word, and has nothing behind it but spaces and a comment.
+fn begins_with_word(word: &[u8], text: &[u8]) -> bool
+    ensures { result ≡ begins_with_word word.now text.now }
 {
-    line == b"undo".as_slice() || line == b"undo\r".as_slice()
+    text.starts_with(word) && is_blank(&text[word.len()..])
 }
 
-/// Whether the word `document` stands on the line alone.
+/// Whether the word stands on the line: spaces may stand around it, and a comment behind it.
+fn is_word(word: &[u8], line: &[u8]) -> bool
+    ensures { result ≡ is_word word.now line.now }
+{
+    for (at, byte) in line.iter().enumerate() {
+        if !is_space(*byte) {
+            return begins_with_word(word, &line[at..]);
+        }
+    }
+    false
+}
+
+/// Whether the line asks for the document.
 pub fn is_document(line: &[u8]) -> bool
     ensures { result ≡ is_document line.now }
 {
-    line == b"document".as_slice() || line == b"document\r".as_slice()
+    line.len() <= MOST_DOCUMENT_BYTES && is_word(b"document", line)
 }
 
 /// The batch of no edit, where no other is written.
@@ -127,7 +139,7 @@ pub fn asked_of(alloc: Global, line: &[u8]) -> Result<Asked, OutOfMemory>
     if line.len() > MOST_DOCUMENT_BYTES {
         return Ok(Asked::Nothing(Unread::TooLong));
     }
-    if is_undo(line) {
+    if is_word(b"undo", line) {
         return Ok(Asked::Undo);
     }
     let document = document_of(alloc, line)?;

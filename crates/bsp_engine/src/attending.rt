@@ -1,6 +1,6 @@
 //! Who answers the lines of a live session, one after the other.
 
-ghost use Rattle.std.specs.Prelude.{◌≡◌, ◌≢◌, ◌∷◌, ◌++◌, List, ℕ, IfOk, OnOk, Err, None, false};
+ghost use Rattle.std.specs.Prelude.{◌≡◌, ◌∷◌, ◌++◌, List, ℕ, IfOk, OnOk, None, false};
 ghost use Rattle.bsp_model.specs.Input.{input_fault};
 ghost use Rattle.bsp_engine.specs.Asked.{asked_of, is_document};
 ghost use Rattle.bsp_engine.specs.Inside.DueAt.{due_at, due_from};
@@ -10,7 +10,6 @@ ghost use Rattle.bsp_engine.specs.Live.{after, answer_block, answer_to, due_of, 
 use crate::asking::{asked_of, is_document};
 use crate::crew::Crew;
 use crate::document::put_document;
-use crate::errors::EngineError;
 use crate::jobs::Job;
 use crate::lines::push_line;
 use crate::live::{Live, begin, push_answer};
@@ -18,6 +17,7 @@ use crate::options::Detail;
 use bsp_model::OutOfMemory;
 use bsp_pool::Gate;
 use bsp_step::Program;
+use std::alloc::AllocError;
 use std::thread::Threads;
 
 /// Who answers the lines of a live session.
@@ -84,39 +84,37 @@ fn write_next_block<P: Program + Drop, R: Threads + Sync, G: Gate>(
     crew: &Crew<'_, R, G>,
     attendant: &mut Attendant<P>,
     line: &[u8],
-) -> Result<(), EngineError>
+) -> Result<(), OutOfMemory>
     requires { is_document line.now ≡ false }
-    ensures answer { OnOk result ((later : List (List ℕ)) →
+    ensures { OnOk result ((later : List (List ℕ)) →
         due_at P.acts P.ending P.looks attendant.old (line.now ∷ later) ≡ due_from P.acts P.ending P.looks attendant.new later) }
-    ensures failed { result ≢ Err EngineError.Write }
 {
+    // Where the numbers run out there is no room for a block either.
     let Some(number) = attendant.last.checked_add(1) else {
-        return Err(EngineError::TooLong);
+        return Err(AllocError);
     };
     attendant.last = number;
     match write_block(crew, attendant, line) {
         Ok(()) => Ok(()),
-        Err(_) => Err(EngineError::OutOfMemory),
+        Err(error) => Err(error),
     }
 }
 
-/// Writes the answer to a line, which has no LF, or tells why there is none.
+/// Writes the answer to a line, which has no LF.
 pub fn respond<P: Program + Drop, R: Threads + Sync, G: Gate>(
     crew: &Crew<'_, R, G>,
     attendant: &mut Attendant<P>,
     line: &[u8],
-) -> Result<(), EngineError>
-    ensures answer { OnOk result ((later : List (List ℕ)) →
+) -> Result<(), OutOfMemory>
+    ensures { OnOk result ((later : List (List ℕ)) →
         due_at P.acts P.ending P.looks attendant.old (line.now ∷ later) ≡ due_from P.acts P.ending P.looks attendant.new later) }
-    ensures failed { result ≢ Err EngineError.Write }
 {
     if !is_document(line) {
-        return write_next_block(crew, attendant, line);
+        write_next_block(crew, attendant, line)?;
+        return Ok(());
     }
     let own = attendant.own.as_slice();
     let input = attendant.live.input();
-    match put_document(&mut attendant.text, own, input) {
-        Ok(()) => Ok(()),
-        Err(_) => Err(EngineError::OutOfMemory),
-    }
+    put_document(&mut attendant.text, own, input)?;
+    Ok(())
 }

@@ -17,6 +17,7 @@ pub trait Catalogue {
     ghost use Rattle.std.specs.Prelude.{true, is_some, Some};
     ghost use Rattle.toml.specs.View.{table_view};
     ghost use Rattle.bsp_engine.specs.Catalogue.{Meaning, ReadsOwnKeys};
+    ghost use Rattle.bsp_engine.specs.Keys.{HasKeysApart};
 
     /// What the documents name.
     type Program: Program + Drop;
@@ -55,4 +56,7 @@ pub trait Catalogue {
 
     // All of it depends on the values at the catalogue's own keys alone.
     ghost reads_own_keys: { ReadsOwnKeys meaning };
+
+    // They are other keys than those that every document may have.
+    ghost keys_apart: { HasKeysApart meaning };
 }

@@ -3,7 +3,7 @@
 ghost use Rattle.bsp_engine.specs.Whole.{ChangesTellTheRest};
 ghost use Rattle.bsp_engine.specs.Untouched.{UntouchedProcessesStay};
 
-/// A result and what of the next one is another give the next one whole.
+/// The lines of changes say enough: with the result before, that of as many processes, they give the next one whole.
 pub fn changes_tell_the_rest()
     ensures { ChangesTellTheRest }
 {}

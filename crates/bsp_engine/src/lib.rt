@@ -2,6 +2,7 @@
 #![tactic(auto)]
 
 mod accepted;
+mod answers;
 mod asking;
 mod attending;
 mod blocks;
@@ -37,6 +38,7 @@ pub mod tree;
 mod unread;
 mod writing;
 
+pub use answers::{lines_are_batches, undo_takes_back};
 pub use blocks::report;
 pub use catalogue::Catalogue;
 pub use changes::{changes_tell_the_rest, untouched_processes_stay};
@@ -48,6 +50,6 @@ pub use following::follow;
 pub use jobs::{Job, read_job};
 pub use naming::{ByName, Named};
 pub use options::{Detail, Options, Tool, VERSION, read_options, words_status};
-pub use rereading::{documents_read_back, named_keys_are_apart};
+pub use rereading::documents_read_back;
 pub use terminal::{Console, Terminal};
 pub use tool::run_tool;

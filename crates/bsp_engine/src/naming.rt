@@ -29,13 +29,15 @@ pub trait ByName {
 pub struct Named<N>(PhantomData<N>);
 
 impl<N: ByName> Catalogue for Named<N> {
-    ghost use Rattle.bsp_engine.specs.Naming.{meaning_by_name, meaning_by_name-reads_own_keys};
+    ghost use Rattle.bsp_engine.specs.Naming.{meaning_by_name, meaning_by_name-keys_apart, meaning_by_name-reads_own_keys};
 
     type Program = N::Program;
 
     ghost meaning = { meaning_by_name N.named };
 
     ghost reads_own_keys = { meaning_by_name-reads_own_keys N.named };
+
+    ghost keys_apart = { meaning_by_name-keys_apart N.named };
 
     fn is_key(key: &str) -> bool {
         key == "program"

@@ -3,7 +3,7 @@
 ghost use Rattle.std.specs.Prelude.{◌≡◌, [], Ok, false, true, IfErr, OnOk, OnErr};
 ghost use Rattle.bsp_engine.specs.Inside.DueAt.{due_at, due_from};
 ghost use Rattle.bsp_engine.specs.Inside.Talk.{Answered, Attended, BreaksOff, Ends, GoesOn, Says, SaysPart, Stopped, TalksOn, Unattended};
-ghost use Rattle.bsp_engine.specs.Talk.{Breaks, Talks, kept};
+ghost use Rattle.bsp_engine.specs.Talk.{TalksUntil, kept};
 
 use crate::attending::{Attendant, respond};
 use crate::crew::Crew;
@@ -46,8 +46,10 @@ fn answer<P: Program + Drop, R: Threads + Sync, G: Gate, T: Terminal>(
     ensures ok { OnOk result (Answered (due_at P.acts P.ending P.looks attendant.old) (due_at P.acts P.ending P.looks attendant.new) line.now (T.log terminal.old) (T.log terminal.new)) }
     ensures err { IfErr result (λ e. Stopped (due_at P.acts P.ending P.looks attendant.old) line.now (T.log terminal.old) (T.log terminal.new) e) }
 {
-    respond(crew, attendant, line)?;
-    say_all(terminal, attendant.text.as_slice())
+    match respond(crew, attendant, line) {
+        Ok(()) => say_all(terminal, attendant.text.as_slice()),
+        Err(_) => Err(EngineError::OutOfMemory),
+    }
 }
 
 /// Keeps one more byte of a line, unless it is too long already.
@@ -156,7 +158,8 @@ fn listen<P: Program + Drop, R: Threads + Sync, G: Gate, T: Terminal>(
             return Ok(());
         }
     }
-    Err(EngineError::Read)
+    // No terminal gives so many pieces.
+    Err(EngineError::OutOfMemory)
 }
 
 /// Says what is to be said next, and then answers each line that is heard before it waits for more, up to the end.
@@ -165,8 +168,7 @@ pub fn talk<P: Program + Drop, R: Threads + Sync, G: Gate, T: Terminal>(
     attendant: &mut Attendant<P>,
     terminal: &mut T,
 ) -> Result<(), EngineError>
-    ensures ok { OnOk result (Talks (due_from P.acts P.ending P.looks attendant.old) (T.log terminal.old) (T.log terminal.new)) }
-    ensures err { IfErr result (λ e. Breaks (due_from P.acts P.ending P.looks attendant.old) (T.log terminal.old) (T.log terminal.new) e) }
+    ensures { TalksUntil (due_from P.acts P.ending P.looks attendant.old) (T.log terminal.old) (T.log terminal.new) result }
 {
     say_all(terminal, attendant.text.as_slice())?;
     let mut begun = Vec::new(crew.alloc);

@@ -16,13 +16,15 @@ use toml::Table;
 pub struct Scripts;
 
 impl Catalogue for Scripts {
-    ghost use Rattle.bsp_script.specs.Catalogue.{script_meaning, script_meaning-reads_own_keys};
+    ghost use Rattle.bsp_script.specs.Catalogue.{script_meaning, script_meaning-keys_apart, script_meaning-reads_own_keys};
 
     type Program = Script;
 
     ghost meaning = { script_meaning };
 
     ghost reads_own_keys = { script_meaning-reads_own_keys };
+
+    ghost keys_apart = { script_meaning-keys_apart };
 
     fn is_key(key: &str) -> bool {
         key == "script"

@@ -1,14 +1,15 @@
 -- How a conversation goes on, byte by byte and line by line: private functions alone speak of it.
 use Rattle.std.specs.Prelude.{◌≡◌, ◌≢◌, ℕ, Bool, true, false, ◌==◌, List, [], ◌∷◌, ◌++◌, Option, ⊤}
 use Rattle.bsp_engine.specs.declared.errors.EngineError.{EngineError}
-use Rattle.bsp_engine.specs.declared.errors.EngineError.TheVariants.{Write}
-use Rattle.bsp_engine.specs.Talk.{Breaks, Due, Event, Goes, IsBeginning, IsPrompt, Talks, heard, heard_in, kept, rest_from, said, said_in, whole_lines}
+use Rattle.bsp_engine.specs.declared.errors.EngineError.TheVariants.{Write, OutOfMemory}
+use Rattle.bsp_engine.specs.Talk.{Breaks, Due, Event, Goes, HasNotWritten, IsBeginning, IsPrompt, IsReason, Talks, failed, heard, heard_in, kept, rest_from, said, said_in, whole_lines}
 
 -- nothing was heard
 abbrev pub OnlySaid : List Event → Type 0
 OnlySaid [] = ⊤
 OnlySaid (heard bytes ∷ before) = ⊥
 OnlySaid (said bytes ∷ before) = OnlySaid before
+OnlySaid (failed ∷ before) = OnlySaid before
 
 -- this text went out, and nothing was heard
 pub record Says (old new : Option (List Event)) (text : List ℕ) : Type 0 where
@@ -17,11 +18,12 @@ pub record Says (old new : Option (List Event)) (text : List ℕ) : Type 0 where
   pub only : OnlySaid events
   pub is : said_in events ≡ text
 
--- a beginning of this text went out, and nothing was heard
+-- a beginning of this text went out, then a write failed or took no byte, and nothing was heard
 pub record SaysPart (old new : Option (List Event)) (whole : List ℕ) : Type 0 where
   pub text : List ℕ
   pub begins : IsBeginning text whole
   pub says : Says old new text
+  pub unwritten : HasNotWritten new
 
 -- the line was answered; `due` is what was due before it, `now` what is due after it
 pub record Answered (due now : Due) (line : List ℕ) (old new : Option (List Event)) : Type 0 where
@@ -33,6 +35,7 @@ pub record Answered (due now : Due) (line : List ℕ) (old new : Option (List Ev
 pub record Stopped (due : Due) (line : List ℕ) (old new : Option (List Event)) (error : EngineError) : Type 0 where
   pub text : List ℕ
   pub says : Says old new text
+  pub reason : IsReason error new
   pub begins : (later : List (List ℕ)) → IsBeginning text (due (line ∷ later))
   pub whole : error ≢ Write → text ≡ []
 
@@ -44,10 +47,10 @@ AttendedIf false due now begun byte next old new = (next ≡ kept begun byte) ×
 abbrev pub Attended : Due → Due → List ℕ → ℕ → List ℕ → Option (List Event) → Option (List Event) → Type 0
 Attended due now begun byte next old new = AttendedIf (byte == 10) due now begun byte next old new
 
--- The byte was not taken: the answer to the line broke off, or nothing happened.
+-- The byte was not taken: the answer to the line broke off, or memory was refused and nothing happened.
 abbrev pub UnattendedIf : Bool → Due → List ℕ → Option (List Event) → Option (List Event) → EngineError → Type 0
 UnattendedIf true due begun old new error = Stopped due begun old new error
-UnattendedIf false due begun old new error = new ≡ old
+UnattendedIf false due begun old new error = (error ≡ OutOfMemory) × (new ≡ old)
 
 abbrev pub Unattended : Due → List ℕ → ℕ → Option (List Event) → Option (List Event) → EngineError → Type 0
 Unattended due begun byte old new error = UnattendedIf (byte == 10) due begun old new error

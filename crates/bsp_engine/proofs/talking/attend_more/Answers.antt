@@ -1,16 +1,15 @@
 use Rattle.std.proofs.Common.{◌≡◌, [], ◌∷◌, List, ℕ, take, ap, refl, subst, sym, arith}
 use Rattle.std.proofs.lemmas.Grind.{common_steps}
 use Rattle.bsp_engine.specs.declared.errors.EngineError.{EngineError}
-use Rattle.bsp_engine.specs.declared.errors.EngineError.TheVariants.{Read}
 use Rattle.bsp_engine.specs.Inside.DueAt.{due_at}
 use Rattle.bsp_engine.specs.Inside.Talk.{BreaksOff}
 use Rattle.bsp_engine.specs.Talk.{Goes, heard}
 use Rattle.bsp_engine.proofs.Beginning.{due_at-none}
-use Rattle.bsp_engine.proofs.Conversations.{breaks_here, goes_as, goes_heard, handed_on}
+use Rattle.bsp_engine.proofs.Conversations.{breaks_read, goes_as, goes_heard, handed_on}
 use Rattle.bsp_engine.proofs.talking.attend_more.Goals as goal
 
 pub returns-in-Err-clause-err : goal.returns-in-Err-clause-err
-returns-in-Err-clause-err g c = λ due start h. breaks_here due _ start _ _ _ _ Read h (due_at-none g.P.Program.acts g.P.Program.ending g.P.Program.looks c.args.attendant.now) c.in-Err.ensures.kept
+returns-in-Err-clause-err g c = λ due start h. breaks_read due _ start _ _ _ h (due_at-none g.P.Program.acts g.P.Program.ending g.P.Program.looks c.args.attendant.now) c.in-Err.ensures.failed
 
 pub returns-in_err-attend_rest-clause-err : goal.returns-in_err-attend_rest-clause-err
 returns-in_err-attend_rest-clause-err g c =

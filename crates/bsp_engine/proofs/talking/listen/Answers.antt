@@ -1,6 +1,5 @@
 use Rattle.std.proofs.Common.{[], Ok, ap}
 use Rattle.bsp_engine.specs.declared.errors.EngineError.{EngineError}
-use Rattle.bsp_engine.specs.declared.errors.EngineError.TheVariants.{Read}
 use Rattle.bsp_engine.specs.Inside.DueAt.{due_at}
 use Rattle.bsp_engine.specs.Inside.Talk.{BreaksOff}
 use Rattle.bsp_engine.proofs.Beginning.{due_at-none}
@@ -23,4 +22,4 @@ pub loop-preserved : goal.loop-preserved
 loop-preserved g c = λ due start h. c.in_ok-more.ensures.more (ap Ok c.if-not-more.false) due start (c.loop.invariant due start h)
 
 pub returns-clause-err : goal.returns-clause-err
-returns-clause-err g c = λ due start h. breaks_now due _ start _ _ _ Read (c.loop.invariant due start h) (due_at-none g.P.Program.acts g.P.Program.ending g.P.Program.looks c.loop.attendant)
+returns-clause-err g c = λ due start h. breaks_now due _ start _ _ _ (c.loop.invariant due start h) (due_at-none g.P.Program.acts g.P.Program.ending g.P.Program.looks c.loop.attendant)
