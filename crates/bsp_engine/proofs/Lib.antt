@@ -23,3 +23,4 @@ pub mod Trees
 pub mod LawOfReports
 pub mod Untouched
 pub mod WholeAgain
+pub mod Walks

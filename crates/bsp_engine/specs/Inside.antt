@@ -9,3 +9,4 @@ pub mod Places
 pub mod Refusal
 pub mod Talk
 pub mod Touched
+pub mod Faultless

@@ -13,7 +13,7 @@ mod crew;
 mod document;
 mod documents;
 mod errors;
-mod explaining;
+mod explain;
 mod flags;
 mod flow;
 mod following;

@@ -17,13 +17,14 @@ use crate::crew::Crew;
 use crate::jobs::Job;
 use crate::last::Last;
 use crate::lines::push_line;
-use crate::opening::{last_if, push_opening, session_of};
+use crate::opening::{last_if, push_opening};
 use crate::options::Detail;
 use crate::reporting::push_refusal;
 use crate::unread::push_unread;
 use bsp_incr::{Batch, Edit, EditError, Session, Update};
 use bsp_model::{Input, OutOfMemory};
 use bsp_pool::Gate;
+use bsp_run::RunError;
 use bsp_step::Program;
 use std::alloc::{AllocError, Global};
 use std::collections::VecDeque;
@@ -71,13 +72,18 @@ fn open<P: Program + Drop, R: Threads + Sync, G: Gate>(
     ensures live { IfOk result (λ r. r.0 ≡ opened false program input) }
     ensures update { IfOk result (λ r. r.1 ≡ update_of (P.looks program) None (run (turn_of (P.acts program) (P.ending program)) input)) }
 {
-    let (session, update) = session_of(crew, program, input)?;
-    let live = Live {
-        session,
-        last: None,
-        undos: VecDeque::new(crew.alloc),
-    };
-    Ok((live, update))
+    match Session::open(crew.rt, crew.alloc, program, input, crew.workers, crew.gate) {
+        Ok((session, update)) => {
+            let live = Live {
+                session,
+                last: None,
+                undos: VecDeque::new(crew.alloc),
+            };
+            Ok((live, update))
+        }
+        Err(RunError::Input(_)) => unreachable!(),
+        Err(RunError::OutOfMemory) => Err(AllocError),
+    }
 }
 
 /// Appends the block of the opening, for which this was done, and keeps what it told if the blocks are to tell changes alone.

@@ -1,26 +1,18 @@
 //! The opening of a session.
 
 ghost use Rattle.std.specs.Prelude.{◌≡◌, ◌++◌, IfOk, OnOk, None, Some, is_some};
-ghost use Rattle.bsp_model.specs.Input.{input_fault};
-ghost use Rattle.bsp_step.specs.Turn.{turn_of};
 ghost use Rattle.bsp_run.specs.Result.{result_of};
-ghost use Rattle.bsp_run.specs.Run.{run};
-ghost use Rattle.bsp_incr.specs.Inside.Changes.{update_of};
 ghost use Rattle.bsp_incr.specs.declared.reply.Reply.TheVariants.{Done};
 ghost use Rattle.bsp_engine.specs.Blocks.{reply_block};
 ghost use Rattle.bsp_engine.specs.Inside.Given.{IsResultIn};
 
-use crate::crew::Crew;
 use crate::last::Last;
 use crate::lines::push_line;
 use crate::reporting::{push_result, push_update};
-use bsp_incr::{Session, Update};
-use bsp_model::{Input, OutOfMemory};
-use bsp_pool::Gate;
-use bsp_run::{History, RunError};
-use bsp_step::Program;
-use std::alloc::{AllocError, Global};
-use std::thread::Threads;
+use bsp_incr::Update;
+use bsp_model::OutOfMemory;
+use bsp_run::History;
+use std::alloc::Global;
 
 /// What a history gives, if it is asked for.
 pub fn last_if(alloc: Global, asked: bool, history: &History) -> Result<Option<Last>, OutOfMemory>
@@ -31,24 +23,6 @@ pub fn last_if(alloc: Global, asked: bool, history: &History) -> Result<Option<L
         Ok(Some(Last::of(alloc, history)?))
     } else {
         Ok(None)
-    }
-}
-
-/// The session of a lawful input, and what was done for it.
-pub fn session_of<P: Program + Drop, R: Threads + Sync, G: Gate>(
-    crew: &Crew<'_, R, G>,
-    program: P,
-    input: Input,
-) -> Result<(Session<P>, Update), OutOfMemory>
-    requires lawful { input_fault input ≡ None }
-    ensures program { IfOk result (λ r. r.0.program ≡ program) }
-    ensures input { IfOk result (λ r. r.0.input ≡ input) }
-    ensures update { IfOk result (λ r. r.1 ≡ update_of (P.looks program) None (run (turn_of (P.acts program) (P.ending program)) input)) }
-{
-    match Session::open(crew.rt, crew.alloc, program, input, crew.workers, crew.gate) {
-        Ok(opened) => Ok(opened),
-        Err(RunError::Input(_)) => unreachable!(),
-        Err(RunError::OutOfMemory) => Err(AllocError),
     }
 }
 
