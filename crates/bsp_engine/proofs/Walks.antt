@@ -1,6 +1,6 @@
 -- The first value of another shape, and the tests of all values.
-use Rattle.std.proofs.Common.{◌≡◌, ℕ, ◌+◌, ◌<◌, Bool, true, false, ◌&&◌, ◌||◌, List, [], ◌∷◌, Option, Some, None, map, take, length, get_or, cond, codes, refl, ap, sym, ◌∙◌}
-use Rattle.std.specs.Prelude.{not, is_some, option_map}
+use Rattle.std.proofs.Common.{◌≡◌, ℕ, ◌+◌, ◌<◌, Bool, true, false, ◌&&◌, ◌||◌, List, [], ◌∷◌, Option, Some, None, Result, Ok, Err, map, take, length, get_or, cond, codes, refl, ap, sym, ◌∙◌}
+use Rattle.std.specs.Prelude.{IfErr, OnOk, not, is_some, option_map}
 use Rattle.std.specs.List.{find, list_all, list_any}
 use Rattle.std.proofs.lemmas.List.Folds.{list_all-map, list_all_at, list_all_more}
 use Rattle.toml.specs.Data.{Data, Members, get_member}
@@ -8,6 +8,7 @@ use Rattle.toml.specs.View.{view}
 use Rattle.toml.specs.declared.value.Value.{Value}
 use Rattle.bsp_engine.specs.Catalogue.{Meaning}
 use Rattle.bsp_engine.specs.Keys.{passes}
+use Rattle.bsp_engine.specs.Inside.Signs.{row_fits, rows_fit, batches_fit, has_no_sign}
 use Rattle.bsp_engine.specs.Signs.{has_negative, has_negative_edit, has_negative_word}
 use Rattle.bsp_engine.specs.Tree.{elements, elements_in, is_negative}
 
@@ -46,16 +47,6 @@ found_failing p (x ∷ xs) =
       | false ↦ refl
     ]
 
--- no integer of the row is negative; no integer of the rows
-abbrev pub row_fits : Data → Bool
-row_fits d = list_all (λ w. not (is_negative w)) (elements d)
-
-abbrev pub rows_fit : Data → Bool
-rows_fit d = list_all row_fits (elements d)
-
-abbrev pub batches_fit : Data → Bool
-batches_fit d = list_all rows_fit (elements d)
-
 not_both : (a b : Bool) → (not a || not b) ≡ not (a && b)
 not_both true b = refl
 not_both false b = refl
@@ -92,36 +83,28 @@ any_at meaning t =
     ∙ (ap (λ x. meaning.has_negative_word t || not (passes rows_fit o) || x || list_any has_negative_edit (elements_in b)) (rows_at a)
     ∙ ap (λ x. meaning.has_negative_word t || not (passes rows_fit o) || not (passes rows_fit a) || x) (batches_at b))
 
-none_of : (a m r b : Bool) → a ≡ false → m ≡ true → r ≡ true → b ≡ true → (a || not m || not r || not b) ≡ false
-none_of a m r b e f g h = rw (e, f, g, h) refl
+joined : (a m r b : Bool) → (a || not m || not r || not b) ≡ (a || not (m && r && b))
+joined true m r b = refl
+joined false false r b = refl
+joined false true false b = refl
+joined false true true b = refl
 
-second : (a m r b : Bool) → m ≡ false → (a || not m || not r || not b) ≡ true
-second true m r b e = refl
-second false m r b e = rw e refl
+or_true : (a : Bool) → (a || true) ≡ true
+or_true true = refl
+or_true false = refl
 
-third : (a m r b : Bool) → r ≡ false → (a || not m || not r || not b) ≡ true
-third true m r b e = refl
-third false false r b e = refl
-third false true r b e = rw e refl
+signs_of : {P : Type 0} (meaning : Meaning P) (t : Members) → has_negative_word meaning t ≡ (meaning.has_negative_word t || not (has_no_sign t))
+signs_of meaning t =
+    any_at meaning t ∙ joined (meaning.has_negative_word t) (passes rows_fit (get_member (codes "memory") t)) (passes rows_fit (get_member (codes "args") t)) (passes batches_fit (get_member (codes "batches") t))
 
-fourth : (a m r b : Bool) → b ≡ false → (a || not m || not r || not b) ≡ true
-fourth true m r b e = refl
-fourth false false r b e = refl
-fourth false true false b e = refl
-fourth false true true b e = rw e refl
+-- what was found in the common keys is what is found in all
+pub none_told : {P X E : Type 0} (r : Result X E) (meaning : Meaning P) (t : Members) → meaning.has_negative_word t ≡ false → OnOk r (has_no_sign t ≡ true) → OnOk r (has_negative_word meaning t ≡ false)
+none_told (Ok x) meaning t none h = signs_of meaning t ∙ rw (none, h) refl
+none_told (Err e) meaning t none h = tt
 
-pub no_negative : {P : Type 0} (meaning : Meaning P) (t : Members) → meaning.has_negative_word t ≡ false → passes rows_fit (get_member (codes "memory") t) ≡ true → passes rows_fit (get_member (codes "args") t) ≡ true → passes batches_fit (get_member (codes "batches") t) ≡ true → has_negative_word meaning t ≡ false
-no_negative meaning t a m r b = any_at meaning t ∙ none_of _ _ _ _ a m r b
-
-pub negative_in_memory : {P : Type 0} (meaning : Meaning P) (t : Members) → passes rows_fit (get_member (codes "memory") t) ≡ false → has_negative_word meaning t ≡ true
-negative_in_memory meaning t m = any_at meaning t ∙ second (meaning.has_negative_word t) _ _ _ m
-
-pub negative_in_args : {P : Type 0} (meaning : Meaning P) (t : Members) → passes rows_fit (get_member (codes "args") t) ≡ false → has_negative_word meaning t ≡ true
-negative_in_args meaning t r = any_at meaning t ∙ third (meaning.has_negative_word t) (passes rows_fit (get_member (codes "memory") t)) _ _ r
-
-pub negative_in_batches : {P : Type 0} (meaning : Meaning P) (t : Members) → passes batches_fit (get_member (codes "batches") t) ≡ false → has_negative_word meaning t ≡ true
-negative_in_batches meaning t b =
-    any_at meaning t ∙ fourth (meaning.has_negative_word t) (passes rows_fit (get_member (codes "memory") t)) (passes rows_fit (get_member (codes "args") t)) _ b
+pub one_told : {P X E : Type 0} (r : Result X E) (Q : E → Type 0) (meaning : Meaning P) (t : Members) → IfErr r (λ w. (has_no_sign t ≡ false) × Q w) → IfErr r (λ w. (has_negative_word meaning t ≡ true) × Q w)
+one_told (Ok x) Q meaning t h = tt
+one_told (Err e) Q meaning t h = (signs_of meaning t ∙ rw (h.0) (or_true (meaning.has_negative_word t)), h.1)
 
 -- something is found, as a reference
 pub some_mapped : {A B : Type 0} (f : A → B) (s : Option B) (r : Option A) → option_map f r ≡ s → is_some r ≡ is_some s

@@ -10,3 +10,4 @@ pub mod Refusal
 pub mod Talk
 pub mod Touched
 pub mod Faultless
+pub mod Signs

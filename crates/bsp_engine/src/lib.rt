@@ -24,7 +24,6 @@ pub mod limits;
 mod lines;
 mod live;
 mod naming;
-mod opening;
 mod options;
 mod places;
 mod reading;
@@ -35,6 +34,7 @@ mod terminal;
 mod tool;
 pub mod tree;
 mod unread;
+mod whole_run;
 mod writing;
 
 pub use blocks::report;
