@@ -24,3 +24,4 @@ pub mod Trees
 pub mod LawOfReports
 pub mod Untouched
 pub mod WholeAgain
+pub mod Walks

@@ -43,6 +43,11 @@ two_pieces (Err x) old a b one two e f = tt
 pub three_pieces : {X E : Type 0} (r : Result X E) (old a b c one two three : List ℕ) → one ≡ old ++ a → two ≡ one ++ b → OnOk r (three ≡ two ++ c) → OnOk r (three ≡ old ++ ((a ++ b) ++ c))
 three_pieces r old a b c one two three e f g = two_pieces r old (a ++ b) c two three (f ∙ (ap (λ l. l ++ b) e ∙ append_assoc old a b)) g
 
+-- the same, where all come
+pub three_parts : (old a b c one two three : List ℕ) → one ≡ old ++ a → two ≡ one ++ b → three ≡ two ++ c → three ≡ old ++ (a ++ (b ++ c))
+three_parts old a b c one two three e f g =
+    g ∙ (ap (λ l. l ++ c) (f ∙ ap (λ l. l ++ b) e) ∙ (append_assoc (old ++ a) b c ∙ append_assoc old a (b ++ c)))
+
 -- numbers that are written from the last to the first, each with a space before it
 
 pub few_digits : (n : ℕ) → n < 2 ^ 64 → length (decimal n) ≤ 20

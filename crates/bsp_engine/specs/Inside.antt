@@ -9,3 +9,5 @@ pub mod Places
 pub mod Refusal
 pub mod Talk
 pub mod Touched
+pub mod Faultless
+pub mod Signs

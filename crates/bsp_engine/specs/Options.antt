@@ -13,17 +13,21 @@ use Rattle.bsp_engine.specs.declared.options.Options.{Options}
 abbrev pub workers_rule : Rule
 workers_rule = record (new_rule (codes "workers")) { long = Some (codes "workers"); value_names = 1; defaults = codes "1" ∷ []; parser = Some (Signed (pos 1) (pos 16)) }
 
+-- an option that is given or not
+abbrev pub flag_rule : List ℕ → Rule
+flag_rule name = record (new_rule name) { long = Some name; action = Some SetTrue }
+
 -- `--scratch`
 abbrev pub scratch_rule : Rule
-scratch_rule = record (new_rule (codes "scratch")) { long = Some (codes "scratch"); action = Some SetTrue }
+scratch_rule = flag_rule (codes "scratch")
 
 -- `--places`
 abbrev pub places_rule : Rule
-places_rule = record (new_rule (codes "places")) { long = Some (codes "places"); action = Some SetTrue }
+places_rule = flag_rule (codes "places")
 
 -- `--changes`
 abbrev pub changes_rule : Rule
-changes_rule = record (new_rule (codes "changes")) { long = Some (codes "changes"); action = Some SetTrue }
+changes_rule = flag_rule (codes "changes")
 
 -- `--follow FILE`
 abbrev pub follow_rule : Rule

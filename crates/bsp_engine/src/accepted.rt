@@ -13,7 +13,8 @@ ghost use Rattle.bsp_engine.specs.Untouched.{AreRunsAround};
 
 use crate::crew::Crew;
 use crate::last::Last;
-use crate::reporting::{push_result, push_update};
+use crate::reporting::push_update;
+use crate::whole_run::push_run;
 use bsp_incr::{Edit, EditError, Session, Update};
 use bsp_model::OutOfMemory;
 use bsp_pool::Gate;
@@ -59,10 +60,7 @@ fn push_history(
             last.tell(text, history, batch, update)?;
             Ok(Some(last))
         }
-        None => {
-            push_result(text, &history.result()?)?;
-            Ok(None)
-        }
+        None => push_run(text, false, history),
     }
 }
 

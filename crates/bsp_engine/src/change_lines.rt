@@ -5,8 +5,8 @@ ghost use Rattle.bsp_engine.specs.Changes.{changes_lines, changes_of, count_line
 ghost use Rattle.bsp_engine.specs.Lines.{numbered};
 ghost use Rattle.bsp_engine.specs.Text.{cost_line, memory_line};
 
-use crate::lines::push_line;
-use crate::reporting::{push_cost, push_lines, push_memory_line, push_status};
+use crate::lines::{push_line, push_words_line};
+use crate::reporting::{push_cost, push_lines, push_status};
 use bsp_model::{CostRow, Memories, MemoryRef, OutOfMemory, Same};
 use bsp_run::{Lines, RunResult};
 
@@ -34,7 +34,7 @@ pub fn push_other_memory<'a>(
             return Ok(false);
         }
     }
-    push_memory_line(text, pid, new)?;
+    push_words_line(text, "memory", pid, new)?;
     Ok(true)
 }
 

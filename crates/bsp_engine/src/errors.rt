@@ -29,7 +29,7 @@ pub enum JobFault {
 }
 
 /// Why a document was not read as a job.
-#[derive(Clone, Copy, Debug, PartialEq, Eq, Error)]
+#[derive(Clone, Copy, Debug, Error)]
 #[error("{}", EngineError::from(*self).line())]
 pub enum JobError {
     /// It is none.

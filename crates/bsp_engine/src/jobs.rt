@@ -1,8 +1,8 @@
 //! The job of a document.
 //!
 //! A document is read in this order: its tree (`tree`, J1), the keys and the shapes of their values (`keys`, `shapes`; J2 to J4), whether its
-//! keys say a program (J5), the sizes of the input (`sizes`, J6), and the signs of the numbers (`signs`, J7). Where it has no fault, and only
-//! then, its values are made (the catalogue's program, `inputs`, `batches`).
+//! keys say a program (J5), the sizes of the input (`sizes`, J6), and the signs of the numbers (`signs`, J7). The first fault is answered with its
+//! place (`wrong`). Where there is none, and only then, the values are made (the catalogue's program, `inputs`, `batches`).
 
 mod batches;
 mod inputs;
@@ -11,13 +11,15 @@ mod own;
 mod shapes;
 mod signs;
 mod sizes;
+mod wrong;
 
-ghost use Rattle.std.specs.Prelude.{◌≡◌, IfOk, IfErr, IsSomeAnd, None, Some, Ok, Err};
+ghost use Rattle.std.specs.Prelude.{◌≡◌, IfOk, IfErr, IsSomeAnd, None, OnOk, Some, Ok, Err};
 ghost use Rattle.toml.specs.View.{table_view};
 ghost use Rattle.bsp_model.specs.Input.{input_fault};
 ghost use Rattle.bsp_engine.specs.Document.{IsPrinted, own_members};
 ghost use Rattle.bsp_engine.specs.Refusal.{IfFault};
 ghost use Rattle.bsp_engine.specs.JobOf.{job_of_tree, job_of};
+ghost use Rattle.bsp_engine.specs.Inside.Faultless.{IsFaultless};
 ghost use Rattle.bsp_engine.specs.Tree.{tree_of};
 
 use crate::catalogue::Catalogue;
@@ -28,16 +30,16 @@ use batches::read_batches;
 use bsp_incr::Batch;
 use bsp_model::{Input, Seq};
 use inputs::read_input;
-use keys::key_fault;
-pub use keys::{integer_passes, is_known_key, rows_pass};
+use keys::check_keys;
 use own::own_text;
-pub use shapes::{is_batch, is_edit, is_row};
-use signs::has_negative_word;
-pub use signs::{has_negative, has_negative_edit};
-use sizes::described_fault;
-pub use sizes::{count_of_args, is_between};
+pub use shapes::is_batch;
+use signs::check_signs;
+pub use signs::has_negative_edit;
+use sizes::check_sizes;
+pub use sizes::count_of_args;
 use std::alloc::Global;
 use toml::Table;
+pub use wrong::{Path, Wrong};
 
 /// A program, its input, over which a run may start, and batches of edits.
 #[derive(Drop)]
@@ -50,23 +52,26 @@ pub struct Job<P> {
     pub batches: Seq<Batch>,
 }
 
+/// Refuses the first of J2 to J7 that the document has.
+pub fn check<C: Catalogue>(table: &Table) -> Result<(), Wrong<'_>>
+    ensures ok { OnOk result (IsFaultless C.meaning (table_view table.now)) }
+    ensures wrong { IfErr result (λ w. job_of_tree C.meaning (Some (table_view table.now)) ≡ Err w.fault) }
+{
+    check_keys::<C>(table)?;
+    if !C::names_program(table) {
+        let key = C::key_at_fault(table);
+        return Err(Wrong::at_key(JobFault::UnknownProgram, key));
+    }
+    check_sizes(table)?;
+    check_signs::<C>(table)
+}
+
 fn job_in<C: Catalogue>(alloc: Global, table: &Table) -> Result<Job<C::Program>, JobError>
     ensures ok { IfOk result (λ j. job_of_tree C.meaning (Some (table_view table.now)) ≡ Ok j) }
     ensures lawful { IfOk result (λ j. input_fault j.input ≡ None) }
     ensures fault { IfErr result (λ e. IfFault e (λ f. job_of_tree C.meaning (Some (table_view table.now)) ≡ Err f)) }
 {
-    if let Some(fault) = key_fault::<C>(table) {
-        return Err(JobError::Fault(fault));
-    }
-    if !C::names_program(table) {
-        return Err(JobError::Fault(JobFault::UnknownProgram));
-    }
-    if let Some(fault) = described_fault(table) {
-        return Err(JobError::Fault(JobFault::Input(fault)));
-    }
-    if has_negative_word::<C>(table) {
-        return Err(JobError::Fault(JobFault::BadWord));
-    }
+    check::<C>(table)?;
     Ok(Job {
         program: C::program(alloc, table)?,
         input: read_input(alloc, table)?,

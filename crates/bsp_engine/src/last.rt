@@ -163,7 +163,7 @@ fn tell_all_lines(
 
 impl Last {
     /// What a run gave.
-    fn copy_of(alloc: Global, given: &RunResult) -> Result<Last, OutOfMemory>
+    pub fn copy_of(alloc: Global, given: &RunResult) -> Result<Last, OutOfMemory>
         ensures { IfOk result (λ last. last ≡ given.now) }
     {
         let memories = own_memories(alloc, &given.memories)?;
@@ -176,14 +176,6 @@ impl Last {
             costs: Seq::from_vec(costs),
             total: given.total,
         })
-    }
-
-    /// What a history gives.
-    pub fn of(alloc: Global, history: &History) -> Result<Last, OutOfMemory>
-        ensures { IfOk result (λ last. last ≡ result_of history.now) }
-    {
-        let given = history.result()?;
-        Last::copy_of(alloc, &given)
     }
 
     /// Whether a run ended so, in as many supersteps.

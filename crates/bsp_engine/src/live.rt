@@ -17,13 +17,14 @@ use crate::crew::Crew;
 use crate::jobs::Job;
 use crate::last::Last;
 use crate::lines::push_line;
-use crate::opening::{last_if, push_opening, session_of};
 use crate::options::Detail;
-use crate::reporting::push_refusal;
+use crate::reporting::{push_refusal, push_update};
 use crate::unread::push_unread;
+use crate::whole_run::push_run;
 use bsp_incr::{Batch, Edit, EditError, Session, Update};
 use bsp_model::{Input, OutOfMemory};
 use bsp_pool::Gate;
+use bsp_run::RunError;
 use bsp_step::Program;
 use std::alloc::{AllocError, Global};
 use std::collections::VecDeque;
@@ -71,18 +72,22 @@ fn open<P: Program + Drop, R: Threads + Sync, G: Gate>(
     ensures live { IfOk result (λ r. r.0 ≡ opened false program input) }
     ensures update { IfOk result (λ r. r.1 ≡ update_of (P.looks program) None (run (turn_of (P.acts program) (P.ending program)) input)) }
 {
-    let (session, update) = session_of(crew, program, input)?;
-    let live = Live {
-        session,
-        last: None,
-        undos: VecDeque::new(crew.alloc),
-    };
-    Ok((live, update))
+    match Session::open(crew.rt, crew.alloc, program, input, crew.workers, crew.gate) {
+        Ok((session, update)) => {
+            let live = Live {
+                session,
+                last: None,
+                undos: VecDeque::new(crew.alloc),
+            };
+            Ok((live, update))
+        }
+        Err(RunError::Input(_)) => unreachable!(),
+        Err(RunError::OutOfMemory) => Err(AllocError),
+    }
 }
 
 /// Appends the block of the opening, for which this was done, and keeps what it told if the blocks are to tell changes alone.
-fn tell_opening<P: Program + Drop, R: Threads + Sync, G: Gate>(
-    crew: &Crew<'_, R, G>,
+fn tell_opening<P: Program + Drop>(
     detail: Detail,
     live: &mut Live<P>,
     update: &Update,
@@ -95,8 +100,9 @@ fn tell_opening<P: Program + Drop, R: Threads + Sync, G: Gate>(
     // That the input is lawful, and the history its run, is known where they are read.
     let _input = live.session.input();
     let history = live.session.history();
-    push_opening(text, detail.places, history, update)?;
-    live.last = last_if(crew.alloc, detail.changes, history)?;
+    push_line(text, "run", &[0])?;
+    live.last = push_run(text, detail.changes, history)?;
+    push_update(text, detail.places, update)?;
     Ok(())
 }
 
@@ -185,7 +191,7 @@ fn tell_all<P: Program + Drop, R: Threads + Sync, G: Gate>(
     ensures text { OnOk result (text.new.items ≡ text.old.items ++ opening_block P.acts P.ending P.looks detail.places live.old.program live.old.input
         ++ blocks_after detail 1 (last_result P.acts P.ending (record live.old { changes = detail.changes })) (live_replies P.acts P.ending P.looks (record live.old { changes = detail.changes }) batches.now) ++ end.now) }
 {
-    tell_opening(crew, detail, live, update, text)?;
+    tell_opening(detail, live, update, text)?;
     make_all(crew, detail, live, text, batches)?;
     text.extend_from_slice(end)
 }

@@ -2,7 +2,7 @@
 
 ghost use Rattle.std.specs.Prelude.{◌≡◌, ◌≢◌, ◌≤◌, IfOk, IfErr, codes, true, false, map, option_map};
 ghost use Rattle.clap.specs.Words.{FailsBy, app_of, fault_of, first_of, found_of, kind_of, matches_of, new_app, one_text, rows_of, rule_of, takes, with_rule};
-ghost use Rattle.bsp_engine.specs.Options.{changes_rule, detail_of, follow_rule, is_given, options_of, places_rule, scratch_rule, tool_app, with_version, workers_of, workers_rule};
+ghost use Rattle.bsp_engine.specs.Options.{detail_of, flag_rule, follow_rule, is_given, options_of, scratch_rule, tool_app, with_version, workers_of, workers_rule};
 ghost use Rattle.bsp_engine.specs.Inside.Options.{number_or_1};
 
 use clap::error::ErrorKind;
@@ -13,7 +13,7 @@ use std::alloc::{AllocError, Global};
 pub const VERSION: &str = "0.1.0";
 
 /// What the blocks of a report tell.
-#[derive(Clone, Copy, Debug, PartialEq, Eq)]
+#[derive(Clone, Copy)]
 pub struct Detail {
     /// Whether they tell at which places turns were taken and deliveries made.
     pub places: bool,
@@ -22,7 +22,7 @@ pub struct Detail {
 }
 
 /// What the words ask for.
-#[derive(Clone, Copy, Debug, PartialEq, Eq)]
+#[derive(Clone, Copy)]
 pub struct Options {
     /// How many workers share a session's work, 1 to 16.
     pub workers: usize,
@@ -33,7 +33,7 @@ pub struct Options {
 }
 
 /// A tool: how its command line is called, and what the help tells. The options are those of every tool.
-#[derive(Clone, Copy, Debug)]
+#[derive(Clone, Copy)]
 pub struct Tool {
     /// The name of the program.
     pub name: &'static str,
@@ -79,6 +79,12 @@ to `fault J7` says where the fault is."
     };
 }
 
+const PLACES_HELP: &str =
+    "Tells which turns were taken and which deliveries made, by superstep and process";
+
+const CHANGES_HELP: &str =
+    "Tells of each run after the first only what is another than in the run before";
+
 fn workers_arg<'a>(alloc: Global) -> Arg<'a>
     ensures own { result.global ≡ false }
     ensures rule { rule_of result ≡ workers_rule }
@@ -91,33 +97,14 @@ fn workers_arg<'a>(alloc: Global) -> Arg<'a>
         .default_value("1")
 }
 
-fn scratch_arg<'a>(alloc: Global) -> Arg<'a>
+/// An option that is given or not.
+fn flag_arg<'a>(alloc: Global, name: &'a str, help: &'a str) -> Arg<'a>
     ensures own { result.global ≡ false }
-    ensures rule { rule_of result ≡ scratch_rule }
+    ensures rule { rule_of result ≡ flag_rule name.now }
 {
-    Arg::new(alloc, "scratch")
-        .long("scratch")
-        .help("Runs each edited input from its start, on one thread")
-        .action(ArgAction::SetTrue)
-}
-
-fn places_arg<'a>(alloc: Global) -> Arg<'a>
-    ensures own { result.global ≡ false }
-    ensures rule { rule_of result ≡ places_rule }
-{
-    Arg::new(alloc, "places")
-        .long("places")
-        .help("Tells which turns were taken and which deliveries made, by superstep and process")
-        .action(ArgAction::SetTrue)
-}
-
-fn changes_arg<'a>(alloc: Global) -> Arg<'a>
-    ensures own { result.global ≡ false }
-    ensures rule { rule_of result ≡ changes_rule }
-{
-    Arg::new(alloc, "changes")
-        .long("changes")
-        .help("Tells of each run after the first only what is another than in the run before")
+    Arg::new(alloc, name)
+        .long(name)
+        .help(help)
         .action(ArgAction::SetTrue)
 }
 
@@ -142,15 +129,19 @@ fn running_command<'a>(alloc: Global, tool: &Tool) -> Result<Command<'a>, AllocE
         .about(tool.about)
         .after_help(tool.after_help)
         .arg(workers_arg(alloc))?
-        .arg(scratch_arg(alloc))
+        .arg(flag_arg(
+            alloc,
+            "scratch",
+            "Runs each edited input from its start, on one thread",
+        ))
 }
 
 fn command<'a>(alloc: Global, tool: &Tool) -> Result<Command<'a>, AllocError>
     ensures { IfOk result (λ c. app_of c ≡ tool_app tool.now.name.now) }
 {
     running_command(alloc, tool)?
-        .arg(places_arg(alloc))?
-        .arg(changes_arg(alloc))?
+        .arg(flag_arg(alloc, "places", PLACES_HELP))?
+        .arg(flag_arg(alloc, "changes", CHANGES_HELP))?
         .arg(follow_arg(alloc))
 }
 

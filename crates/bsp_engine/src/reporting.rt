@@ -1,14 +1,14 @@
 //! The lines of a block, one function for each kind.
 
-ghost use Rattle.std.specs.Prelude.{◌≡◌, ◌++◌, OnOk};
+ghost use Rattle.std.specs.Prelude.{◌≡◌, ◌++◌, OnOk, codes};
 ghost use Rattle.std.specs.List.{flat_map};
-ghost use Rattle.bsp_engine.specs.Lines.{line, numbered};
-ghost use Rattle.bsp_engine.specs.Text.{fault_word, fault_numbers, process_fault_line, sync_fault_word, status_lines, memory_line, print_lines, cost_line, result_lines, counts_line, update_places, update_lines, edit_fault_word, refusal_line};
+ghost use Rattle.bsp_engine.specs.Lines.{field, line, numbered};
+ghost use Rattle.bsp_engine.specs.Text.{fault_word, process_fault_line, sync_fault_word, status_lines, memory_line, print_lines, cost_line, result_lines, counts_line, update_places, update_lines, edit_fault_word, refusal_line};
 
 use crate::lines::{push_field, push_line, push_long_line, push_words_line};
 use crate::places::push_places;
 use bsp_incr::{EditFault, EditRefusal, Update};
-use bsp_model::{CostRow, Fault, Memories, MemoryRef, OutOfMemory, SyncFault};
+use bsp_model::{CostRow, Fault, Memories, OutOfMemory, SyncFault};
 use bsp_run::{Lines, ProcessFault, RunResult, Status};
 
 fn fault_word(fault: Fault) -> &'static str
@@ -30,26 +30,33 @@ fn fault_word(fault: Fault) -> &'static str
     }
 }
 
-/// Appends the fault's word, the number that belongs to it, and LF.
-fn end_fault_line(text: &mut Vec<u8>, fault: Fault) -> Result<(), OutOfMemory>
-    ensures { OnOk result (text.new.items ≡ text.old.items ++ line (fault_word fault) (fault_numbers fault)) }
+/// Appends a line of two parts: a word and a number, and then a word and numbers.
+fn push_parted_line(
+    text: &mut Vec<u8>,
+    word: &str,
+    number: u64,
+    second: &str,
+    numbers: &[u64],
+) -> Result<(), OutOfMemory>
+    ensures { OnOk result (text.new.items ≡ text.old.items ++ (word.now ++ field number ++ codes " " ++ line second.now numbers.now)) }
 {
-    let word = fault_word(fault);
-    match fault {
-        Fault::Abort(number) | Fault::BadPid(number) | Fault::NotRegistered(number) => {
-            push_line(text, word, &[number])
-        }
-        _ => push_line(text, word, &[]),
-    }
+    text.extend_from_slice(word.as_bytes())?;
+    push_field(text, number)?;
+    text.push(b' ')?;
+    push_line(text, second, numbers)
 }
 
+/// Appends the line of a process's fault, with the number that belongs to the fault.
 fn push_fault(text: &mut Vec<u8>, fault: ProcessFault) -> Result<(), OutOfMemory>
     ensures { OnOk result (text.new.items ≡ text.old.items ++ process_fault_line fault) }
 {
-    text.extend_from_slice(b"fault")?;
-    push_field(text, fault.pid)?;
-    text.push(b' ')?;
-    end_fault_line(text, fault.fault)
+    let word = fault_word(fault.fault);
+    match fault.fault {
+        Fault::Abort(number) | Fault::BadPid(number) | Fault::NotRegistered(number) => {
+            push_parted_line(text, "fault", fault.pid, word, &[number])
+        }
+        _ => push_parted_line(text, "fault", fault.pid, word, &[]),
+    }
 }
 
 fn push_faults(text: &mut Vec<u8>, faults: &[ProcessFault]) -> Result<(), OutOfMemory>
@@ -83,10 +90,7 @@ fn sync_fault_word(fault: SyncFault) -> &'static str
 fn push_sync_fault(text: &mut Vec<u8>, step: u64, fault: SyncFault) -> Result<(), OutOfMemory>
     ensures { OnOk result (text.new.items ≡ text.old.items ++ status_lines (Status.SyncFaulted step fault)) }
 {
-    text.extend_from_slice(b"status syncfault")?;
-    push_field(text, step)?;
-    text.push(b' ')?;
-    push_line(text, sync_fault_word(fault), &[])
+    push_parted_line(text, "status syncfault", step, sync_fault_word(fault), &[])
 }
 
 pub fn push_status(text: &mut Vec<u8>, status: &Status) -> Result<(), OutOfMemory>
@@ -100,21 +104,11 @@ pub fn push_status(text: &mut Vec<u8>, status: &Status) -> Result<(), OutOfMemor
     }
 }
 
-pub fn push_memory_line(
-    text: &mut Vec<u8>,
-    pid: u64,
-    memory: &MemoryRef<'_>,
-) -> Result<(), OutOfMemory>
-    ensures { OnOk result (text.new.items ≡ text.old.items ++ memory_line pid memory.now) }
-{
-    push_words_line(text, "memory", pid, memory)
-}
-
 fn push_memories(text: &mut Vec<u8>, memories: &Memories) -> Result<(), OutOfMemory>
     ensures { OnOk result (text.new.items ≡ text.old.items ++ numbered memory_line 0 memories.now) }
 {
     for pid in 0..memories.len() {
-        push_memory_line(text, pid as u64, &memories.get(pid))?;
+        push_words_line(text, "memory", pid as u64, &memories.get(pid))?;
     }
     Ok(())
 }
@@ -166,10 +160,7 @@ pub fn push_result(text: &mut Vec<u8>, run: &RunResult) -> Result<(), OutOfMemor
 fn push_counts(text: &mut Vec<u8>, executed: u64, redelivered: u64) -> Result<(), OutOfMemory>
     ensures { OnOk result (text.new.items ≡ text.old.items ++ counts_line executed redelivered) }
 {
-    text.extend_from_slice(b"executed")?;
-    push_field(text, executed)?;
-    text.push(b' ')?;
-    push_line(text, "redelivered", &[redelivered])
+    push_parted_line(text, "executed", executed, "redelivered", &[redelivered])
 }
 
 fn push_update_places(text: &mut Vec<u8>, places: bool, update: &Update) -> Result<(), OutOfMemory>

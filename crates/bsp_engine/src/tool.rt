@@ -9,7 +9,7 @@ use crate::catalogue::Catalogue;
 use crate::counting::Counted;
 use crate::documents::engine;
 use crate::errors::EngineError;
-use crate::explaining::explanation;
+use crate::explain::explanation;
 use crate::following::follow;
 use crate::options::{Options, Tool, read_options, words_status};
 use crate::terminal::Console;
@@ -41,13 +41,6 @@ fn texts_of(alloc: Global, words: &[String]) -> Result<Vec<&str>, OutOfMemory> {
 fn failed<R: Eprint>(rt: &R, error: EngineError) -> ExitCode {
     let _ = eprintln!(rt; "{}", error.line());
     ExitCode::from(error.status())
-}
-
-/// Says on standard error what is wrong with a document that is no job.
-fn explain<C: Catalogue, R: Alloc<A = Global> + Eprint>(rt: &R, document: &[u8]) {
-    if let Ok(Some(line)) = explanation::<C>(rt.alloc(), document) {
-        let _ = eprintln!(rt; "{line}");
-    }
 }
 
 /// Says why no words could be read: memory was refused, or one of them is not UTF-8.
@@ -82,8 +75,11 @@ fn ended<C: Catalogue, R: Alloc<A = Global> + Eprint>(
         return ExitCode::SUCCESS;
     };
     let status = failed(rt, error);
-    if matches!(error, EngineError::Job(_)) {
-        explain::<C, R>(rt, document);
+    if !matches!(error, EngineError::Job(_)) {
+        return status;
+    }
+    if let Ok(Some(line)) = explanation::<C>(rt.alloc(), document) {
+        let _ = eprintln!(rt; "{line}");
     }
     status
 }

@@ -1,61 +1,144 @@
-//! The shapes of a document's values.
+//! The shapes of a document's values, and where a value has another shape.
 
-ghost use Rattle.std.specs.Prelude.{◌≡◌, map};
+ghost use Rattle.std.specs.Prelude.{◌≡◌, IfErr, OnOk, false, is_some, map, not, true};
 ghost use Rattle.std.specs.List.{list_all};
-ghost use Rattle.toml.specs.View.{view};
-ghost use Rattle.bsp_engine.specs.Keys.{is_integer, is_row, is_rows, is_form, is_edit, is_batch, is_batches};
+ghost use Rattle.toml.specs.Data.{get_member};
+ghost use Rattle.toml.specs.View.{view, table_view};
+ghost use Rattle.bsp_engine.specs.Keys.{is_batch, is_form, passes};
 
-use crate::tree::{begins_with, elements};
-use toml::Value;
+use super::wrong::{Path, WHOLE, Wrong};
+use crate::errors::JobFault;
+use crate::tree::{begins_with, elements, value_at};
+use std::marker::PhantomData;
+use toml::{Table, Value};
 
-fn are_integers(values: &[Value]) -> bool
-    ensures { result ≡ list_all is_integer (map view values.now) }
-{
-    values.iter().all(|value| value.is_integer())
+/// A shape of values.
+pub trait Shape {
+    ghost use Rattle.std.specs.Prelude.{Bool, is_some, not};
+    ghost use Rattle.toml.specs.Data.{Data};
+    ghost use Rattle.toml.specs.View.{view};
+
+    // Whether a value has the shape.
+    ghost fits: { Data → Bool };
+
+    /// Where a value has another shape, if it has.
+    fn misfit(value: &Value) -> Option<Path>
+        ensures { is_some result ≡ not (fits (view value.now)) };
 }
 
-/// Whether the value is an array of integers.
-pub fn is_row(value: &Value) -> bool
-    ensures { result ≡ is_row (view value.now) }
-{
-    value.is_array() && are_integers(elements(value))
+/// An integer.
+pub struct Integer;
+
+/// An edit of one of the four forms.
+pub struct EditForm;
+
+/// An array, each of whose elements has a shape.
+pub struct ArrayOf<T>(PhantomData<T>);
+
+/// Any value, if each of its elements has a shape. Only an array has elements.
+pub struct Each<T>(PhantomData<T>);
+
+impl Shape for Integer {
+    ghost use Rattle.bsp_engine.specs.Keys.{is_integer};
+
+    ghost fits = { is_integer };
+
+    fn misfit(value: &Value) -> Option<Path> {
+        if value.is_integer() {
+            None
+        } else {
+            Some(WHOLE)
+        }
+    }
 }
 
-/// Whether the value is an array of arrays of integers.
-pub fn is_rows(value: &Value) -> bool
-    ensures { result ≡ is_rows (view value.now) }
+impl Shape for EditForm {
+    ghost use Rattle.bsp_engine.specs.Keys.{is_edit};
+
+    ghost fits = { is_edit };
+
+    fn misfit(value: &Value) -> Option<Path> {
+        let values = elements(value);
+        if is_form(values, "word", 4)
+            || is_form(values, "arg", 4)
+            || is_form(values, "limit", 2)
+            || is_form(values, "prices", 3)
+        {
+            return None;
+        }
+        Some(WHOLE)
+    }
+}
+
+impl<T: Shape> Shape for ArrayOf<T> {
+    ghost use Rattle.bsp_engine.specs.Keys.{is_array_of};
+
+    ghost fits = { is_array_of T.fits };
+
+    fn misfit(value: &Value) -> Option<Path> {
+        if !value.is_array() {
+            return Some(WHOLE);
+        }
+        first_misfit::<T>(elements(value))
+    }
+}
+
+impl<T: Shape> Shape for Each<T> {
+    ghost use Rattle.std.specs.List.{list_all};
+    ghost use Rattle.bsp_engine.specs.Tree.{elements};
+
+    ghost fits = { λ d. list_all T.fits (elements d) };
+
+    fn misfit(value: &Value) -> Option<Path> {
+        first_misfit::<T>(elements(value))
+    }
+}
+
+/// The first of the values that has another shape.
+fn first_misfit<T: Shape>(values: &[Value]) -> Option<Path>
+    ensures { is_some result ≡ not (list_all T.fits (map view values.now)) }
 {
-    value.is_array() && elements(value).iter().all(|element| is_row(element))
+    for (at, value) in values.iter().enumerate() {
+        if let Some(path) = T::misfit(value) {
+            return Some(Path {
+                outer: Some(at),
+                inner: path.outer,
+            });
+        }
+    }
+    None
 }
 
 /// Whether the values are so many: a word, and then integers.
 fn is_form(values: &[Value], word: &str, count: usize) -> bool
     ensures { result ≡ is_form word.now count (map view values.now) }
 {
-    begins_with(values, word) && values.len() == count && are_integers(&values[1..])
+    begins_with(values, word)
+        && values.len() == count
+        && first_misfit::<Integer>(&values[1..]).is_none()
 }
 
-/// Whether the value is an edit, of one of the four forms.
-pub fn is_edit(value: &Value) -> bool
-    ensures { result ≡ is_edit (view value.now) }
+/// Refuses the value at a key with this fault, if there is one and it has another shape.
+pub fn check_shape<'a, T: Shape>(
+    table: &Table,
+    key: &'a str,
+    fault: JobFault,
+) -> Result<(), Wrong<'a>>
+    ensures ok { OnOk result (passes T.fits (get_member key.now (table_view table.now)) ≡ true) }
+    ensures wrong { IfErr result (λ w. (passes T.fits (get_member key.now (table_view table.now)) ≡ false) × (w.fault ≡ fault)) }
 {
-    let values = elements(value);
-    is_form(values, "word", 4)
-        || is_form(values, "arg", 4)
-        || is_form(values, "limit", 2)
-        || is_form(values, "prices", 3)
+    let Some(value) = value_at(table, key) else {
+        return Ok(());
+    };
+    match T::misfit(value) {
+        None => Ok(()),
+        Some(path) => Err(Wrong { fault, key, path }),
+    }
 }
 
 /// Whether the value is an array of edits.
 pub fn is_batch(value: &Value) -> bool
     ensures { result ≡ is_batch (view value.now) }
 {
-    value.is_array() && elements(value).iter().all(|element| is_edit(element))
-}
-
-/// Whether the value is an array of batches.
-pub fn is_batches(value: &Value) -> bool
-    ensures { result ≡ is_batches (view value.now) }
-{
-    value.is_array() && elements(value).iter().all(|element| is_batch(element))
+    <ArrayOf<EditForm> as Shape>::misfit(value).is_none()
 }

@@ -1,46 +1,61 @@
 //! Whether a number of a document is negative (J7).
 
-ghost use Rattle.std.specs.Prelude.{◌≡◌, map};
-ghost use Rattle.std.specs.List.{list_any};
+ghost use Rattle.std.specs.Prelude.{◌≡◌, IfErr, OnOk, false, true};
 ghost use Rattle.toml.specs.View.{view, table_view};
-ghost use Rattle.bsp_engine.specs.Signs.{has_negative, has_negative_edit, has_negative_word};
+ghost use Rattle.bsp_engine.specs.Signs.{has_negative_edit, has_negative_word};
+ghost use Rattle.bsp_engine.specs.Inside.Signs.{has_no_sign};
 
+use super::shapes::{Each, Shape, check_shape};
+use super::wrong::{Path, WHOLE, Wrong};
 use crate::catalogue::Catalogue;
-use crate::tree::{elements, elements_at, is_negative};
+use crate::errors::JobFault;
+use crate::tree::is_negative;
 use toml::{Table, Value};
 
-/// Whether an element of the row or edit is negative.
-pub fn has_negative(value: &Value) -> bool
-    ensures { result ≡ has_negative (view value.now) }
-{
-    elements(value).iter().any(|element| is_negative(element))
+/// No negative integer.
+pub struct NotNegative;
+
+impl Shape for NotNegative {
+    ghost use Rattle.std.specs.Prelude.{not};
+    ghost use Rattle.bsp_engine.specs.Tree.{is_negative};
+
+    ghost fits = { λ d. not (is_negative d) };
+
+    fn misfit(value: &Value) -> Option<Path> {
+        if is_negative(value) {
+            Some(WHOLE)
+        } else {
+            None
+        }
+    }
 }
 
 /// Whether an element of an edit of the batch is negative.
 pub fn has_negative_edit(value: &Value) -> bool
     ensures { result ≡ has_negative_edit (view value.now) }
 {
-    elements(value).iter().any(|element| has_negative(element))
+    <Each<Each<NotNegative>> as Shape>::misfit(value).is_some()
 }
 
-fn is_any_row_negative(rows: &[Value]) -> bool
-    ensures { result ≡ list_any has_negative (map view rows.now) }
+/// Refuses the first negative number at the keys that every document may have.
+fn check_common_signs(table: &Table) -> Result<(), Wrong<'static>>
+    ensures ok { OnOk result (has_no_sign (table_view table.now) ≡ true) }
+    ensures wrong { IfErr result (λ w. (has_no_sign (table_view table.now) ≡ false) × (w.fault ≡ JobFault.BadWord)) }
 {
-    rows.iter().any(|row| has_negative(row))
+    let fault = JobFault::BadWord;
+    check_shape::<Each<Each<NotNegative>>>(table, "memory", fault)?;
+    check_shape::<Each<Each<NotNegative>>>(table, "args", fault)?;
+    check_shape::<Each<Each<Each<NotNegative>>>>(table, "batches", fault)
 }
 
-fn is_any_batch_negative(batches: &[Value]) -> bool
-    ensures { result ≡ list_any has_negative_edit (map view batches.now) }
+/// Refuses the first negative number of the document.
+pub fn check_signs<C: Catalogue>(table: &Table) -> Result<(), Wrong<'static>>
+    ensures ok { OnOk result (has_negative_word C.meaning (table_view table.now) ≡ false) }
+    ensures wrong { IfErr result (λ w. (has_negative_word C.meaning (table_view table.now) ≡ true) × (w.fault ≡ JobFault.BadWord)) }
 {
-    batches.iter().any(|batch| has_negative_edit(batch))
-}
-
-/// Whether the document has the fault J7.
-pub fn has_negative_word<C: Catalogue>(table: &Table) -> bool
-    ensures { result ≡ has_negative_word C.meaning (table_view table.now) }
-{
-    C::has_negative_word(table)
-        || is_any_row_negative(elements_at(table, "memory"))
-        || is_any_row_negative(elements_at(table, "args"))
-        || is_any_batch_negative(elements_at(table, "batches"))
+    if C::has_negative_word(table) {
+        let key = C::key_at_fault(table);
+        return Err(Wrong::at_key(JobFault::BadWord, key));
+    }
+    check_common_signs(table)
 }

@@ -1,11 +1,15 @@
 //! Whether a run may start with the input that a document describes (J6), by the lengths and signed numbers of its tree.
 
-ghost use Rattle.std.specs.Prelude.{◌≡◌, codes, map};
-ghost use Rattle.std.specs.List.{list_all};
+ghost use Rattle.std.specs.Prelude.{◌≡◌, IfErr, OnOk, None, Some, codes, false, true};
 ghost use Rattle.toml.specs.Data.{get_member};
-ghost use Rattle.toml.specs.View.{view, table_view};
-ghost use Rattle.bsp_engine.specs.Sizes.{is_short, count_of_args, is_between, described_fault};
+ghost use Rattle.toml.specs.View.{table_view};
+ghost use Rattle.bsp_model.specs.declared.fault.InputFault.{InputFault};
+ghost use Rattle.bsp_engine.specs.Sizes.{count_of_args, described_fault, is_between};
+ghost use Rattle.bsp_engine.specs.Tree.{integer_at};
 
+use super::shapes::{Each, Shape, check_shape};
+use super::wrong::{Path, WHOLE, Wrong};
+use crate::errors::JobFault;
 use crate::tree::{elements, elements_at, integer_at, value_at};
 use bsp_model::InputFault;
 use bsp_model::limits::{
@@ -13,17 +17,21 @@ use bsp_model::limits::{
 };
 use toml::{Table, Value};
 
-/// Whether the row has at most so many integers.
-fn is_short(row: &Value, most: usize) -> bool
-    ensures { result ≡ is_short most (view row.now) }
-{
-    elements(row).len() <= most
-}
+/// An array of at most so many elements.
+pub struct Short<const MOST: usize>;
 
-fn are_short(rows: &[Value], most: usize) -> bool
-    ensures { result ≡ list_all (is_short most) (map view rows.now) }
-{
-    rows.iter().all(|row| is_short(row, most))
+impl<const MOST: usize> Shape for Short<MOST> {
+    ghost use Rattle.bsp_engine.specs.Sizes.{is_short};
+
+    ghost fits = { is_short MOST };
+
+    fn misfit(value: &Value) -> Option<Path> {
+        if elements(value).len() <= MOST {
+            None
+        } else {
+            Some(WHOLE)
+        }
+    }
 }
 
 /// How many argument lists there are for so many memories.
@@ -37,7 +45,7 @@ pub fn count_of_args(table: &Table, memories: usize) -> usize
 }
 
 /// Whether the integer is there, and from `low` to `high`.
-pub fn is_between(low: u64, high: u64, integer: Option<i64>) -> bool
+fn is_between(low: u64, high: u64, integer: Option<i64>) -> bool
     ensures { result ≡ is_between low high integer }
 {
     match integer {
@@ -46,33 +54,46 @@ pub fn is_between(low: u64, high: u64, integer: Option<i64>) -> bool
     }
 }
 
-/// The first of I1 to I7 that the described input has. It takes no memory.
-pub fn described_fault(table: &Table) -> Option<InputFault>
-    ensures { result ≡ described_fault (table_view table.now) }
+/// Refuses an integer that is not from `low` to `high`.
+fn check_integer<'a>(
+    table: &Table,
+    key: &'a str,
+    low: u64,
+    high: u64,
+    fault: InputFault,
+) -> Result<(), Wrong<'a>>
+    ensures ok { OnOk result (is_between low high (integer_at key.now (table_view table.now)) ≡ true) }
+    ensures wrong { IfErr result (λ w. (is_between low high (integer_at key.now (table_view table.now)) ≡ false) × (w.fault ≡ JobFault.Input fault)) }
 {
-    let memories = elements_at(table, "memory");
-    if memories.is_empty() {
-        return Some(InputFault::NoProcess);
+    if is_between(low, high, integer_at(table, key)) {
+        return Ok(());
     }
-    if memories.len() > MOST_PROCESSES {
-        return Some(InputFault::TooMany);
+    Err(Wrong::at_key(JobFault::Input(fault), key))
+}
+
+/// Refuses the first of I1 to I7 that the described input has. It takes no memory.
+pub fn check_sizes(table: &Table) -> Result<(), Wrong<'static>>
+    ensures ok { OnOk result (described_fault (table_view table.now) ≡ None) }
+    ensures wrong { IfErr result (λ w. ((fault : InputFault) × (described_fault (table_view table.now) ≡ Some fault) × (w.fault ≡ JobFault.Input fault))) }
+{
+    let memories = elements_at(table, "memory").len();
+    if memories == 0 {
+        let fault = JobFault::Input(InputFault::NoProcess);
+        return Err(Wrong::at_key(fault, "memory"));
     }
-    if count_of_args(table, memories.len()) != memories.len() {
-        return Some(InputFault::LengthsDiffer);
+    if memories > MOST_PROCESSES {
+        let fault = JobFault::Input(InputFault::TooMany);
+        return Err(Wrong::at_key(fault, "memory"));
     }
-    if !are_short(memories, MOST_MEMORY_WORDS) {
-        return Some(InputFault::MemoryTooLong);
+    if count_of_args(table, memories) != memories {
+        let fault = JobFault::Input(InputFault::LengthsDiffer);
+        return Err(Wrong::at_key(fault, "args"));
     }
-    if !are_short(elements_at(table, "args"), MOST_ARGUMENTS) {
-        return Some(InputFault::ArgsTooLong);
-    }
-    if !is_between(1, MOST_SUPERSTEPS, integer_at(table, "limit")) {
-        return Some(InputFault::BadLimit);
-    }
-    if !is_between(0, HIGHEST_PRICE, integer_at(table, "g"))
-        || !is_between(0, HIGHEST_PRICE, integer_at(table, "l"))
-    {
-        return Some(InputFault::BadPrice);
-    }
-    None
+    let fault = JobFault::Input(InputFault::MemoryTooLong);
+    check_shape::<Each<Short<MOST_MEMORY_WORDS>>>(table, "memory", fault)?;
+    let fault = JobFault::Input(InputFault::ArgsTooLong);
+    check_shape::<Each<Short<MOST_ARGUMENTS>>>(table, "args", fault)?;
+    check_integer(table, "limit", 1, MOST_SUPERSTEPS, InputFault::BadLimit)?;
+    check_integer(table, "g", 0, HIGHEST_PRICE, InputFault::BadPrice)?;
+    check_integer(table, "l", 0, HIGHEST_PRICE, InputFault::BadPrice)
 }

@@ -9,4 +9,4 @@ loop-pid-preserved c =
     let memories = c.args.memories.now in
     let pid = c.loop-pid.pid in
     let within : pid < length memories = omega arith in
-    numbered_grows memory_line _ _ _ memories pid c.get.result within (c.get.ensures ∙ get_or_default memories pid [] c.get.result within) c.loop-pid.invariant c.in_ok-push_memory_line.ensures
+    numbered_grows memory_line _ _ _ memories pid c.get.result within (c.get.ensures ∙ get_or_default memories pid [] c.get.result within) c.loop-pid.invariant c.in_ok-push_words_line.ensures

@@ -1,13 +1,7 @@
-use Rattle.std.proofs.Common.{◌∙◌, rules, tests}
-use Rattle.std.proofs.lemmas.Iterator.{YieldsList-from_slice}
-use Rattle.std.proofs.lemmas.Iterator.Search.{any_from_yields_List}
+use Rattle.std.proofs.Common.{sym, ◌∙◌}
 use Rattle.toml.specs.View.{view}
-use Rattle.toml.specs.declared.value.Value.{Value}
-use Rattle.bsp_engine.specs.Signs.{has_negative}
-use Rattle.bsp_engine.proofs.Trees.{any_viewed}
+use Rattle.bsp_engine.proofs.Walks.{rows_signs}
 use Rattle.bsp_engine.proofs.jobs.signs.has_negative_edit.Goals as goal
 
 pub returns : goal.returns
-returns c =
-    any_from_yields_List (λ (v : Value). has_negative (view v)) _ _ c.any.result c.any.ensures.ran (YieldsList-from_slice c.elements.result.now (cc)) (λ x b q k. search (rules, tests))
-    ∙ any_viewed has_negative c.elements.result.now _ c.elements.ensures
+returns c = c.is_some.ensures ∙ (c.misfit.ensures ∙ sym (rows_signs (view c.args.value.now)))

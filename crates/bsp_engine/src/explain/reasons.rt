@@ -1,0 +1,99 @@
+//! What is wrong with a document that is TOML, in words.
+
+use crate::errors::JobFault;
+use crate::jobs::{Wrong, count_of_args};
+use crate::tree::{elements, elements_at, integer_at};
+use bsp_model::limits::{
+    HIGHEST_PRICE, MOST_ARGUMENTS, MOST_MEMORY_WORDS, MOST_PROCESSES, MOST_SUPERSTEPS,
+};
+use bsp_model::{InputFault, OutOfMemory};
+use std::alloc::Global;
+use toml::Table;
+
+/// The key, and where in its value the fault is. Batches count from 1, as their blocks do.
+fn place_of(alloc: Global, wrong: &Wrong<'_>) -> Result<String, OutOfMemory> {
+    let key = wrong.key;
+    match (wrong.path.outer, wrong.path.inner) {
+        (None, _) => format!(in alloc; "{key}"),
+        (Some(batch), None) if key == "batches" => {
+            format!(in alloc; "batches, batch {}", batch.saturating_add(1))
+        }
+        (Some(batch), Some(edit)) if key == "batches" => {
+            format!(in alloc; "batches, batch {}, edit {edit}", batch.saturating_add(1))
+        }
+        (Some(pid), _) => format!(in alloc; "{key}, process {pid}"),
+    }
+}
+
+/// Which shape the value has not.
+fn shape_reason(wrong: &Wrong<'_>) -> &'static str {
+    let is_whole = wrong.path.outer.is_none();
+    match wrong.key {
+        "limit" | "g" | "l" => "not an integer",
+        "memory" | "args" if is_whole => "not an array of arrays of integers",
+        "memory" | "args" => "not an array of integers",
+        "batches" if is_whole => "not an array of batches",
+        "batches" if wrong.path.inner.is_none() => "not an array of edits",
+        "batches" => "not an edit",
+        _ => "a value of another shape",
+    }
+}
+
+/// How many words the row of a process has.
+fn words_of(table: &Table, wrong: &Wrong<'_>) -> usize {
+    match elements_at(table, wrong.key).get(wrong.path.outer.unwrap_or(0)) {
+        Some(row) => elements(row).len(),
+        None => 0,
+    }
+}
+
+/// Which size of the described input is past its limit.
+fn size_line(
+    alloc: Global,
+    table: &Table,
+    wrong: &Wrong<'_>,
+    fault: InputFault,
+    place: &str,
+) -> Result<String, OutOfMemory> {
+    let processes = elements_at(table, "memory").len();
+    let lists = count_of_args(table, processes);
+    let words = words_of(table, wrong);
+    let number = integer_at(table, wrong.key).unwrap_or(0);
+    match fault {
+        InputFault::NoProcess => format!(in alloc; "I1, {place}: 0 processes, at least 1"),
+        InputFault::TooMany => {
+            format!(in alloc; "I2, {place}: {processes} processes, at most {MOST_PROCESSES}")
+        }
+        InputFault::LengthsDiffer => {
+            format!(in alloc; "I3, {place}: {lists} lists for {processes} processes")
+        }
+        InputFault::MemoryTooLong => {
+            format!(in alloc; "I4, {place}: {words} words, at most {MOST_MEMORY_WORDS}")
+        }
+        InputFault::ArgsTooLong => {
+            format!(in alloc; "I5, {place}: {words} words, at most {MOST_ARGUMENTS}")
+        }
+        InputFault::BadLimit => {
+            format!(in alloc; "I6, {place}: {number}, not 1 to {MOST_SUPERSTEPS}")
+        }
+        InputFault::BadPrice => format!(in alloc;
+            "I7, {place}: {number}, not 0 to {HIGHEST_PRICE}"
+        ),
+    }
+}
+
+/// The line of what is wrong: the place, and the reason.
+pub fn line_of(alloc: Global, table: &Table, wrong: &Wrong<'_>) -> Result<String, OutOfMemory> {
+    let place = place_of(alloc, wrong)?;
+    let place = place.as_str();
+    let reason = match wrong.fault {
+        JobFault::Input(fault) => return size_line(alloc, table, wrong, fault, place),
+        JobFault::MissingKey => "this key is missing",
+        JobFault::WrongType => shape_reason(wrong),
+        JobFault::UnknownKey => "there is no such key",
+        JobFault::UnknownProgram => "there is no such program",
+        JobFault::BadWord => "a negative number",
+        JobFault::NotToml => "not TOML",
+    };
+    format!(in alloc; "{place}: {reason}")
+}

@@ -1,0 +1,48 @@
+//! Where in a document a fault is.
+
+ghost use Rattle.std.specs.Prelude.{◌≡◌};
+ghost use Rattle.bsp_engine.specs.declared.errors.JobError.TheVariants.{Fault};
+
+use crate::errors::{JobError, JobFault};
+
+/// A place in a value: at which element of the array, and at which element of that.
+#[derive(Clone, Copy)]
+pub struct Path {
+    pub outer: Option<usize>,
+    pub inner: Option<usize>,
+}
+
+/// The place that is the whole value.
+pub const WHOLE: Path = Path {
+    outer: None,
+    inner: None,
+};
+
+/// The first fault of a document, and where it is: in the value at a key, or at the key itself.
+#[derive(Clone, Copy)]
+pub struct Wrong<'a> {
+    pub fault: JobFault,
+    pub key: &'a str,
+    pub path: Path,
+}
+
+impl<'a> Wrong<'a> {
+    /// A fault of a whole key.
+    pub fn at_key(fault: JobFault, key: &'a str) -> Wrong<'a>
+        ensures { result.fault ≡ fault }
+    {
+        Wrong {
+            fault,
+            key,
+            path: WHOLE,
+        }
+    }
+}
+
+impl From<Wrong<'_>> for JobError {
+    ghost from_gives = { λ wrong e. e ≡ Fault wrong.fault };
+
+    fn from(wrong: Wrong<'_>) -> JobError {
+        JobError::Fault(wrong.fault)
+    }
+}
