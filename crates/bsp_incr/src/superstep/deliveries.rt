@@ -27,11 +27,7 @@ pub struct Deliveries {
 }
 
 /// To whom deliveries have to be made, where the run before made them too.
-fn touched_again<'a>(
-    old: &'a Outcomes,
-    new: &'a Outcomes,
-    doubtful: &ProcessSet,
-) -> ProcessSet
+fn touched_again<'a>(old: &'a Outcomes, new: &'a Outcomes, doubtful: &ProcessSet) -> ProcessSet
     requires count { length old.now ≡ length new.now }
     requires old { AreDeliverable old.now }
     requires new { AreDeliverable new.now }
@@ -50,11 +46,7 @@ fn all_touched(new: &Outcomes) -> ProcessSet
 }
 
 /// To whom deliveries have to be made.
-fn touched<'a>(
-    old: Option<&'a Outcomes>,
-    new: &'a Outcomes,
-    doubtful: &ProcessSet,
-) -> ProcessSet
+fn touched<'a>(old: Option<&'a Outcomes>, new: &'a Outcomes, doubtful: &ProcessSet) -> ProcessSet
     requires comparable { AreComparable (outcomes_if_any (option_map (λ o. o.now) old)) new.now }
     requires doubtful { OutcomesDifferAtMost (outcomes_if_any (option_map (λ o. o.now) old)) new.now doubtful.now }
     ensures { result
