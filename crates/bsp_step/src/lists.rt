@@ -8,7 +8,7 @@ ghost use Rattle.bsp_step.specs.Inside.Outcomes.{IsWithoutColumn, first_at, AreS
 use crate::{Ended, ListKind, OutcomeRef};
 use bsp_model::{
     Column, Fault, Get, LineColumn, MemoryRef, OutOfMemory, PutColumn, SendColumn, Share,
-    StoreColumn,
+    StoreColumn, StoresRef,
 };
 use bsp_table::Area;
 use std::alloc::Global;
@@ -121,13 +121,15 @@ impl Lists {
         &mut self,
         place: usize,
         outcome: &OutcomeRef<'_>,
+        stores: &StoresRef<'_>,
         memory: &MemoryRef<'_>,
     ) -> Result<(), OutOfMemory>
+        requires { stores.now ≡ outcome.now.stores }
         ensures before { (k : ℕ) → k < place → AreSameLists self.old k self.new k }
         ensures there { OnOk result (HasLists self.new place memory.now outcome.now) }
     {
         let faults = put_fault(&mut self.faults, place, outcome.fault);
-        let stores = self.stores.put(place, &outcome.stores, memory);
+        let stores = self.stores.put(place, stores, memory);
         let puts = self.puts.put(place, &outcome.puts);
         let gets = self.gets.put(place, outcome.gets);
         let sends = self.sends.put(place, &outcome.sends);

@@ -201,12 +201,15 @@ impl OutcomeRows {
         ensures err { OnErr result (self.new ≡ self.old) }
     {
         let mut outcome = outcome;
+        let own: &TurnLists = &outcome.lists;
+        let stores = own.stores.as_ref();
+        let memory = own.memory.as_ref();
         let left = outcome.as_ref();
         let end = TurnEnd {
             ended: left.ended,
             work: left.work as u32,
         };
-        self.lists.put(self.ends.len(), &left, &left.memory)?;
+        self.lists.put(self.ends.len(), &left, &stores, &memory)?;
         self.ends.reserve(1)?;
         let lists: &mut TurnLists = &mut outcome.lists;
         self.memories.push_from(&mut lists.memory)?;
@@ -238,7 +241,7 @@ impl OutcomeRows {
             ended: outcome.ended,
             work: outcome.work as u32,
         };
-        self.lists.put(self.ends.len(), outcome, &memory.as_ref())?;
+        self.lists.put(self.ends.len(), outcome, &outcome.stores, &memory.as_ref())?;
         self.ends.reserve(1)?;
         self.memories.push_from(memory)?;
         self.ends.push_reserved(end);

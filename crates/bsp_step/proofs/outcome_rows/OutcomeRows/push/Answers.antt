@@ -34,7 +34,7 @@ invariant_of-self-2 c =
     rw (c.push_reserved.ensures.items, c.in_ok-reserve.ensures.items, moved)
     (lawful-push r.ends.items r.memories r.lists.value c.put.new.self _ o.memory o c.self.invariant
     (same_below c.deref_mut.result.now r.lists.value c.put.new.self c.len.result (length r.ends.items) c.deref_mut.ensures.value (omega (arith, c.len.ensures, r.ends.ok)) c.put.ensures.before)
-    (has_there c.put.new.self c.len.result (length r.ends.items) c.left.inside.memory o.memory c.as_ref-left.result o (omega (arith, c.len.ensures, r.ends.ok)) (ap (λ (p : OutcomeParts). p.memory) (c.left.view_is ∙ c.as_ref-left.ensures)) (c.as_ref-left.ensures) c.in_ok-put.ensures.there)
+    (has_there c.put.new.self c.len.result (length r.ends.items) c.as_ref-memory.result o.memory c.as_ref-left.result o (omega (arith, c.len.ensures, r.ends.ok)) (c.as_ref-memory.ensures ∙ ap (λ (l : TurnLists). l.memory) c.deref-own.ensures ∙ ap (λ (p : OutcomeParts). p.memory) c.outcome.view_is) (c.as_ref-left.ensures) c.in_ok-put.ensures.there)
     (ap end_of (c.left.view_is ∙ c.as_ref-left.ensures)) lawful lawful.short_memory)
 
 pub returns-clause-ok : goal.returns-clause-ok
@@ -46,5 +46,5 @@ returns-clause-ok c =
     rw (c.push_reserved.ensures.items, c.in_ok-reserve.ensures.items, moved, ← c.self.view_is)
     (outcomes-push r.ends.items r.memories r.lists.value c.put.new.self _ o.memory o c.self.invariant.count
     (same_below c.deref_mut.result.now r.lists.value c.put.new.self c.len.result (length r.ends.items) c.deref_mut.ensures.value (omega (arith, c.len.ensures, r.ends.ok)) c.put.ensures.before)
-    (has_there c.put.new.self c.len.result (length r.ends.items) c.left.inside.memory o.memory c.as_ref-left.result o (omega (arith, c.len.ensures, r.ends.ok)) (ap (λ (p : OutcomeParts). p.memory) (c.left.view_is ∙ c.as_ref-left.ensures)) (c.as_ref-left.ensures) c.in_ok-put.ensures.there)
+    (has_there c.put.new.self c.len.result (length r.ends.items) c.as_ref-memory.result o.memory c.as_ref-left.result o (omega (arith, c.len.ensures, r.ends.ok)) (c.as_ref-memory.ensures ∙ ap (λ (l : TurnLists). l.memory) c.deref-own.ensures ∙ ap (λ (p : OutcomeParts). p.memory) c.outcome.view_is) (c.as_ref-left.ensures) c.in_ok-put.ensures.there)
     (ap end_of (c.left.view_is ∙ c.as_ref-left.ensures)))
