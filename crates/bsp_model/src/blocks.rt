@@ -114,9 +114,13 @@ impl<X: Block> Blocks<X> {
     }
 
     /// Takes all blocks away. Their room stays.
+    #[inline(always)]
     pub fn clear(&mut self)
         ensures { self.new ≡ [] }
     {
+        if self.heads.is_empty() {
+            return;
+        }
         self.heads.clear();
         self.words.clear();
     }

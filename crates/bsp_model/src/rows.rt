@@ -145,10 +145,11 @@ impl<T: Copy> Rows<T> {
         self.ends.clear();
     }
 
-    /// Makes room for so many rows more.
+    /// Makes room for so many rows more, of one item each.
     pub(crate) fn reserve(&mut self, rows: usize) -> Result<(), OutOfMemory>
         ensures { self.new ≡ self.old }
     {
+        self.items.reserve(rows)?;
         self.ends.reserve(rows)
     }
 

@@ -110,10 +110,13 @@ impl<T: Drop> Seq<T> {
     }
 
     /// Takes all items away. Their room stays.
+    #[inline(always)]
     pub fn clear(&mut self)
         ensures { self.new ≡ [] }
     {
-        self.items.clear();
+        if !self.items.is_empty() {
+            self.items.clear();
+        }
     }
 }
 

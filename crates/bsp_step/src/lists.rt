@@ -86,6 +86,14 @@ impl Lists {
         }
     }
 
+    /// Makes room for one put and one range of stores of each of so many turns. Few turns leave anything in the other lists.
+    pub(crate) fn reserve(&mut self, turns: usize) -> Result<(), OutOfMemory>
+        ensures { self.new ≡ self.old }
+    {
+        self.stores.reserve(turns)?;
+        self.puts.reserve(turns)
+    }
+
     /// Makes a share of the room that the lists of others take.
     pub(crate) fn reserve_like(&mut self, like: &Lists, share: Share) -> Result<(), OutOfMemory>
         ensures { self.new ≡ self.old }

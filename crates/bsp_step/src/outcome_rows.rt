@@ -58,6 +58,15 @@ impl OutcomeRows {
         Ok(rows)
     }
 
+    /// The same, with room in the lists that most turns fill.
+    pub(crate) fn with_room(alloc: Global, count: usize) -> Result<OutcomeRows, OutOfMemory>
+        ensures { IfOk result (λ o. o ≡ []) }
+    {
+        let mut rows = OutcomeRows::with_capacity(alloc, count)?;
+        rows.lists.reserve(count)?;
+        Ok(rows)
+    }
+
     /// Makes room for so many outcomes more, but not in their lists.
     fn reserve(&mut self, count: usize) -> Result<(), OutOfMemory>
         ensures { self.new ≡ self.old }

@@ -39,6 +39,13 @@ impl<X: Block> BlockColumn<X> {
         }
     }
 
+    /// Makes room for the blocks of so many processes more, one of one word each.
+    pub fn reserve(&mut self, processes: usize) -> Result<(), OutOfMemory>
+        ensures { self.new ≡ self.old }
+    {
+        self.pairs.reserve(processes)
+    }
+
     /// Makes room for a share of the blocks of another column.
     pub fn reserve_like(&mut self, like: &BlockColumn<X>, share: Share) -> Result<(), OutOfMemory>
         ensures { self.new ≡ self.old }

@@ -58,6 +58,13 @@ impl<T> Column<T> {
 }
 
 impl<T: Copy> Column<T> {
+    /// Makes room for so many rows more, of one item each.
+    pub(crate) fn reserve(&mut self, rows: usize) -> Result<(), OutOfMemory>
+        ensures { self.new ≡ self.old }
+    {
+        self.rows.reserve(rows)
+    }
+
     /// Makes room for a share of the rows that stand in another column.
     pub fn reserve_like(&mut self, like: &Column<T>, share: Share) -> Result<(), OutOfMemory>
         ensures { self.new ≡ self.old }

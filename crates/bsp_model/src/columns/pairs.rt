@@ -61,6 +61,14 @@ impl<A, B> Pairs<A, B> {
 }
 
 impl<A: Copy, B: Copy> Pairs<A, B> {
+    /// Makes room for the rows of so many processes more, of one item each.
+    pub fn reserve(&mut self, processes: usize) -> Result<(), OutOfMemory>
+        ensures { self.new ≡ self.old }
+    {
+        self.firsts.reserve(processes)?;
+        self.seconds.reserve(processes)
+    }
+
     /// Makes room for a share of the rows that others have.
     pub fn reserve_like(&mut self, like: &Pairs<A, B>, share: Share) -> Result<(), OutOfMemory>
         ensures { self.new ≡ self.old }

@@ -16,7 +16,8 @@ fn is_worth_room(count: usize, all: usize) -> bool {
 
 impl Outcomes {
     /// Lists in which so many outcomes are to be gathered, none of which is there yet. Where these are as many, or more but not very many more,
-    /// there is room for the share that so many of them have, so that the lists of a superstep like the one before hardly grow. Or `OutOfMemory`.
+    /// there is room for the share that so many of them have, so that the lists of a superstep like the one before hardly grow. Where there is no
+    /// outcome, there is room for the lists that most turns fill. Or `OutOfMemory`.
     pub fn room_for(&self, alloc: Global, count: usize) -> Result<OutcomeRows, OutOfMemory>
         ensures { IfOk result (λ o. o ≡ []) }
     {
@@ -26,7 +27,8 @@ impl Outcomes {
                 room.reserve_like(rows, Share::of(count, rows.len()))?;
                 Ok(room)
             }
-            _ => OutcomeRows::with_capacity(alloc, count),
+            Some(_) => OutcomeRows::with_capacity(alloc, count),
+            None => OutcomeRows::with_room(alloc, count),
         }
     }
 
@@ -36,7 +38,7 @@ impl Outcomes {
     {
         let Outcomes { rows, others: _ } = self;
         let Some(rows) = rows else {
-            return OutcomeRows::with_capacity(alloc, count);
+            return OutcomeRows::with_room(alloc, count);
         };
         match rows.try_unwrap() {
             Ok(mut rows) => {

@@ -1,7 +1,6 @@
-use Rattle.std.proofs.Common.{◌≡◌, ◌++◌, length, get_or, arith}
+use Rattle.std.proofs.Common.{◌≡◌, ◌++◌, length, get_or}
 use Rattle.std.specs.Prelude.{slice_range}
-use Rattle.bsp_model.specs.Replaced.{replaced}
-use Rattle.bsp_model.proofs.Replaced.{no_front, front-more, whole_front}
+use Rattle.bsp_model.proofs.Replaced.{no_front, front-more}
 use Rattle.bsp_model.proofs.by_process.add_replaced.Goals as goal
 
 pub loop-place-init : goal.loop-place-init

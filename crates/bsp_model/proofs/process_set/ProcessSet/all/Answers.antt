@@ -1,4 +1,4 @@
-use Rattle.std.proofs.Common.{◌-◌, ◌^◌, ◌≡◌, ℕ, false, true, ap, ◌∙◌, arith}
+use Rattle.std.proofs.Common.{true, ap, ◌∙◌, arith}
 use Rattle.bsp_model.specs.Inside.Bits.{has_bit}
 use Rattle.bsp_model.proofs.SetBits.{all_bits, none_behind_all, set_of_same}
 use Rattle.bsp_model.proofs.process_set.ProcessSet.all.Goals as goal

@@ -1,4 +1,4 @@
-use Rattle.std.proofs.Common.{Bool, false, List, length, get_or, sym, ap, ◌∙◌, arith}
+use Rattle.std.proofs.Common.{Bool, false, List, get_or, sym, ap, ◌∙◌, arith}
 use Rattle.std.proofs.lemmas.List.{get_or_past}
 use Rattle.bsp_model.specs.Inside.Bits.{set_of}
 use Rattle.bsp_model.specs.Inside.WordsOfSets.{in_set, length-set_of}

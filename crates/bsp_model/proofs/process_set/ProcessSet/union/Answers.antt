@@ -1,5 +1,4 @@
 use Rattle.std.proofs.Common.{◌≡◌, ℕ, Bool, List, length, ap, sym, ◌∙◌, subst}
-use Rattle.std.specs.Int.RustNames.{bit_or}
 use Rattle.bsp_model.specs.ProcessSet.{union}
 use Rattle.bsp_model.specs.Inside.Bits.{set_of, AreBitsOf}
 use Rattle.bsp_model.specs.Inside.WordsOfSets.{length-set_of}
