@@ -15,18 +15,18 @@ pub const VERSION: &str = "0.1.0";
 /// What the blocks of a report tell.
 #[derive(Clone, Copy)]
 pub struct Detail {
-    /// Whether they tell at which places turns were taken and deliveries made.
+    /// Whether they list the places of turns and deliveries.
     pub places: bool,
-    /// Whether each block after the first tells only what is another than in the last block with a status before it.
+    /// Whether each block after the first tells its changes against the last block with a status before it.
     pub changes: bool,
 }
 
 /// What the words ask for.
 #[derive(Clone, Copy)]
 pub struct Options {
-    /// How many workers share a session's work, 1 to 16.
+    /// The number of workers that share a session's work, 1 to 16.
     pub workers: usize,
-    /// Whether each input is run from its start, on one thread.
+    /// Whether each input is run from its first superstep, on one thread.
     pub scratch: bool,
     /// What the report tells.
     pub detail: Detail,
@@ -79,11 +79,10 @@ to `fault J7` says where the fault is."
     };
 }
 
-const PLACES_HELP: &str =
-    "Tells which turns were taken and which deliveries made, by superstep and process";
+const PLACES_HELP: &str = "Lists the places of turns and deliveries, by superstep and process";
 
 const CHANGES_HELP: &str =
-    "Tells of each run after the first only what is another than in the run before";
+    "Reports each run after the first as its changes against the previous run";
 
 fn workers_arg<'a>(alloc: Global) -> Arg<'a>
     ensures own { result.global ≡ false }
@@ -92,7 +91,7 @@ fn workers_arg<'a>(alloc: Global) -> Arg<'a>
     Arg::new(alloc, "workers")
         .long("workers")
         .value_name("N")
-        .help("How many workers share the work, 1 to 16")
+        .help("Number of workers that share the work, 1 to 16")
         .value_parser(value_parser!(u8).range(1..=16))
         .default_value("1")
 }
@@ -115,9 +114,7 @@ fn follow_arg<'a>(alloc: Global) -> Arg<'a>
     Arg::new(alloc, "follow")
         .long("follow")
         .value_name("FILE")
-        .help(
-            "Reads the document from FILE, and then answers each line of standard input as it comes",
-        )
+        .help("Reads the document from FILE, then answers each line of standard input as it comes")
 }
 
 /// The command with the options that say how a job is run.
@@ -132,7 +129,7 @@ fn running_command<'a>(alloc: Global, tool: &Tool) -> Result<Command<'a>, AllocE
         .arg(flag_arg(
             alloc,
             "scratch",
-            "Runs each edited input from its start, on one thread",
+            "Runs each input from its first superstep, on one thread, and reuses nothing",
         ))
 }
 
