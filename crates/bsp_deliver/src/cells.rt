@@ -98,17 +98,12 @@ impl Cells {
         self.queues.get(place)
     }
 
-    /// Adds one process more. After `OutOfMemory` nothing has changed.
-    pub fn push(&mut self, memory: Memory, queue: Queue) -> Result<(), OutOfMemory>
-        ensures ok { OnOk result (self.new ≡ self.old ++ (memory, queue) ∷ []) }
-        ensures err { OnErr result (self.new ≡ self.old) }
-    {
-        let mut memory = memory;
-        self.push_from(&mut memory, &queue.as_ref())
-    }
-
-    /// The same, where the words of the memory are taken out of it.
-    fn push_from(&mut self, memory: &mut Memory, queue: &MessagesRef<'_>) -> Result<(), OutOfMemory>
+    /// Adds one process more, and takes the words out of its memory. After `OutOfMemory` these cells have not changed.
+    pub fn push(
+        &mut self,
+        memory: &mut Memory,
+        queue: &MessagesRef<'_>,
+    ) -> Result<(), OutOfMemory>
         ensures ok { OnOk result (self.new ≡ self.old ++ (memory.old, queue.now) ∷ []) }
         ensures err { OnErr result (self.new ≡ self.old) }
     {

@@ -5,8 +5,9 @@ use Rattle.std.specs.Prelude.{◌==◌, IfErr, IsErrAnd, OnErr, OnOk}
 use Rattle.std.proofs.lemmas.List.{append-nil}
 use Rattle.bsp_engine.specs.declared.errors.EngineError.{EngineError}
 use Rattle.bsp_engine.specs.declared.errors.EngineError.TheVariants.{Read, Write, OutOfMemory}
-use Rattle.bsp_engine.specs.Talk.{Event, failed, heard, Fails, Goes, HasFailed, HasNotWritten, heard_in, said_in, kept, lines_from, rest_from, whole_lines, unless_empty, all_lines, Due, Talks, Breaks, IsBeginning, IsDueForSome, TalksUntil}
-use Rattle.bsp_engine.specs.Inside.Talk.{Says, SaysPart, Answered, Stopped, AttendedIf, Attended, UnattendedIf, Unattended, IsGoing, BreaksOff, Ends, TalksOn}
+use Rattle.bsp_engine.specs.Talk.{Event, failed, heard, Fails, Goes, HasFailed, HasNotWritten, heard_in, said_in, whole_lines, unless_empty, all_lines, Due, Talks, Breaks, IsBeginning, IsDueForSome, TalksUntil}
+use Rattle.bsp_engine.specs.Inside.Talk.{kept, lines_from, rest_from, Says, SaysPart, Answered, Stopped, AttendedIf, Attended, UnattendedIf, Unattended, IsGoing, BreaksOff, Ends, TalksOn}
+use Rattle.bsp_engine.proofs.HeardLines.{whole_are, all_are}
 use Rattle.bsp_engine.proofs.Logs.{goes_more, said_append, heard_only, heard_none, prompt_only, prompt_first, ended_only, says_nothing}
 
 -- the answer to a line broke off in its text
@@ -57,12 +58,16 @@ rest_append begun (x ∷ xs) ys =
 others_of : List ℕ → List ℕ → List (List ℕ)
 others_of begun left = lines_from begun left ++ unless_empty (rest_from begun left)
 
+whole_more : (done left : List ℕ) → whole_lines (done ++ left) ≡ whole_lines done ++ lines_from (rest_from [] done) left
+whole_more done left = sym (whole_are (done ++ left)) ∙ lines_append [] done left ∙ ap (λ l. l ++ lines_from (rest_from [] done) left) (whole_are done)
+
 all_split : (done left : List ℕ) → all_lines (done ++ left) ≡ whole_lines done ++ others_of (rest_from [] done) left
 unfolding others_of
 all_split done left =
-    ap (λ l. l ++ unless_empty (rest_from [] (done ++ left))) (lines_append [] done left)
+    all_are (done ++ left)
+    ∙ (ap (λ l. l ++ unless_empty (rest_from [] (done ++ left))) (whole_more done left)
     ∙ (ap (λ r. (whole_lines done ++ lines_from (rest_from [] done) left) ++ unless_empty r) (rest_append [] done left)
-    ∙ append_assoc (whole_lines done) (lines_from (rest_from [] done) left) (unless_empty (rest_from (rest_from [] done) left)))
+    ∙ append_assoc (whole_lines done) (lines_from (rest_from [] done) left) (unless_empty (rest_from (rest_from [] done) left))))
 
 -- the same in other words
 pub goes_as : (due now : Due) (old new : Option (List Event)) (begun left begun' left' : List ℕ) → IsGoing due now old new begun left → begun ≡ begun' → left ≡ left' → IsGoing due now old new begun' left'
@@ -111,7 +116,7 @@ goes_heard due now old mid new begun piece h none g =
 pub goes_byte : (due now : Due) (old new : Option (List Event)) (begun : List ℕ) (b : ℕ) (left : List ℕ) → IsGoing due now old new begun (b ∷ left) → (b == 10) ≡ false → IsGoing due now old new (kept begun b) left
 goes_byte due now old new begun b left h is =
     let same : whole_lines (h.done ++ b ∷ []) ≡ whole_lines h.done =
-    lines_append [] h.done (b ∷ []) ∙ (ap (λ t. whole_lines h.done ++ cond t (rest_from [] h.done ∷ []) []) is ∙ append-nil (whole_lines h.done)) in
+    whole_more h.done (b ∷ []) ∙ (ap (λ t. whole_lines h.done ++ cond t (rest_from [] h.done ∷ []) []) is ∙ append-nil (whole_lines h.done)) in
     record {
       events = h.events;
       goes = h.goes;
@@ -127,7 +132,7 @@ pub goes_line : (due now after : Due) (old mid new : Option (List Event)) (begun
 goes_line due now after old mid new begun b left h is a =
     let s = a.says in
     let more : whole_lines (h.done ++ b ∷ []) ≡ whole_lines h.done ++ begun ∷ [] =
-    lines_append [] h.done (b ∷ []) ∙ (ap (λ t. whole_lines h.done ++ cond t (rest_from [] h.done ∷ []) []) is ∙ ap (λ l. whole_lines h.done ++ l ∷ []) (sym h.rest)) in
+    whole_more h.done (b ∷ []) ∙ (ap (λ t. whole_lines h.done ++ cond t (rest_from [] h.done ∷ []) []) is ∙ ap (λ l. whole_lines h.done ++ l ∷ []) (sym h.rest)) in
     record {
       events = s.events ++ h.events;
       goes = goes_more old mid new h.events s.events h.goes s.goes;
@@ -256,7 +261,7 @@ unfolding goes_heard
 talks_end due now old mid new begun piece h none g ended empty =
     let k = goes_heard due now old mid new begun piece h none g in
     let lines : all_lines (heard_in k.events) ≡ whole_lines k.done =
-    ap all_lines (k.heard_all ∙ ap (λ l. k.done ++ l) ended ∙ append-nil k.done) ∙ (ap (λ l. whole_lines k.done ++ unless_empty l) (sym k.rest ∙ empty) ∙ append-nil (whole_lines k.done)) in
+    ap all_lines (k.heard_all ∙ ap (λ l. k.done ++ l) ended ∙ append-nil k.done) ∙ all_are k.done ∙ (ap (λ l. whole_lines k.done ++ unless_empty l) (sym k.rest ∙ empty) ∙ append-nil (whole_lines k.done)) in
     record {
       events = k.events;
       goes = k.goes;
@@ -274,6 +279,7 @@ talks_last due now after old mid late new begun piece h none none_after g ended 
     let events = s.events ++ k.events in
     let lines : all_lines (heard_in events) ≡ whole_lines k.done ++ begun ∷ [] =
     ap all_lines (heard_only s.events k.events s.only ∙ (k.heard_all ∙ ap (λ l. k.done ++ l) ended ∙ append-nil k.done))
+    ∙ all_are k.done
     ∙ ap (λ l. whole_lines k.done ++ l) (ap unless_empty (sym k.rest) ∙ last_line begun some) in
     record {
       events = events;

@@ -7,6 +7,7 @@ pub mod Described
 pub mod Endings
 pub mod Flagging
 pub mod Flowing
+mod HeardLines
 pub mod LiveLaws
 pub mod LookUps
 pub mod Logs

@@ -1,5 +1,5 @@
 -- What happens at a terminal, the lines that are heard there, and whole conversations (this profile).
-use Rattle.std.specs.Prelude.{◌≡◌, ◌≢◌, ◌⊎◌, ℕ, ◌==◌, List, [], ◌∷◌, ◌++◌, length, Option, None, Some, Result, Ok, Err, ⊤, nat_lt, if◌then◌else◌}
+use Rattle.std.specs.Prelude.{◌≡◌, ◌≢◌, ◌⊎◌, ◌+◌, ℕ, ◌==◌, List, [], ◌∷◌, ◌++◌, map, take, Option, None, Some, Result, Ok, Err, ⊤, if◌then◌else◌}
 use Rattle.bsp_engine.specs.Limits.{most_document_bytes}
 use Rattle.bsp_engine.specs.declared.errors.EngineError.{EngineError}
 use Rattle.bsp_engine.specs.declared.errors.EngineError.TheVariants.{Read, Write, OutOfMemory}
@@ -34,23 +34,23 @@ said_in (heard bytes ∷ before) = said_in before
 said_in (said bytes ∷ before) = said_in before ++ bytes
 said_in (failed ∷ before) = said_in before
 
--- What is kept of a line of which one more byte was heard. Of a line that is longer than a document may be, so many bytes and one more are kept.
-unfoldable pub kept : List ℕ → ℕ → List ℕ
-kept begun byte = if nat_lt most_document_bytes (length begun) then begun else begun ++ byte ∷ []
+-- a byte before a text of these whole lines and this rest
+abbrev pub begun_with : ℕ → List (List ℕ) → List ℕ → List (List ℕ) × List ℕ
+begun_with b [] rest = ([], b ∷ rest)
+begun_with b (line ∷ lines) rest = ((b ∷ line) ∷ lines, rest)
 
--- the lines that end in these bytes, each without its LF, where this is kept of the first
-abbrev pub lines_from : List ℕ → List ℕ → List (List ℕ)
-lines_from begun [] = []
-lines_from begun (b ∷ bs) = if b == 10 then begun ∷ lines_from [] bs else lines_from (kept begun b) bs
+-- A text split at its LFs: the lines that have an end, each without its LF, and the rest behind the last LF.
+abbrev pub split : List ℕ → List (List ℕ) × List ℕ
+split [] = ([], [])
+split (b ∷ bs) = if b == 10 then ([] ∷ (split bs).0, (split bs).1) else begun_with b (split bs).0 (split bs).1
 
--- what is kept of the line that comes after the last LF
-abbrev pub rest_from : List ℕ → List ℕ → List ℕ
-rest_from begun [] = begun
-rest_from begun (b ∷ bs) = if b == 10 then rest_from [] bs else rest_from (kept begun b) bs
+-- Of a line that is longer than a document may be, so many bytes and one more are read.
+abbrev pub cut : List ℕ → List ℕ
+cut line = take (most_document_bytes + 1) line
 
 -- the lines of a text that have an end
 abbrev pub whole_lines : List ℕ → List (List ℕ)
-whole_lines bytes = lines_from [] bytes
+whole_lines bytes = map cut (split bytes).0
 
 abbrev pub unless_empty : List ℕ → List (List ℕ)
 unless_empty [] = []
@@ -58,7 +58,7 @@ unless_empty (b ∷ bs) = (b ∷ bs) ∷ []
 
 -- all lines of a text that has come to its end: the last one may lack its LF
 abbrev pub all_lines : List ℕ → List (List ℕ)
-all_lines bytes = lines_from [] bytes ++ unless_empty (rest_from [] bytes)
+all_lines bytes = map cut ((split bytes).0 ++ unless_empty (split bytes).1)
 
 -- the newest read found the end
 abbrev pub HasEnded : List Event → Type 0

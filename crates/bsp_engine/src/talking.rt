@@ -2,8 +2,8 @@
 
 ghost use Rattle.std.specs.Prelude.{◌≡◌, [], Ok, false, true, IfErr, OnOk, OnErr};
 ghost use Rattle.bsp_engine.specs.Inside.DueAt.{due_at, due_from};
-ghost use Rattle.bsp_engine.specs.Inside.Talk.{Answered, Attended, BreaksOff, Ends, GoesOn, Says, SaysPart, Stopped, TalksOn, Unattended};
-ghost use Rattle.bsp_engine.specs.Talk.{TalksUntil, kept};
+ghost use Rattle.bsp_engine.specs.Inside.Talk.{kept, Answered, Attended, BreaksOff, Ends, GoesOn, Says, SaysPart, Stopped, TalksOn, Unattended};
+ghost use Rattle.bsp_engine.specs.Talk.{TalksUntil};
 
 use crate::attending::{Attendant, respond};
 use crate::crew::Crew;

@@ -41,7 +41,7 @@ pub memory_of_process : (pages : List (List (List ℕ))) (lasts memories : List 
 memory_of_process pages lasts memories pid are is within =
     let there : pid < length lasts = omega (arith, within, length-memories_of pages lasts, ap length is) in
     let same : memory_of (row_at pages pid) (row_at lasts pid) ≡ get_or memories pid [] = sym (memory_at pages lasts pid there) ∙ ap (λ (ms : List (List ℕ)). get_or ms pid []) is in
-    record { within = there; has = are pid there; is = same; long = sym (words_len _ _ _ same) }
+    record { within = there; has = are pid there; is = same; long = sym (words_len _ _ _ _ same) }
 
 -- what is known of full pages and last words holds of the same ones
 same_has : (full full' : List (List ℕ)) (last last' : List ℕ) → full' ≡ full → last' ≡ last → HasPages full last (count_of full last) → HasPages full' last' (count_of full' last')
@@ -156,7 +156,7 @@ ArePaged-push pages pages' lasts full last len are put has =
     same_has full full last (row_at (last ∷ []) j) refl (ap (row_at (last ∷ [])) first) (subst (HasPages full last) has.count has))
 
 pub memories_of-push : (pages pages' : List (List (List ℕ))) (lasts memories : List (List ℕ)) (full : List (List ℕ)) (last words : List ℕ) (len : ℕ) → memories_of pages lasts ≡ memories → IsPut [] (row_at pages) (length lasts) full (row_at pages')
-    → HasPages full last len → words_of (full ++ last ∷ []) len ≡ words → memories_of pages' (lasts ++ last ∷ []) ≡ memories ++ words ∷ []
+    → HasPages full last len → words_of full last len ≡ words → memories_of pages' (lasts ++ last ∷ []) ≡ memories ++ words ∷ []
 memories_of-push pages pages' lasts memories full last words len is put has made =
     memories_of-append pages pages' lasts (last ∷ []) memories (words ∷ []) (λ j. full) is put.before
     (λ j inside. let here : length lasts + j ≡ length lasts = omega (arith, inside) in ap (row_at pages') here ∙ put.there)
@@ -164,7 +164,7 @@ memories_of-push pages pages' lasts memories full last words len is put has made
     (λ j inside.
     let first : j ≡ 0 = omega (arith, inside) in
     same_memory full full last (row_at (last ∷ []) j) refl (ap (row_at (last ∷ [])) first)
-    ∙ ap (words_of (full ++ last ∷ [])) (sym has.count)
+    ∙ ap (words_of full last) (sym has.count)
     ∙ made
     ∙ sym (ap (row_at (words ∷ [])) first))
 

@@ -1,9 +1,10 @@
 -- Words that differ in no bit.
-use Rattle.std.proofs.Common.{◌≡◌, ◌<◌, ◌+◌, ◌++◌, ℕ, List, take, drop, get_or, arith, sym, ap, ◌∙◌, inl, inr}
+use Rattle.std.proofs.Common.{◌≡◌, ◌<◌, ◌≤◌, ◌+◌, ◌++◌, ℕ, List, length, take, drop, get_or, arith, sym, ap, ◌∙◌, inl, inr}
 use Rattle.std.specs.Prelude.{◌↔◌}
 use Rattle.std.specs.Int.Bits.{bit_or, bit_xor, or_zero_l, xor_self, xor_add_and}
 use Rattle.std.proofs.lemmas.Bool.{cases_lt}
 use Rattle.std.proofs.lemmas.Nat.{le_or_l, le_or_r, and_le_l, and_le_r}
+use Rattle.std.proofs.lemmas.List.{take-take}
 use Rattle.std.proofs.Math.Seq.{take-add}
 
 none_of_both : (a b : ℕ) → bit_or a b ≡ 0 → (a ≡ 0) × (b ≡ 0)
@@ -36,6 +37,10 @@ one_word_more xs ys n d h = (
       ∙ or_zero_l (bit_xor (get_or xs n 0) (get_or ys n 0))
       ∙ ap (λ x. bit_xor x (get_or ys n 0)) (all n (omega arith)) ∙ xor_self (get_or ys n 0),
 )
+
+-- the first words of a piece
+pub front_of : (piece words : List ℕ) (count : ℕ) → piece ≡ take (length piece) words → count ≤ length piece → take count piece ≡ take count words
+front_of piece words count there few = ap (take count) there ∙ take-take count (length piece) words few
 
 -- one part more
 pub one_part_more : (xs ys : List ℕ) (n m : ℕ) → take n xs ≡ take n ys → take m (drop n xs) ≡ take m (drop n ys) → take (n + m) xs ≡ take (n + m) ys

@@ -1,4 +1,4 @@
--- Writes of several words to pages. A page has 64 words, but for the last.
+-- Writes of several words to pages, each of 64 words, and to the words behind them.
 use Rattle.std.proofs.Common.{◌≡◌, ◌≤◌, ◌<◌, ℕ, ◌+◌, ◌*◌, ◌/◌, ◌%◌, ◌-◌, List, [], ◌∷◌, ◌++◌, length, get_or, take, drop, refl, sym, ap, ◌∙◌, arith, rules, min, nat_le, true, false}
 use Rattle.std.specs.Prelude.{slice_set}
 use Rattle.std.proofs.Math.ListN.{set}
@@ -10,8 +10,8 @@ use mathlib.Core.Logic.{inl, inr}
 use Rattle.bsp_model.specs.Memory.{memory_written}
 use Rattle.bsp_model.specs.Inside.Cut.{IsCut}
 use Rattle.bsp_model.specs.declared.paging.Cut.{Cut}
-use Rattle.bsp_model.specs.Inside.Pages.{paged_word, words_of, HasPages, word_after, AreWritten}
-use Rattle.bsp_model.proofs.Pages.{words_of-each, get_or-words_of, words_len, paged_word_at, parts, place_below, in_full, in_last}
+use Rattle.bsp_model.specs.Inside.Pages.{paged_word, word_in, words_of, HasPages, word_after, AreWritten}
+use Rattle.bsp_model.proofs.Pages.{words_of-each, words_len, word_at, paged_word_at, parts, place_below, in_full, in_last, in_pages, in_new_page}
 
 -- which word stands at an address
 
@@ -102,7 +102,7 @@ pub new_page_more : (pages new : List (List ℕ)) (page page' words part : List 
 new_page_more pages new page page' words part first start k before place here n count small before_is place_is here_is hb hp page_is full n_is part_is page'_is old i hi =
     let word = λ (j : ℕ). paged_word pages (64 * first + j) in
     elim (cases_lt i (64 * k)) as (λ _. paged_word (new ++ page' ∷ []) i ≡ word_after word start words i) [
-      | inl low ↦ in_full new page' i (omega arith) ∙ old i low
+      | inl low ↦ in_pages new page' i (omega arith) ∙ old i low
       | inr from ↦
           let r : ℕ = i - 64 * k in
           let hr : r < 64 = omega arith in
@@ -110,7 +110,7 @@ new_page_more pages new page page' words part first start k before place here n 
           let p : get_or pages (first + k) [] ≡ page = sym (page_is ∙ get_or_default pages (first + k) page [] hp) in
           let unchanged : word i ≡ get_or page r 0 = paged_word_at pages (64 * first + i) (first + k) r (omega arith) hr ∙ ap (λ (ws : List ℕ). get_or ws r 0) p in
           let now : paged_word (new ++ page' ∷ []) i ≡ word_after (λ j. get_or page j 0) place part r =
-          in_last new page' i r (omega arith) hr ∙ ap (λ (ws : List ℕ). get_or ws r 0) page'_is ∙ replaced page part place r (omega arith) in
+          in_new_page new page' i r (omega arith) hr ∙ ap (λ (ws : List ℕ). get_or ws r 0) page'_is ∙ replaced page part place r (omega arith) in
           now ∙ elim (cases_lt i start) as (λ _. word_after (λ j. get_or page j 0) place part r ≡ word_after word start words i) [
             | inl low ↦ word_before (λ j. get_or page j 0) place r part (omega arith) ∙ sym unchanged ∙ sym (word_before word start i words low)
             | inr high ↦ elim (cases_lt i (start + length words)) as (λ _. word_after (λ j. get_or page j 0) place part r ≡ word_after word start words i) [
@@ -173,82 +173,80 @@ pages_replaced pages new swapped words start first place count n e small fits in
 -- a whole write: `front` goes to the full pages, `behind` to the last
 
 -- a word of a full page
-front_word : (full full' : List (List ℕ)) (last last' words front : List ℕ) (start n i : ℕ) → length full' ≡ length full → n ≡ min (length words) (64 * length full - start) → front ≡ take n words → paged_word full' i ≡ word_after (paged_word full) (min start (64 * length full)) front i → i < 64 * length full → paged_word (full' ++ last' ∷ []) i ≡ word_after (paged_word (full ++ last ∷ [])) start words i
+front_word : (full full' : List (List ℕ)) (last last' words front : List ℕ) (start n i : ℕ) → length full' ≡ length full → n ≡ min (length words) (64 * length full - start) → front ≡ take n words → paged_word full' i ≡ word_after (paged_word full) (min start (64 * length full)) front i → i < 64 * length full → word_in full' last' i ≡ word_after (word_in full last) start words i
 front_word full full' last last' words front start n i count n_is front_is changed h =
     let long : length front ≡ n = ap length front_is ∙ length-take-le n words (omega arith) in
     let at = min start (64 * length full) in
     let old = in_full full last i h in
     in_full full' last' i (omega arith) ∙ changed
-    ∙ elim (cases_lt i start) as (λ _. word_after (paged_word full) at front i ≡ word_after (paged_word (full ++ last ∷ [])) start words i) [
-      | inl low ↦ word_before (paged_word full) at i front (omega arith) ∙ sym old ∙ sym (word_before (paged_word (full ++ last ∷ [])) start i words low)
+    ∙ elim (cases_lt i start) as (λ _. word_after (paged_word full) at front i ≡ word_after (word_in full last) start words i) [
+      | inl low ↦ word_before (paged_word full) at i front (omega arith) ∙ sym old ∙ sym (word_before (word_in full last) start i words low)
       | inr high ↦
-          elim (cases_lt i (start + length words)) as (λ _. word_after (paged_word full) at front i ≡ word_after (paged_word (full ++ last ∷ [])) start words i) [
+          elim (cases_lt i (start + length words)) as (λ _. word_after (paged_word full) at front i ≡ word_after (word_in full last) start words i) [
             | inl within ↦
                 let same : i - at ≡ i - start = omega arith in
                 word_inside (paged_word full) at i front (omega arith) (omega arith)
                 ∙ ap (λ (ws : List ℕ). get_or ws (i - at) 0) front_is
                 ∙ get_or-take n words (i - at) 0 (omega arith)
                 ∙ ap (λ (j : ℕ). get_or words j 0) same
-                ∙ sym (word_inside (paged_word (full ++ last ∷ [])) start i words high within)
-            | inr past ↦ word_behind (paged_word full) at i front (omega arith) ∙ sym old ∙ sym (word_behind (paged_word (full ++ last ∷ [])) start i words past)
+                ∙ sym (word_inside (word_in full last) start i words high within)
+            | inr past ↦ word_behind (paged_word full) at i front (omega arith) ∙ sym old ∙ sym (word_behind (word_in full last) start i words past)
           ]
     ]
 
 -- a word of the last page
-last_word : (full full' : List (List ℕ)) (last last' words behind : List ℕ) (start n place i : ℕ) → length full' ≡ length full → length last < 64 → n ≡ min (length words) (64 * length full - start) → behind ≡ drop n words → place ≡ start + n - 64 * length full → place + length behind ≤ length last → last' ≡ take place last ++ behind ++ drop (place + length behind) last → 64 * length full ≤ i → i < 64 * length full + length last → paged_word (full' ++ last' ∷ []) i ≡ word_after (paged_word (full ++ last ∷ [])) start words i
-last_word full full' last last' words behind start n place i count short n_is behind_is place_is inside last'_is from h =
+last_word : (full full' : List (List ℕ)) (last last' words behind : List ℕ) (start n place i : ℕ) → length full' ≡ length full → n ≡ min (length words) (64 * length full - start) → behind ≡ drop n words → place ≡ start + n - 64 * length full → place + length behind ≤ length last → last' ≡ take place last ++ behind ++ drop (place + length behind) last → 64 * length full ≤ i → i < 64 * length full + length last → word_in full' last' i ≡ word_after (word_in full last) start words i
+last_word full full' last last' words behind start n place i count n_is behind_is place_is inside last'_is from h =
     let r = i - 64 * length full in
     let long : length behind ≡ length words - n = ap length behind_is ∙ length-drop n words in
-    let old : paged_word (full ++ last ∷ []) i ≡ get_or last r 0 = in_last full last i r (omega arith) (omega arith) in
-    in_last full' last' i r (omega arith) (omega arith)
+    let old : word_in full last i ≡ get_or last r 0 = in_last full last i r (omega arith) in
+    in_last full' last' i r (omega arith)
     ∙ ap (λ (ws : List ℕ). get_or ws r 0) last'_is
     ∙ replaced last behind place r inside
-    ∙ elim (cases_lt i start) as (λ _. word_after (λ j. get_or last j 0) place behind r ≡ word_after (paged_word (full ++ last ∷ [])) start words i) [
-      | inl low ↦ word_before (λ j. get_or last j 0) place r behind (omega arith) ∙ sym old ∙ sym (word_before (paged_word (full ++ last ∷ [])) start i words low)
+    ∙ elim (cases_lt i start) as (λ _. word_after (λ j. get_or last j 0) place behind r ≡ word_after (word_in full last) start words i) [
+      | inl low ↦ word_before (λ j. get_or last j 0) place r behind (omega arith) ∙ sym old ∙ sym (word_before (word_in full last) start i words low)
       | inr high ↦
-          elim (cases_lt i (start + length words)) as (λ _. word_after (λ j. get_or last j 0) place behind r ≡ word_after (paged_word (full ++ last ∷ [])) start words i) [
+          elim (cases_lt i (start + length words)) as (λ _. word_after (λ j. get_or last j 0) place behind r ≡ word_after (word_in full last) start words i) [
             | inl within ↦
                 let at : n + (r - place) ≡ i - start = omega arith in
                 word_inside (λ j. get_or last j 0) place r behind (omega arith) (omega arith)
                 ∙ ap (λ (ws : List ℕ). get_or ws (r - place) 0) behind_is
                 ∙ get_or-drop n words (r - place) 0
                 ∙ ap (λ (j : ℕ). get_or words j 0) at
-                ∙ sym (word_inside (paged_word (full ++ last ∷ [])) start i words high within)
-            | inr past ↦ word_behind (λ j. get_or last j 0) place r behind (omega arith) ∙ sym old ∙ sym (word_behind (paged_word (full ++ last ∷ [])) start i words past)
+                ∙ sym (word_inside (word_in full last) start i words high within)
+            | inr past ↦ word_behind (λ j. get_or last j 0) place r behind (omega arith) ∙ sym old ∙ sym (word_behind (word_in full last) start i words past)
           ]
     ]
 
-word_of_list : (pages : List (List ℕ)) (old words : List ℕ) (start i : ℕ) → paged_word pages i ≡ get_or old i 0 → word_after (paged_word pages) start words i ≡ word_after (λ j. get_or old j 0) start words i
-word_of_list pages old words start i h = word_moved (paged_word pages) (λ j. get_or old j 0) start start i i words refl h
+word_of_list : (full : List (List ℕ)) (last old words : List ℕ) (start i : ℕ) → word_in full last i ≡ get_or old i 0 → word_after (word_in full last) start words i ≡ word_after (λ j. get_or old j 0) start words i
+word_of_list full last old words start i h = word_moved (word_in full last) (λ j. get_or old j 0) start start i i words refl h
 
-each_written : (pages pages' : List (List ℕ)) (words old : List ℕ) (len start : ℕ) → words_of pages len ≡ old → start + length words ≤ len → ((i : ℕ) → i < len → paged_word pages' i ≡ word_after (paged_word pages) start words i) → words_of pages' len ≡ memory_written old start words
-each_written pages pages' words old len start e inside changed =
-    let n : len ≡ length old = words_len pages len old e in
+each_written : (full full' : List (List ℕ)) (last last' words old : List ℕ) (len start : ℕ) → words_of full last len ≡ old → start + length words ≤ len → ((i : ℕ) → i < len → word_in full' last' i ≡ word_after (word_in full last) start words i) → words_of full' last' len ≡ memory_written old start words
+each_written full full' last last' words old len start e inside changed =
+    let n : len ≡ length old = words_len full last len old e in
     let front : length (take start old) ≡ start = length-take-le start old (omega arith) in
     let long : length (take start old ++ words ++ drop (start + length words) old) ≡ len =
     omega (arith, length-append (take start old ++ words) (drop (start + length words) old), length-append (take start old) words, length-drop (start + length words) old) in
     let yes : nat_le (start + length words) (length old) ≡ true = grind (arith, nat_tests) in
-    let all : words_of pages' len ≡ take start old ++ words ++ drop (start + length words) old =
-    words_of-each pages' len _ long
+    let all : words_of full' last' len ≡ take start old ++ words ++ drop (start + length words) old =
+    words_of-each full' last' len _ long
     (λ i h.
-    let was : paged_word pages i ≡ get_or old i 0 = sym (get_or-words_of pages len i 0 h) ∙ ap (λ (ws : List ℕ). get_or ws i 0) e in
-    changed i h ∙ word_of_list pages old words start i was ∙ sym (replaced old words start i (omega arith))) in
+    changed i h ∙ word_of_list full last old words start i (sym (word_at full last len i old e h)) ∙ sym (replaced old words start i (omega arith))) in
     rw yes all
 
-pub written : (full full' : List (List ℕ)) (last last' words front behind old : List ℕ) (len start n place : ℕ) → words_of (full ++ last ∷ []) len ≡ old → HasPages full last len → start + length words ≤ len → length full' ≡ length full → n ≡ min (length words) (64 * length full - start) → front ≡ take n words → behind ≡ drop n words → AreWritten full (min start (64 * length full)) front full' → place ≡ start + n - 64 * length full → last' ≡ take place last ++ behind ++ drop (place + length behind) last → words_of (full' ++ last' ∷ []) len ≡ memory_written old start words
+pub written : (full full' : List (List ℕ)) (last last' words front behind old : List ℕ) (len start n place : ℕ) → words_of full last len ≡ old → HasPages full last len → start + length words ≤ len → length full' ≡ length full → n ≡ min (length words) (64 * length full - start) → front ≡ take n words → behind ≡ drop n words → AreWritten full (min start (64 * length full)) front full' → place ≡ start + n - 64 * length full → last' ≡ take place last ++ behind ++ drop (place + length behind) last → words_of full' last' len ≡ memory_written old start words
 written full full' last last' words front behind old len start n place e pages inside count n_is front_is behind_is changed place_is last'_is =
     let all = pages.count in
-    let short = pages.short in
     let long : length behind ≡ length words - n = ap length behind_is ∙ length-drop n words in
-    each_written (full ++ last ∷ []) (full' ++ last' ∷ []) words old len start e inside
+    each_written full full' last last' words old len start e inside
     (λ i h.
-    elim (cases_lt i (64 * length full)) as (λ _. paged_word (full' ++ last' ∷ []) i ≡ word_after (paged_word (full ++ last ∷ [])) start words i) [
+    elim (cases_lt i (64 * length full)) as (λ _. word_in full' last' i ≡ word_after (word_in full last) start words i) [
       | inl low ↦ front_word full full' last last' words front start n i count n_is front_is (changed i) low
-      | inr from ↦ last_word full full' last last' words behind start n place i count short n_is behind_is place_is (omega arith) last'_is from (omega arith)
+      | inr from ↦ last_word full full' last last' words behind start n place i count n_is behind_is place_is (omega arith) last'_is from (omega arith)
     ])
 
 -- a whole write whose words are cut
-pub cut_written : (full full' : List (List ℕ)) (last last' words old : List ℕ) (len count start : ℕ) (cut : Cut) → words_of (full ++ last ∷ []) len ≡ old → HasPages full last len → count ≡ 64 * length full → IsCut count len start words cut → length full' ≡ length full → AreWritten full cut.start cut.front.now full' → last' ≡ take cut.place last ++ cut.behind.now ++ drop (cut.place + length cut.behind.now) last → words_of (full' ++ last' ∷ []) len ≡ memory_written old start words
+pub cut_written : (full full' : List (List ℕ)) (last last' words old : List ℕ) (len count start : ℕ) (cut : Cut) → words_of full last len ≡ old → HasPages full last len → count ≡ 64 * length full → IsCut count len start words cut → length full' ≡ length full → AreWritten full cut.start cut.front.now full' → last' ≡ take cut.place last ++ cut.behind.now ++ drop (cut.place + length cut.behind.now) last → words_of full' last' len ≡ memory_written old start words
 cut_written full full' last last' words old len count start cut e pages count_is is same changed last'_is =
     let n = min (length words) (64 * length full - start) in
     let at : min (length words) (count - start) ≡ n = ap (λ (k : ℕ). min (length words) (k - start)) count_is in
@@ -261,13 +259,13 @@ cut_written full full' last last' words old len count start cut e pages count_is
     last'_is
 
 -- a whole write where no page is full
-pub last_written : (full : List (List ℕ)) (last last' words old : List ℕ) (len start : ℕ) → words_of (full ++ last ∷ []) len ≡ old → HasPages full last len → length full ≡ 0 → start + length words ≤ len → last' ≡ take start last ++ words ++ drop (start + length words) last → words_of (full ++ last' ∷ []) len ≡ memory_written old start words
+pub last_written : (full : List (List ℕ)) (last last' words old : List ℕ) (len start : ℕ) → words_of full last len ≡ old → HasPages full last len → length full ≡ 0 → start + length words ≤ len → last' ≡ take start last ++ words ++ drop (start + length words) last → words_of full last' len ≡ memory_written old start words
 last_written full last last' words old len start e pages none inside last'_is =
     written full full last last' words [] words old len start 0 start e pages inside refl (omega (arith, none)) refl refl
     (λ i. no_words (paged_word full) (min start (64 * length full)) i [] refl) (omega (arith, none)) last'_is
 
-pub not_written : (pages : List (List ℕ)) (words old : List ℕ) (len start : ℕ) → words_of pages len ≡ old → len < start + length words → old ≡ memory_written old start words
-not_written pages words old len start e past =
-    let n : len ≡ length old = words_len pages len old e in
+pub not_written : (full : List (List ℕ)) (last words old : List ℕ) (len start : ℕ) → words_of full last len ≡ old → len < start + length words → old ≡ memory_written old start words
+not_written full last words old len start e past =
+    let n : len ≡ length old = words_len full last len old e in
     let no : nat_le (start + length words) (length old) ≡ false = grind (arith, nat_tests) in
     rw no refl

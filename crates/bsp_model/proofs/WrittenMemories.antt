@@ -1,5 +1,5 @@
 -- What a write leaves of the memories of several processes.
-use Rattle.std.proofs.Common.{◌≡◌, ◌≢◌, ◌≤◌, ◌<◌, ℕ, ◌+◌, ◌*◌, ◌-◌, List, [], ◌∷◌, ◌++◌, length, get_or, set, min, refl, ap, subst, ◌∙◌, arith}
+use Rattle.std.proofs.Common.{◌≡◌, ◌≢◌, ◌≤◌, ◌<◌, ℕ, ◌+◌, ◌*◌, ◌-◌, List, [], length, get_or, set, min, refl, ap, subst, ◌∙◌, arith}
 use Rattle.std.proofs.lemmas.List.{length-take, length-drop}
 use Rattle.bsp_model.specs.Columns.{row_at}
 use Rattle.bsp_model.specs.Memory.{memory_written}
@@ -25,16 +25,15 @@ cut_fits full behind len start words cut is all =
 -- the memories once that of a process is written, in these full pages and last words
 memory_written_in : (pages pages' : List (List (List ℕ))) (lasts memories : List (List ℕ)) (pid : ℕ) (last' words : List ℕ) (start : ℕ) → IsMemory pages lasts memories pid → ArePaged pages lasts → memories_of pages lasts ≡ memories
     → ((k : ℕ) → k ≢ pid → row_at pages' k ≡ row_at pages k) → length (row_at pages' pid) ≡ length (row_at pages pid) → length last' ≡ length (row_at lasts pid)
-    → words_of (row_at pages' pid ++ last' ∷ []) (count_of (row_at pages pid) (row_at lasts pid)) ≡ memory_written (get_or memories pid []) start words
+    → words_of (row_at pages' pid) last' (count_of (row_at pages pid) (row_at lasts pid)) ≡ memory_written (get_or memories pid []) start words
     → ArePaged pages' (set lasts pid last') × (memories_of pages' (set lasts pid last') ≡ set memories pid (memory_written (get_or memories pid []) start words))
 memory_written_in pages pages' lasts memories pid last' words start m are is other same long now =
     let full = row_at pages pid in
     let full' = row_at pages' pid in
-    let short = m.has.short in
     let small = m.has.fits in
     let all : count_of full' last' ≡ count_of full (row_at lasts pid) = omega (arith, same, long) in (
-      ArePaged-set pages pages' lasts pid full' last' are m.within other refl (record { short = omega (arith, long, short); count = refl; fits = omega (arith, all, small) }),
-      memories_of-set pages pages' lasts memories pid full' last' is m.within other refl ∙ ap (set memories pid) (ap (words_of (full' ++ last' ∷ [])) all ∙ now),
+      ArePaged-set pages pages' lasts pid full' last' are m.within other refl (record { count = refl; fits = omega (arith, all, small) }),
+      memories_of-set pages pages' lasts memories pid full' last' is m.within other refl ∙ ap (set memories pid) (ap (words_of full' last') all ∙ now),
     )
 
 -- a process's new full pages and last words

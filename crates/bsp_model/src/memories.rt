@@ -10,12 +10,12 @@ use crate::{ByProcess, Memory, MemoryRef, OutOfMemory, Rows, Share, SharedColumn
 use std::alloc::Global;
 use std::marker::Model;
 
-/// The memories of several processes, by process. Copies share the pages that are full.
+/// The memories of several processes, by process. Copies share the pages that are full. A memory that lies in one piece has none.
 #[derive(Drop)]
 pub struct Memories {
     /// The full pages of each memory. Where `lasts` has no row, they belong to no memory.
     pages: SharedColumn<Page>,
-    /// The words behind them, of each memory fewer than a page has.
+    /// The words behind them: of each memory fewer than a page has, or all where it lies in one piece.
     lasts: Rows<u64>,
 }
 

@@ -16,19 +16,19 @@ use std::marker::Model;
 pub struct Memory {
     /// The pages that are full.
     pub(crate) pages: Vec<Page>,
-    /// The words behind them, fewer than a page has. They are this memory's alone.
+    /// The words behind them: fewer than a page has, or all of a memory that lies in one piece. They are this memory's alone.
     pub(crate) last: Vec<u64>,
     /// The number of all words.
     pub(crate) len: usize,
 }
 
 impl Model for Memory {
-    ghost use Rattle.std.specs.Prelude.{List, ℕ, ◌++◌, ◌∷◌, []};
+    ghost use Rattle.std.specs.Prelude.{List, ℕ};
     ghost use Rattle.bsp_model.specs.Inside.Pages.{words_of, HasPages};
 
     ghost Value = { List ℕ };
 
-    ghost view = { λ m. words_of (m.pages.items ++ m.last.items ∷ []) m.len };
+    ghost view = { λ m. words_of m.pages.items m.last.items m.len };
 
     ghost invariant = { λ m. HasPages m.pages.items m.last.items m.len };
 }
@@ -98,11 +98,7 @@ impl Memory {
     pub fn count_of_pages(&self) -> usize
         ensures { result ≡ (length self.now + (WORDS_OF_A_PAGE - 1)) / WORDS_OF_A_PAGE }
     {
-        if self.last.is_empty() {
-            self.pages.len()
-        } else {
-            self.pages.len() + 1
-        }
+        self.len.div_ceil(WORDS_OF_A_PAGE)
     }
 
     /// The word at `address`, if there is one.
@@ -131,15 +127,14 @@ impl Memory {
         if address >= self.len as u64 {
             return Ok(false);
         }
-        let number = address as usize / WORDS_OF_A_PAGE;
-        let place = address as usize % WORDS_OF_A_PAGE;
-        if number == self.pages.len() {
-            self.last[place] = value;
+        let full = self.len - self.last.len();
+        if address >= full as u64 {
+            self.last[address as usize - full] = value;
             return Ok(true);
         }
         let alloc = *self.pages.allocator();
-        let page = &mut self.pages[number];
-        page.store(alloc, place, value)?;
+        let page = &mut self.pages[address as usize / WORDS_OF_A_PAGE];
+        page.store(alloc, address as usize % WORDS_OF_A_PAGE, value)?;
         Ok(true)
     }
 

@@ -1,6 +1,6 @@
 //! A memory that is read where it lies.
 
-ghost use Rattle.std.specs.Prelude.{◌≡◌, ◌+◌, ◌^◌, ◌<◌, ◌≤◌, [], length, IfOk, nat_le, slice_get, take, drop};
+ghost use Rattle.std.specs.Prelude.{◌≡◌, ◌+◌, ◌^◌, ◌<◌, ◌≤◌, ◌↔◌, [], length, IfOk, IsTrue, nat_le, slice_get, take, drop};
 ghost use Rattle.std.specs.Bool.{OnTrue, OnFalse};
 ghost use Rattle.bsp_model.specs.Memory.{rest_of_page};
 
@@ -18,19 +18,19 @@ pub struct MemoryRef<'a> {
     pub(crate) alloc: Global,
     /// The pages that are full.
     pub(crate) pages: &'a [Page],
-    /// The words behind them, fewer than a page has.
+    /// The words behind them: fewer than a page has, or all of a memory that lies in one piece.
     pub(crate) last: &'a [u64],
     /// The number of all words.
     pub(crate) len: usize,
 }
 
 impl<'a> Model for MemoryRef<'a> {
-    ghost use Rattle.std.specs.Prelude.{List, ℕ, ◌++◌, ◌∷◌, []};
+    ghost use Rattle.std.specs.Prelude.{List, ℕ};
     ghost use Rattle.bsp_model.specs.Inside.Pages.{words_of, HasPages};
 
     ghost Value = { List ℕ };
 
-    ghost view = { λ m. words_of (m.pages.now ++ m.last.now ∷ []) m.len };
+    ghost view = { λ m. words_of m.pages.now m.last.now m.len };
 
     ghost invariant = { λ m. HasPages m.pages.now m.last.now m.len };
 }
@@ -85,7 +85,25 @@ impl<'a> MemoryRef<'a> {
         if address >= self.len as u64 {
             return None;
         }
-        Some(self.last[place])
+        Some(self.last[address as usize - (self.len - self.last.len())])
+    }
+
+    /// The words from `address` on, as far as they lie in one piece: at least to the end of the page that they are in.
+    #[inline(always)]
+    fn piece_from(&self, address: u64) -> &'a [u64]
+        ensures there { result.now ≡ take (length result.now) (drop address self.now) }
+        ensures rest { length (rest_of_page self.now address) ≤ length result.now }
+    {
+        let number = address as usize / WORDS_OF_A_PAGE;
+        if number < self.pages.len() {
+            let page = &self.pages[number];
+            return page.words_from(address as usize % WORDS_OF_A_PAGE);
+        }
+        if address >= self.len as u64 {
+            return &[];
+        }
+        let last = self.last;
+        &last[address as usize - (self.len - last.len())..]
     }
 
     /// The words from `address` on, to the end of the page that they are in: at least one, but none past the end of the memory.
@@ -93,16 +111,10 @@ impl<'a> MemoryRef<'a> {
     pub fn words_from(&self, address: u64) -> &'a [u64]
         ensures { result.now ≡ rest_of_page self.now address }
     {
-        let number = address as usize / WORDS_OF_A_PAGE;
-        let place = address as usize % WORDS_OF_A_PAGE;
-        if number < self.pages.len() {
-            let page = &self.pages[number];
-            return page.words_from(place);
-        }
-        if address >= self.len as u64 {
-            return &[];
-        }
-        &self.last[place..]
+        let words = self.piece_from(address);
+        &words[..words
+            .len()
+            .min(WORDS_OF_A_PAGE - address as usize % WORDS_OF_A_PAGE)]
     }
 
     /// The words from `address` on, but at most so many, as far as they lie in one piece: at least one where there is any.
@@ -112,7 +124,7 @@ impl<'a> MemoryRef<'a> {
         ensures few { length result.now ≤ most }
         ensures some { address < length self.now → 0 < most → 0 < length result.now }
     {
-        let words = self.words_from(address);
+        let words = self.piece_from(address);
         &words[..words.len().min(most)]
     }
 
@@ -134,6 +146,24 @@ impl<'a> MemoryRef<'a> {
         true
     }
 
+    /// Whether another memory of as many words has the same, though they lie in other pieces.
+    #[inline(never)]
+    fn has_same_words(&self, other: &MemoryRef<'_>) -> bool
+        requires { length self.now ≡ length other.now }
+        ensures { IsTrue result ↔ (self.now ≡ other.now) }
+    {
+        let mut done = 0;
+        while done < self.len {
+            let right = other.piece(done as u64, self.len - done);
+            let left = self.piece(done as u64, right.len());
+            if !are_same_words(left, &right[..left.len()]) {
+                return false;
+            }
+            done += left.len();
+        }
+        true
+    }
+
     /// A memory of these words, which shares the pages that are full, or `OutOfMemory`.
     pub fn to_memory(&self) -> Result<Memory, OutOfMemory>
         ensures { IfOk result (λ m. m ≡ self.now) }
@@ -142,12 +172,28 @@ impl<'a> MemoryRef<'a> {
         memory.load_from(self)?;
         Ok(memory)
     }
+
+    /// A memory of these words in one piece, which shares none of them, or `OutOfMemory`. It serves where each superstep writes most of the words.
+    pub fn to_one_piece(&self) -> Result<Memory, OutOfMemory>
+        ensures { IfOk result (λ m. m ≡ self.now) }
+    {
+        let mut words = vec![in self.alloc; 0; self.len]?;
+        self.read(0, words.as_mut_slice());
+        Ok(Memory {
+            pages: Vec::new(self.alloc),
+            last: words,
+            len: self.len,
+        })
+    }
 }
 
 impl<'a> Same for MemoryRef<'a> {
     fn same(&self, other: &MemoryRef<'a>) -> bool {
         if self.len != other.len {
             return false;
+        }
+        if self.pages.len() != other.pages.len() {
+            return self.has_same_words(other);
         }
         if !are_same_pages(self.pages, other.pages) {
             return false;

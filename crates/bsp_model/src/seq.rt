@@ -120,13 +120,23 @@ impl<T: Drop> Seq<T> {
     }
 }
 
+impl<T: TryCopy> Seq<T> {
+    /// Adds copies of items. After `OutOfMemory` some of them are added.
+    pub fn append(&mut self, more: &[T]) -> Result<(), OutOfMemory>
+        ensures { OnOk result (self.new ≡ self.old ++ more.now) }
+    {
+        for item in more {
+            self.items.push(item.copy()?)?;
+        }
+        Ok(())
+    }
+}
+
 impl<T: TryCopy> TryCopy for Seq<T> {
     fn copy(&self) -> Result<Seq<T>, OutOfMemory> {
-        let mut items = Vec::new(*self.items.allocator());
-        for item in &self.items {
-            items.push(item.copy()?)?;
-        }
-        Ok(Seq { items })
+        let mut copy = Seq::new(self.allocator());
+        copy.append(self.as_slice())?;
+        Ok(copy)
     }
 }
 

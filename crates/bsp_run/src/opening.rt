@@ -1,6 +1,6 @@
 //! Opening a run.
 
-ghost use Rattle.std.specs.Prelude.{◌≡◌, ◌<◌, All, IfOk, length, map};
+ghost use Rattle.std.specs.Prelude.{◌≡◌, ◌<◌, ◌++◌, ◌∷◌, [], All, IfOk, OnOk, length, map};
 ghost use Rattle.bsp_run.specs.State.{first_cell, no_messages};
 
 use crate::Arguments;
@@ -9,14 +9,43 @@ use bsp_model::{Memory, OutOfMemory, Seq, SharedSeq, TryCopy, Words};
 use bsp_step::Queue;
 use std::alloc::Global;
 
+/// Whether the supersteps of a run are recorded.
+#[derive(Clone, Copy)]
+pub enum Recording {
+    /// The record keeps the memories of each superstep, which share their pages.
+    Kept,
+    /// No superstep is kept, and each memory lies in one piece.
+    None,
+}
+
+/// Adds a copy of the memory and the queue of one process more.
+fn push_first(
+    cells: &mut Cells,
+    memory: &Memory,
+    queue: &Queue,
+    recording: Recording,
+) -> Result<(), OutOfMemory>
+    ensures { OnOk result (cells.new ≡ cells.old ++ (memory.now, queue.now) ∷ []) }
+{
+    let given = memory.as_ref();
+    match recording {
+        Recording::Kept => cells.push_copy(&given, &queue.as_ref()),
+        Recording::None => cells.push_copy(&given.to_one_piece()?.as_ref(), &queue.as_ref()),
+    }
+}
+
 /// The memory and the queue of each process in the first superstep.
-pub fn first_cells(alloc: Global, mems: &[Memory]) -> Result<Cells, OutOfMemory>
+pub fn first_cells(
+    alloc: Global,
+    mems: &[Memory],
+    recording: Recording,
+) -> Result<Cells, OutOfMemory>
     ensures { IfOk result (λ cells. cells ≡ map (λ m. (m, no_messages m)) mems.now) }
 {
     let mut cells = Cells::with_capacity(alloc, mems.len())?;
     let none = Queue::new(alloc);
     for memory in mems {
-        cells.push_copy(&memory.as_ref(), &none.as_ref())?;
+        push_first(&mut cells, memory, &none, recording)?;
     }
     Ok(cells)
 }

@@ -18,7 +18,7 @@ use crate::costs::{cost_of_delivery, cost_with_h};
 use crate::ending::end_of;
 use crate::keeping::{keep_superstep, phase_after, phase_at};
 use crate::next::table_seen;
-use crate::opening::{first_cells_of, shared_args};
+use crate::opening::{Recording, first_cells_of, shared_args};
 use crate::{Arguments, Phase, RunError, Setting, Status, Superstep, Views, ViewsRef};
 use bsp_deliver::Delivered;
 use bsp_model::{CostRow, Input, OutOfMemory, Shared, SharedSeq, TryCopy};
@@ -81,7 +81,7 @@ impl Tape {
         ensures { IfOk result (λ tape. tape ≡ start input.now) }
     {
         let args = shared_args(&input.args)?;
-        let views = Views::first(alloc, input, args.copy()?)?;
+        let views = Views::first(alloc, input, args.copy()?, Recording::Kept)?;
         Tape::open_with(alloc, input, args, views)
     }
 

@@ -15,7 +15,7 @@ ghost use Rattle.bsp_run.specs.Inside.IsUnrecorded.{IsUnrecorded, IsUnrecordedIn
 use crate::ending::end_of;
 use crate::history::{memories_of_outcomes, memories_of_views};
 use crate::numbers::numbers;
-use crate::opening::shared_args;
+use crate::opening::{Recording, shared_args};
 use crate::tally::Tally;
 use crate::wide::turns_by_one;
 use crate::{Phase, RunResult, Status, TurnRows, Views};
@@ -100,7 +100,7 @@ impl Unrecorded {
         requires lawful { input_fault input.now ≡ None }
         ensures { IfOk result (IsUnrecorded (start input.now)) }
     {
-        let views = Views::first(alloc, input, shared_args(&input.args)?)?;
+        let views = Views::first(alloc, input, shared_args(&input.args)?, Recording::None)?;
         let processes = numbers(alloc, views.len())?;
         Ok(Unrecorded {
             processes,

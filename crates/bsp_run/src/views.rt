@@ -9,7 +9,7 @@ ghost use Rattle.bsp_run.specs.Condition.{no_view};
 ghost use Rattle.bsp_run.specs.Inside.Opening.{CanOpen, state_of};
 ghost use Rattle.bsp_run.specs.Inside.Settings.{IsSettingOf};
 
-use crate::opening::first_cells;
+use crate::opening::{Recording, first_cells};
 use crate::shared_cells::SharedCells;
 use crate::{Arguments, Setting};
 use bsp_deliver::Cells;
@@ -73,12 +73,17 @@ impl Views {
     }
 
     /// The views of superstep 0, with the arguments of the input.
-    pub(crate) fn first(alloc: Global, input: &Input, args: Arguments) -> Result<Views, OutOfMemory>
+    pub(crate) fn first(
+        alloc: Global,
+        input: &Input,
+        args: Arguments,
+        recording: Recording,
+    ) -> Result<Views, OutOfMemory>
         requires lawful { input_fault input.now ≡ None }
         requires args { args ≡ input.now.args }
         ensures { IfOk result (λ views. views ≡ open_views (start input.now)) }
     {
-        let cells = first_cells(alloc, input.mems.as_slice())?;
+        let cells = first_cells(alloc, input.mems.as_slice(), recording)?;
         let setting = Setting::first(alloc, args, cells.len())?;
         Views::open(alloc, setting, cells)
     }

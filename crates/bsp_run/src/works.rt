@@ -97,8 +97,8 @@ impl<'a> Gathering for Deliveries<'a> {
     }
 
     fn add(&self, alloc: Global, cells: &mut Cells, process: &usize) -> Result<(), OutOfMemory> {
-        let (memory, queue) = deliver_sorted(alloc, *process, self.sorted, self.outcomes)?;
-        cells.push(memory, queue)?;
+        let (mut memory, queue) = deliver_sorted(alloc, *process, self.sorted, self.outcomes)?;
+        cells.push(&mut memory, &queue.as_ref())?;
         Ok(())
     }
 }

@@ -98,15 +98,17 @@ impl Lists {
     pub(crate) fn reserve_like(&mut self, like: &Lists, share: Share) -> Result<(), OutOfMemory>
         ensures { self.new ≡ self.old }
     {
-        self.faults.reserve_like(&like.faults, share)?;
-        self.stores.reserve_like(&like.stores, share)?;
-        self.puts.reserve_like(&like.puts, share)?;
-        self.gets.reserve_like(&like.gets, share)?;
-        self.sends.reserve_like(&like.sends, share)?;
-        self.pops.reserve_like(&like.pops, share)?;
-        self.pushes.reserve_like(&like.pushes, share)?;
-        self.tags.reserve_like(&like.tags, share)?;
-        self.lines.reserve_like(&like.lines, share)
+        let faults = self.faults.reserve_like(&like.faults, share);
+        let stores = self.stores.reserve_like(&like.stores, share);
+        let puts = self.puts.reserve_like(&like.puts, share);
+        let gets = self.gets.reserve_like(&like.gets, share);
+        let sends = self.sends.reserve_like(&like.sends, share);
+        let pops = self.pops.reserve_like(&like.pops, share);
+        let pushes = self.pushes.reserve_like(&like.pushes, share);
+        let tags = self.tags.reserve_like(&like.tags, share);
+        let lines = self.lines.reserve_like(&like.lines, share);
+        let requests = puts.and(gets).and(sends).and(pops).and(pushes);
+        faults.and(stores).and(requests).and(tags).and(lines)
     }
 
     /// Leaves no lists for any process. Their room stays.

@@ -226,18 +226,8 @@ impl OutcomeRows {
         Ok(outcome)
     }
 
-    /// Adds an outcome with another memory of as many words. After `OutOfMemory` nothing has changed.
-    pub fn push_over(&mut self, outcome: &OutcomeRef<'_>, memory: Memory) -> Result<(), OutOfMemory>
-        requires { length memory ≡ length outcome.now.memory }
-        ensures ok { OnOk result (self.new ≡ self.old ++ record outcome.now { memory = memory } ∷ []) }
-        ensures err { OnErr result (self.new ≡ self.old) }
-    {
-        let mut memory = memory;
-        self.push_over_from(outcome, &mut memory)
-    }
-
-    /// The same, where the words of the other memory are taken out of it.
-    fn push_over_from(
+    /// Adds an outcome with another memory of as many words, which are taken out of `memory`. After `OutOfMemory` these outcomes have not changed.
+    pub fn push_over(
         &mut self,
         outcome: &OutcomeRef<'_>,
         memory: &mut Memory,

@@ -83,17 +83,18 @@ impl TurnLists {
         Ok(())
     }
 
-    /// Makes the requests of other lists, and their printed lines, those of these lists. After `OutOfMemory` some of them are.
-    fn copy_requests(&mut self, source: &TurnLists) -> Result<(), OutOfMemory>
-        ensures { OnOk result (self.new ≡ record source.now { memory = self.old.memory; stores = self.old.stores }) }
+    /// Adds copies of the requests of other lists, and of their printed lines. After `OutOfMemory` some of them are added.
+    fn append_requests(&mut self, more: &TurnLists) -> Result<(), OutOfMemory>
+        ensures { OnOk result (self.new ≡ record self.old {
+            puts = self.old.puts ++ more.now.puts; gets = self.old.gets ++ more.now.gets; sends = self.old.sends ++ more.now.sends;
+            pops = self.old.pops ++ more.now.pops; pushes = self.old.pushes ++ more.now.pushes; lines = self.old.lines ++ more.now.lines }) }
     {
-        self.puts = source.puts.copy()?;
-        self.gets = source.gets.copy()?;
-        self.sends = source.sends.copy()?;
-        self.pops = source.pops.copy()?;
-        self.pushes = source.pushes.copy()?;
-        self.lines = source.lines.copy()?;
-        Ok(())
+        self.puts.append(&more.puts.as_ref())?;
+        self.gets.append(more.gets.as_slice())?;
+        self.sends.append(&more.sends.as_ref())?;
+        self.pops.append(more.pops.as_slice())?;
+        self.pushes.append(more.pushes.as_slice())?;
+        self.lines.append(&more.lines.as_ref())
     }
 }
 
@@ -102,7 +103,7 @@ impl TryCopy for TurnLists {
         let mut copy = TurnLists::new(self.gets.allocator());
         copy.memory.load_from(&self.memory.as_ref())?;
         copy.stores = self.stores.copy()?;
-        copy.copy_requests(self)?;
+        copy.append_requests(self)?;
         Ok(copy)
     }
 }

@@ -1,8 +1,23 @@
 -- How a conversation goes on, byte by byte and line by line: private functions alone speak of it.
-use Rattle.std.specs.Prelude.{◌≡◌, ◌≢◌, ℕ, Bool, true, false, ◌==◌, List, [], ◌∷◌, ◌++◌, Option, ⊤}
+use Rattle.std.specs.Prelude.{◌≡◌, ◌≢◌, ℕ, Bool, true, false, ◌==◌, List, [], ◌∷◌, ◌++◌, length, nat_lt, if◌then◌else◌, Option, ⊤}
+use Rattle.bsp_engine.specs.Limits.{most_document_bytes}
 use Rattle.bsp_engine.specs.declared.errors.EngineError.{EngineError}
 use Rattle.bsp_engine.specs.declared.errors.EngineError.TheVariants.{Write, OutOfMemory}
-use Rattle.bsp_engine.specs.Talk.{Breaks, Due, Event, Goes, HasNotWritten, IsBeginning, IsPrompt, IsReason, Talks, failed, heard, heard_in, kept, rest_from, said, said_in, whole_lines}
+use Rattle.bsp_engine.specs.Talk.{Breaks, Due, Event, Goes, HasNotWritten, IsBeginning, IsPrompt, IsReason, Talks, failed, heard, heard_in, said, said_in, whole_lines}
+
+-- What is kept of a line of which one more byte was heard.
+unfoldable pub kept : List ℕ → ℕ → List ℕ
+kept begun byte = if nat_lt most_document_bytes (length begun) then begun else begun ++ byte ∷ []
+
+-- the lines that end in these bytes, each without its LF, where this is kept of the first
+abbrev pub lines_from : List ℕ → List ℕ → List (List ℕ)
+lines_from begun [] = []
+lines_from begun (b ∷ bs) = if b == 10 then begun ∷ lines_from [] bs else lines_from (kept begun b) bs
+
+-- what is kept of the line that comes after the last LF
+abbrev pub rest_from : List ℕ → List ℕ → List ℕ
+rest_from begun [] = begun
+rest_from begun (b ∷ bs) = if b == 10 then rest_from [] bs else rest_from (kept begun b) bs
 
 -- nothing was heard
 abbrev pub OnlySaid : List Event → Type 0

@@ -23,6 +23,6 @@ pub fn reuse<P: Program>(
     let _step = recorded.step;
     let mut memory = view.memory.to_memory()?;
     outcome.stores.make_again(&mut memory)?;
-    rows.push_over(&outcome, memory)?;
+    rows.push_over(&outcome, &mut memory)?;
     Ok(())
 }

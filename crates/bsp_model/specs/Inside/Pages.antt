@@ -1,4 +1,4 @@
--- The pages in which the words of a memory are kept.
+-- The pages in which the words of a memory are kept, and the words behind them.
 use Rattle.std.specs.Prelude.{ℕ, ◌+◌, ◌*◌, ◌/◌, ◌%◌, ◌^◌, ◌-◌, ◌<◌, ◌≡◌, List, [], length, map, get_or, nat_le, nat_lt, ◌&&◌, if◌then◌else◌}
 use Rattle.std.specs.List.{range_with_len}
 use Rattle.bsp_model.specs.declared.page.TheConstants.{WORDS_OF_A_PAGE}
@@ -7,13 +7,17 @@ use Rattle.bsp_model.specs.declared.page.TheConstants.{WORDS_OF_A_PAGE}
 unfoldable pub paged_word : List (List ℕ) → ℕ → ℕ
 paged_word pages address = get_or (get_or pages (address / WORDS_OF_A_PAGE) []) (address % WORDS_OF_A_PAGE) 0
 
--- The words of these pages, so many of them.
-unfoldable pub words_of : List (List ℕ) → ℕ → List ℕ
-words_of pages len = map (paged_word pages) (range_with_len 0 len)
+-- The word at an address of a memory: in a full page, or behind all of them.
+unfoldable pub word_in : List (List ℕ) → List ℕ → ℕ → ℕ
+word_in full last address =
+    if nat_lt address (WORDS_OF_A_PAGE * length full) then paged_word full address else get_or last (address - WORDS_OF_A_PAGE * length full) 0
 
--- So many words are in the full pages and the last, which is not full, and they can be counted.
+-- The words of the full pages and those behind them, so many of them.
+unfoldable pub words_of : List (List ℕ) → List ℕ → ℕ → List ℕ
+words_of full last len = map (word_in full last) (range_with_len 0 len)
+
+-- So many words are in the full pages and behind them, and they can be counted.
 pub record HasPages (full : List (List ℕ)) (last : List ℕ) (len : ℕ) : Type 0 where
-  pub short : length last < WORDS_OF_A_PAGE
   pub count : len ≡ WORDS_OF_A_PAGE * length full + length last
   pub fits : len < 2 ^ 64
 

@@ -1,6 +1,6 @@
-//! Memories of several pages.
+//! Memories of several pages, and in one piece.
 
-use bsp_model::{Memory, OutOfMemory, TryCopy};
+use bsp_model::{Memory, OutOfMemory, Same, TryCopy};
 use std::alloc::Global;
 
 /// Whether words are written up to the end, and not past it.
@@ -31,4 +31,18 @@ fn is_copied(alloc: Global) -> Result<bool, OutOfMemory> {
 #[test]
 fn a_copy_changes_alone(rt: HostRuntime) {
     assert!(rt; is_copied(rt.alloc()) == Ok(true));
+}
+
+/// Whether the words of `paged` are the same in one piece, until one of them is stored there.
+fn is_in_one_piece(paged: &Memory) -> Result<bool, OutOfMemory> {
+    let mut whole = paged.as_ref().to_one_piece()?;
+    let is_same = whole.same(paged) && paged.same(&whole);
+    let is_stored = whole.store(129, 1)?;
+    Ok(is_same && is_stored && !whole.same(paged) && paged.load(129) == Some(0))
+}
+
+#[test]
+fn one_piece_has_the_words_of_pages(rt: HostRuntime) {
+    let paged = Memory::from_words(rt.alloc(), &[0; 130]);
+    assert!(rt; paged.is_ok_and(|paged| is_in_one_piece(&paged) == Ok(true)));
 }

@@ -1,4 +1,4 @@
-use Rattle.std.proofs.Common.{◌≡◌, ◌∙◌, List, ℕ, length, subst, sym}
+use Rattle.std.proofs.Common.{length, subst, sym}
 use Rattle.bsp_deliver.specs.Inside.Gathering.{ArePlaces, AreTargets}
 use Rattle.bsp_deliver.proofs.SkippedSenders.{targets_of}
 use Rattle.bsp_deliver.proofs.writing.write_some.Goals as goal

@@ -1,4 +1,4 @@
-use Rattle.std.proofs.Common.{◌∙◌, ap, arith, map}
+use Rattle.std.proofs.Common.{ap, arith, map}
 use Rattle.std.proofs.lemmas.List.{length-map}
 use Rattle.bsp_pool.proofs.ShareLists.{run_outputs}
 use Rattle.bsp_run.proofs.WorkerRows.{with_part, with_one}

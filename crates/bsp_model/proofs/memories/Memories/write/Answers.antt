@@ -33,7 +33,7 @@ pub returns-then-not-is_within-clause-written : goal.returns-then-not-is_within-
 returns-then-not-is_within-clause-written c =
     let m = memory_of_process c.self.inside.pages c.self.inside.lasts c.args.self.now c.args.pid c.self.invariant c.self.view_is c.requires in
     let over : length c.row-2.result.now < c.args.start + length c.args.words.now = grind (arith, nat_tests, c.is_within.ensures, c.if-not-is_within.true) in
-    sym (set-get_or c.args.self.now c.args.pid []) ∙ ap (set c.args.self.now c.args.pid) (not_written _ _ _ _ _ m.is (omega (arith, over, as_long c, m.long)))
+    sym (set-get_or c.args.self.now c.args.pid []) ∙ ap (set c.args.self.now c.args.pid) (not_written _ _ _ _ _ _ m.is (omega (arith, over, as_long c, m.long)))
 
 -- no page is full, and the words are within the last words
 fits : (c : goal.After-replace) → (length (row_at c.self.inside.pages c.args.pid) ≡ 0) × (c.args.start + length c.args.words.now ≤ length (row_at c.self.inside.lasts c.args.pid))

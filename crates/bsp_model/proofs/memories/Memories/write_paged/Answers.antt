@@ -40,7 +40,7 @@ returns-in_default-clause-written c =
     let m = memory_of_process c.self.inside.pages c.self.inside.lasts c.args.self.now c.args.pid c.self.invariant c.self.view_is c.requires in
     let past : count_of (row_at c.self.inside.pages c.args.pid) (row_at c.self.inside.lasts c.args.pid) < c.args.start + length c.args.words.now =
     omega (arith, c.in_default.ensures, ap length c.row.ensures, ap length c.row-2.ensures) in
-    sym (set-get_or c.args.self.now c.args.pid []) ∙ ap (set c.args.self.now c.args.pid) (not_written _ _ _ _ _ m.is past)
+    sym (set-get_or c.args.self.now c.args.pid []) ∙ ap (set c.args.self.now c.args.pid) (not_written _ _ _ _ _ _ m.is past)
 
 pub write_row-requires : goal.write_row-requires
 write_row-requires c =

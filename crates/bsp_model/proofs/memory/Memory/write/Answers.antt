@@ -8,16 +8,16 @@ use Rattle.bsp_model.proofs.memory.Memory.write.Goals as goal
 
 pub returns-then-not-is_within-clause-within : goal.returns-then-not-is_within-clause-within
 returns-then-not-is_within-clause-within c =
-    sym c.if-not-is_within.true ∙ c.is_within.ensures ∙ ap (nat_le (c.args.start + length c.args.words.now)) (words_len _ _ _ c.self.view_is)
+    sym c.if-not-is_within.true ∙ c.is_within.ensures ∙ ap (nat_le (c.args.start + length c.args.words.now)) (words_len _ _ _ _ c.self.view_is)
 
 pub returns-then-not-is_within-clause-written : goal.returns-then-not-is_within-clause-written
 returns-then-not-is_within-clause-written c =
     let over : c.self.inside.len < c.args.start + length c.args.words.now = grind (arith, nat_tests, c.is_within.ensures, c.if-not-is_within.true) in
-    not_written _ _ _ _ _ c.self.view_is over
+    not_written _ _ _ _ _ _ c.self.view_is over
 
 pub returns-clause-within : goal.returns-clause-within
 returns-clause-within c =
-    sym c.if-not-is_within.false ∙ c.is_within.ensures ∙ ap (nat_le (c.args.start + length c.args.words.now)) (words_len _ _ _ c.self.view_is)
+    sym c.if-not-is_within.false ∙ c.is_within.ensures ∙ ap (nat_le (c.args.start + length c.args.words.now)) (words_len _ _ _ _ c.self.view_is)
 
 pub returns-clause-written : goal.returns-clause-written
 returns-clause-written c =

@@ -9,15 +9,15 @@ use Rattle.bsp_model.proofs.memory.Memory.write_paged.Goals as goal
 
 pub returns-in_default-clause-within : goal.returns-in_default-clause-within
 returns-in_default-clause-within c =
-    let past : length c.args.self.now < c.args.start + length c.args.words.now = omega (arith, words_len _ _ _ c.self.view_is, c.in_default.ensures) in
+    let past : length c.args.self.now < c.args.start + length c.args.words.now = omega (arith, words_len _ _ _ _ c.self.view_is, c.in_default.ensures) in
     grind (arith, nat_tests, past)
 
 pub returns-in_default-clause-written : goal.returns-in_default-clause-written
-returns-in_default-clause-written c = not_written _ _ _ _ _ c.self.view_is c.in_default.ensures
+returns-in_default-clause-written c = not_written _ _ _ _ _ _ c.self.view_is c.in_default.ensures
 
 pub returns-clause-within : goal.returns-clause-within
 returns-clause-within c =
-    let e = words_len _ _ _ c.self.view_is in
+    let e = words_len _ _ _ _ c.self.view_is in
     let inside = c.in-Some.ensures.inside in
     grind (arith, nat_tests, e, inside)
 

@@ -8,7 +8,7 @@ returns-then-number-self c =
     loaded_full c.self.inside.pages.now (get_or c.self.inside.pages.now (c.args.address / 64) c.index-self-number.result) c.self.inside.last.now _ _ c.args.address _ c.self.view_is c.self.invariant (omega arith) (get_or_default c.self.inside.pages.now (c.args.address / 64) c.index-self-number.result (get_or c.self.inside.pages.now (c.args.address / 64) c.index-self-number.result) (omega arith)) c.load.ensures
 
 pub returns-then-address-self : goal.returns-then-address-self
-returns-then-address-self c = loaded_past _ _ _ c.args.address c.self.view_is (omega arith)
+returns-then-address-self c = loaded_past _ _ _ _ c.args.address c.self.view_is (omega arith)
 
 pub returns : goal.returns
-returns c = loaded_last c.self.inside.pages.now c.self.inside.last.now _ _ c.args.address c.self.view_is c.self.invariant (omega arith) (omega arith)
+returns c = let count = c.self.invariant.count in loaded_last c.self.inside.pages.now c.self.inside.last.now _ _ c.args.address _ c.self.view_is (omega arith) (omega arith)

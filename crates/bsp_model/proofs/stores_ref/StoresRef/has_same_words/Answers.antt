@@ -1,13 +1,9 @@
-use Rattle.std.proofs.Common.{◌≡◌, ◌≤◌, List, ℕ, length, take, drop, refl, sym, ap, ◌∙◌, arith}
-use Rattle.std.proofs.lemmas.List.{take-take, length-take, length-drop}
+use Rattle.std.proofs.Common.{List, ℕ, length, drop, refl, sym, ap, ◌∙◌, arith}
+use Rattle.std.proofs.lemmas.List.{length-take, length-drop}
 use Rattle.bsp_model.specs.Stores.{words_stored}
-use Rattle.bsp_model.proofs.SameWords.{one_part_more}
+use Rattle.bsp_model.proofs.SameWords.{front_of, one_part_more}
 use Rattle.bsp_model.proofs.StoredWords.{length-words}
 use Rattle.bsp_model.proofs.stores_ref.StoresRef.has_same_words.Goals as goal
-
--- the first words of a piece
-front_of : (piece words : List ℕ) (count : ℕ) → piece ≡ take (length piece) words → count ≤ length piece → take count piece ≡ take count words
-front_of piece words count there few = ap (take count) there ∙ take-take count (length piece) words few
 
 pub loop-done-preserved : goal.loop-done-preserved
 loop-done-preserved c =

@@ -1,6 +1,5 @@
 use Rattle.std.proofs.Common.{◌≡◌, IfOk, refl, subst, arith}
 use Rattle.bsp_run.specs.declared.result.RunResult.{RunResult}
-use Rattle.bsp_run.specs.declared.tally.Tally.{Tally}
 use Rattle.bsp_run.specs.declared.result.Status.TheVariants.{Limit}
 use Rattle.bsp_run.specs.declared.phase.Phase.TheVariants.{Ended}
 use Rattle.bsp_run.specs.Run.{Run}

@@ -1,4 +1,4 @@
-use Rattle.std.proofs.Common.{◌≡◌, refl, ◌∷◌, [], ◌++◌, ℕ, List, length, ap, subst, ◌∙◌, arith}
+use Rattle.std.proofs.Common.{◌≡◌, ◌∷◌, [], ◌++◌, ℕ, List, length, ap, subst, ◌∙◌, arith}
 use Rattle.bsp_step.specs.declared.turn_lists.TurnLists.{TurnLists}
 use Rattle.bsp_step.specs.OutcomeParts.{OutcomeParts, IsOutcome}
 use Rattle.bsp_step.proofs.OutcomeColumns.{outcomes-push, lawful-push, end_of, same_below, unchanged-below, has_there, on_err}

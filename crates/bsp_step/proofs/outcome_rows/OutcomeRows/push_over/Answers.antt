@@ -1,7 +1,7 @@
 use Rattle.std.proofs.Common.{length, refl, ap, subst, arith}
 use Rattle.bsp_step.specs.OutcomeParts.{IsOutcome}
 use Rattle.bsp_step.proofs.OutcomeColumns.{outcomes-push, lawful-push, end_of, same_below, unchanged-below, has_there, on_err}
-use Rattle.bsp_step.proofs.outcome_rows.OutcomeRows.push_over_from.Goals as goal
+use Rattle.bsp_step.proofs.outcome_rows.OutcomeRows.push_over.Goals as goal
 
 pub returns-in_err-put-clause-err : goal.returns-in_err-put-clause-err
 returns-in_err-put-clause-err c =

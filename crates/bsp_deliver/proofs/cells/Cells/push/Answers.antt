@@ -2,7 +2,7 @@ use Rattle.std.proofs.Common.{[], length, arith}
 use Rattle.std.proofs.lemmas.Result.{MatchResult-from_err}
 use Rattle.bsp_model.specs.Columns.{row_at, IsPut}
 use Rattle.bsp_deliver.proofs.CellsOf.{cells_of-same, cells_of-push}
-use Rattle.bsp_deliver.proofs.cells.Cells.push_from.Goals as goal
+use Rattle.bsp_deliver.proofs.cells.Cells.push.Goals as goal
 
 pub returns-in_err-put-clause-err : goal.returns-in_err-put-clause-err
 returns-in_err-put-clause-err c =
