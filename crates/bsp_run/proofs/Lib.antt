@@ -11,6 +11,7 @@ pub mod OneRun
 pub mod Turns
 pub mod Shares
 pub mod NextViews
+pub mod SeenRuns
 pub mod KeptCosts
 pub mod TakingOver
 pub mod Settings

@@ -116,35 +116,12 @@ opens_first input setting cells h known made =
     (subst (λ xs. CanOpen xs (first_state input)) (sym (ap (λ (s : Setting). s.args) known))
     (can_open input.args (first_state input) (first_state_within input h) (h.same_count ∙ sym (first_length input)) h.short_arguments))
 
-first_counts : (input : Input) → length (first_state input).queues ≡ length (first_state input).memories
-unfolding first_state
-first_counts input = length-map input.mems no_messages
-
 pub started : (input : Input) → open_views (start input) ≡ views_of input.args 0 (first_state input)
 unfolding start
 started input = refl
-
-first_slots : (input : Input) → (first_state input).table ≡ []
-unfolding first_state
-first_slots input = refl
-
-first_tag : (input : Input) → (first_state input).tag_size ≡ 0
-unfolding first_state
-first_tag input = refl
 
 -- .. and make the first views
 pub views_first : (input : Input) (setting : Setting) (cells : List (List ℕ × List Message)) → setting ≡ first_setting input → cells ≡ map (λ m. (m, no_messages m)) input.mems
     → views_of setting.args setting.step (state_of cells setting.table setting.tag_size) ≡ open_views (start input)
 views_first input setting cells known made =
     ap (λ (s : Setting). views_of s.args s.step (state_of cells setting.table setting.tag_size)) known ∙ ap (views_of input.args 0) (first_is input setting cells known made) ∙ sym (started input)
-
--- a tape that was opened with the first views is the start of a run
-pub opened_as : (input : Input) (args : List (List ℕ)) (past : List Superstep) (os : List OutcomeParts) (table : List (List Area)) (vs : List ViewParts) → IsLawfulInput input → args ≡ input.args → past ≡ [] → os ≡ []
-    → table ≡ [] → vs ≡ open_views (start input)
-    → record { args = args; limit = input.limit; g = input.g; l = input.l; past = past; state = state_seen vs table 0; outcomes = os; phase = Open } ≡ start input
-unfolding start
-opened_as input args past os table vs h ea ep eo et e =
-    let views : vs ≡ views_of input.args 0 (first_state input) = e ∙ started input in
-    let state : state_seen vs table 0 ≡ first_state input =
-    ap (λ (slots : List (List Area)). state_seen vs slots 0) (et ∙ sym (first_slots input)) ∙ ap (state_seen vs (first_state input).table) (sym (first_tag input)) ∙ reopened input.args 0 (first_state input) vs views (first_counts input) in
-    λ i. record { args = ea i; limit = input.limit; g = input.g; l = input.l; past = ep i; state = state i; outcomes = eo i; phase = Open }

@@ -174,19 +174,10 @@ state_of-deliveries s os =
     let queues = sym (map_twice (λ (c : List ℕ × List Message). c.1) cell (range_with_len 0 (length os))) in
     λ i. record { memories = memories i; queues = queues i; table = next_table s.table (pops_of os) (pushes_of os); tag_size = next_tag_size s.tag_size os }
 
--- a run after its delivery, part by part
-pub after_delivery-is : (r : Run) → after_delivery r ≡ record { args = r.args; limit = r.limit; g = r.g; l = r.l; past = r.past ++ record { views = open_views r; outcomes = r.outcomes } ∷ []; state = next_state r.state r.outcomes; outcomes = []; phase = cond ((length r.past + 1) == r.limit) (Ended Limit) Open }
-unfolding after_delivery
-after_delivery-is r = refl
-
 -- the next superstep may be opened
 pub can_open_next : (r : Run) → IsRun (after_delivery r) → CanOpen r.args (next_state r.state r.outcomes)
 unfolding after_delivery
 can_open_next r h = can_open r.args (next_state r.state r.outcomes) h.state h.same_args h.short_args
-
-pub next_counts : (r : Run) → IsRun (after_delivery r) → length (next_state r.state r.outcomes).queues ≡ length (next_state r.state r.outcomes).memories
-unfolding after_delivery
-next_counts r h = h.state.same_count
 
 pub cells_are : (r : Run) (cells : List (List ℕ × List Message)) (table : List (List Area)) (tag : ℕ) → cells ≡ deliveries_of r.outcomes → table ≡ next_table r.state.table (pops_of r.outcomes) (pushes_of r.outcomes) → tag ≡ next_tag_size r.state.tag_size r.outcomes
     → state_of cells table tag ≡ next_state r.state r.outcomes
@@ -213,25 +204,6 @@ next_is_run r h e =
     let turned : IsTurned r = is_turned_run r h e in
     delivered_is_run r h e (subst (λ ns. IsNextTable (length r.outcomes) ns (next_table r.state.table (pops_of r.outcomes) (pushes_of r.outcomes))) (sizes-same r.args (length r.past) r.state r.outcomes turned.turns)
     (next_table_within r.state.table r.outcomes (can_sync r h turned)))
-
--- the parts of a tape after a delivery
-pub delivered_is : (r : Run) (past : List Superstep) (vs next : List ViewParts) (os : List OutcomeParts) (table : List (List Area)) (tag : ℕ) (cells : List (List ℕ × List Message)) (steps : ℕ) (phase : Phase) → IsRun (after_delivery r)
-    → vs ≡ open_views r → past ≡ r.past ++ record { views = vs; outcomes = r.outcomes } ∷ [] → os ≡ [] → state_of cells table tag ≡ next_state r.state r.outcomes → next ≡ views_of r.args steps (state_of cells table tag) → steps ≡ length r.past + 1 → phase ≡ cond (steps == r.limit) (Ended Limit) Open
-    → record { args = r.args; limit = r.limit; g = r.g; l = r.l; past = past; state = state_seen next table tag; outcomes = os; phase = phase } ≡ after_delivery r
-delivered_is r past vs next os table tag cells steps phase h ev ep eo es en et eh =
-    let same : length (state_of cells table tag).queues ≡ length (state_of cells table tag).memories = subst (λ (s : State). length s.queues ≡ length s.memories) (sym es) (next_counts r h) in
-    let state = reopened r.args steps (state_of cells table tag) next en same ∙ es in
-    let kept : past ≡ r.past ++ record { views = open_views r; outcomes = r.outcomes } ∷ [] = ep ∙ (λ i. r.past ++ record { views = ev i; outcomes = r.outcomes } ∷ []) in
-    let comes : phase ≡ cond ((length r.past + 1) == r.limit) (Ended Limit) Open = eh ∙ ap (λ n. cond (n == r.limit) (Ended Limit) Open) et in
-    (λ i. record { args = r.args; limit = r.limit; g = r.g; l = r.l; past = kept i; state = state i; outcomes = eo i; phase = comes i }) ∙ sym (after_delivery-is r)
-
--- the views that a tape keeps after a delivery are those of its state
-pub delivered_views : (r : Run) (past : List Superstep) (vs next : List ViewParts) (table : List (List Area)) (tag : ℕ) (cells : List (List ℕ × List Message)) (steps : ℕ) → IsRun (after_delivery r)
-    → past ≡ r.past ++ record { views = vs; outcomes = r.outcomes } ∷ [] → state_of cells table tag ≡ next_state r.state r.outcomes → next ≡ views_of r.args steps (state_of cells table tag) → steps ≡ length r.past + 1 → next ≡ views_of r.args (length past) (state_seen next table tag)
-delivered_views r past vs next table tag cells steps h ep es en et =
-    let same : length (state_of cells table tag).queues ≡ length (state_of cells table tag).memories = subst (λ (s : State). length s.queues ≡ length s.memories) (sym es) (next_counts r h) in
-    let count : steps ≡ length past = et ∙ sym (ap length ep ∙ length-append r.past (record { views = vs; outcomes = r.outcomes } ∷ [])) in
-    en ∙ ap (views_of r.args steps) (sym (reopened r.args steps (state_of cells table tag) next en same)) ∙ ap (λ n. views_of r.args n (state_seen next table tag)) count
 
 -- the table of the next state is that which the superstep makes
 pub next_table-is : (r : Run) (table : List (List Area)) → table ≡ (next_state r.state r.outcomes).table → table ≡ next_table r.state.table (pops_of r.outcomes) (pushes_of r.outcomes)

@@ -9,7 +9,7 @@ use Rattle.bsp_run.specs.State.{State, view_of, views_of, next_state, pops_of, p
 use Rattle.bsp_run.specs.Setting.{next_setting}
 use Rattle.bsp_run.specs.Run.{Run, open_views}
 use Rattle.bsp_run.specs.Condition.{IsRun, no_view}
-use Rattle.bsp_run.specs.Inside.Settings.{IsSettingOf, AreTurned, setting_after}
+use Rattle.bsp_run.specs.Inside.Settings.{IsSettingOf, AreTurned}
 use Rattle.bsp_run.proofs.Conditions.{length-views_of, view-views_of}
 use Rattle.bsp_run.proofs.Opens.{part_of_views}
 
@@ -45,7 +45,8 @@ open_setting r views setting h e is =
     }
 
 -- after a delivery it is that of the next superstep
-pub setting_next : (r : Run) (views : List ViewParts) (os : List OutcomeParts) (setting : Setting) → AreTurned r views os → IsSettingOf views setting → setting_after setting os ≡ next_setting r
+pub setting_next : (r : Run) (views : List ViewParts) (os : List OutcomeParts) (setting : Setting) → AreTurned r views os → IsSettingOf views setting
+    → record { step = setting.step + 1; args = setting.args; table = next_table setting.table (pops_of os) (pushes_of os); tag_size = next_tag_size setting.tag_size os } ≡ next_setting r
 unfolding next_state
 setting_next r views os setting t is =
     let s = open_setting r views setting t.run t.views is in

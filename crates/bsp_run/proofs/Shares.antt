@@ -46,24 +46,10 @@ after_turns-outcomes : (r : Run) (os : List OutcomeParts) → (after_turns r os)
 unfolding after_turns
 after_turns-outcomes r os = refl
 
--- What a run shows once the turns of all processes are taken, and it goes on by delivery.
-pub record AreShown (r t : Run) (os us : List OutcomeParts) (ps : List ℕ) : Type 0 where
-  pub kept : us ≡ t.outcomes
-  pub known : All (λ d. d < length us) ps
-  pub ascending : IsAscending ps
-  pub all : ps ≡ range_with_len 0 (length us)
-
-pub outcomes_made : (turn : ViewParts → OutcomeParts) (r t : Run) (os us : List OutcomeParts) (ps : List ℕ) → t ≡ after_turns r os → is_turned t.phase ≡ true → us ≡ (superstep_shown t).outcomes → AreTurnsOf turn (open_views r) os → ps ≡ range_with_len 0 (length (open_views r)) → AreShown r t os us ps
-outcomes_made turn r t os us ps turned h shown made all =
-    let kept : us ≡ t.outcomes = shown ∙ outcomes_shown-turned t (turned_phase_is t.phase h) in
-    let own : us ≡ os = kept ∙ ap (λ (x : Run). x.outcomes) turned ∙ after_turns-outcomes r os in
-    let long : length us ≡ length (open_views r) = ap (λ (xs : List OutcomeParts). length xs) own ∙ made.within.count in
-    record {
-      kept = kept;
-      known = are_known ps (length (open_views r)) us all long;
-      ascending = subst IsAscending (sym all) (range_ascending (length (open_views r)));
-      all = all ∙ ap (range_with_len 0) (sym long);
-    }
+-- all processes, once their turns are taken
+pub all_turned : (turn : ViewParts → OutcomeParts) (r t : Run) (os : List OutcomeParts) (ps : List ℕ) → t ≡ after_turns r os → AreTurnsOf turn (open_views r) os → ps ≡ range_with_len 0 (length (open_views r)) → ps ≡ range_with_len 0 (length t.outcomes)
+all_turned turn r t os ps turned made all =
+    all ∙ ap (range_with_len 0) (sym (ap (λ (x : Run). length x.outcomes) turned ∙ ap (λ (xs : List OutcomeParts). length xs) (after_turns-outcomes r os) ∙ made.within.count))
 
 -- One superstep is what its turns and its deliveries make of a run.
 pub superstep_made : (turn : ViewParts → OutcomeParts) (r t new : Run) (os : List OutcomeParts) → r.phase ≡ Open → AreTurnsOf turn (open_views r) os → t ≡ after_turns r os → is_turned t.phase ≡ true → new ≡ after_delivery t → new ≡ advance turn r

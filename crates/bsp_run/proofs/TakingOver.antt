@@ -17,19 +17,17 @@ use Rattle.bsp_run.specs.Inside.Opening.{state_of}
 use Rattle.bsp_run.specs.Ending.{end_of}
 use Rattle.bsp_run.specs.Run.{Run, open_views, after_turns, after_delivery, phase_after}
 use Rattle.bsp_run.specs.Condition.{IsRun, IsInPhase, IsOpen, AreOutcomesOf, deliveries_of, no_view}
-use Rattle.bsp_run.proofs.Opens.{state_seen}
-use Rattle.bsp_run.proofs.Conditions.{length-views_of, view-views_of}
-use Rattle.bsp_run.proofs.Phases.{count-next_state, turned_is_run, next_is_run, next_table-is, next_tag-is, cells_are, delivered_is, delivered_views}
+use Rattle.bsp_run.specs.Inside.Tape.{args_in, state_in}
+use Rattle.bsp_run.proofs.Phases.{turned_is_run, next_is_run}
+use Rattle.bsp_run.proofs.SeenRuns.{delivered_is, views_then}
 
--- What is put in the fields of a tape: the superstep, the views after it with their table and tag size, and what comes next.
-pub record AreTaken (r : Run) (os : List OutcomeParts) (all : List Superstep) (views : List ViewParts) (table : List (List Area)) (tag step : ℕ) (comes : Phase) : Type 0 where
+-- What is put in the fields of a tape: the superstep, the views after it, and what comes next.
+pub record AreTaken (r : Run) (os : List OutcomeParts) (all : List Superstep) (views : List ViewParts) (step : ℕ) (comes : Phase) : Type 0 where
   pub before : r.phase ≡ Open
   pub turns : AreOutcomesOf (open_views r) os
   pub delivers : end_of (length r.past) r.state.table os ≡ None
   pub past : all ≡ r.past ++ record { views = open_views r; outcomes = os } ∷ []
-  pub next : views ≡ views_of r.args step (next_state r.state os)
-  pub slots : table ≡ (next_state r.state os).table
-  pub size : tag ≡ (next_state r.state os).tag_size
+  pub next : views ≡ views_of r.args (length r.past + 1) (next_state r.state os)
   pub steps : step ≡ length r.past + 1
   pub phase : comes ≡ cond (step == r.limit) (Ended Limit) Open
 
@@ -45,41 +43,17 @@ parts-turned r os = refl
 pub taken_is_run : (r : Run) (os : List OutcomeParts) → IsRun r → r.phase ≡ Open → AreOutcomesOf (open_views r) os → end_of (length r.past) r.state.table os ≡ None → IsRun (after_delivery (after_turns r os))
 taken_is_run r os h before turns delivers = next_is_run (after_turns r os) (turned_is_run r os h before turns) (turned r os delivers)
 
-state_taken : (r : Run) (os : List OutcomeParts) (table : List (List Area)) (tag : ℕ) → table ≡ (next_state r.state os).table → tag ≡ (next_state r.state os).tag_size → state_of (deliveries_of os) table tag ≡ next_state r.state os
-state_taken r os table tag slots size =
-    let t : Run = record r { outcomes = os } in
-    cells_are t (deliveries_of os) table tag refl (next_table-is t table slots) (next_tag-is t tag size)
-
--- the fields make the run after the superstep
-pub taken_over : (r : Run) (os : List OutcomeParts) (past : List Superstep) (next : List ViewParts) (table : List (List Area)) (tag steps : ℕ) (phase : Phase) → IsRun r → AreTaken r os past next table tag steps phase
-    → record { args = r.args; limit = r.limit; g = r.g; l = r.l; past = past; state = state_seen next table tag; outcomes = []; phase = phase } ≡ after_delivery (after_turns r os)
+-- the fields make the run after the superstep ..
+pub taken_over : (r : Run) (os : List OutcomeParts) (past : List Superstep) (next : List ViewParts) (steps : ℕ) (phase : Phase) → IsRun r → AreTaken r os past next steps phase
+    → record { args = args_in next; limit = r.limit; g = r.g; l = r.l; past = past; state = state_in next; outcomes = []; phase = phase } ≡ after_delivery (after_turns r os)
 unfolding after_turns
-taken_over r os past next table tag steps phase h taken =
-    let t : Run = after_turns r os in
-    let state = state_taken r os table tag taken.slots taken.size in
-    delivered_is t past (open_views r) next [] table tag (deliveries_of os) steps phase (taken_is_run r os h taken.before taken.turns taken.delivers) refl taken.past refl state
-    (taken.next ∙ ap (views_of r.args steps) (sym state)) taken.steps taken.phase
+taken_over r os past next steps phase h taken =
+    delivered_is (after_turns r os) past (open_views r) next [] steps phase (taken_is_run r os h taken.before taken.turns taken.delivers) refl taken.past refl taken.next taken.steps taken.phase
 
--- the views that are kept then are those of its state
-pub taken_views : (r : Run) (os : List OutcomeParts) (past : List Superstep) (next : List ViewParts) (table : List (List Area)) (tag steps : ℕ) (phase : Phase) → IsRun r → AreTaken r os past next table tag steps phase
-    → next ≡ views_of r.args (length past) (state_seen next table tag)
+-- .. whose views are kept
+pub taken_views : (r : Run) (os : List OutcomeParts) (next : List ViewParts) → next ≡ views_of r.args (length r.past + 1) (next_state r.state os) → next ≡ open_views (after_delivery (after_turns r os))
 unfolding after_turns
-taken_views r os past next table tag steps phase h taken =
-    let t : Run = after_turns r os in
-    let state = state_taken r os table tag taken.slots taken.size in
-    delivered_views t past (open_views r) next table tag (deliveries_of os) steps (taken_is_run r os h taken.before taken.turns taken.delivers) taken.past state
-    (taken.next ∙ ap (views_of r.args steps) (sym state)) taken.steps
-
--- there is a first process
-pub first_taken : (r : Run) (os : List OutcomeParts) (step : ℕ) → IsRun r → AreOutcomesOf (open_views r) os → 0 < length (views_of r.args step (next_state r.state os))
-first_taken r os step h turns =
-    omega (arith, length-views_of r.args step (next_state r.state os), count-next_state r.args (length r.past) r.state os turns, h.state.some)
-
--- it sees the next table and the next tag size
-pub first_seen : (args : List (List ℕ)) (step : ℕ) (s : State) (vs : List ViewParts) → vs ≡ views_of args step s → 0 < length (views_of args step s) → ((get_or vs 0 no_view).table ≡ s.table) × ((get_or vs 0 no_view).tag_size ≡ s.tag_size)
-first_seen args step s vs seen some =
-    let same : get_or vs 0 no_view ≡ view_of args step s 0 = ap (λ (xs : List ViewParts). get_or xs 0 no_view) seen ∙ view-views_of args step s 0 (omega (arith, some, length-views_of args step s)) in
-    (ap (λ (w : ViewParts). w.table) same, ap (λ (w : ViewParts). w.tag_size) same)
+taken_views r os next e = views_then (after_turns r os) next e
 
 -- an open superstep has no outcomes yet
 pub no_outcomes : (r : Run) → IsRun r → r.phase ≡ Open → r.outcomes ≡ []

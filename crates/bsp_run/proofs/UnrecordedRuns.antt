@@ -38,17 +38,16 @@ use Rattle.bsp_run.proofs.Conditions.{length-views_of, count_of_outcomes}
 use Rattle.bsp_run.proofs.Laws.{supersteps-limit, outcomes-last, outcomes-ended}
 use Rattle.bsp_run.proofs.Opens.{start_is_run, state_seen-views_of}
 use Rattle.bsp_run.proofs.Phases.{turned_is_run, is_turned_run, next_is_run, count-next_state, end_of-limit}
-use Rattle.bsp_run.proofs.Runs.{IsBetween, start-between, advance-between, advance-delivers, advance-ends, times_more, times-closed, turns_closed}
+use Rattle.bsp_run.proofs.Runs.{advance-delivers, advance-ends, times_more, times-closed, turns_closed}
 use Rattle.bsp_run.proofs.Turns.{views_within, AreOutcomesOf-turns}
 
 -- What is kept is that of the run so far, which so many supersteps make the run.
-pub record IsUnderway (turn : ViewParts → OutcomeParts) (input : Input) (n : ℕ) (kept : Unrecorded) : Type 0 where
+pub record IsUnderway (turn : ViewParts → OutcomeParts) (input : Input) (n : ℕ) (vs : List ViewParts) (kept : Unrecorded) : Type 0 where
   pub so_far : Run
   pub rest : times n (advance turn) so_far ≡ run turn input
-  pub between : IsBetween n so_far
-  pub opened : 1 ≤ n → so_far.phase ≡ Open
-  pub full : n ≡ 0 → so_far.phase ≡ Ended Limit
-  pub same : IsUnrecorded so_far kept
+  pub left : length so_far.past + n ≡ so_far.limit
+  pub phase : so_far.phase ≡ cond (n == 0) (Ended Limit) Open
+  pub same : IsUnrecorded so_far vs kept
 
 pub unrecorded_start : (input : Input) (ps : List ℕ) (vs : List ViewParts) (sums : Tally) → IsLawfulInput input → ps ≡ range_with_len 0 (length vs) → vs ≡ open_views (start input)
     → sums.g ≡ input.g → sums.l ≡ input.l → sums.lines.items ≡ [] → sums.costs ≡ [] → AreKept (start input) ps vs sums
@@ -64,37 +63,40 @@ unrecorded_start input ps vs sums h ep ev eg el en ec =
       costs = ec;
     }
 
-start_open : (input : Input) → (start input).phase ≡ Open
-unfolding start
-start_open input = refl
+opened_while : (b : Bool) (n : ℕ) → (n == 0) ≡ b → 1 ≤ n → cond b (Ended Limit) Open ≡ Open
+opened_while true n e some = absurd (let none : n ≡ 0 = grind (arith, nat_tests) in omega (arith, none, some))
+opened_while false n e some = refl
 
-pub underway_start : (turn : ViewParts → OutcomeParts) (input : Input) (n : ℕ) (kept : Unrecorded) → n ≡ input.limit → 1 ≤ input.limit → IsUnrecorded (start input) kept → IsUnderway turn input n kept
-unfolding run
-underway_start turn input n kept e h same =
+pub underway_start : (turn : ViewParts → OutcomeParts) (input : Input) (n : ℕ) (vs : List ViewParts) (kept : Unrecorded) → n ≡ input.limit → 1 ≤ input.limit → IsUnrecorded (start input) vs kept → IsUnderway turn input n vs kept
+unfolding run start
+underway_start turn input n vs kept e h same =
     record {
       so_far = start input;
       rest = ap (λ m. times m (advance turn) (start input)) e;
-      between = subst (λ m. IsBetween m (start input)) (sym e) (start-between input h);
-      opened = λ _. start_open input;
-      full = λ z. absurd (omega (arith, z, e, h));
+      left = omega (arith, e);
+      phase = sym (opened_while (n == 0) n refl (omega (arith, e, h)));
       same = same;
     }
 
+-- where a superstep is left, it is open
+pub underway_open : (turn : ViewParts → OutcomeParts) (input : Input) (n : ℕ) (vs : List ViewParts) (kept : Unrecorded) (u : IsUnderway turn input (n + 1) vs kept) → (u.so_far).phase ≡ Open
+underway_open turn input n vs kept u = u.phase ∙ opened_while ((n + 1) == 0) (n + 1) refl (omega arith)
+
 -- the processes are those that the views are of
-pub processes_are : (r : Run) (kept : Unrecorded) → IsUnrecorded r kept → kept.processes.items ≡ range_with_len 0 (length kept.views)
-processes_are r kept h = h.processes ∙ ap (range_with_len 0) (sym (length-views_of r.args (length r.past) r.state)) ∙ ap (λ (vs : List ViewParts). range_with_len 0 (length vs)) (sym h.views)
+pub processes_are : (r : Run) (vs : List ViewParts) (kept : Unrecorded) → IsUnrecorded r vs kept → kept.processes.items ≡ range_with_len 0 (length vs)
+processes_are r vs kept h = h.processes ∙ ap (range_with_len 0) (sym (length-views_of r.args (length r.past) r.state)) ∙ ap (λ (vs : List ViewParts). range_with_len 0 (length vs)) (sym h.views)
 
 -- the outcomes that are made of the views that are kept
-pub turns_are : (turn : ViewParts → OutcomeParts) (r : Run) (kept : Unrecorded) (os : List OutcomeParts) → IsUnrecorded r kept → os ≡ map turn kept.views → os ≡ map turn (open_views r)
-turns_are turn r kept os h made = made ∙ ap (map turn) h.views
+pub turns_are : (turn : ViewParts → OutcomeParts) (r : Run) (vs : List ViewParts) (kept : Unrecorded) (os : List OutcomeParts) → IsUnrecorded r vs kept → os ≡ map turn vs → os ≡ map turn (open_views r)
+turns_are turn r vs kept os h made = made ∙ ap (map turn) h.views
 
-pub have_turns : (acts : ViewParts → List Act) (ending : ViewParts → End) (r : Run) (kept : Unrecorded) (os : List OutcomeParts) → IsUnrecorded r kept → r.phase ≡ Open → os ≡ map (turn_of acts ending) kept.views → HaveTurns r kept.views os
-have_turns acts ending r kept os h e made =
+pub have_turns : (acts : ViewParts → List Act) (ending : ViewParts → End) (r : Run) (vs : List ViewParts) (kept : Unrecorded) (os : List OutcomeParts) → IsUnrecorded r vs kept → r.phase ≡ Open → os ≡ map (turn_of acts ending) vs → HaveTurns r vs os
+have_turns acts ending r vs kept os h e made =
     record {
       run = h.run;
       phase = e;
       views = h.views;
-      turns = subst (AreOutcomesOf (open_views r)) (sym (turns_are (turn_of acts ending) r kept os h made)) (AreOutcomesOf-turns acts ending (open_views r) (views_within r h.run));
+      turns = subst (AreOutcomesOf (open_views r)) (sym (turns_are (turn_of acts ending) r vs kept os h made)) (AreOutcomesOf-turns acts ending (open_views r) (views_within r h.run));
     }
 
 phase_then : (r : Run) (os : List OutcomeParts) (end : Option Status) → end_of (length r.past) r.state.table os ≡ end → (after_turns r os).phase ≡ phase_after end
@@ -102,30 +104,30 @@ unfolding after_turns
 phase_then r os end e = ap phase_after e
 
 -- what is kept serves the run whose turns are taken
-pub kept_then : (r : Run) (kept : Unrecorded) (os : List OutcomeParts) (end : Option Status) → IsUnrecorded r kept → HaveTurns r kept.views os → end_of (length r.past) r.state.table os ≡ end → IsUnrecordedIn (phase_after end) (after_turns r os) kept os
+pub kept_then : (r : Run) (vs : List ViewParts) (kept now : Unrecorded) (os : List OutcomeParts) (end : Option Status) → IsUnrecorded r vs kept → HaveTurns r vs os → end_of (length r.past) r.state.table os ≡ end → now.processes.items ≡ kept.processes.items → now.tally ≡ kept.tally → IsUnrecordedIn (phase_after end) (after_turns r os) vs now os
 unfolding after_turns
-kept_then r kept os end h have e =
+kept_then r vs kept now os end h have e ep et =
     record {
       same = record {
         run = turned_is_run r os h.run have.phase have.turns;
-        processes = h.processes;
+        processes = ep ∙ h.processes;
         views = h.views;
-        g = h.g;
-        l = h.l;
-        lines = h.lines;
-        costs = h.costs;
+        g = ap (λ (sums : Tally). sums.g) et ∙ h.g;
+        l = ap (λ (sums : Tally). sums.l) et ∙ h.l;
+        lines = λ p. ap (λ (sums : Tally). lines_in sums.lines.items p) et ∙ h.lines p;
+        costs = ap (λ (sums : Tally). sums.costs) et ∙ h.costs;
       };
       phase = phase_then r os end e;
       outcomes = refl;
     }
 
 -- what is kept shows the run whose turns are taken
-pub are_turned : (r : Run) (kept : Unrecorded) (os : List OutcomeParts) → IsUnrecordedIn Turned r kept os → AreTurned r kept.views os
-are_turned r kept os h = record { run = h.same.run; phase = h.phase; views = h.same.views; outcomes = h.outcomes }
+pub are_turned : (r : Run) (vs : List ViewParts) (kept : Unrecorded) (os : List OutcomeParts) → IsUnrecordedIn Turned r vs kept os → AreTurned r vs os
+are_turned r vs kept os h = record { run = h.same.run; phase = h.phase; views = h.same.views; outcomes = h.outcomes }
 
 -- there is an outcome of each process
-pub as_many : (r : Run) (kept : Unrecorded) (os : List OutcomeParts) → IsUnrecordedIn Turned r kept os → kept.processes.items ≡ range_with_len 0 (length os)
-as_many r kept os h =
+pub as_many : (r : Run) (vs : List ViewParts) (kept : Unrecorded) (os : List OutcomeParts) → IsUnrecordedIn Turned r vs kept os → kept.processes.items ≡ range_with_len 0 (length os)
+as_many r vs kept os h =
     let turned : IsTurned r = is_turned_run r h.same.run h.phase in
     h.same.processes ∙ ap (range_with_len 0) (sym (count_of_outcomes r.args (length r.past) r.state r.outcomes turned.turns)) ∙ ap (λ (us : List OutcomeParts). range_with_len 0 (length us)) h.outcomes
 
@@ -145,10 +147,10 @@ costs_more price past vs os =
     sym (ap (map price) (map-append of past (record { views = vs; outcomes = os } ∷ [])) ∙ map-append price (map of past) (os ∷ []))
 
 -- What is kept after the next superstep has opened.
-pub unrecorded_delivered : (r : Run) (os : List OutcomeParts) (old : Unrecorded) (ps : List ℕ) (vs : List ViewParts) (sums : Tally) → IsUnrecordedIn Turned r old os → ps ≡ old.processes.items → vs ≡ next_views r → sums.g ≡ old.tally.g → sums.l ≡ old.tally.l
+pub unrecorded_delivered : (r : Run) (os : List OutcomeParts) (old : Unrecorded) (ws : List ViewParts) (ps : List ℕ) (vs : List ViewParts) (sums : Tally) → IsUnrecordedIn Turned r ws old os → ps ≡ old.processes.items → vs ≡ next_views r → sums.g ≡ old.tally.g → sums.l ≡ old.tally.l
     → AreLinesAnd old.tally.lines.items os sums.lines.items → sums.costs ≡ old.tally.costs ++ cost_of_delivery old.tally.g old.tally.l os ∷ [] → AreKept (after_delivery r) ps vs sums
 unfolding after_delivery
-unrecorded_delivered r os old ps vs sums h ep ev eg el en ec =
+unrecorded_delivered r os old ws ps vs sums h ep ev eg el en ec =
     let turned : IsTurned r = is_turned_run r h.same.run h.phase in
     let of : Superstep → List OutcomeParts = λ s. s.outcomes in
     let one : List Superstep = record { views = open_views r; outcomes = r.outcomes } ∷ [] in
@@ -199,21 +201,19 @@ no_limit Limit step slots os e = absurd (end_of-limit step slots os e)
 no_limit (Faulted s faults) step slots os e = refl
 no_limit (SyncFaulted s fault) step slots os e = refl
 
-opened_if : (b : Bool) (k limit : ℕ) → (k == limit) ≡ b → k < limit → cond b (Ended Limit) Open ≡ Open
-opened_if true k limit e l = absurd (let same : k ≡ limit = grind (arith, nat_tests) in omega (arith, same, l))
-opened_if false k limit e l = refl
+-- the limit is reached where no superstep is left
+limit_test : (k n limit : ℕ) → k + (n + 1) ≡ limit → ((k + 1) == limit) ≡ (n == 0)
+limit_test k n limit h = grind (arith, nat_tests)
 
-full_if : (b : Bool) (k limit : ℕ) → (k == limit) ≡ b → k ≡ limit → cond b (Ended Limit) Open ≡ Ended Limit
-full_if true k limit e l = refl
-full_if false k limit e l = absurd (let apart : k ≢ limit = grind (arith, nat_tests) in apart l)
-
-opened_next : (r : Run) (os : List OutcomeParts) (m n : ℕ) → 1 ≤ n → length r.past + m ≡ r.limit → m ≡ suc n → (after_delivery (after_turns r os)).phase ≡ Open
+left_next : (r : Run) (os : List OutcomeParts) (n : ℕ) → length r.past + (n + 1) ≡ r.limit → length (after_delivery (after_turns r os)).past + n ≡ (after_delivery (after_turns r os)).limit
 unfolding after_turns after_delivery
-opened_next r os m n some left e = opened_if ((length r.past + 1) == r.limit) (length r.past + 1) r.limit refl (omega (arith, some, left, e))
+left_next r os n h =
+    let step : Superstep = record { views = open_views r; outcomes = os } in
+    omega (arith, length-append r.past (step ∷ []), h)
 
-full_next : (r : Run) (os : List OutcomeParts) (m n : ℕ) → n ≡ 0 → length r.past + m ≡ r.limit → m ≡ suc n → (after_delivery (after_turns r os)).phase ≡ Ended Limit
+phase_next : (r : Run) (os : List OutcomeParts) (n : ℕ) → length r.past + (n + 1) ≡ r.limit → (after_delivery (after_turns r os)).phase ≡ cond (n == 0) (Ended Limit) Open
 unfolding after_turns after_delivery
-full_next r os m n z left e = full_if ((length r.past + 1) == r.limit) (length r.past + 1) r.limit refl (omega (arith, z, left, e))
+phase_next r os n h = ap (λ b. cond b (Ended Limit) Open) (limit_test (length r.past) n r.limit h)
 
 -- A run that its last superstep ended has outcomes of all views, and there was room for the superstep.
 pub ended_so : (r : Run) (status : Status) → IsInPhase (Ended status) r → is_limit (Ended status) ≡ false → (length r.past < r.limit) × AreOutcomesOf (open_views r) r.outcomes
@@ -223,8 +223,8 @@ ended_so r (Faulted step faults) h n = let e : IsEnd r (Faulted step faults) = h
 ended_so r (SyncFaulted step fault) h n = let e : IsEnd r (SyncFaulted step fault) = h in (e.room, e.turns)
 
 -- there is a cost of each superstep that ended by delivery
-pub rows_are : (r : Run) (kept : Unrecorded) → IsUnrecorded r kept → length kept.tally.costs ≡ length r.past
-rows_are r kept h =
+pub rows_are : (r : Run) (vs : List ViewParts) (kept : Unrecorded) → IsUnrecorded r vs kept → length kept.tally.costs ≡ length r.past
+rows_are r vs kept h =
     ap (λ (rows : List CostRow). length rows) h.costs ∙ length-map (outcomes_of r.past) (cost_of_delivery r.g r.l) ∙ length-map r.past (λ (s : Superstep). s.outcomes)
 
 -- what is added up, with the status and the memories at the end
@@ -233,9 +233,9 @@ summed status memories sums =
     record { status = status; memories = memories; lines = each_below (length memories) (lines_in sums.lines.items); costs = sums.costs; total = total_of sums.costs }
 
 -- What a run gives that its last superstep ended.
-pub ended_result : (r : Run) (status : Status) (kept : Unrecorded) (os : List OutcomeParts) (memories : List (List ℕ)) (sums : Tally) → IsUnrecordedIn (Ended status) r kept os → is_limit (Ended status) ≡ false
+pub ended_result : (r : Run) (status : Status) (vs : List ViewParts) (kept : Unrecorded) (os : List OutcomeParts) (memories : List (List ℕ)) (sums : Tally) → IsUnrecordedIn (Ended status) r vs kept os → is_limit (Ended status) ≡ false
     → length os ≡ length r.state.memories → memories ≡ map (λ (o : OutcomeParts). o.memory) os → AreLinesAnd kept.tally.lines.items os sums.lines.items → sums.costs ≡ kept.tally.costs ++ cost_of_end os ∷ [] → summed status memories sums ≡ result_of r
-ended_result r status kept os memories sums h n count em en ec =
+ended_result r status vs kept os memories sums h n count em en ec =
     let left : os ≡ r.outcomes = sym h.outcomes in
     let turns : List (List OutcomeParts) = outcomes_of r.past ++ r.outcomes ∷ [] in
     let printed : ℕ → List (List ℕ) = lines_in sums.lines.items in
@@ -250,46 +250,42 @@ ended_result r status kept os memories sums h n count em en ec =
     there ∙ result_is r status (each_below (length memories) printed) sums.costs h.phase n lines rows
 
 -- What a run gives that ended at the limit.
-pub limit_result : (r : Run) (kept : Unrecorded) (os : List OutcomeParts) (memories : List (List ℕ)) (sums : Tally) → IsUnrecordedIn (Ended Limit) r kept os → memories ≡ map (λ (v : ViewParts). v.memory) kept.views → sums ≡ kept.tally → summed Limit memories sums ≡ result_of r
-limit_result r kept os memories sums h em es =
+pub limit_result : (r : Run) (vs : List ViewParts) (kept : Unrecorded) (os : List OutcomeParts) (memories : List (List ℕ)) (sums : Tally) → IsUnrecordedIn (Ended Limit) r vs kept os → memories ≡ map (λ (v : ViewParts). v.memory) vs → sums ≡ kept.tally → summed Limit memories sums ≡ result_of r
+limit_result r vs kept os memories sums h em es =
     let seen = em ∙ ap (map (λ (v : ViewParts). v.memory)) h.same.views ∙ ap (λ (s : State). s.memories) (state_seen-views_of r.args (length r.past) r.state h.same.run.state.same_count) in
     let printed : ℕ → List (List ℕ) = lines_in kept.tally.lines.items in
     let lines = ap (λ (ms : List (List ℕ)). each_below (length ms) printed) seen ∙ each_below-agree (length r.state.memories) printed (lines_of_process (outcomes_of r.past)) (λ p l. h.same.lines p) in
     ap (summed Limit memories) es ∙ limit_result_is r memories (each_below (length memories) printed) kept.tally.costs h.phase seen lines h.same.costs
 
 -- The next superstep has opened, or the limit is reached.
-pub underway_next : (turn : ViewParts → OutcomeParts) (input : Input) (m n : ℕ) (old new : Unrecorded) (os : List OutcomeParts) (u : IsUnderway turn input m old) → m ≡ suc n → os ≡ map turn (open_views u.so_far) → end_of (length (u.so_far).past) (u.so_far).state.table os ≡ None
-    → IsUnrecorded (after_delivery (after_turns u.so_far os)) new → IsUnderway turn input n new
-underway_next turn input m n old new os u e made none same =
+pub underway_next : (turn : ViewParts → OutcomeParts) (input : Input) (n : ℕ) (vs ws : List ViewParts) (old new : Unrecorded) (os : List OutcomeParts) (u : IsUnderway turn input (n + 1) vs old) → os ≡ map turn (open_views u.so_far) → end_of (length (u.so_far).past) (u.so_far).state.table os ≡ None
+    → IsUnrecorded (after_delivery (after_turns u.so_far os)) ws new → IsUnderway turn input n ws new
+underway_next turn input n vs ws old new os u made none same =
     let r : Run = u.so_far in
-    let phase : r.phase ≡ Open = u.opened (omega (arith, e)) in
+    let phase : r.phase ≡ Open = underway_open turn input n vs old u in
     let turned : (after_turns r (map turn (open_views r))).phase ≡ Turned = ap (λ (us : List OutcomeParts). (after_turns r us).phase) (sym made) ∙ phase_then r os None none in
     let next : advance turn r ≡ after_delivery (after_turns r os) = advance-delivers turn r phase (ap is_turned turned) ∙ ap (λ (us : List OutcomeParts). after_delivery (after_turns r us)) (sym made) in
-    let between : IsBetween n (advance turn r) = advance-between turn n r (subst (λ k. IsBetween k r) e u.between) in
-    let after : IsBetween n (after_delivery (after_turns r os)) = subst (IsBetween n) next between in
     record {
       so_far = after_delivery (after_turns r os);
-      rest = ap (times n (advance turn)) (sym next) ∙ sym (times_more turn m n r e) ∙ u.rest;
-      between = after;
-      opened = λ some. opened_next r os m n some (u.between.left (ap is_open phase)).1 e;
-      full = λ z. full_next r os m n z (u.between.left (ap is_open phase)).1 e;
+      rest = ap (times n (advance turn)) (sym next) ∙ sym (times_more turn (n + 1) n r (omega arith)) ∙ u.rest;
+      left = left_next r os n u.left;
+      phase = phase_next r os n u.left;
       same = same;
     }
 
 -- The run that ended with this superstep is the whole run.
-pub ended_is_run : (turn : ViewParts → OutcomeParts) (input : Input) (m n : ℕ) (kept : Unrecorded) (os : List OutcomeParts) (status : Status) (u : IsUnderway turn input m kept) → m ≡ suc n → os ≡ map turn (open_views u.so_far)
+pub ended_is_run : (turn : ViewParts → OutcomeParts) (input : Input) (n : ℕ) (vs : List ViewParts) (kept : Unrecorded) (os : List OutcomeParts) (status : Status) (u : IsUnderway turn input (n + 1) vs kept) → os ≡ map turn (open_views u.so_far)
     → end_of (length (u.so_far).past) (u.so_far).state.table os ≡ Some status → after_turns u.so_far os ≡ run turn input
-ended_is_run turn input m n kept os status u e made ends =
+ended_is_run turn input n vs kept os status u made ends =
     let r : Run = u.so_far in
-    let phase : r.phase ≡ Open = u.opened (omega (arith, e)) in
     let here : (after_turns r os).phase ≡ Ended status = phase_then r os (Some status) ends in
     let closed : is_turned (after_turns r (map turn (open_views r))).phase ≡ false = ap (λ (us : List OutcomeParts). is_turned (after_turns r us).phase) (sym made) ∙ ap is_turned here in
-    let next : advance turn r ≡ after_turns r os = advance-ends turn r phase closed ∙ ap (after_turns r) (sym made) in
-    sym (times-closed turn n (after_turns r os) (turns_closed r os)) ∙ ap (times n (advance turn)) (sym next) ∙ sym (times_more turn m n r e) ∙ u.rest
+    let next : advance turn r ≡ after_turns r os = advance-ends turn r (underway_open turn input n vs kept u) closed ∙ ap (after_turns r) (sym made) in
+    sym (times-closed turn n (after_turns r os) (turns_closed r os)) ∙ ap (times n (advance turn)) (sym next) ∙ sym (times_more turn (n + 1) n r (omega arith)) ∙ u.rest
 
 -- So is the run with no superstep left.
-pub limit_is_run : (turn : ViewParts → OutcomeParts) (input : Input) (n : ℕ) (kept : Unrecorded) (u : IsUnderway turn input n kept) → n ≡ 0 → u.so_far ≡ run turn input
-limit_is_run turn input n kept u z = sym (ap (λ k. times k (advance turn) u.so_far) z) ∙ u.rest
+pub limit_is_run : (turn : ViewParts → OutcomeParts) (input : Input) (n : ℕ) (vs : List ViewParts) (kept : Unrecorded) (u : IsUnderway turn input n vs kept) → n ≡ 0 → u.so_far ≡ run turn input
+limit_is_run turn input n vs kept u z = sym (ap (λ k. times k (advance turn) u.so_far) z) ∙ u.rest
 
-pub kept_at_limit : (turn : ViewParts → OutcomeParts) (input : Input) (n : ℕ) (kept : Unrecorded) (u : IsUnderway turn input n kept) → n ≡ 0 → IsUnrecordedIn (Ended Limit) u.so_far kept (u.so_far).outcomes
-kept_at_limit turn input n kept u z = record { same = u.same; phase = u.full z; outcomes = refl }
+pub kept_at_limit : (turn : ViewParts → OutcomeParts) (input : Input) (n : ℕ) (vs : List ViewParts) (kept : Unrecorded) (u : IsUnderway turn input n vs kept) → n ≡ 0 → IsUnrecordedIn (Ended Limit) u.so_far vs kept (u.so_far).outcomes
+kept_at_limit turn input n vs kept u z = record { same = u.same; phase = u.phase ∙ ap (λ k. cond (k == 0) (Ended Limit) Open) z; outcomes = refl }

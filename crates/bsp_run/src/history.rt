@@ -5,6 +5,7 @@ ghost use Rattle.bsp_deliver.specs.Condition.{AreDeliverable};
 ghost use Rattle.bsp_run.specs.Supersteps.{supersteps_of, supersteps_opened, outcomes_of};
 ghost use Rattle.bsp_run.specs.Condition.{is_ended};
 ghost use Rattle.bsp_run.specs.SameLines.{LinesDifferAtMost};
+ghost use Rattle.bsp_run.specs.Inside.History.{AreSums};
 ghost use Rattle.bsp_run.specs.Inside.Lines.{AreLinesUnlessMarked};
 ghost use Rattle.bsp_run.specs.Result.{status_of, memories_of, lines_of, costs_of, total_of, result_of};
 
@@ -19,13 +20,19 @@ use bsp_step::Outcomes;
 use std::alloc::Global;
 use std::marker::Model;
 
+/// What a run gives beside its status and its memories.
+#[derive(Drop)]
+struct Sums {
+    lines: SharedSeq<Lines>,
+    costs: SharedSeq<CostRow>,
+    total: u64,
+}
+
 /// A run that has ended, with the record of every view and outcome.
 #[derive(Drop)]
 pub struct History {
     pub(crate) run: Tape,
-    lines: SharedSeq<Lines>,
-    costs: SharedSeq<CostRow>,
-    total: u64,
+    sums: Sums,
 }
 
 impl Model for History {
@@ -55,8 +62,7 @@ impl Tape {
         requires { is_ended self.phase ≡ true }
         ensures { IfOk result (λ history. history ≡ self) }
     {
-        let none = ProcessSet::none(0);
-        Ok(self.finish_sharing(&SharedSeq::new(), &none)?)
+        self.finish_sharing(&SharedSeq::new(), &ProcessSet::none(0))
     }
 
     /// The history of a run that has ended, or `OutOfMemory`. It shares the lines of each process that are the same in another history. Those of a
@@ -72,7 +78,7 @@ impl Tape {
         } else {
             &none
         };
-        Ok(self.finish_sharing(&other.lines, marks)?)
+        self.finish_sharing(&other.sums.lines, marks)
     }
 
     /// The history of a run that has ended. It shares those of these lines that are the same, as those of a process that is not marked are.
@@ -85,14 +91,23 @@ impl Tape {
         requires marks { AreLinesUnlessMarked lines.now marks.now (outcomes_of (supersteps_of self)) }
         ensures { IfOk result (λ history. history ≡ self) }
     {
+        let sums = self.sums(lines, marks)?;
+        Ok(History { run: self, sums })
+    }
+
+    /// What a run that has ended gives beside its status and its memories. It shares lines likewise.
+    fn sums(&self, lines: &SharedSeq<Lines>, marks: &ProcessSet) -> Result<Sums, OutOfMemory>
+        requires ended { is_ended self.now.phase ≡ true }
+        requires marks { AreLinesUnlessMarked lines.now marks.now (outcomes_of (supersteps_of self.now)) }
+        ensures { IfOk result (AreSums self.now) }
+    {
         let alloc = *self.past.allocator();
         let past = self.past.as_slice();
         let last = last_turn(&self.phase, &self.outcomes);
         let lines = all_lines(alloc, lines, marks, past, last, self.views.len())?;
         let costs = all_costs(alloc, self.costs.as_slice(), last)?;
         let total = total_of(costs.as_slice());
-        Ok(History {
-            run: self,
+        Ok(Sums {
             lines,
             costs,
             total,
@@ -132,7 +147,7 @@ impl History {
     pub fn lines(&self, pid: u64) -> Option<&Lines>
         ensures { option_map (λ x. x.now) result ≡ slice_get (lines_of self.now) pid }
     {
-        let lines = self.lines.as_slice().get(pid as usize)?;
+        let lines = self.sums.lines.as_slice().get(pid as usize)?;
         Some(lines)
     }
 
@@ -140,14 +155,14 @@ impl History {
     pub fn costs(&self) -> &[CostRow]
         ensures { result.now ≡ costs_of self.now }
     {
-        self.costs.as_slice()
+        self.sums.costs.as_slice()
     }
 
     /// The sum of the costs.
     pub fn total(&self) -> u64
         ensures { result ≡ total_of (costs_of self.now) }
     {
-        self.total
+        self.sums.total
     }
 
     /// The number of supersteps.
@@ -240,7 +255,8 @@ impl History {
         ensures { result.now ≡ self.now.args }
     {
         let run = &self.run;
-        &run.args
+        let views: &Views = &run.views;
+        &views.setting().args
     }
 
     /// The supersteps that ended by delivery.
@@ -273,9 +289,9 @@ impl History {
         Ok(RunResult {
             status: self.status().copy()?,
             memories: self.memories()?,
-            lines: self.lines.copy()?,
-            costs: self.costs.copy()?,
-            total: self.total,
+            lines: self.sums.lines.copy()?,
+            costs: self.sums.costs.copy()?,
+            total: self.sums.total,
         })
     }
 }

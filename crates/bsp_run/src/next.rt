@@ -1,27 +1,15 @@
 //! What is known of the superstep after one whose turns are taken.
 
-ghost use Rattle.std.specs.Prelude.{◌≡◌, ◌<◌, ◌+◌, All, IfOk, length, map, slice_index_or};
+ghost use Rattle.std.specs.Prelude.{◌≡◌, ◌<◌, All, IfOk, length, map};
 ghost use Rattle.bsp_model.specs.Replaced.{replaced, IsAscending};
 ghost use Rattle.bsp_run.specs.State.{next_state, cell_of};
 ghost use Rattle.bsp_run.specs.Setting.{next_setting, next_views};
-ghost use Rattle.bsp_run.specs.Condition.{deliveries_of, no_view};
+ghost use Rattle.bsp_run.specs.Condition.{deliveries_of};
 
-use crate::keeping::next_table;
 use crate::{Phase, Setting, Tape, Views};
-use bsp_deliver::{Cells, next_tag_size};
+use bsp_deliver::Cells;
 use bsp_model::{OutOfMemory, TryCopy};
 use bsp_step::View;
-use bsp_table::Table;
-
-/// The table and the tag size that the first process sees, as all do.
-pub(crate) fn table_seen(views: &Views) -> Result<(Table, u64), OutOfMemory>
-    requires { 0 < length views.now }
-    ensures table { IfOk result (λ r. r.0 ≡ (slice_index_or views.now 0 no_view).table) }
-    ensures tag_size { IfOk result (λ r. r.1 ≡ (slice_index_or views.now 0 no_view).tag_size) }
-{
-    let first = views.get(0);
-    Ok((first.table.copy()?, first.tag_size))
-}
 
 impl Tape {
     /// What all processes see alike in the next superstep.
@@ -29,13 +17,7 @@ impl Tape {
         requires { self.now.phase ≡ Phase.Turned }
         ensures { IfOk result (λ setting. setting ≡ next_setting self.now) }
     {
-        let outcomes = &self.outcomes;
-        Ok(Setting {
-            step: self.past.len() as u64 + 1,
-            args: self.args.copy()?,
-            table: next_table(&self.table, outcomes)?,
-            tag_size: next_tag_size(self.tag_size, outcomes),
-        })
+        self.views.next_setting(&self.outcomes)
     }
 
     /// The same, where the table and the tag size are those of this view.
@@ -45,9 +27,10 @@ impl Tape {
         requires tag_size { view.now.tag_size ≡ (next_state self.now.state self.now.outcomes).tag_size }
         ensures { IfOk result (λ setting. setting ≡ next_setting self.now) }
     {
+        let setting = self.views.setting();
         Ok(Setting {
             step: self.past.len() as u64 + 1,
-            args: self.args.copy()?,
+            args: setting.args.copy()?,
             table: view.table.copy()?,
             tag_size: view.tag_size,
         })

@@ -4,18 +4,20 @@ ghost use Rattle.std.specs.Prelude.{◌≡◌, None, IfOk, IfErr, OnOk, length, 
 ghost use Rattle.std.specs.List.{range_with_len};
 ghost use Rattle.bsp_model.specs.Input.{input_fault};
 ghost use Rattle.bsp_step.specs.Turn.{turn_of};
-ghost use Rattle.bsp_run.specs.Run.{advance, open_views, run};
-ghost use Rattle.bsp_run.specs.Condition.{is_open};
+ghost use Rattle.bsp_run.specs.Run.{start, advance, after_delivery, open_views, run};
+ghost use Rattle.bsp_run.specs.Condition.{is_ended, is_open};
+ghost use Rattle.bsp_run.specs.Inside.IsUnrecorded.{IsUnrecorded};
 ghost use Rattle.bsp_run.specs.Inside.Turns.{AreTurnsOf};
 ghost use Rattle.bsp_run.specs.Result.{result_of};
 ghost use Rattle.bsp_run.specs.Law.{IsBspRun, IsBspResult};
 ghost use Rattle.bsp_run.specs.RunErrors.{input_fault_of};
 
 use crate::numbers::numbers;
+use crate::opening::{Recording, shared_args};
 use crate::tape::checked;
-use crate::unrecorded::{Taken, Unrecorded, all_turns};
+use crate::unrecorded::{Unrecorded, all_turns};
 use crate::wide::turns_by_one;
-use crate::{History, RunError, RunResult, Tape, TurnRows};
+use crate::{History, Phase, RunError, RunResult, Tape, TurnRows, Views};
 use bsp_deliver::{Cells, deliver_some};
 use bsp_model::{Input, OutOfMemory};
 use bsp_pool::Open;
@@ -43,6 +45,16 @@ fn plain_outcomes<P: Program>(
     Ok(rows.outcomes.share()?)
 }
 
+/// The deliveries to all processes, at the end of a superstep whose turns are taken.
+fn plain_delivery(alloc: Global, tape: &mut Tape, processes: &[usize]) -> Result<(), OutOfMemory>
+    requires turned { tape.old.phase ≡ Phase.Turned }
+    requires processes { processes.now ≡ range_with_len 0 (length tape.old.outcomes) }
+    ensures { OnOk result (tape.new ≡ after_delivery tape.old) }
+{
+    let made = deliver_some(alloc, tape.outcomes(), processes, Cells::new(alloc))?;
+    tape.delivered(made)
+}
+
 /// One superstep more of a run that has not ended.
 fn plain_superstep<P: Program>(
     alloc: Global,
@@ -55,12 +67,23 @@ fn plain_superstep<P: Program>(
     let processes = numbers(alloc, tape.open_views().len())?;
     let all = processes.as_slice();
     let outcomes = plain_outcomes(alloc, program, tape, all)?;
-    let delivers = tape.turned(outcomes)?;
-    if delivers {
-        let made = deliver_some(alloc, tape.outcomes(), all, Cells::new(alloc))?;
-        let _ = tape.delivered(made)?;
+    if tape.turned(outcomes)? {
+        plain_delivery(alloc, tape, all)?;
     }
     Ok(())
+}
+
+/// All supersteps of the run of a lawful input.
+fn plain_tape<P: Program>(alloc: Global, program: &P, input: &Input) -> Result<Tape, OutOfMemory>
+    requires lawful { input_fault input.now ≡ None }
+    ensures ended { IfOk result (λ tape. is_ended tape.phase ≡ true) }
+    ensures run { IfOk result (λ tape. tape ≡ run (turn_of (P.acts program.now) (P.ending program.now)) input.now) }
+{
+    let mut tape = Tape::open_lawful(alloc, input)?;
+    while tape.is_open() {
+        plain_superstep(alloc, program, &mut tape)?;
+    }
+    Ok(tape)
 }
 
 /// The run of a program on an input, on one thread: every process from its first superstep, up to the superstep limit. `law` says what it is in
@@ -71,33 +94,33 @@ pub fn run_plain<P: Program>(alloc: Global, program: &P, input: &Input) -> Resul
     ensures law { IfOk result (λ history. IsBspRun (turn_of (P.acts program.now) (P.ending program.now)) input.now history) }
     ensures input { IfErr result (λ e. input_fault input.now ≡ input_fault_of e) }
 {
-    let mut tape = Tape::open(alloc, input)?;
-    while tape.is_open() {
-        plain_superstep(alloc, program, &mut tape)?;
-    }
+    checked(input)?;
+    let tape = plain_tape(alloc, program, input)?;
     Ok(tape.finish()?)
 }
 
-/// What `lawful_result` answers. The turns are taken in the room of those that are handed in.
-fn result_in_room<P: Program>(
+/// What `lawful_result` answers, where these views are open, and this is kept beside them.
+fn result_from<P: Program>(
     alloc: Global,
     program: &P,
     input: &Input,
-    taken: &mut Taken,
+    first: Views,
+    kept: &mut Unrecorded,
 ) -> Result<RunResult, OutOfMemory>
     requires lawful { input_fault input.now ≡ None }
+    requires kept { IsUnrecorded (start input.now) first kept.old }
     ensures { IfOk result (λ r. r ≡ result_of (run (turn_of (P.acts program.now) (P.ending program.now)) input.now)) }
 {
-    let mut kept = Unrecorded::open(alloc, input)?;
+    let mut views = first;
     for step in 0..input.limit {
         let processes = kept.processes.as_slice();
-        all_turns(alloc, program, processes, &kept.views, taken)?;
-        if let Some(status) = kept.end(alloc, &taken.outcomes)? {
-            return kept.ended(alloc, status, &taken.outcomes);
+        all_turns(alloc, program, processes, &views, &mut kept.taken)?;
+        if let Some(status) = views.end(alloc, &kept.taken.outcomes)? {
+            return kept.ended(alloc, status);
         }
-        kept = kept.go_on(alloc, &taken.outcomes)?;
+        views = kept.go_on(alloc, views)?;
     }
-    kept.ended_at_limit(alloc)
+    kept.ended_at_limit(alloc, &views)
 }
 
 /// What `run_result` answers, where the input is known to be lawful.
@@ -109,7 +132,9 @@ pub fn lawful_result<P: Program>(
     requires lawful { input_fault input.now ≡ None }
     ensures { IfOk result (λ r. r ≡ result_of (run (turn_of (P.acts program.now) (P.ending program.now)) input.now)) }
 {
-    result_in_room(alloc, program, input, &mut Taken::none())
+    let views = Views::first(alloc, input, shared_args(&input.args)?, Recording::None)?;
+    let mut kept = Unrecorded::open(alloc, input, &views)?;
+    result_from(alloc, program, input, views, &mut kept)
 }
 
 /// What the run of a program on an input gives. It keeps no record of the run: beside the lines and the costs, memory for one superstep.

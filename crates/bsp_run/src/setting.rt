@@ -1,14 +1,10 @@
 //! What all processes of a superstep see alike.
 
-ghost use Rattle.std.specs.Prelude.{◌≡◌, ◌≤◌, ◌<◌, [], IfOk};
-ghost use Rattle.bsp_run.specs.Inside.Condition.{CanSync};
+ghost use Rattle.std.specs.Prelude.{◌≡◌, ◌≤◌, [], IfOk};
 
 use crate::Arguments;
-use crate::keeping::next_table;
-use bsp_deliver::next_tag_size;
 use bsp_model::OutOfMemory;
-use bsp_model::limits::{MOST_PROCESSES, MOST_SUPERSTEPS};
-use bsp_step::Outcomes;
+use bsp_model::limits::MOST_PROCESSES;
 use bsp_table::Table;
 use std::alloc::Global;
 
@@ -26,8 +22,6 @@ pub struct Setting {
 }
 
 impl Setting {
-    ghost use Rattle.bsp_run.specs.Inside.Settings.{setting_after};
-
     /// That of superstep 0: no slots, and tag size 0.
     pub(crate) fn first(
         alloc: Global,
@@ -43,21 +37,6 @@ impl Setting {
             args,
             table: Table::new(alloc, nprocs)?,
             tag_size: 0,
-        })
-    }
-
-    /// That of the next superstep, where this one ends by delivery.
-    pub(crate) fn after(self, outcomes: &Outcomes) -> Result<Setting, OutOfMemory>
-        requires sync { CanSync self.table outcomes.now }
-        requires step { self.step < MOST_SUPERSTEPS }
-        ensures { IfOk result (λ s. s ≡ setting_after self outcomes.now) }
-    {
-        let table = next_table(&self.table, outcomes)?;
-        Ok(Setting {
-            step: self.step + 1,
-            args: self.args,
-            table,
-            tag_size: next_tag_size(self.tag_size, outcomes),
         })
     }
 }

@@ -11,7 +11,6 @@ ghost use Rattle.bsp_run.specs.TakingOver.{CanTakeOver, outcomes_there};
 
 use crate::costs::cost_at;
 use crate::keeping::{keep_superstep, phase_at};
-use crate::next::table_seen;
 use crate::{History, Phase, Tape, Views};
 use bsp_model::{CostRow, OutOfMemory, Shared, TryCopy};
 use bsp_step::Outcomes;
@@ -37,7 +36,6 @@ impl Tape {
     {
         let step = self.past.len();
         let views = views_in(other, step + 1)?;
-        let (table, tag_size) = table_seen(&views)?;
         let run = &other.run;
         let mut outcomes = run.past[step].outcomes.copy()?;
         let row = cost_at(self.g, self.l, &run.costs[step]);
@@ -49,8 +47,6 @@ impl Tape {
             views,
             row,
         )?;
-        self.table = table;
-        self.tag_size = tag_size;
         self.phase = phase_at(step as u64 + 1, self.limit);
         Ok(())
     }

@@ -15,22 +15,18 @@ ghost use Rattle.bsp_run.specs.RunErrors.{input_fault_of};
 ghost use Rattle.bsp_run.specs.Result.{cost_of_delivery, IsSmall};
 
 use crate::costs::{cost_of_delivery, cost_with_h};
-use crate::ending::end_of;
 use crate::keeping::{keep_superstep, phase_after, phase_at};
-use crate::next::table_seen;
 use crate::opening::{Recording, first_cells_of, shared_args};
 use crate::{Arguments, Phase, RunError, Setting, Status, Superstep, Views, ViewsRef};
 use bsp_deliver::Delivered;
 use bsp_model::{CostRow, Input, OutOfMemory, Shared, SharedSeq, TryCopy};
 use bsp_step::{Outcomes, View};
-use bsp_table::Table;
 use std::alloc::Global;
 use std::marker::Model;
 
 /// A run while it is recorded: the turns and the deliveries are handed in, superstep by superstep.
 #[derive(Drop)]
 pub struct Tape {
-    pub(crate) args: Arguments,
     pub(crate) limit: u64,
     pub(crate) g: u64,
     pub(crate) l: u64,
@@ -38,8 +34,6 @@ pub struct Tape {
     pub(crate) costs: Vec<CostRow>,
     pub(crate) views: Shared<Views>,
     pub(crate) outcomes: Outcomes,
-    pub(crate) table: Table,
-    pub(crate) tag_size: u64,
     pub(crate) phase: Phase,
 }
 
@@ -80,9 +74,8 @@ impl Tape {
         requires lawful { input_fault input.now ≡ None }
         ensures { IfOk result (λ tape. tape ≡ start input.now) }
     {
-        let args = shared_args(&input.args)?;
-        let views = Views::first(alloc, input, args.copy()?, Recording::Kept)?;
-        Tape::open_with(alloc, input, args, views)
+        let views = Views::first(alloc, input, shared_args(&input.args)?, Recording::Kept)?;
+        Tape::open_with(alloc, input, views)
     }
 
     /// The same, where the arguments are given, and views of superstep 0 that are those of this run but for some processes, in ascending order.
@@ -103,27 +96,19 @@ impl Tape {
     {
         let mems = input.mems.as_slice();
         let cells = first_cells_of(alloc, mems, processes.as_slice())?;
-        let setting = Setting::first(alloc, args.copy()?, mems.len())?;
+        let setting = Setting::first(alloc, args, mems.len())?;
         let views = like.replaced(alloc, setting, processes, cells)?;
-        Tape::open_with(alloc, input, args, views)
+        Tape::open_with(alloc, input, views)
     }
 
-    /// The same, where the arguments are given, and the views of superstep 0.
-    fn open_with(
-        alloc: Global,
-        input: &Input,
-        args: Arguments,
-        views: Views,
-    ) -> Result<Tape, OutOfMemory>
+    /// The same, where the views of superstep 0 are given.
+    fn open_with(alloc: Global, input: &Input, views: Views) -> Result<Tape, OutOfMemory>
         requires lawful { input_fault input.now ≡ None }
-        requires args { args ≡ input.now.args }
         requires views { views ≡ open_views (start input.now) }
         ensures { IfOk result (λ tape. tape ≡ start input.now) }
     {
-        let table = Table::new(alloc, input.mems.len())?;
         let views = Shared::new(alloc, views)?;
         Ok(Tape {
-            args,
             limit: input.limit,
             g: input.g,
             l: input.l,
@@ -131,8 +116,6 @@ impl Tape {
             costs: Vec::new(alloc),
             views,
             outcomes: Outcomes::new(),
-            table,
-            tag_size: 0,
             phase: Phase::Open,
         })
     }
@@ -194,7 +177,7 @@ impl Tape {
         ensures err { OnErr result (self.new ≡ self.old) }
     {
         let alloc = *self.past.allocator();
-        let end = end_of(alloc, self.past.len() as u64, &self.table, &outcomes)?;
+        let end = self.views.end(alloc, &outcomes)?;
         let goes_on = end.is_none();
         self.outcomes = outcomes;
         self.phase = phase_after(end);
@@ -202,20 +185,19 @@ impl Tape {
     }
 
     /// Takes the next memory and queue of each process, and the h-relation where it is known. The messages that nobody took are discarded with the
-    /// former queues. True where the next superstep opens; else the limit has ended the run. After `OutOfMemory` nothing has changed.
-    pub fn delivered(&mut self, made: Delivered) -> Result<bool, OutOfMemory>
+    /// former queues. Where the limit is reached, the run has ended. After `OutOfMemory` nothing has changed.
+    pub fn delivered(&mut self, made: Delivered) -> Result<(), OutOfMemory>
         requires turned { self.old.phase ≡ Phase.Turned }
         requires cells { made.cells ≡ deliveries_of self.old.outcomes }
         requires h { IfSome made.h (IsHRelation self.old.outcomes) }
         ensures ok { OnOk result (self.new ≡ after_delivery self.old) }
-        ensures answer { IfOk result (λ goes_on. goes_on ≡ is_open self.new.phase) }
         ensures err { OnErr result (self.new ≡ self.old) }
     {
         let alloc = *self.past.allocator();
         let setting = self.next_setting()?;
         let views = Views::open(alloc, setting, made.cells)?;
         let row = self.cost(made.h);
-        Ok(self.delivered_as(views, row)?)
+        self.delivered_as(views, row)
     }
 
     /// The cost of the superstep whose turns are taken, whose h-relation may be known.
@@ -231,21 +213,19 @@ impl Tape {
         }
     }
 
-    /// Takes the views of the next superstep, and the cost of this one. True where the next one opens; else the limit has ended the run. After
-    /// `OutOfMemory` nothing has changed.
-    pub fn delivered_as(&mut self, views: Views, row: CostRow) -> Result<bool, OutOfMemory>
+    /// Takes the views of the next superstep, and the cost of this one. Where the limit is reached, the run has ended. After `OutOfMemory` nothing has
+    /// changed.
+    pub fn delivered_as(&mut self, views: Views, row: CostRow) -> Result<(), OutOfMemory>
         requires turned { self.old.phase ≡ Phase.Turned }
         requires views { views ≡ next_views self.old }
         requires row { row ≡ cost_of_delivery self.old.g self.old.l self.old.outcomes }
         requires small { IsSmall row }
         ensures ok { OnOk result (self.new ≡ after_delivery self.old) }
-        ensures answer { IfOk result (λ goes_on. goes_on ≡ is_open self.new.phase) }
         ensures err { OnErr result (self.new ≡ self.old) }
     {
         let alloc = *self.past.allocator();
         let step = self.past.len() as u64 + 1;
         let views = Shared::new(alloc, views)?;
-        let (table, tag_size) = table_seen(&views)?;
         keep_superstep(
             &mut self.past,
             &mut self.costs,
@@ -254,10 +234,8 @@ impl Tape {
             views,
             row,
         )?;
-        self.table = table;
-        self.tag_size = tag_size;
         self.phase = phase_at(step, self.limit);
-        Ok(step != self.limit)
+        Ok(())
     }
 
     /// The number of supersteps that ended by delivery.

@@ -5,17 +5,14 @@ ghost use Rattle.std.specs.List.{range_with_len};
 ghost use Rattle.bsp_model.specs.Input.{input_fault};
 ghost use Rattle.bsp_step.specs.Turn.{turn_of};
 ghost use Rattle.bsp_deliver.specs.Cost.{IsHRelation};
-ghost use Rattle.bsp_run.specs.Ending.{end_of};
-ghost use Rattle.bsp_run.specs.Run.{Run, start, after_delivery, is_limit};
+ghost use Rattle.bsp_run.specs.Run.{Run, start, open_views, after_delivery, is_limit};
 ghost use Rattle.bsp_run.specs.Setting.{next_views};
 ghost use Rattle.bsp_run.specs.Result.{result_of};
 ghost use Rattle.bsp_run.specs.Inside.Settings.{AreTurned};
-ghost use Rattle.bsp_run.specs.Inside.IsUnrecorded.{IsUnrecorded, IsUnrecordedIn, HaveTurns};
+ghost use Rattle.bsp_run.specs.Inside.IsUnrecorded.{IsUnrecorded, IsUnrecordedIn};
 
-use crate::ending::end_of;
 use crate::history::{memories_of_outcomes, memories_of_views};
 use crate::numbers::numbers;
-use crate::opening::{Recording, shared_args};
 use crate::tally::Tally;
 use crate::wide::turns_by_one;
 use crate::{Phase, RunResult, Status, TurnRows, Views};
@@ -33,22 +30,12 @@ pub(crate) struct Taken {
     pub(crate) spare: Option<Outcome>,
 }
 
-impl Taken {
-    /// Before the first turn.
-    pub(crate) fn none() -> Taken {
-        Taken {
-            outcomes: Outcomes::new(),
-            spare: None,
-        }
-    }
-}
-
-/// What is kept of a run: the numbers of the processes, their views, and what is added up so far.
+/// What is kept of a run beside the views: the numbers of the processes, what is added up so far, and the turns that were taken last.
 #[derive(Drop)]
 pub(crate) struct Unrecorded {
     pub(crate) processes: Vec<usize>,
-    pub(crate) views: Views,
     pub(crate) tally: Tally,
+    pub(crate) taken: Taken,
 }
 
 /// The turns of all processes, gathered in the room of the turns that were taken before.
@@ -87,86 +74,71 @@ fn next_views(
     ensures views { (r : Run) → AreTurned r views outcomes.now → IfOk result (λ next. next.0 ≡ next_views r) }
     ensures h { IfOk result (λ next. IsHRelation outcomes.now next.1) }
 {
-    let (setting, room) = views.into_parts(alloc);
-    let setting = setting.after(outcomes)?;
-    let Delivered { cells, h } = deliver_some(alloc, outcomes, processes, room)?;
+    let setting = views.next_setting(outcomes)?;
+    let Delivered { cells, h } = deliver_some(alloc, outcomes, processes, views.into_room(alloc))?;
     let Some(h) = h else { unreachable!() };
     Ok((Views::open(alloc, setting, cells)?, h))
 }
 
 impl Unrecorded {
-    /// What is kept before the first superstep.
-    pub(crate) fn open(alloc: Global, input: &Input) -> Result<Unrecorded, OutOfMemory>
+    /// What is kept before the first superstep, of a run that opens with these views.
+    pub(crate) fn open(
+        alloc: Global,
+        input: &Input,
+        views: &Views,
+    ) -> Result<Unrecorded, OutOfMemory>
         requires lawful { input_fault input.now ≡ None }
-        ensures { IfOk result (IsUnrecorded (start input.now)) }
+        requires views { views.now ≡ open_views (start input.now) }
+        ensures { IfOk result (IsUnrecorded (start input.now) views.now) }
     {
-        let views = Views::first(alloc, input, shared_args(&input.args)?, Recording::None)?;
-        let processes = numbers(alloc, views.len())?;
         Ok(Unrecorded {
-            processes,
-            views,
+            processes: numbers(alloc, views.len())?,
             tally: Tally::new(alloc, input),
+            taken: Taken {
+                outcomes: Outcomes::new(),
+                spare: None,
+            },
         })
     }
 
-    /// How a superstep of these outcomes ends the run, or none where it ends by delivery.
-    pub(crate) fn end(
-        &self,
-        alloc: Global,
-        outcomes: &Outcomes,
-    ) -> Result<Option<Status>, OutOfMemory>
-        requires turns { (r : Run) × HaveTurns r self.now.views outcomes.now }
-        ensures { (r : Run) → HaveTurns r self.now.views outcomes.now
-            → IfOk result (λ end. end ≡ end_of (length r.past) r.state.table outcomes.now) }
+    /// Makes the deliveries of the turns that were taken at these views. It answers what the processes see next.
+    pub(crate) fn go_on(&mut self, alloc: Global, views: Views) -> Result<Views, OutOfMemory>
+        requires turned { (r : Run) × IsUnrecordedIn Phase.Turned r views self.old self.old.taken.outcomes }
+        ensures { (r : Run) → IsUnrecordedIn Phase.Turned r views self.old self.old.taken.outcomes
+            → IfOk result (λ next. IsUnrecorded (after_delivery r) next self.new) }
     {
-        let setting = self.views.setting();
-        end_of(alloc, setting.step, &setting.table, outcomes)
+        let outcomes = &self.taken.outcomes;
+        let (views, h) = next_views(alloc, views, self.processes.as_slice(), outcomes)?;
+        self.tally.add_delivery(alloc, outcomes, h)?;
+        Ok(views)
     }
 
-    /// What is kept after the deliveries of these outcomes.
-    pub(crate) fn go_on(self, alloc: Global, outcomes: &Outcomes) -> Result<Unrecorded, OutOfMemory>
-        requires turned { (r : Run) × IsUnrecordedIn Phase.Turned r self outcomes.now }
-        ensures { (r : Run) → IsUnrecordedIn Phase.Turned r self outcomes.now
-            → IfOk result (IsUnrecorded (after_delivery r)) }
-    {
-        let Unrecorded {
-            processes,
-            views,
-            mut tally,
-        } = self;
-        let (views, h) = next_views(alloc, views, processes.as_slice(), outcomes)?;
-        tally.add_delivery(alloc, outcomes, h)?;
-        Ok(Unrecorded {
-            processes,
-            views,
-            tally,
-        })
-    }
-
-    /// What the run gives that ended so with these outcomes. What was added up is handed out.
-    pub(crate) fn ended(
-        &mut self,
-        alloc: Global,
-        status: Status,
-        outcomes: &Outcomes,
-    ) -> Result<RunResult, OutOfMemory>
-        requires ended { (r : Run) × IsUnrecordedIn (Phase.Ended status) r self.old outcomes.now }
+    /// What the run gives that ended so with the turns that were taken. What was added up is handed out.
+    pub(crate) fn ended(&mut self, alloc: Global, status: Status) -> Result<RunResult, OutOfMemory>
+        requires ended { (r : Run)
+            × ((vs : _) × IsUnrecordedIn (Phase.Ended status) r vs self.old self.old.taken.outcomes) }
         requires before { is_limit (Phase.Ended status) ≡ false }
-        ensures { (r : Run) → IsUnrecordedIn (Phase.Ended status) r self.old outcomes.now
+        ensures { (r : Run) (vs : _) → IsUnrecordedIn (Phase.Ended status) r vs self.old self.old.taken.outcomes
             → IfOk result (λ given. given ≡ result_of r) }
     {
+        let outcomes = &self.taken.outcomes;
         self.tally.add_end(alloc, outcomes)?;
         let memories = memories_of_outcomes(alloc, outcomes)?;
         self.tally.take_result(alloc, status, memories)
     }
 
-    /// What the run gives that ended at the limit. What was added up is handed out.
-    pub(crate) fn ended_at_limit(&mut self, alloc: Global) -> Result<RunResult, OutOfMemory>
-        requires ended { (r : Run) × IsUnrecordedIn (Phase.Ended Status.Limit) r self.old r.outcomes }
-        ensures { (r : Run) → IsUnrecordedIn (Phase.Ended Status.Limit) r self.old r.outcomes
+    /// What the run gives that ended at the limit, where the processes would see these views. What was added up is handed out.
+    pub(crate) fn ended_at_limit(
+        &mut self,
+        alloc: Global,
+        views: &Views,
+    ) -> Result<RunResult, OutOfMemory>
+        requires ended { (r : Run)
+            × IsUnrecordedIn (Phase.Ended Status.Limit) r views.now self.old r.outcomes }
+        ensures { (r : Run) → IsUnrecordedIn (Phase.Ended Status.Limit) r views.now self.old r.outcomes
             → IfOk result (λ given. given ≡ result_of r) }
     {
-        let memories = memories_of_views(alloc, &self.views)?;
+        let memories = memories_of_views(alloc, views)?;
         self.tally.take_result(alloc, Status::Limit, memories)
     }
 }

@@ -4,17 +4,22 @@ ghost use Rattle.std.specs.Prelude.{◌≡◌, ◌<◌, [], All, None, IfNone, I
 ghost use Rattle.bsp_model.specs.Input.{input_fault};
 ghost use Rattle.bsp_model.specs.Replaced.{replaced, IsAscending};
 ghost use Rattle.bsp_run.specs.State.{cell_of, views_of};
-ghost use Rattle.bsp_run.specs.Run.{start, open_views};
+ghost use Rattle.bsp_run.specs.Run.{Run, start, open_views};
+ghost use Rattle.bsp_run.specs.Setting.{next_setting};
+ghost use Rattle.bsp_run.specs.Ending.{end_of};
 ghost use Rattle.bsp_run.specs.Condition.{no_view};
 ghost use Rattle.bsp_run.specs.Inside.Opening.{CanOpen, state_of};
-ghost use Rattle.bsp_run.specs.Inside.Settings.{IsSettingOf};
+ghost use Rattle.bsp_run.specs.Inside.IsUnrecorded.{HaveTurns};
+ghost use Rattle.bsp_run.specs.Inside.Settings.{IsSettingOf, AreTurned};
 
+use crate::ending::end_of;
+use crate::keeping::next_table;
 use crate::opening::{Recording, first_cells};
 use crate::shared_cells::SharedCells;
-use crate::{Arguments, Setting};
-use bsp_deliver::Cells;
-use bsp_model::{Input, OutOfMemory};
-use bsp_step::View;
+use crate::{Arguments, Setting, Status};
+use bsp_deliver::{Cells, next_tag_size};
+use bsp_model::{Input, OutOfMemory, TryCopy};
+use bsp_step::{Outcomes, View};
 use std::alloc::Global;
 use std::marker::Model;
 
@@ -95,13 +100,41 @@ impl Views {
         &self.setting
     }
 
-    /// What all processes see alike, and no cells in the room of these, where no copy shares it.
-    pub(crate) fn into_parts(self, alloc: Global) -> (Setting, Cells)
-        ensures setting { IsSettingOf self result.0 }
-        ensures room { result.1 ≡ [] }
+    /// What all processes see alike in the next superstep, where these views were open, and the turns left these outcomes.
+    pub(crate) fn next_setting(&self, outcomes: &Outcomes) -> Result<Setting, OutOfMemory>
+        requires turned { (r : Run) × AreTurned r self.now outcomes.now }
+        ensures { (r : Run) → AreTurned r self.now outcomes.now
+            → IfOk result (λ setting. setting ≡ next_setting r) }
     {
-        let Views { setting, cells } = self;
-        (setting, cells.into_room(alloc))
+        let setting = self.setting();
+        Ok(Setting {
+            step: setting.step + 1,
+            args: setting.args.copy()?,
+            table: next_table(&setting.table, outcomes)?,
+            tag_size: next_tag_size(setting.tag_size, outcomes),
+        })
+    }
+
+    /// How a superstep of these outcomes ends the run, or none where it ends by delivery.
+    pub(crate) fn end(
+        &self,
+        alloc: Global,
+        outcomes: &Outcomes,
+    ) -> Result<Option<Status>, OutOfMemory>
+        requires turns { (r : Run) × HaveTurns r self.now outcomes.now }
+        ensures { (r : Run) → HaveTurns r self.now outcomes.now
+            → IfOk result (λ end. end ≡ end_of (length r.past) r.state.table outcomes.now) }
+    {
+        let setting = self.setting();
+        end_of(alloc, setting.step, &setting.table, outcomes)
+    }
+
+    /// No cells, in the room of these where no copy shares it.
+    pub(crate) fn into_room(self, alloc: Global) -> Cells
+        ensures { result ≡ [] }
+    {
+        let Views { setting: _, cells } = self;
+        cells.into_room(alloc)
     }
 
     /// The number of processes.

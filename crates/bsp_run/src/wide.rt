@@ -1,23 +1,24 @@
 //! A run by a pool of workers, and its parts.
 
-ghost use Rattle.std.specs.Prelude.{◌≡◌, ◌<◌, ◌≤◌, [], All, None, IfOk, IfErr, IfSome, OnOk, length, true};
+ghost use Rattle.std.specs.Prelude.{◌≡◌, ◌<◌, ◌≤◌, [], All, None, IfOk, IfErr, IfSome, OnOk, length, map, true};
 ghost use Rattle.bsp_model.specs.Input.{input_fault};
 ghost use Rattle.bsp_step.specs.Turn.{turn_of};
 ghost use Rattle.bsp_deliver.specs.Condition.{AreDeliverable, IsAscending};
 ghost use Rattle.bsp_deliver.specs.Cost.{IsHRelation};
 ghost use Rattle.bsp_run.specs.Shares.{turns_of, deliveries_to};
 ghost use Rattle.std.specs.List.{range_with_len};
-ghost use Rattle.bsp_run.specs.Run.{advance, open_views, run};
-ghost use Rattle.bsp_run.specs.Condition.{is_open};
+ghost use Rattle.bsp_run.specs.Run.{advance, after_delivery, open_views, run};
+ghost use Rattle.bsp_run.specs.Condition.{is_ended, is_open};
 ghost use Rattle.bsp_run.specs.Inside.Turns.{AreTurnsOf};
 ghost use Rattle.bsp_run.specs.Law.{IsBspRun};
 ghost use Rattle.bsp_run.specs.RunErrors.{input_fault_of};
 
-use crate::in_order::in_order;
+use crate::in_order::{Joining, in_order};
 use crate::numbers::numbers;
+use crate::tape::checked;
 use crate::turn_rows::spare_of;
 use crate::works::{Deliveries, Turns};
-use crate::{History, RunError, Tape, TurnRows, Views};
+use crate::{History, Phase, RunError, Tape, TurnRows, Views};
 use bsp_deliver::{Cells, Delivered, deliver_some, sort_requests};
 use bsp_model::{Input, OutOfMemory};
 use bsp_pool::{Gate, gather};
@@ -49,6 +50,26 @@ pub(crate) fn turns_by_one<P: Program, G: Gate>(
     Ok(())
 }
 
+/// Gathers the outputs of these inputs in rows that have none yet, in the order of the list, worked by 1 to 16 workers. After `OutOfMemory` some of
+/// them are there.
+fn by_workers<W: Joining, G: Gate, R: Threads + Sync>(
+    rt: &R,
+    alloc: Global,
+    work: &W,
+    rows: &mut W::Rows,
+    inputs: &[W::In],
+    workers: usize,
+    gate: &G,
+) -> Result<(), OutOfMemory>
+    requires empty { W.outputs work.now rows.old ≡ [] }
+    requires accepts { All (W.accepts work.now) inputs.now }
+    requires workers { (0 < workers) × (workers ≤ 16) }
+    ensures { OnOk result (W.outputs work.now rows.new ≡ map (W.does work.now) inputs.now) }
+{
+    let shares = gather(rt, alloc, work, inputs, workers, gate);
+    in_order(alloc, work, rows, inputs, shares.as_slice())
+}
+
 /// The turns of some processes, in the order of the list, shared by 1 to 16 workers. `processes` are places in `views`. Whoever drew
 /// the place k of the list, counted from 0, passes the gate with k before that turn.
 ///
@@ -72,15 +93,13 @@ pub fn wide_turns<P: Program, G: Gate, R: Threads + Sync>(
     requires workers { (0 < workers) × (workers ≤ 16) }
     ensures { IfOk result (λ all. all.outcomes ≡ turns_of (turn_of (P.acts program.now) (P.ending program.now)) views.now processes.now) }
 {
-    if workers.min(processes.len()) < 2 {
-        let mut rows = rows;
-        turns_by_one(alloc, &mut rows, program, views, processes, gate)?;
-        return Ok(rows);
-    }
-    let turns = Turns { program, views };
-    let shares = gather(rt, alloc, &turns, processes, workers, gate);
     let mut rows = rows;
-    in_order(alloc, &turns, &mut rows, processes, shares.as_slice())?;
+    if workers.min(processes.len()) < 2 {
+        turns_by_one(alloc, &mut rows, program, views, processes, gate)?;
+    } else {
+        let turns = Turns { program, views };
+        by_workers(rt, alloc, &turns, &mut rows, processes, workers, gate)?;
+    }
     Ok(rows)
 }
 
@@ -132,6 +151,31 @@ fn is_light(outcomes: &Outcomes) -> bool {
     nanos < NANOS_WORTH_SHARING
 }
 
+/// Gathers the next memory and queue of some processes, in the order of the list, where there are none yet. The requests are sorted first, so that
+/// each worker goes over those to its own processes.
+fn sorted_deliveries<G: Gate, R: Threads + Sync>(
+    rt: &R,
+    alloc: Global,
+    cells: &mut Cells,
+    outcomes: &Outcomes,
+    processes: &[usize],
+    workers: usize,
+    gate: &G,
+) -> Result<(), OutOfMemory>
+    requires empty { cells.old ≡ [] }
+    requires deliverable { AreDeliverable outcomes.now }
+    requires processes { All (λ d. d < length outcomes.now) processes.now }
+    requires workers { (0 < workers) × (workers ≤ 16) }
+    ensures { OnOk result (cells.new ≡ deliveries_to outcomes.now processes.now) }
+{
+    let sorted = sort_requests(alloc, outcomes)?;
+    let deliveries = Deliveries {
+        outcomes,
+        sorted: &sorted,
+    };
+    by_workers(rt, alloc, &deliveries, cells, processes, workers, gate)
+}
+
 /// The next memory and queue of some processes, in the order of the list, shared by 1 to 16 workers. `processes` are places in
 /// `outcomes`, which are those of all processes, in ascending order. Whoever drew the place k of the list, counted from 0, passes the
 /// gate with k before that delivery.
@@ -161,14 +205,8 @@ pub fn wide_deliveries<G: Gate, R: Threads + Sync>(
         pass_all(gate, processes.len());
         return deliver_some(alloc, outcomes, processes, Cells::new(alloc));
     }
-    let sorted = sort_requests(alloc, outcomes)?;
-    let deliveries = Deliveries {
-        outcomes,
-        sorted: &sorted,
-    };
-    let shares = gather(rt, alloc, &deliveries, processes, workers, gate);
     let mut cells = Cells::with_capacity(alloc, processes.len())?;
-    in_order(alloc, &deliveries, &mut cells, processes, shares.as_slice())?;
+    sorted_deliveries(rt, alloc, &mut cells, outcomes, processes, workers, gate)?;
     Ok(Delivered { cells, h: None })
 }
 
@@ -197,6 +235,24 @@ fn wide_outcomes<P: Program, G: Gate, R: Threads + Sync>(
     Ok(taken.outcomes.share()?)
 }
 
+/// The deliveries to all processes, at the end of a superstep whose turns are taken, by the workers.
+fn wide_delivery<G: Gate, R: Threads + Sync>(
+    rt: &R,
+    alloc: Global,
+    tape: &mut Tape,
+    processes: &[usize],
+    workers: usize,
+    gate: &G,
+) -> Result<(), OutOfMemory>
+    requires turned { tape.old.phase ≡ Phase.Turned }
+    requires processes { processes.now ≡ range_with_len 0 (length tape.old.outcomes) }
+    requires workers { (0 < workers) × (workers ≤ 16) }
+    ensures { OnOk result (tape.new ≡ after_delivery tape.old) }
+{
+    let made = wide_deliveries(rt, alloc, tape.outcomes(), processes, workers, gate)?;
+    tape.delivered(made)
+}
+
 /// One superstep more of a run that has not ended, by the workers.
 fn wide_superstep<P: Program, G: Gate, R: Threads + Sync>(
     rt: &R,
@@ -213,12 +269,31 @@ fn wide_superstep<P: Program, G: Gate, R: Threads + Sync>(
     let processes = numbers(alloc, tape.open_views().len())?;
     let all = processes.as_slice();
     let outcomes = wide_outcomes(rt, alloc, program, tape, all, workers, gate)?;
-    let delivers = tape.turned(outcomes)?;
-    if delivers {
-        let made = wide_deliveries(rt, alloc, tape.outcomes(), all, workers, gate)?;
-        let _ = tape.delivered(made)?;
+    if tape.turned(outcomes)? {
+        wide_delivery(rt, alloc, tape, all, workers, gate)?;
     }
     Ok(())
+}
+
+/// All supersteps of the run of a lawful input, by the workers.
+fn wide_tape<P: Program, G: Gate, R: Threads + Sync>(
+    rt: &R,
+    alloc: Global,
+    program: &P,
+    input: &Input,
+    workers: usize,
+    gate: &G,
+) -> Result<Tape, OutOfMemory>
+    requires lawful { input_fault input.now ≡ None }
+    requires workers { (0 < workers) × (workers ≤ 16) }
+    ensures ended { IfOk result (λ tape. is_ended tape.phase ≡ true) }
+    ensures run { IfOk result (λ tape. tape ≡ run (turn_of (P.acts program.now) (P.ending program.now)) input.now) }
+{
+    let mut tape = Tape::open_lawful(alloc, input)?;
+    while tape.is_open() {
+        wide_superstep(rt, alloc, program, &mut tape, workers, gate)?;
+    }
+    Ok(tape)
 }
 
 /// What `run_plain` answers, by 1 to 16 workers. They share the turns of each superstep, and then its deliveries: whoever drew a process
@@ -237,9 +312,7 @@ pub fn run_wide<P: Program, G: Gate, R: Threads + Sync>(
     ensures law { IfOk result (λ history. IsBspRun (turn_of (P.acts program.now) (P.ending program.now)) input.now history) }
     ensures input { IfErr result (λ e. input_fault input.now ≡ input_fault_of e) }
 {
-    let mut tape = Tape::open(alloc, input)?;
-    while tape.is_open() {
-        wide_superstep(rt, alloc, program, &mut tape, workers, gate)?;
-    }
+    checked(input)?;
+    let tape = wide_tape(rt, alloc, program, input, workers, gate)?;
     Ok(tape.finish()?)
 }

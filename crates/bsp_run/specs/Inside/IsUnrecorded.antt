@@ -23,8 +23,8 @@ pub record AreKept (r : Run) (ps : List ℕ) (vs : List ViewParts) (sums : Tally
   pub lines : (p : ℕ) → lines_in sums.lines.items p ≡ lines_of_process (outcomes_of r.past) p
   pub costs : sums.costs ≡ map (cost_of_delivery r.g r.l) (outcomes_of r.past)
 
-abbrev pub IsUnrecorded : Run → Unrecorded → Type 0
-IsUnrecorded r kept = AreKept r kept.processes.items kept.views kept.tally
+abbrev pub IsUnrecorded : Run → List ViewParts → Unrecorded → Type 0
+IsUnrecorded r vs kept = AreKept r kept.processes.items vs kept.tally
 
 -- The open superstep of a run, in which the processes see these views, and the outcomes of its turns.
 pub record HaveTurns (r : Run) (vs : List ViewParts) (os : List OutcomeParts) : Type 0 where
@@ -34,7 +34,7 @@ pub record HaveTurns (r : Run) (vs : List ViewParts) (os : List OutcomeParts) : 
   pub turns : AreOutcomesOf (open_views r) os
 
 -- What is kept of a run that is in this phase, and the outcomes of its last turns.
-pub record IsUnrecordedIn (comes : Phase) (r : Run) (kept : Unrecorded) (os : List OutcomeParts) : Type 0 where
-  pub same : IsUnrecorded r kept
+pub record IsUnrecordedIn (comes : Phase) (r : Run) (vs : List ViewParts) (kept : Unrecorded) (os : List OutcomeParts) : Type 0 where
+  pub same : IsUnrecorded r vs kept
   pub phase : r.phase ≡ comes
   pub outcomes : r.outcomes ≡ os

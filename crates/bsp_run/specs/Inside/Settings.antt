@@ -1,12 +1,9 @@
 -- What all processes of a superstep see alike, read off their views.
-use Rattle.std.specs.Prelude.{◌≡◌, ◌<◌, ◌+◌, ℕ, List, map, length, slice_index_or}
+use Rattle.std.specs.Prelude.{◌≡◌, ◌<◌, ℕ, List, map, length, slice_index_or}
 use Rattle.bsp_step.specs.ViewParts.{ViewParts}
 use Rattle.bsp_step.specs.OutcomeParts.{OutcomeParts}
-use Rattle.bsp_table.specs.NextTable.{next_table}
-use Rattle.bsp_deliver.specs.SyncFault.{next_tag_size}
 use Rattle.bsp_run.specs.declared.setting.Setting.{Setting}
 use Rattle.bsp_run.specs.declared.phase.Phase.TheVariants.{Turned}
-use Rattle.bsp_run.specs.State.{pops_of, pushes_of}
 use Rattle.bsp_run.specs.Run.{Run, open_views}
 use Rattle.bsp_run.specs.Condition.{IsRun, no_view}
 
@@ -16,16 +13,6 @@ pub record IsSettingOf (vs : List ViewParts) (setting : Setting) : Type 0 where
   pub step : (p : ℕ) → p < length vs → (slice_index_or vs p no_view).step ≡ setting.step
   pub table : (p : ℕ) → p < length vs → (slice_index_or vs p no_view).table ≡ setting.table
   pub tag_size : (p : ℕ) → p < length vs → (slice_index_or vs p no_view).tag_size ≡ setting.tag_size
-
--- the setting after the delivery of these outcomes
-abbrev pub setting_after : Setting → List OutcomeParts → Setting
-setting_after setting os =
-    record {
-      step = setting.step + 1;
-      args = setting.args;
-      table = next_table setting.table (pops_of os) (pushes_of os);
-      tag_size = next_tag_size setting.tag_size os;
-    }
 
 -- A run whose turns are taken, what the processes see in it, and the outcomes.
 pub record AreTurned (r : Run) (vs : List ViewParts) (os : List OutcomeParts) : Type 0 where

@@ -1,20 +1,36 @@
 -- A run so far, from the fields of its tape.
-use Rattle.std.specs.Prelude.{◌≡◌, map, All}
+use Rattle.std.specs.Prelude.{◌≡◌, ℕ, List, map, All, slice_index_or}
+use Rattle.bsp_step.specs.ViewParts.{ViewParts}
 use Rattle.bsp_run.specs.declared.tape.Tape.TheInside.{Inside}
+use Rattle.bsp_run.specs.State.{State}
 use Rattle.bsp_run.specs.Run.{Run, open_views}
-use Rattle.bsp_run.specs.Condition.{IsRun}
+use Rattle.bsp_run.specs.Condition.{IsRun, no_view}
 use Rattle.bsp_run.specs.Supersteps.{outcomes_of}
 use Rattle.bsp_run.specs.Result.{cost_of_delivery, IsSmall}
+
+-- the arguments in views
+abbrev pub args_in : List ViewParts → List (List ℕ)
+args_in vs = map (λ v. v.args) vs
+
+-- the state of which views are made: all see one table and one tag size
+abbrev pub state_in : List ViewParts → State
+state_in vs =
+    record {
+      memories = map (λ v. v.memory) vs;
+      queues = map (λ v. v.queue) vs;
+      table = (slice_index_or vs 0 no_view).table;
+      tag_size = (slice_index_or vs 0 no_view).tag_size;
+    }
 
 abbrev pub run_of : Inside → Run
 run_of t =
     record {
-      args = t.args;
+      args = args_in t.views;
       limit = t.limit;
       g = t.g;
       l = t.l;
       past = t.past.items;
-      state = record { memories = map (λ v. v.memory) t.views; queues = map (λ v. v.queue) t.views; table = t.table; tag_size = t.tag_size };
+      state = state_in t.views;
       outcomes = t.outcomes;
       phase = t.phase;
     }

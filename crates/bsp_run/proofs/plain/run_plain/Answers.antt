@@ -1,45 +1,12 @@
-use Rattle.std.proofs.Common.{◌≡◌, ◌<◌, ◌∙◌, sym, subst, true, false}
+use Rattle.std.proofs.Common.{◌∙◌, sym, subst}
 use Rattle.bsp_model.specs.declared.input.Input.{Input}
-use Rattle.bsp_model.proofs.Inputs.{lawful_input}
 use Rattle.bsp_step.specs.Turn.{turn_of}
-use Rattle.bsp_run.specs.Run.{Run, run}
 use Rattle.bsp_run.specs.Law.{IsBspRun}
-use Rattle.bsp_run.specs.Condition.{is_open}
 use Rattle.bsp_run.proofs.Laws.{IsBspRun-run}
-use Rattle.bsp_run.proofs.Runs.{LeadsTo, supersteps_left, start-leads, advance-leads, fewer_left, closed-leads}
 use Rattle.bsp_run.proofs.plain.run_plain.Goals as goal
-
-pub loop-alloc-init : goal.loop-alloc-init
-loop-alloc-init g c =
-    let turn = turn_of (g.P.Program.acts c.args.program.now) (g.P.Program.ending c.args.program.now) in
-    let input : Input = c.args.input.now in
-    let opened = c.in_ok-tape.ensures.ok in
-    subst (λ (r : Run). LeadsTo turn r (run turn input)) (sym opened.1) (start-leads turn input (lawful_input input opened.0).some_superstep)
-
-pub loop-alloc-preserved : goal.loop-alloc-preserved
-loop-alloc-preserved g c =
-    let turn = turn_of (g.P.Program.acts c.args.program.now) (g.P.Program.ending c.args.program.now) in
-    let whole : Run = run turn c.args.input.now in
-    let open_now : is_open c.loop-alloc.tape.phase ≡ true = sym c.is_open.ensures ∙ c.loop-alloc-test.true in
-    subst (λ (r : Run). LeadsTo turn r whole) (sym c.in_ok-plain_superstep.ensures) (advance-leads turn c.loop-alloc.tape whole c.loop-alloc.invariant open_now)
-
-pub loop-alloc-smaller : goal.loop-alloc-smaller
-loop-alloc-smaller g c =
-    let turn = turn_of (g.P.Program.acts c.args.program.now) (g.P.Program.ending c.args.program.now) in
-    let whole : Run = run turn c.args.input.now in
-    let open_now : is_open c.loop-alloc.tape.phase ≡ true = sym c.is_open.ensures ∙ c.loop-alloc-test.true in
-    subst (λ (r : Run). supersteps_left r < supersteps_left c.loop-alloc.tape) (sym c.in_ok-plain_superstep.ensures) (fewer_left turn c.loop-alloc.tape whole c.loop-alloc.invariant open_now)
-
-pub returns-clause-run : goal.returns-clause-run
-returns-clause-run g c =
-    let turn = turn_of (g.P.Program.acts c.args.program.now) (g.P.Program.ending c.args.program.now) in
-    let closed : is_open c.loop-alloc.tape.phase ≡ false = sym c.is_open.ensures ∙ c.loop-alloc-test.false in
-    c.in_ok-finish.ensures ∙ (closed-leads turn c.loop-alloc.tape (run turn c.args.input.now) c.loop-alloc.invariant closed).1
 
 pub returns-clause-law : goal.returns-clause-law
 returns-clause-law g c =
     let turn = turn_of (g.P.Program.acts c.args.program.now) (g.P.Program.ending c.args.program.now) in
     let input : Input = c.args.input.now in
-    let closed : is_open c.loop-alloc.tape.phase ≡ false = sym c.is_open.ensures ∙ c.loop-alloc-test.false in
-    let made = c.in_ok-finish.ensures ∙ (closed-leads turn c.loop-alloc.tape (run turn input) c.loop-alloc.invariant closed).1 in
-    subst (IsBspRun turn input) (sym made) (IsBspRun-run turn input c.in_ok-tape.ensures.ok.0)
+    subst (IsBspRun turn input) (sym (c.in_ok-finish.ensures ∙ c.in_ok-tape.ensures.run)) (IsBspRun-run turn input c.in_ok-checked.ensures.ok)

@@ -17,21 +17,8 @@ use Rattle.bsp_run.proofs.Settings.{open_setting, setting_next}
 use Rattle.bsp_run.proofs.Shares.{deliveries_made}
 use Rattle.bsp_run.proofs.unrecorded.next_views.Goals as goal
 
-pub after-requires-clause-sync : goal.after-requires-clause-sync
-after-requires-clause-sync c =
-    let r : Run = c.requires.turned.0 in
-    let t : AreTurned r c.args.views c.args.outcomes.now = c.requires.turned.1 in
-    let is = open_setting r c.args.views c.into_parts-setting.result.0 t.run t.views c.into_parts-setting.ensures.setting in
-    subst (λ (os : List OutcomeParts). CanSync c.into_parts-setting.result.0.table os) t.outcomes
-    (subst (λ (slots : List (List Area)). CanSync slots r.outcomes) (sym is.table) (can_sync r t.run (is_turned_run r t.run t.phase)))
-
-pub after-requires-clause-step : goal.after-requires-clause-step
-after-requires-clause-step c =
-    let r : Run = c.requires.turned.0 in
-    let t : AreTurned r c.args.views c.args.outcomes.now = c.requires.turned.1 in
-    let is = open_setting r c.args.views c.into_parts-setting.result.0 t.run t.views c.into_parts-setting.ensures.setting in
-    let turned : IsTurned r = is_turned_run r t.run t.phase in
-    omega (arith, is.step, turned.room, t.run.few_supersteps)
+pub next_setting-requires : goal.next_setting-requires
+next_setting-requires c = record { turned = c.requires.turned }
 
 pub deliver_some-requires-clause-deliverable : goal.deliver_some-requires-clause-deliverable
 deliver_some-requires-clause-deliverable c =
@@ -53,13 +40,13 @@ pub open-requires : goal.open-requires
 open-requires c =
     let r : Run = c.requires.turned.0 in
     let t : AreTurned r c.args.views c.args.outcomes.now = c.requires.turned.1 in
-    let known = c.in_ok-setting.ensures ∙ setting_next r c.args.views c.args.outcomes.now c.into_parts-setting.result.0 t c.into_parts-setting.ensures.setting in
+    let known = c.in_ok-setting.ensures r t in
     let made = deliveries_made c.args.outcomes.now (length c.args.outcomes.now) c.args.processes.now c.in_ok-cells.field-0.cells refl c.requires.processes c.in_ok-cells.ensures.cells ∙ ap deliveries_of (sym t.outcomes) in
     opens_next r c.in_ok-setting.setting c.in_ok-cells.field-0.cells t.run t.phase known made
 
 pub returns-clause-views : goal.returns-clause-views
 returns-clause-views c = λ r t.
-    let known = c.in_ok-setting.ensures ∙ setting_next r c.args.views c.args.outcomes.now c.into_parts-setting.result.0 t c.into_parts-setting.ensures.setting in
+    let known = c.in_ok-setting.ensures r t in
     let made = deliveries_made c.args.outcomes.now (length c.args.outcomes.now) c.args.processes.now c.in_ok-cells.field-0.cells refl c.requires.processes c.in_ok-cells.ensures.cells ∙ ap deliveries_of (sym t.outcomes) in
     c.in_ok-open.ensures ∙ views_next r c.in_ok-setting.setting c.in_ok-cells.field-0.cells known made
 

@@ -1,22 +1,19 @@
-use Rattle.std.proofs.Common.{◌≡◌, ◌+◌, ◌∙◌, ap, length, arith}
+use Rattle.std.proofs.Common.{◌≡◌, ◌∙◌, IfOk, ap, refl, subst}
+use Rattle.bsp_run.specs.declared.setting.Setting.{Setting}
 use Rattle.bsp_run.specs.Setting.{next_setting}
-use Rattle.bsp_run.specs.State.{next_state}
 use Rattle.bsp_run.specs.Run.{Run}
+use Rattle.bsp_run.specs.Inside.Settings.{AreTurned}
 use Rattle.bsp_run.specs.Inside.Tape.{run_of}
-use Rattle.bsp_run.proofs.Phases.{can_sync, is_turned_run}
 use Rattle.bsp_run.proofs.tape.Tape.next_setting.Goals as goal
 
-pub next_table-requires : goal.next_table-requires
-next_table-requires c =
+pub next_setting-requires : goal.next_setting-requires
+next_setting-requires c =
     let r : Run = run_of c.self.inside in
-    let phase = ap (λ (x : Run). x.phase) c.self.view_is ∙ c.requires in
-    can_sync r c.self.invariant.run (is_turned_run r c.self.invariant.run phase)
+    record { turned = (r, record { run = c.self.invariant.run; phase = ap (λ (x : Run). x.phase) c.self.view_is ∙ c.requires; views = c.deref.ensures ∙ c.self.invariant.views; outcomes = refl }) }
 
 pub returns : goal.returns
-unfolding next_state
 returns c =
     let r : Run = run_of c.self.inside in
-    let step : c.len.result + 1 ≡ length r.past + 1 = omega (arith, c.len.ensures, c.self.inside.past.ok.0) in
-    let table = c.in_ok-next_table.ensures.next in
-    let tag = c.next_tag_size.ensures.choice in
-    (λ i. record { step = step i; args = c.in_ok-copy.ensures i; table = table i; tag_size = tag i }) ∙ ap next_setting c.self.view_is
+    let turned : AreTurned r c.deref.result.now c.self.inside.outcomes =
+    record { run = c.self.invariant.run; phase = ap (λ (x : Run). x.phase) c.self.view_is ∙ c.requires; views = c.deref.ensures ∙ c.self.invariant.views; outcomes = refl } in
+    subst (λ (x : Run). IfOk c.next_setting.result (λ (setting : Setting). setting ≡ next_setting x)) c.self.view_is (c.next_setting.ensures r turned)

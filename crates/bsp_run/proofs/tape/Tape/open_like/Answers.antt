@@ -25,7 +25,7 @@ replaced-requires-clause-opens c =
     let input = c.args.input.now in
     let ps = c.args.processes.items in
     let cells = c.in_ok-cells.ensures ∙ ap (map (first_cell c.as_slice-mems.result.now)) c.as_slice.ensures.value ∙ ap (λ (ms : List (List ℕ)). map (first_cell ms) ps) c.as_slice-mems.ensures in
-    let setting = c.in_ok-setting.ensures ∙ (λ i. record { step = 0; args = (c.in_ok-copy.ensures ∙ c.requires.args) i; table = []; tag_size = 0 }) in
+    let setting = c.in_ok-setting.ensures ∙ (λ i. record { step = 0; args = c.requires.args i; table = []; tag_size = 0 }) in
     opens_first input c.in_ok-setting.setting (replaced (map cell_of c.args.like.now) ps c.in_ok-cells.cells) (lawful_input input c.requires.lawful) setting
     (ap (replaced (map cell_of c.args.like.now) ps) cells ∙ c.requires.like)
 
@@ -34,6 +34,6 @@ open_with-requires-clause-views c =
     let input = c.args.input.now in
     let ps = c.args.processes.items in
     let cells = c.in_ok-cells.ensures ∙ ap (map (first_cell c.as_slice-mems.result.now)) c.as_slice.ensures.value ∙ ap (λ (ms : List (List ℕ)). map (first_cell ms) ps) c.as_slice-mems.ensures in
-    let setting = c.in_ok-setting.ensures ∙ (λ i. record { step = 0; args = (c.in_ok-copy.ensures ∙ c.requires.args) i; table = []; tag_size = 0 }) in
+    let setting = c.in_ok-setting.ensures ∙ (λ i. record { step = 0; args = c.requires.args i; table = []; tag_size = 0 }) in
     c.in_ok-views.ensures ∙ views_first input c.in_ok-setting.setting (replaced (map cell_of c.args.like.now) ps c.in_ok-cells.cells) setting
     (ap (replaced (map cell_of c.args.like.now) ps) cells ∙ c.requires.like)

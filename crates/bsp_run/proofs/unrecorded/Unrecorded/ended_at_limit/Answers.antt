@@ -11,10 +11,10 @@ use Rattle.bsp_run.proofs.unrecorded.Unrecorded.ended_at_limit.Goals as goal
 pub take_result-requires : goal.take_result-requires
 take_result-requires c =
     let r : Run = c.requires.ended.0 in
-    let t : IsUnrecordedIn (Ended Limit) r c.args.self.now r.outcomes = c.requires.ended.1 in
+    let t : IsUnrecordedIn (Ended Limit) r c.args.views.now c.args.self.now r.outcomes = c.requires.ended.1 in
     let at : IsAtLimit r = subst (λ p. IsInPhase p r) t.phase t.same.run.phase in
-    omega (arith, at.full, rows_are r c.args.self.now t.same, t.same.run.few_supersteps)
+    omega (arith, at.full, rows_are r c.args.views.now c.args.self.now t.same, t.same.run.few_supersteps)
 
 pub returns : goal.returns
 returns c = λ r t.
-    subst (λ (given : RunResult). IfOk c.take_result.result (λ x. x ≡ given)) (limit_result r c.args.self.now r.outcomes c.in_ok-memories.memories c.args.self.now.tally t c.in_ok-memories.ensures refl) c.take_result.ensures
+    subst (λ (given : RunResult). IfOk c.take_result.result (λ x. x ≡ given)) (limit_result r c.args.views.now c.args.self.now r.outcomes c.in_ok-memories.memories c.args.self.now.tally t c.in_ok-memories.ensures refl) c.take_result.ensures

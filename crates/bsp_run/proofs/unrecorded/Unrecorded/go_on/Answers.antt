@@ -1,22 +1,23 @@
 use Rattle.std.proofs.Common.{◌∙◌, refl, arith}
+use Rattle.bsp_run.specs.Run.{Run}
 use Rattle.bsp_run.specs.declared.phase.Phase.TheVariants.{Turned}
 use Rattle.bsp_run.specs.Inside.IsUnrecorded.{IsUnrecordedIn}
 use Rattle.bsp_run.proofs.UnrecordedRuns.{are_turned, as_many, unrecorded_delivered}
 use Rattle.bsp_run.proofs.unrecorded.Unrecorded.go_on.Goals as goal
 
 pub next_views-requires-clause-turned : goal.next_views-requires-clause-turned
-next_views-requires-clause-turned c = (c.requires.turned.0, are_turned c.requires.turned.0 c.args.self c.args.outcomes.now c.requires.turned.1)
+next_views-requires-clause-turned c = (c.requires.turned.0, are_turned c.requires.turned.0 c.args.views c.args.self.now c.args.self.now.taken.outcomes c.requires.turned.1)
 
 pub returns : goal.returns
 returns c = λ r t.
     let more = c.in_ok-add_delivery.ensures in
-    unrecorded_delivered r c.args.outcomes.now c.args.self _ _ _ t refl (c.in_ok-views.ensures.views r (are_turned r c.args.self c.args.outcomes.now t)) more.g more.l more.lines more.costs
+    unrecorded_delivered r c.args.self.now.taken.outcomes c.args.self.now c.args.views _ _ _ t refl (c.in_ok-views.ensures.views r (are_turned r c.args.views c.args.self.now c.args.self.now.taken.outcomes t)) more.g more.l more.lines more.costs
 
 pub next_views-requires-clause-processes : goal.next_views-requires-clause-processes
-next_views-requires-clause-processes c = c.as_slice.ensures.value ∙ as_many c.requires.turned.0 c.args.self c.args.outcomes.now c.requires.turned.1
+next_views-requires-clause-processes c = c.as_slice.ensures.value ∙ as_many c.requires.turned.0 c.args.views c.args.self.now c.args.self.now.taken.outcomes c.requires.turned.1
 
 pub add_delivery-requires-clause-small_g : goal.add_delivery-requires-clause-small_g
-add_delivery-requires-clause-small_g c = let t : IsUnrecordedIn Turned c.requires.turned.0 c.args.self c.args.outcomes.now = c.requires.turned.1 in omega (arith, t.same.g, t.same.run.small_g)
+add_delivery-requires-clause-small_g c = let t : IsUnrecordedIn Turned c.requires.turned.0 c.args.views c.args.self.now c.args.self.now.taken.outcomes = c.requires.turned.1 in omega (arith, t.same.g, t.same.run.small_g)
 
 pub add_delivery-requires-clause-small_l : goal.add_delivery-requires-clause-small_l
-add_delivery-requires-clause-small_l c = let t : IsUnrecordedIn Turned c.requires.turned.0 c.args.self c.args.outcomes.now = c.requires.turned.1 in omega (arith, t.same.l, t.same.run.small_l)
+add_delivery-requires-clause-small_l c = let t : IsUnrecordedIn Turned c.requires.turned.0 c.args.views c.args.self.now c.args.self.now.taken.outcomes = c.requires.turned.1 in omega (arith, t.same.l, t.same.run.small_l)

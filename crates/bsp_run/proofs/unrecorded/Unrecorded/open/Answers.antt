@@ -8,4 +8,4 @@ pub returns : goal.returns
 returns c =
     let input = c.args.input.now in
     let begun = c.new.ensures in
-    unrecorded_start input _ _ _ (lawful_input input c.requires.lawful) (c.in_ok-processes.ensures ∙ ap (range_with_len 0) c.len.ensures) c.in_ok-views.ensures begun.g begun.l begun.lines begun.costs
+    unrecorded_start input _ _ _ (lawful_input input c.requires.lawful) (c.in_ok-numbers.ensures ∙ ap (range_with_len 0) c.len.ensures) c.requires.views begun.g begun.l begun.lines begun.costs

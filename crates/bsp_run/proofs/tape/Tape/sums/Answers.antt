@@ -13,7 +13,7 @@ use Rattle.bsp_run.specs.Condition.{is_ended}
 use Rattle.bsp_run.specs.Result.{lines_of, lines_of_process, costs_of, cost_of_delivery, cost_of_end, total_of}
 use Rattle.bsp_run.specs.Inside.Lines.{AreLinesUnlessMarked}
 use Rattle.bsp_run.proofs.Laws.{outcomes-last, outcomes-ended}
-use Rattle.bsp_run.proofs.tape.Tape.finish_sharing.Goals as goal
+use Rattle.bsp_run.proofs.tape.Tape.sums.Goals as goal
 
 last_is : (c : goal.After-total_of-total) → option_map (λ o. o.now) c.last_turn-last.result ≡ cond (is_limit c.self.inside.phase) None (Some (run_of c.self.inside).outcomes)
 last_is c = c.last_turn-last.ensures
@@ -41,9 +41,8 @@ costs_are c =
     ∙ ap (λ (rows : List CostRow). rows ++ ends (option_to_list (option_map (λ o. o.now) c.last_turn-last.result))) (c.as_slice.ensures.value ∙ c.self.invariant.costs)
     ∙ ap (λ (last : List (List OutcomeParts)). map (cost_of_delivery r.g r.l) (outcomes_of r.past) ++ ends last) (ap option_to_list (last_is c) ∙ sym (outcomes-last r (has_ended c)))
 
-pub invariant_of-result : goal.invariant_of-result
-invariant_of-result c = record {
-  ended = c.requires.ended;
+pub returns : goal.returns
+returns c = record {
   lines = lines_are c ∙ ap lines_of c.self.view_is;
   costs = costs_are c ∙ ap costs_of c.self.view_is;
   total = c.total_of-total.ensures ∙ ap total_of c.as_slice-2.ensures ∙ ap total_of (costs_are c ∙ ap costs_of c.self.view_is);
