@@ -53,7 +53,7 @@ fn answer<P: Program + Drop, R: Threads + Sync, G: Gate, T: Terminal>(
 }
 
 /// Keeps one more byte of a line, unless it is too long already.
-#[tactic(auto, unfolding(crate::specs::Talk::kept))]
+#[tactic(auto, unfolding(crate::specs::Inside::Talk::kept))]
 fn keep(begun: &mut Vec<u8>, byte: u8) -> Result<(), OutOfMemory>
     ensures { OnOk result (begun.new.items ≡ kept begun.old.items byte) }
 {
