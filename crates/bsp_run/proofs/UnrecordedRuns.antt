@@ -32,7 +32,7 @@ use Rattle.bsp_run.specs.Condition.{AreOutcomesOf, IsEnd, IsInPhase, IsTurned, i
 use Rattle.bsp_run.specs.Result.{status_in, status_of, memories_of, lines_of, lines_of_process, costs_of, cost_of_delivery, cost_of_end, total_of, result_of}
 use Rattle.bsp_run.specs.Inside.Printed.{lines_and, lines_in, AreLinesAnd}
 use Rattle.bsp_run.specs.Inside.Settings.{AreTurned}
-use Rattle.bsp_run.specs.Inside.IsUnrecorded.{AreKept, IsUnrecorded, IsUnrecordedIn, HaveTurns}
+use Rattle.bsp_run.specs.Inside.IsUnrecorded.{AreKept, IsUnrecorded, IsUnrecordedIn, HaveTurns, AreTaken}
 use Rattle.bsp_run.proofs.Lists.{each_below-agree}
 use Rattle.bsp_run.proofs.Conditions.{length-views_of, count_of_outcomes}
 use Rattle.bsp_run.proofs.Laws.{supersteps-limit, outcomes-last, outcomes-ended}
@@ -257,31 +257,44 @@ limit_result r vs kept os memories sums h em es =
     let lines = ap (λ (ms : List (List ℕ)). each_below (length ms) printed) seen ∙ each_below-agree (length r.state.memories) printed (lines_of_process (outcomes_of r.past)) (λ p l. h.same.lines p) in
     ap (summed Limit memories) es ∙ limit_result_is r memories (each_below (length memories) printed) kept.tally.costs h.phase seen lines h.same.costs
 
+-- the turns of the open superstep are taken
+abbrev pub turned_so : (ViewParts → OutcomeParts) → Run → Run
+turned_so turn r = after_turns r (map turn (open_views r))
+
+-- The turns that are gathered are those of the views, and what is kept beside them serves the run.
+pub taken_on : (turn : ViewParts → OutcomeParts) (r : Run) (vs : List ViewParts) (kept now : Unrecorded) → IsUnrecorded r vs kept → HaveTurns r vs now.taken.outcomes → now.taken.outcomes ≡ map turn vs → end_of (length r.past) r.state.table now.taken.outcomes ≡ None
+    → now.processes.items ≡ kept.processes.items → now.tally ≡ kept.tally → AreTaken (turned_so turn r) vs now None
+taken_on turn r vs kept now h have made none ep et =
+    let os : List OutcomeParts = now.taken.outcomes in
+    subst (λ (us : List OutcomeParts). IsUnrecordedIn Turned (after_turns r us) vs now os) (turns_are turn r vs kept os h made) (kept_then r vs kept now os None h have none ep et)
+
+-- A run that its turns have ended gives this.
+pub taken_last : (turn : ViewParts → OutcomeParts) (r : Run) (vs : List ViewParts) (kept : Unrecorded) (os : List OutcomeParts) (status : Status) (given : RunResult) → IsUnrecorded r vs kept → os ≡ map turn vs → end_of (length r.past) r.state.table os ≡ Some status
+    → given ≡ result_of (after_turns r os) → (is_turned (turned_so turn r).phase ≡ false) × (given ≡ result_of (turned_so turn r))
+taken_last turn r vs kept os status given h made ends is =
+    let same = ap (after_turns r) (turns_are turn r vs kept os h made) in
+    (sym (ap (λ (x : Run). is_turned x.phase) same) ∙ ap is_turned (phase_then r os (Some status) ends), is ∙ ap result_of same)
+
 -- The next superstep has opened, or the limit is reached.
-pub underway_next : (turn : ViewParts → OutcomeParts) (input : Input) (n : ℕ) (vs ws : List ViewParts) (old new : Unrecorded) (os : List OutcomeParts) (u : IsUnderway turn input (n + 1) vs old) → os ≡ map turn (open_views u.so_far) → end_of (length (u.so_far).past) (u.so_far).state.table os ≡ None
-    → IsUnrecorded (after_delivery (after_turns u.so_far os)) ws new → IsUnderway turn input n ws new
-underway_next turn input n vs ws old new os u made none same =
+pub underway_next : (turn : ViewParts → OutcomeParts) (input : Input) (n : ℕ) (vs ws : List ViewParts) (old new : Unrecorded) (u : IsUnderway turn input (n + 1) vs old) → (turned_so turn u.so_far).phase ≡ Turned
+    → IsUnrecorded (after_delivery (turned_so turn u.so_far)) ws new → IsUnderway turn input n ws new
+underway_next turn input n vs ws old new u turned same =
     let r : Run = u.so_far in
-    let phase : r.phase ≡ Open = underway_open turn input n vs old u in
-    let turned : (after_turns r (map turn (open_views r))).phase ≡ Turned = ap (λ (us : List OutcomeParts). (after_turns r us).phase) (sym made) ∙ phase_then r os None none in
-    let next : advance turn r ≡ after_delivery (after_turns r os) = advance-delivers turn r phase (ap is_turned turned) ∙ ap (λ (us : List OutcomeParts). after_delivery (after_turns r us)) (sym made) in
+    let next : advance turn r ≡ after_delivery (turned_so turn r) = advance-delivers turn r (underway_open turn input n vs old u) (ap is_turned turned) in
     record {
-      so_far = after_delivery (after_turns r os);
+      so_far = after_delivery (turned_so turn r);
       rest = ap (times n (advance turn)) (sym next) ∙ sym (times_more turn (n + 1) n r (omega arith)) ∙ u.rest;
-      left = left_next r os n u.left;
-      phase = phase_next r os n u.left;
+      left = left_next r (map turn (open_views r)) n u.left;
+      phase = phase_next r (map turn (open_views r)) n u.left;
       same = same;
     }
 
 -- The run that ended with this superstep is the whole run.
-pub ended_is_run : (turn : ViewParts → OutcomeParts) (input : Input) (n : ℕ) (vs : List ViewParts) (kept : Unrecorded) (os : List OutcomeParts) (status : Status) (u : IsUnderway turn input (n + 1) vs kept) → os ≡ map turn (open_views u.so_far)
-    → end_of (length (u.so_far).past) (u.so_far).state.table os ≡ Some status → after_turns u.so_far os ≡ run turn input
-ended_is_run turn input n vs kept os status u made ends =
+pub ended_is_run : (turn : ViewParts → OutcomeParts) (input : Input) (n : ℕ) (vs : List ViewParts) (kept : Unrecorded) (u : IsUnderway turn input (n + 1) vs kept) → is_turned (turned_so turn u.so_far).phase ≡ false → turned_so turn u.so_far ≡ run turn input
+ended_is_run turn input n vs kept u closed =
     let r : Run = u.so_far in
-    let here : (after_turns r os).phase ≡ Ended status = phase_then r os (Some status) ends in
-    let closed : is_turned (after_turns r (map turn (open_views r))).phase ≡ false = ap (λ (us : List OutcomeParts). is_turned (after_turns r us).phase) (sym made) ∙ ap is_turned here in
-    let next : advance turn r ≡ after_turns r os = advance-ends turn r (underway_open turn input n vs kept u) closed ∙ ap (after_turns r) (sym made) in
-    sym (times-closed turn n (after_turns r os) (turns_closed r os)) ∙ ap (times n (advance turn)) (sym next) ∙ sym (times_more turn (n + 1) n r (omega arith)) ∙ u.rest
+    let next : advance turn r ≡ turned_so turn r = advance-ends turn r (underway_open turn input n vs kept u) closed in
+    sym (times-closed turn n (turned_so turn r) (turns_closed r (map turn (open_views r)))) ∙ ap (times n (advance turn)) (sym next) ∙ sym (times_more turn (n + 1) n r (omega arith)) ∙ u.rest
 
 -- So is the run with no superstep left.
 pub limit_is_run : (turn : ViewParts → OutcomeParts) (input : Input) (n : ℕ) (vs : List ViewParts) (kept : Unrecorded) (u : IsUnderway turn input n vs kept) → n ≡ 0 → u.so_far ≡ run turn input

@@ -1,11 +1,13 @@
 //! Opening a run.
 
-ghost use Rattle.std.specs.Prelude.{◌≡◌, ◌<◌, ◌++◌, ◌∷◌, [], All, IfOk, OnOk, length, map};
+ghost use Rattle.std.specs.Prelude.{◌≡◌, ◌<◌, ◌++◌, ◌∷◌, [], All, IfOk, OnOk, None, length, map};
+ghost use Rattle.bsp_model.specs.Input.{input_fault};
+ghost use Rattle.bsp_run.specs.Run.{open_views, start};
 ghost use Rattle.bsp_run.specs.State.{first_cell, no_messages};
 
-use crate::Arguments;
+use crate::{Arguments, Views};
 use bsp_deliver::Cells;
-use bsp_model::{Memory, OutOfMemory, Seq, SharedSeq, TryCopy, Words};
+use bsp_model::{Input, Memory, OutOfMemory, Seq, SharedSeq, TryCopy, Words};
 use bsp_step::Queue;
 use std::alloc::Global;
 
@@ -59,6 +61,19 @@ pub fn shared_args(args: &Seq<Words>) -> Result<Arguments, OutOfMemory>
         shared.push(words.copy()?.share()?)?;
     }
     SharedSeq::from_vec(shared)
+}
+
+/// What the processes see in superstep 0 of the run of a lawful input.
+pub fn first_views(
+    alloc: Global,
+    input: &Input,
+    recording: Recording,
+) -> Result<Views, OutOfMemory>
+    requires { input_fault input.now ≡ None }
+    ensures { IfOk result (λ views. views ≡ open_views (start input.now)) }
+{
+    let args = shared_args(&input.args)?;
+    Views::first(alloc, input, args, recording)
 }
 
 /// The memories of some processes in the first superstep, and their queues.

@@ -1,19 +1,19 @@
 //! A run on one thread.
 
-ghost use Rattle.std.specs.Prelude.{◌≡◌, None, IfOk, IfErr, OnOk, length, true};
+ghost use Rattle.std.specs.Prelude.{◌≡◌, None, IfOk, IfErr, OnOk, length, map, true};
 ghost use Rattle.std.specs.List.{range_with_len};
 ghost use Rattle.bsp_model.specs.Input.{input_fault};
 ghost use Rattle.bsp_step.specs.Turn.{turn_of};
-ghost use Rattle.bsp_run.specs.Run.{start, advance, after_delivery, open_views, run};
+ghost use Rattle.bsp_run.specs.Run.{Run, start, advance, after_turns, after_delivery, open_views, run};
 ghost use Rattle.bsp_run.specs.Condition.{is_ended, is_open};
-ghost use Rattle.bsp_run.specs.Inside.IsUnrecorded.{IsUnrecorded};
+ghost use Rattle.bsp_run.specs.Inside.IsUnrecorded.{IsUnrecorded, AreTaken};
 ghost use Rattle.bsp_run.specs.Inside.Turns.{AreTurnsOf};
 ghost use Rattle.bsp_run.specs.Result.{result_of};
 ghost use Rattle.bsp_run.specs.Law.{IsBspRun, IsBspResult};
 ghost use Rattle.bsp_run.specs.RunErrors.{input_fault_of};
 
 use crate::numbers::numbers;
-use crate::opening::{Recording, shared_args};
+use crate::opening::{Recording, first_views};
 use crate::tape::checked;
 use crate::unrecorded::{Unrecorded, all_turns};
 use crate::wide::turns_by_one;
@@ -99,6 +99,26 @@ pub fn run_plain<P: Program>(alloc: Global, program: &P, input: &Input) -> Resul
     Ok(tape.finish()?)
 }
 
+/// Takes the turns of the open superstep of a run of which no record is kept, in which the processes see these views. It answers what the run gives,
+/// where they end it.
+fn unrecorded_turns<P: Program>(
+    alloc: Global,
+    program: &P,
+    views: &Views,
+    kept: &mut Unrecorded,
+) -> Result<Option<RunResult>, OutOfMemory>
+    requires opened { (r : Run) × ((r.phase ≡ Phase.Open) × IsUnrecorded r views.now kept.old) }
+    ensures { (r : Run) → r.phase ≡ Phase.Open → IsUnrecorded r views.now kept.old → IfOk result (AreTaken
+        (after_turns r (map (turn_of (P.acts program.now) (P.ending program.now)) (open_views r))) views.now kept.new) }
+{
+    let processes = kept.processes.as_slice();
+    all_turns(alloc, program, processes, views, &mut kept.taken)?;
+    match views.end(alloc, &kept.taken.outcomes)? {
+        Some(status) => Ok(Some(kept.ended(alloc, status)?)),
+        None => Ok(None),
+    }
+}
+
 /// What `lawful_result` answers, where these views are open, and this is kept beside them.
 fn result_from<P: Program>(
     alloc: Global,
@@ -113,10 +133,8 @@ fn result_from<P: Program>(
 {
     let mut views = first;
     for step in 0..input.limit {
-        let processes = kept.processes.as_slice();
-        all_turns(alloc, program, processes, &views, &mut kept.taken)?;
-        if let Some(status) = views.end(alloc, &kept.taken.outcomes)? {
-            return kept.ended(alloc, status);
+        if let Some(result) = unrecorded_turns(alloc, program, &views, kept)? {
+            return Ok(result);
         }
         views = kept.go_on(alloc, views)?;
     }
@@ -132,7 +150,7 @@ pub fn lawful_result<P: Program>(
     requires lawful { input_fault input.now ≡ None }
     ensures { IfOk result (λ r. r ≡ result_of (run (turn_of (P.acts program.now) (P.ending program.now)) input.now)) }
 {
-    let views = Views::first(alloc, input, shared_args(&input.args)?, Recording::None)?;
+    let views = first_views(alloc, input, Recording::None)?;
     let mut kept = Unrecorded::open(alloc, input, &views)?;
     result_from(alloc, program, input, views, &mut kept)
 }

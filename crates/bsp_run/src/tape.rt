@@ -16,7 +16,7 @@ ghost use Rattle.bsp_run.specs.Result.{cost_of_delivery, IsSmall};
 
 use crate::costs::{cost_of_delivery, cost_with_h};
 use crate::keeping::{keep_superstep, phase_after, phase_at};
-use crate::opening::{Recording, first_cells_of, shared_args};
+use crate::opening::{Recording, first_cells_of, first_views};
 use crate::{Arguments, Phase, RunError, Setting, Status, Superstep, Views, ViewsRef};
 use bsp_deliver::Delivered;
 use bsp_model::{CostRow, Input, OutOfMemory, Shared, SharedSeq, TryCopy};
@@ -74,7 +74,7 @@ impl Tape {
         requires lawful { input_fault input.now ≡ None }
         ensures { IfOk result (λ tape. tape ≡ start input.now) }
     {
-        let views = Views::first(alloc, input, shared_args(&input.args)?, Recording::Kept)?;
+        let views = first_views(alloc, input, Recording::Kept)?;
         Tape::open_with(alloc, input, views)
     }
 

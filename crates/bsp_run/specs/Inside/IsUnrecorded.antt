@@ -1,16 +1,17 @@
 -- What is kept of a run so far whose record is not.
-use Rattle.std.specs.Prelude.{◌≡◌, ℕ, List, map, length}
+use Rattle.std.specs.Prelude.{◌≡◌, ℕ, List, Option, None, Some, false, map, length}
 use Rattle.std.specs.List.{range_with_len}
 use Rattle.bsp_step.specs.ViewParts.{ViewParts}
 use Rattle.bsp_step.specs.OutcomeParts.{OutcomeParts}
 use Rattle.bsp_run.specs.declared.phase.Phase.{Phase}
-use Rattle.bsp_run.specs.declared.phase.Phase.TheVariants.{Open}
+use Rattle.bsp_run.specs.declared.phase.Phase.TheVariants.{Open, Turned}
+use Rattle.bsp_run.specs.declared.result.RunResult.{RunResult}
 use Rattle.bsp_run.specs.declared.tally.Tally.{Tally}
 use Rattle.bsp_run.specs.declared.unrecorded.Unrecorded.{Unrecorded}
 use Rattle.bsp_run.specs.Run.{Run, open_views}
-use Rattle.bsp_run.specs.Condition.{AreOutcomesOf, IsRun}
+use Rattle.bsp_run.specs.Condition.{AreOutcomesOf, IsRun, is_turned}
 use Rattle.bsp_run.specs.Supersteps.{outcomes_of}
-use Rattle.bsp_run.specs.Result.{lines_of_process, cost_of_delivery}
+use Rattle.bsp_run.specs.Result.{lines_of_process, cost_of_delivery, result_of}
 use Rattle.bsp_run.specs.Inside.Printed.{lines_in}
 
 -- What is kept is what the processes of the run see, and what its result adds up of the supersteps that ended by delivery.
@@ -38,3 +39,8 @@ pub record IsUnrecordedIn (comes : Phase) (r : Run) (vs : List ViewParts) (kept 
   pub same : IsUnrecorded r vs kept
   pub phase : r.phase ≡ comes
   pub outcomes : r.outcomes ≡ os
+
+-- A run whose turns are taken: it goes on by its deliveries, or it has ended and gives this.
+abbrev pub AreTaken : Run → List ViewParts → Unrecorded → Option RunResult → Type 0
+AreTaken r vs kept None = IsUnrecordedIn Turned r vs kept kept.taken.outcomes
+AreTaken r vs kept (Some given) = (is_turned r.phase ≡ false) × (given ≡ result_of r)
