@@ -64,11 +64,7 @@ pub fn shared_args(args: &Seq<Words>) -> Result<Arguments, OutOfMemory>
 }
 
 /// What the processes see in superstep 0 of the run of a lawful input.
-pub fn first_views(
-    alloc: Global,
-    input: &Input,
-    recording: Recording,
-) -> Result<Views, OutOfMemory>
+pub fn first_views(alloc: Global, input: &Input, recording: Recording) -> Result<Views, OutOfMemory>
     requires { input_fault input.now ≡ None }
     ensures { IfOk result (λ views. views ≡ open_views (start input.now)) }
 {
