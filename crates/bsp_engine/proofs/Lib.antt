@@ -8,6 +8,9 @@ pub mod Endings
 pub mod Flagging
 pub mod Flowing
 mod HeardLines
+pub mod ItemsRead
+pub mod LineEnds
+pub mod LinesRead
 pub mod LiveLaws
 pub mod LookUps
 pub mod Logs
@@ -15,6 +18,7 @@ pub mod Made
 pub mod Numbering
 pub mod OwnKeys
 pub mod ReadAgain
+pub mod ResultsRead
 pub mod SameDocument
 pub mod SameJob
 pub mod SessionOf

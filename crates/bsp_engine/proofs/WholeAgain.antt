@@ -59,7 +59,7 @@ told_again n olds (Some x ∷ c) =
 told_again n [] (None ∷ c) = skipped (length c) n (n + 1) [] c (omega arith) ∙ told_again (n + 1) [] c
 told_again n (old ∷ olds) (None ∷ c) = skipped (length c) n (n + 1) (old ∷ olds) c (omega arith) ∙ ap (λ l. old ∷ l) (told_again (n + 1) olds c)
 
-whole_items : {A : Type 0} (same : A → A → Bool) → ((x y : A) → Decides (same x y) (x ≡ y)) → (olds news : List A) (count : ℕ) → count ≡ length news → items_with count 0 olds (numbers_of 0 (others same olds news)) ≡ news
+pub whole_items : {A : Type 0} (same : A → A → Bool) → ((x y : A) → Decides (same x y) (x ≡ y)) → (olds news : List A) (count : ℕ) → count ≡ length news → items_with count 0 olds (numbers_of 0 (others same olds news)) ≡ news
 whole_items same decides olds news count is =
     ap (λ (k : ℕ). items_with k 0 olds (numbers_of 0 (others same olds news))) (is ∙ sym (count_others same decides olds news))
     ∙ (told_again 0 olds (others same olds news) ∙ whole_again same decides olds news)
@@ -70,7 +70,7 @@ numbered_told piece n [] = refl
 numbered_told piece n (None ∷ c) = numbered_told piece (n + 1) c
 numbered_told piece n (Some x ∷ c) = ap (λ l. piece n x ++ l) (numbered_told piece (n + 1) c)
 
-counted : (old new : ℕ) → count_with old (other_number old new) ≡ new
+pub counted : (old new : ℕ) → count_with old (other_number old new) ≡ new
 counted old new =
     elim (nat_eq old new) as (λ b. nat_eq old new ≡ b → count_with old (cond b None (Some new)) ≡ new) [
       | true ↦ λ e. (Decides-eqb old new).0 e

@@ -1,8 +1,11 @@
--- A result again, out of the result before and what the lines of changes say (this profile).
-use Rattle.std.specs.Prelude.{◌≡◌, ℕ, zero, suc, ◌+◌, ◌==◌, List, [], ◌∷◌, ◌++◌, drop, length, codes, Option, None, Some, if◌then◌else◌}
+-- A result again, out of the result before and what the lines of changes say, and the same of their texts (this profile).
+use Rattle.std.specs.Prelude.{◌≡◌, ◌<◌, ◌≤◌, ◌^◌, Bool, ℕ, zero, suc, ◌+◌, ◌==◌, List, [], ◌∷◌, ◌++◌, drop, length, codes, Option, None, Some, if◌then◌else◌}
 use Rattle.bsp_model.specs.declared.cost.CostRow.{CostRow}
 use Rattle.bsp_run.specs.declared.result.RunResult.{RunResult}
 use Rattle.bsp_run.specs.declared.result.Status.{Status}
+use Rattle.bsp_incr.specs.declared.reply.Reply.TheVariants.{Done}
+use Rattle.bsp_incr.specs.declared.reply.Update.{Update}
+use Rattle.bsp_engine.specs.Blocks.{reply_block}
 use Rattle.bsp_engine.specs.Changes.{Changes, changes_of, changes_lines, count_line, other_lines}
 use Rattle.bsp_engine.specs.Lines.{line}
 use Rattle.bsp_engine.specs.Text.{cost_line, memory_line, status_lines}
@@ -79,3 +82,31 @@ pub record ChangesTell (old new : RunResult) : Type 0 where
 
 abbrev pub ChangesTellTheRest : Type 0
 ChangesTellTheRest = (old new : RunResult) → length old.memories ≡ length new.memories → length old.lines ≡ length new.lines → ChangesTell old new
+
+-- A block with a result: its number, the result, and the update of which it tells.
+pub record ResultBlock : Type 0 where
+  pub number : ℕ
+  pub result : RunResult
+  pub update : Option Update
+
+abbrev pub whole_text : Bool → ResultBlock → List ℕ
+whole_text places b = reply_block places b.number None (Done b.result b.update)
+
+-- the text with changes alone, after a block
+abbrev pub changes_text : Bool → ResultBlock → ResultBlock → List ℕ
+changes_text places before b = reply_block places b.number (Some before.result) (Done b.result b.update)
+
+-- There are so many processes. They, and the supersteps, have numbers of 64 bits.
+pub record IsCounted (processes : ℕ) (r : RunResult) : Type 0 where
+  pub memories : length r.memories ≡ processes
+  pub lines : length r.lines ≡ processes
+  pub few : processes ≤ 2 ^ 64
+  pub supersteps : length r.costs < 2 ^ 64
+
+-- The text of the whole block before, and the text of the changes, leave one text for the whole block: two pairs of blocks that agree in the first two
+-- texts agree in the third.
+abbrev pub TextsTellTheRest : Type 0
+TextsTellTheRest =
+    (places : Bool) (n m : ℕ) (old new other next : ResultBlock) → IsCounted n old.result → IsCounted n new.result → IsCounted m other.result → IsCounted m next.result
+    → whole_text places old ≡ whole_text places other → changes_text places old new ≡ changes_text places other next
+    → whole_text places new ≡ whole_text places next
