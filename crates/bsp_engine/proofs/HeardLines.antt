@@ -22,18 +22,19 @@ kept_cut n line b =
     ]
 
 kept_is : (line : List ℕ) (b : ℕ) → kept (cut line) b ≡ cut (line ++ b ∷ [])
-unfolding kept
+unfolding kept cut
 kept_is line b = kept_cut most_document_bytes line b
 
 cut_none : cut [] ≡ []
+unfolding cut
 cut_none = take_all (most_document_bytes + 1) [] (omega arith)
 
 -- whole lines and a rest, where these bytes stand before them
-lines_after : List ℕ → List (List ℕ) → List (List ℕ)
+abbrev lines_after : List ℕ → List (List ℕ) → List (List ℕ)
 lines_after begun [] = []
 lines_after begun (line ∷ lines) = (begun ++ line) ∷ lines
 
-rest_after : List ℕ → List (List ℕ) → List ℕ → List ℕ
+abbrev rest_after : List ℕ → List (List ℕ) → List ℕ → List ℕ
 rest_after begun [] rest = begun ++ rest
 rest_after begun (line ∷ lines) rest = rest
 
@@ -82,7 +83,11 @@ last_cut : (n : ℕ) (rest : List ℕ) → map (take (n + 1)) (unless_empty rest
 last_cut n [] = ap unless_empty (sym (take_all (n + 1) [] (omega arith)))
 last_cut n (b ∷ bs) = rw add-one refl
 
+cut_last : (rest : List ℕ) → map cut (unless_empty rest) ≡ unless_empty (cut rest)
+unfolding cut
+cut_last rest = last_cut most_document_bytes rest
+
 pub all_are : (bytes : List ℕ) → all_lines bytes ≡ whole_lines bytes ++ unless_empty (rest_from [] bytes)
 all_are bytes =
     map-append cut (split bytes).0 (unless_empty (split bytes).1)
-    ∙ ap (λ ls. whole_lines bytes ++ ls) (last_cut most_document_bytes (split bytes).1 ∙ ap unless_empty (sym (rest_is bytes)))
+    ∙ ap (λ ls. whole_lines bytes ++ ls) (cut_last (split bytes).1 ∙ ap unless_empty (sym (rest_is bytes)))

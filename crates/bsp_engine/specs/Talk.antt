@@ -45,7 +45,7 @@ split [] = ([], [])
 split (b ∷ bs) = if b == 10 then ([] ∷ (split bs).0, (split bs).1) else begun_with b (split bs).0 (split bs).1
 
 -- Of a line that is longer than a document may be, so many bytes and one more are read.
-abbrev pub cut : List ℕ → List ℕ
+unfoldable pub cut : List ℕ → List ℕ
 cut line = take (most_document_bytes + 1) line
 
 -- the lines of a text that have an end
