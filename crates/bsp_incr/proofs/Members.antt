@@ -1,6 +1,6 @@
 -- Sets of processes: what they are filled with, and who is in them.
 use Rattle.std.proofs.Common.{◌≡◌, ◌≢◌, ◌<◌, ◌++◌, ℕ, zero, suc, Bool, true, false, cond, List, [], ◌∷◌, All, replicate, length, get_or, append_assoc, arith, refl, sym, ap, ◌∙◌, subst}
-use Rattle.std.specs.Prelude.{filter, ◌||◌}
+use Rattle.std.specs.Prelude.{filter, not, ◌||◌}
 use Rattle.std.specs.List.{Contains, range_with_len}
 use Rattle.std.proofs.lemmas.List.{get_or_default, get_or-replicate, length-replicate}
 use Rattle.std.proofs.lemmas.List.Elements.{filter_passes}
@@ -9,12 +9,21 @@ use Rattle.bsp_model.specs.ProcessSet.{processes_in, union}
 use Rattle.bsp_model.proofs.ProcessSets.{processes_are, processes_known}
 use Rattle.bsp_deliver.specs.Requests.{each_below}
 
--- A process at which the test holds goes behind those that are listed, and one at which it fails is passed over.
-pub listed_next : (test : ℕ → Bool) (done : List ℕ) (p : ℕ) (later : List ℕ) → test p ≡ true → (done ++ p ∷ []) ++ filter test later ≡ done ++ filter test (p ∷ later)
+listed_next : (test : ℕ → Bool) (done : List ℕ) (p : ℕ) (later : List ℕ) → test p ≡ true → (done ++ p ∷ []) ++ filter test later ≡ done ++ filter test (p ∷ later)
 listed_next test done p later e = append_assoc done (p ∷ []) (filter test later) ∙ ap (λ b. done ++ cond b (p ∷ filter test later) (filter test later)) (sym e)
 
-pub passed_over : (test : ℕ → Bool) (done : List ℕ) (p : ℕ) (later : List ℕ) → test p ≡ false → done ++ filter test later ≡ done ++ filter test (p ∷ later)
+passed_over : (test : ℕ → Bool) (done : List ℕ) (p : ℕ) (later : List ℕ) → test p ≡ false → done ++ filter test later ≡ done ++ filter test (p ∷ later)
 passed_over test done p later e = ap (λ b. done ++ cond b (p ∷ filter test later) (filter test later)) (sym e)
+
+-- A process at which the test holds goes behind those that are listed, and one at which it fails is passed over.
+pub listed_if : (test : ℕ → Bool) (b : Bool) (done : List ℕ) (p : ℕ) (later : List ℕ) → test p ≡ b → cond b (done ++ p ∷ []) done ++ filter test later ≡ done ++ filter test (p ∷ later)
+listed_if test true done p later e = listed_next test done p later e
+listed_if test false done p later e = passed_over test done p later e
+
+-- so it is where the test is turned round
+pub passed_if : (test : ℕ → Bool) (b : Bool) (done : List ℕ) (p : ℕ) (later : List ℕ) → test p ≡ not b → cond b done (done ++ p ∷ []) ++ filter test later ≡ done ++ filter test (p ∷ later)
+passed_if test true done p later e = passed_over test done p later e
+passed_if test false done p later e = listed_next test done p later e
 
 -- where these are the members
 pub are_members : (set : List Bool) (ps : List ℕ) → ps ≡ processes_in set → All (λ p. get_or set p false ≡ true) ps

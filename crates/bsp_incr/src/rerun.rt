@@ -53,6 +53,22 @@ fn remake_all<P: Program, G: Gate, R: Threads + Sync>(
     Ok(under_way.update)
 }
 
+/// All supersteps of a run, from its opening on, and what was done for them. The processes in `first` begin with something else than in the run before.
+fn remade<P: Program, G: Gate, R: Threads + Sync>(
+    given: &Given<'_, P, R, G>,
+    first: ProcessSet,
+) -> Result<(Tape, Update), OutOfMemory>
+    requires first { AreFirstMarked given.now.before given.now.input first }
+    ensures ended { IfOk result (λ r. is_ended r.0.phase ≡ true) }
+    ensures run { IfOk result (λ r. r.0 ≡ run (turn_by P.Program given.now.program) given.now.input) }
+    ensures update { IfOk result
+        (λ r. r.1 ≡ update_of (P.looks given.now.program) given.now.before r.0) }
+{
+    let mut tape = opened(given, &first)?;
+    let update = remake_all(given, &mut tape, first)?;
+    Ok((tape, update))
+}
+
 /// The run of a program on a lawful input, made against the run before, if there was one, of the same program and as many processes: a turn is
 /// taken only where the recorded one does not serve, and a delivery is made only where it depends on something else.
 pub fn rerun<P: Program, G: Gate, R: Threads + Sync>(
@@ -78,50 +94,55 @@ pub fn rerun<P: Program, G: Gate, R: Threads + Sync>(
         old,
         other_args: &args,
     };
-    let mut tape = opened(&given, &first)?;
-    let update = remake_all(&given, &mut tape, first)?;
+    let (tape, update) = remade(&given, first)?;
     let executed = update.executed.as_slice();
     let history = finished(old, tape, input.mems.len(), executed)?;
     Ok((history, update))
 }
 
-/// The run of an edited input, made against the run of the input as it was.
+/// Puts the run of an edited input in the place of the run of the input as it was, against which it is made. After `OutOfMemory` that run stays.
 fn rerun_from_edits<P: Program, G: Gate, R: Threads + Sync>(
     workers: Workers<'_, R, G>,
     program: &P,
-    old: &History,
+    history: &mut History,
     input: &Input,
     edits: &[Edit],
-) -> Result<(History, Update), OutOfMemory>
+) -> Result<Update, OutOfMemory>
     requires lawful { input_fault input.now ≡ None }
-    requires before { IsBeforeEdits (turn_by P.Program program.now) edits.now input.now old.now }
-    ensures run { IfOk result (λ r. r.0 ≡ run (turn_by P.Program program.now) input.now) }
-    ensures update { IfOk result (λ r. r.1 ≡ update_of (P.looks program.now) (Some old.now) r.0) }
+    requires before { IsBeforeEdits (turn_by P.Program program.now) edits.now input.now history.old }
+    ensures run { OnOk result (history.new ≡ run (turn_by P.Program program.now) input.now) }
+    ensures update { IfOk result
+        (λ update. update ≡ update_of (P.looks program.now) (Some history.old) history.new) }
+    ensures err { OnErr result (history.new ≡ history.old) }
 {
-    let marks = marks_of_edits(old, input, edits);
-    rerun(workers, program, Some(old), input, marks)
+    let marks = marks_of_edits(history, input, edits);
+    let (made, update) = rerun(workers, program, Some(&*history), input, marks)?;
+    *history = made;
+    Ok(update)
 }
 
-/// Edits an input and makes its run again, against the run of the input as it was. After `OutOfMemory` the input is as before.
+/// Edits an input and makes its run again, against the run of the input as it was. After `OutOfMemory` nothing has changed.
 pub fn rerun_edited<P: Program, G: Gate, R: Threads + Sync>(
     workers: Workers<'_, R, G>,
     program: &P,
-    old: &History,
+    history: &mut History,
     input: &mut Input,
     edits: &[Edit],
-) -> Result<(History, Update), OutOfMemory>
+) -> Result<Update, OutOfMemory>
     requires lawful { input_fault input.old ≡ None }
     requires accepted { refusal_of input.old edits.now ≡ None }
-    requires before { IsBspRun (turn_by P.Program program.now) input.old old.now }
+    requires before { IsBspRun (turn_by P.Program program.now) input.old history.old }
     ensures given { OnOk result (input.new ≡ edited input.old edits.now) }
-    ensures run { IfOk result
-        (λ r. r.0 ≡ run (turn_by P.Program program.now) (edited input.old edits.now)) }
-    ensures update { IfOk result (λ r. r.1 ≡ update_of (P.looks program.now) (Some old.now) r.0) }
-    ensures err { OnErr result (input.new ≡ input.old) }
+    ensures run { OnOk result
+        (history.new ≡ run (turn_by P.Program program.now) (edited input.old edits.now)) }
+    ensures update { IfOk result
+        (λ update. update ≡ update_of (P.looks program.now) (Some history.old) history.new) }
+    ensures err_input { OnErr result (input.new ≡ input.old) }
+    ensures err_history { OnErr result (history.new ≡ history.old) }
 {
     let formers = make_edits(workers.alloc, input, edits)?;
-    match rerun_from_edits(workers, program, old, input, edits) {
-        Ok(done) => Ok(done),
+    match rerun_from_edits(workers, program, history, input, edits) {
+        Ok(update) => Ok(update),
         Err(error) => {
             restore(input, formers);
             Err(error)

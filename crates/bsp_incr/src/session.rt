@@ -152,14 +152,13 @@ impl<P: Program + Drop> Session<P> {
             (Some self.old.history) self.new.history u) }
         ensures err { OnErr result (self.new ≡ self.old) }
     {
-        let (history, update) = rerun_edited(
+        let update = rerun_edited(
             workers,
             &self.program,
-            &self.history,
+            &mut self.history,
             &mut self.input,
             edits,
         )?;
-        self.history = history;
         Ok(update)
     }
 }

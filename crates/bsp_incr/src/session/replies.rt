@@ -1,6 +1,6 @@
 //! A session from its input to its last batch.
 
-ghost use Rattle.std.specs.Prelude.{◌≡◌, ◌<◌, ◌≤◌, None, Some, IfOk, IfErr, OnOk, map};
+ghost use Rattle.std.specs.Prelude.{◌≡◌, ◌<◌, ◌≤◌, ◌++◌, None, Some, IfOk, IfErr, OnOk, map};
 ghost use Rattle.bsp_model.specs.Input.{input_fault};
 ghost use Rattle.bsp_step.specs.Turn.{turn_of};
 ghost use Rattle.bsp_run.specs.Run.{run};
@@ -9,7 +9,7 @@ ghost use Rattle.bsp_run.specs.RunErrors.{input_fault_of};
 ghost use Rattle.bsp_incr.specs.Exact.{IsExact};
 ghost use Rattle.bsp_incr.specs.Replies.{input_after, without_update, AreReplies, AreScratchReplies};
 ghost use Rattle.bsp_run.specs.TurnBy.{turn_by};
-ghost use Rattle.bsp_incr.specs.Inside.Replies.{reply_to, replies};
+ghost use Rattle.bsp_incr.specs.Inside.Replies.{done, reply_to, replies_from, replies};
 
 use crate::edit::{make_edits, refusal_of};
 use crate::rerun::Workers;
@@ -59,26 +59,51 @@ fn reply<P: Program + Drop, R: Threads + Sync, G: Gate>(
     }
 }
 
-/// The replies to the opening of a session, and to its batches.
-fn all_replies<P: Program + Drop, R: Threads + Sync, G: Gate>(
-    workers: &Workers<'_, R, G>,
-    session: &mut Session<P>,
+/// The reply to the opening of a session.
+fn opening_reply<P: Program + Drop>(
+    session: &Session<P>,
     update: Update,
-    batches: &[Batch],
-) -> Result<Vec<Reply>, OutOfMemory>
-    requires exact { IsExact (P.looks session.old.program) None session.old.history update }
-    ensures { IfOk result (λ all. all.items ≡ replies (P.looks session.old.program)
-        (turn_by P.Program session.old.program) session.old.input batches.now) }
+) -> Result<Reply, OutOfMemory>
+    requires exact { IsExact (P.looks session.now.program) None session.now.history update }
+    ensures { IfOk result (λ reply. reply ≡ done (P.looks session.now.program) None
+        (run (turn_by P.Program session.now.program) session.now.input)) }
 {
-    let mut all = Vec::new(workers.alloc);
     // That the input is lawful is known where it is read.
     let _input = session.input();
-    let opening = done(session.history(), update)?;
-    all.push(opening)?;
+    done(session.history(), update)
+}
+
+/// Adds the replies to the batches of a session.
+fn add_replies<P: Program + Drop, R: Threads + Sync, G: Gate>(
+    workers: &Workers<'_, R, G>,
+    session: &mut Session<P>,
+    batches: &[Batch],
+    all: &mut Vec<Reply>,
+) -> Result<(), OutOfMemory>
+    ensures { OnOk result (all.new.items ≡ all.old.items ++ replies_from (P.looks session.old.program)
+        (turn_by P.Program session.old.program) session.old.input batches.now) }
+{
     for batch in batches {
         let reply = reply(workers, session, batch)?;
         all.push(reply)?;
     }
+    Ok(())
+}
+
+/// The replies to the opening of a session, and to its batches.
+fn all_replies<P: Program + Drop, R: Threads + Sync, G: Gate>(
+    workers: &Workers<'_, R, G>,
+    opened: (Session<P>, Update),
+    batches: &[Batch],
+) -> Result<Vec<Reply>, OutOfMemory>
+    requires exact { IsExact (P.looks opened.0.program) None opened.0.history opened.1 }
+    ensures { IfOk result (λ all. all.items ≡ replies (P.looks opened.0.program)
+        (turn_by P.Program opened.0.program) opened.0.input batches.now) }
+{
+    let (mut session, update) = opened;
+    let mut all = Vec::new(workers.alloc);
+    all.push(opening_reply(&session, update)?)?;
+    add_replies(workers, &mut session, batches, &mut all)?;
     Ok(all)
 }
 
@@ -99,14 +124,14 @@ pub fn session_run<P: Program + Drop, R: Threads + Sync, G: Gate>(
     ensures lawful { OnOk result (input_fault input ≡ None) }
     ensures input { IfErr result (λ e. input_fault input ≡ input_fault_of e) }
 {
-    let (mut session, update) = Session::open(rt, alloc, program, input, workers, gate)?;
+    let opened = Session::open(rt, alloc, program, input, workers, gate)?;
     let workers = Workers {
         rt,
         alloc,
         count: workers,
         gate,
     };
-    Ok(all_replies(&workers, &mut session, update, batches)?)
+    Ok(all_replies(&workers, opened, batches)?)
 }
 
 /// The reply that gives the run of a lawful input, made afresh.

@@ -1,6 +1,6 @@
 //! The turns of a superstep, of which those that serve from the run before are not taken again.
 
-ghost use Rattle.std.specs.Prelude.{◌≡◌, ◌<◌, ◌++◌, ◌∷◌, [], All, IfNone, IfOk, IfSome, OnOk, map, length, option_map, slice_index_or, true, false};
+ghost use Rattle.std.specs.Prelude.{◌≡◌, ◌<◌, ◌++◌, ◌∷◌, [], All, IfNone, IfOk, IfSome, OnOk, map, length, option_map, slice_index_or, true, false, if◌then◌else◌};
 ghost use Rattle.bsp_model.specs.Replaced.{replaced, IsAscending};
 ghost use Rattle.bsp_run.specs.Condition.{no_view};
 ghost use Rattle.bsp_run.specs.Shares.{turns_of};
@@ -19,6 +19,7 @@ use bsp_model::{OutOfMemory, Seq, TryCopy};
 use bsp_pool::Gate;
 use bsp_run::{TurnRows, wide_turns};
 use bsp_step::{Outcome, OutcomeRows, Outcomes, Program};
+use std::alloc::Global;
 use std::thread::Threads;
 
 /// Whether the turn of a process has to be taken, which may be asked of the doubtful ones alone. The tables are not compared where all processes are known
@@ -150,6 +151,34 @@ struct Needs {
     served: Vec<usize>,
 }
 
+impl Needs {
+    /// No process yet, with room for so many in each list.
+    fn with_room(alloc: Global, count: usize) -> Result<Needs, OutOfMemory>
+        ensures taken { IfOk result (λ needs. needs.taken.items ≡ []) }
+        ensures served { IfOk result (λ needs. needs.served.items ≡ []) }
+    {
+        Ok(Needs {
+            taken: Vec::with_capacity(alloc, count)?,
+            served: Vec::with_capacity(alloc, count)?,
+        })
+    }
+
+    /// Adds a process behind those of its list.
+    fn add(&mut self, process: usize, is_taken: bool) -> Result<(), OutOfMemory>
+        ensures taken { OnOk result (self.new.taken.items
+            ≡ (if is_taken then self.old.taken.items ++ process ∷ [] else self.old.taken.items)) }
+        ensures served { OnOk result (self.new.served.items
+            ≡ (if is_taken then self.old.served.items else self.old.served.items ++ process ∷ [])) }
+    {
+        if is_taken {
+            self.taken.push(process)?;
+        } else {
+            self.served.push(process)?;
+        }
+        Ok(())
+    }
+}
+
 /// Who of the doubtful processes has to take a turn.
 fn needs_among<P: Program, R, G>(
     given: &Given<'_, P, R, G>,
@@ -162,16 +191,12 @@ fn needs_among<P: Program, R, G>(
     ensures served { IfOk result (λ needs. needs.served.items ≡ processes_where (length superstep.now.views.now)
         (stays_now (P.looks given.now.program) superstep.now doubtful.now.processes)) }
 {
-    let mut taken = Vec::with_capacity(given.workers.alloc, doubtful.processes.count())?;
-    let mut served = Vec::with_capacity(given.workers.alloc, doubtful.processes.count())?;
+    let mut needs = Needs::with_room(given.workers.alloc, doubtful.processes.count())?;
     for process in doubtful.processes.iter() {
-        if needs_turn(given.program, superstep, doubtful, process) {
-            taken.push(process)?;
-        } else {
-            served.push(process)?;
-        }
+        let is_taken = needs_turn(given.program, superstep, doubtful, process);
+        needs.add(process, is_taken)?;
     }
-    Ok(Needs { taken, served })
+    Ok(needs)
 }
 
 /// The outcomes of the run before, where it took turns of such a superstep.

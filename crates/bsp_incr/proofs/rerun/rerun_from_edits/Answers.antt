@@ -8,4 +8,4 @@ marks_of_edits-marks-requires-clause-few g c = (lawful_input c.args.input.now c.
 
 pub rerun-requires-clause-before : goal.rerun-requires-clause-before
 rerun-requires-clause-before g c κs within =
-    before_edits (turn_of (g.P.Program.acts c.args.program.now) (g.P.Program.ending c.args.program.now)) c.args.edits.now c.args.input.now c.args.old.now c.requires.before
+    before_edits (turn_of (g.P.Program.acts c.args.program.now) (g.P.Program.ending c.args.program.now)) c.args.edits.now c.args.input.now c.args.history.now c.requires.before

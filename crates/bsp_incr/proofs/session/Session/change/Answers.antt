@@ -20,20 +20,20 @@ invariant_of-self-2 g c =
     let turn = turn_of (g.P.Program.acts c.self.inside.program) (g.P.Program.ending c.self.inside.program) in
     let input : Input = c.self.inside.input in
     let none : refusal_of input c.args.edits.now ≡ None = subst (λ (s : SessionParts _). refusal_of s.input c.args.edits.now ≡ None) (sym c.self.view_is) c.requires.accepted in
-    let given = c.in_ok-history.ensures.given in
+    let given = c.in_ok-update.ensures.given in
     let lawful : input_fault c.rerun_edited.new.input ≡ None =
     subst (λ (i : Input). input_fault i ≡ None) (sym given) (edited_lawful input c.args.edits.now none c.self.invariant.lawful) in
     record {
       lawful = lawful;
-      law = (one_run turn c.rerun_edited.new.input c.in_ok-history.history lawful).1 (c.in_ok-history.ensures.run ∙ sym (ap (run turn) given));
+      law = (one_run turn c.rerun_edited.new.input c.rerun_edited.new.history lawful).1 (c.in_ok-update.ensures.run ∙ sym (ap (run turn) given));
     }
 
 pub returns-clause-exact : goal.returns-clause-exact
 returns-clause-exact g c =
-    subst (λ (s : SessionParts _). IsExact (g.P.Program.looks s.program) (Some s.history) c.in_ok-history.history c.in_ok-history.update) c.self.view_is
-    (exact_of c.in_ok-history.ensures.update)
+    subst (λ (s : SessionParts _). IsExact (g.P.Program.looks s.program) (Some s.history) c.rerun_edited.new.history c.in_ok-update.update) c.self.view_is
+    (exact_of c.in_ok-update.ensures.update)
 
 pub returns-clause-law : goal.returns-clause-law
 returns-clause-law g c =
-    subst (λ (s : SessionParts _). IsBspRun (turn_of (g.P.Program.acts s.program) (g.P.Program.ending s.program)) c.rerun_edited.new.input c.in_ok-history.history) c.self.view_is
+    subst (λ (s : SessionParts _). IsBspRun (turn_of (g.P.Program.acts s.program) (g.P.Program.ending s.program)) c.rerun_edited.new.input c.rerun_edited.new.history) c.self.view_is
     (invariant_of-self-2 g c).law

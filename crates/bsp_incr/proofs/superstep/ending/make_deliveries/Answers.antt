@@ -1,4 +1,5 @@
 use Rattle.std.proofs.Common.{◌∙◌, ◌++◌, ℕ, Bool, List, ap, sym, length}
+use Rattle.std.proofs.lemmas.Result.{on_ok_weaker}
 use Rattle.std.proofs.lemmas.List.FromFn.{length-map-range_with_len}
 use Rattle.bsp_model.specs.ProcessSet.{union}
 use Rattle.bsp_deliver.specs.Requests.{each_below}
@@ -28,13 +29,16 @@ union-under_way-requires g c =
 
 pub returns-clause-marks : goal.returns-clause-marks
 returns-clause-marks g c =
+    let marks =
     c.union-under_way.ensures ∙ ap (λ (s : List Bool). union s c.given.inside.other_args.now) c.touched_beside-touched.ensures
-    ∙ ap (λ (m : Making _). union (each_below (length c.args.tape.now.outcomes) (is_touched (delivered_beside c.args.given.now c.args.tape.now) c.args.tape.now.outcomes)) m.others) c.given.view_is
+    ∙ ap (λ (m : Making _). union (each_below (length c.args.tape.now.outcomes) (is_touched (delivered_beside c.args.given.now c.args.tape.now) c.args.tape.now.outcomes)) m.others) c.given.view_is in
+    on_ok_weaker c.open_next.result (λ _. marks) c.open_next.ensures.tape
 
 pub returns-clause-redelivered : goal.returns-clause-redelivered
 returns-clause-redelivered g c =
     let r : Run = c.args.tape.now in
     let test : ℕ → Bool = is_touched (delivered_beside c.args.given.now r) r.outcomes in
-    let members = c.in_ok-deliveries.ensures.processes ∙ processes_where-each_below (length r.outcomes) test c.touched_beside-touched.result c.touched_beside-touched.ensures in
-    c.in_ok-add_places.ensures ∙ ap (λ n. c.args.under_way.now.update.redelivered ++ places_of n c.as_slice.result.now) c.step-step.ensures
-    ∙ ap (λ (ks : List ℕ). c.args.under_way.now.update.redelivered ++ places_of (length r.past) ks) (c.as_slice.ensures.value ∙ members)
+    let redelivered =
+    c.in_ok-deliveries.ensures.places
+    ∙ ap (λ (ks : List ℕ). c.args.under_way.now.update.redelivered ++ places_of (length r.past) ks) (processes_where-each_below (length r.outcomes) test c.touched_beside-touched.result c.touched_beside-touched.ensures) in
+    on_ok_weaker c.open_next.result (λ _. redelivered) c.open_next.ensures.tape

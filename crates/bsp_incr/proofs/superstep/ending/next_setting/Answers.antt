@@ -21,11 +21,12 @@ next_setting_like-requires-clause-tag_size c =
     let known : IsKnown AsBefore views (open_views (after_delivery r)) = subst (λ k. IsKnown k views (open_views (after_delivery r))) c.in-AsBefore.is c.requires.known in
     ap (λ (v : ViewParts). v.tag_size) c.get-first.ensures ∙ tag_of_known r views c.requires.some (known c.requires.processes)
 
-pub returns-then-has_table-clause-known : goal.returns-then-has_table-clause-known
-returns-then-has_table-clause-known c = λ _.
+pub returns-clause-known : goal.returns-clause-known
+returns-clause-known c = λ _.
     let r = c.args.tape.now in
     let first = c.get-first.ensures in
-    let next = c.in_ok-setting-in-Unknown.ensures in
+    let next = c.in_ok-setting.ensures in
+    let same = c.has_table.ensures.0 c.if-not-has_table.false in
     known_of_next r c.args.old_next.now c.requires.some c.requires.processes
-    (sym (ap (λ (v : ViewParts). v.table) first) ∙ (c.has_table.ensures.0 c.if-has_table.true).0 ∙ ap (λ (s : Setting). s.table) next)
-    (sym (ap (λ (v : ViewParts). v.tag_size) first) ∙ (c.has_table.ensures.0 c.if-has_table.true).1 ∙ ap (λ (s : Setting). s.tag_size) next)
+    (sym (ap (λ (v : ViewParts). v.table) first) ∙ same.0 ∙ ap (λ (s : Setting). s.table) next)
+    (sym (ap (λ (v : ViewParts). v.tag_size) first) ∙ same.1 ∙ ap (λ (s : Setting). s.tag_size) next)

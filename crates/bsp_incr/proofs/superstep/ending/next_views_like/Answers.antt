@@ -10,7 +10,7 @@ use Rattle.bsp_incr.specs.Inside.Before.{delivered_outcomes}
 use Rattle.bsp_incr.proofs.Carrying.{cells_in_place}
 use Rattle.bsp_incr.proofs.Gathering.{listed_below, processes_where-ascending}
 use Rattle.bsp_incr.proofs.RunBefore.{count_beside, delivered_before_is}
-use Rattle.bsp_incr.proofs.superstep.ending.open_next_like.Goals as goal
+use Rattle.bsp_incr.proofs.superstep.ending.next_views_like.Goals as goal
 
 pub next_views_like-requires-clause-known : goal.next_views_like-requires-clause-known
 next_views_like-requires-clause-known g c =
