@@ -67,10 +67,10 @@ fn plain_superstep<P: Program>(
     let processes = numbers(alloc, tape.open_views().len())?;
     let all = processes.as_slice();
     let outcomes = plain_outcomes(alloc, program, tape, all)?;
-    if tape.turned(outcomes)? {
-        plain_delivery(alloc, tape, all)?;
+    if !tape.turned(outcomes)? {
+        return Ok(());
     }
-    Ok(())
+    plain_delivery(alloc, tape, all)
 }
 
 /// All supersteps of the run of a lawful input.
@@ -124,14 +124,13 @@ fn result_from<P: Program>(
     alloc: Global,
     program: &P,
     input: &Input,
-    first: Views,
+    mut views: Views,
     kept: &mut Unrecorded,
 ) -> Result<RunResult, OutOfMemory>
     requires lawful { input_fault input.now ≡ None }
-    requires kept { IsUnrecorded (start input.now) first kept.old }
+    requires kept { IsUnrecorded (start input.now) views kept.old }
     ensures { IfOk result (λ r. r ≡ result_of (run (turn_of (P.acts program.now) (P.ending program.now)) input.now)) }
 {
-    let mut views = first;
     for step in 0..input.limit {
         if let Some(result) = unrecorded_turns(alloc, program, &views, kept)? {
             return Ok(result);

@@ -81,7 +81,7 @@ fn by_workers<W: Joining, G: Gate, R: Threads + Sync>(
 pub fn wide_turns<P: Program, G: Gate, R: Threads + Sync>(
     rt: &R,
     alloc: Global,
-    rows: TurnRows,
+    mut rows: TurnRows,
     program: &P,
     views: &Views,
     processes: &[usize],
@@ -93,7 +93,6 @@ pub fn wide_turns<P: Program, G: Gate, R: Threads + Sync>(
     requires workers { (0 < workers) × (workers ≤ 16) }
     ensures { IfOk result (λ all. all.outcomes ≡ turns_of (turn_of (P.acts program.now) (P.ending program.now)) views.now processes.now) }
 {
-    let mut rows = rows;
     if workers.min(processes.len()) < 2 {
         turns_by_one(alloc, &mut rows, program, views, processes, gate)?;
     } else {
@@ -269,10 +268,10 @@ fn wide_superstep<P: Program, G: Gate, R: Threads + Sync>(
     let processes = numbers(alloc, tape.open_views().len())?;
     let all = processes.as_slice();
     let outcomes = wide_outcomes(rt, alloc, program, tape, all, workers, gate)?;
-    if tape.turned(outcomes)? {
-        wide_delivery(rt, alloc, tape, all, workers, gate)?;
+    if !tape.turned(outcomes)? {
+        return Ok(());
     }
-    Ok(())
+    wide_delivery(rt, alloc, tape, all, workers, gate)
 }
 
 /// All supersteps of the run of a lawful input, by the workers.

@@ -1,16 +1,15 @@
-use Rattle.std.proofs.Common.{◌≡◌, ◌∙◌, List, length, true, ap, sym}
+use Rattle.std.proofs.Common.{◌≡◌, ◌∙◌, List, OnOk, length, ap, refl, subst, sym}
 use Rattle.std.specs.List.{range_with_len}
 use Rattle.bsp_step.specs.ViewParts.{ViewParts}
 use Rattle.bsp_step.specs.OutcomeParts.{OutcomeParts}
 use Rattle.bsp_step.specs.Turn.{turn_of}
-use Rattle.bsp_run.specs.Run.{Run}
+use Rattle.bsp_run.specs.Run.{Run, after_delivery, advance}
 use Rattle.bsp_run.proofs.Runs.{open_phase, turned_phase_is}
 use Rattle.bsp_run.proofs.Shares.{all_turned, superstep_made, superstep_ended}
 use Rattle.bsp_run.proofs.plain.plain_superstep.Goals as goal
-use Rattle.bsp_run.proofs.plain.plain_superstep.Goals.{then-branch+in_ok-plain_delivery, else-branch}
 
 pub plain_delivery-requires-clause-turned : goal.plain_delivery-requires-clause-turned
-plain_delivery-requires-clause-turned g c = turned_phase_is _ (sym c.in_ok-turned.ensures.answer ∙ c.if-branch.true)
+plain_delivery-requires-clause-turned g c = turned_phase_is _ (sym c.in_ok-turned.ensures.answer ∙ c.if-not-branch.false)
 
 pub plain_delivery-requires-clause-processes : goal.plain_delivery-requires-clause-processes
 plain_delivery-requires-clause-processes g c =
@@ -18,15 +17,17 @@ plain_delivery-requires-clause-processes g c =
     let all = c.as_slice-all.ensures.value ∙ c.in_ok-processes.ensures ∙ ap (range_with_len 0) (c.len.ensures ∙ ap (λ (vs : List ViewParts). length vs) c.open_views.ensures.views) in
     all_turned turn c.args.tape.now c.turned.new.self c.in_ok-outcomes.outcomes c.as_slice-all.result.now c.in_ok-turned.ensures.ok c.in_ok-outcomes.ensures all
 
+pub returns-then-not-branch : goal.returns-then-not-branch
+returns-then-not-branch g c =
+    let turn = turn_of (g.P.Program.acts c.args.program.now) (g.P.Program.ending c.args.program.now) in
+    let r : Run = c.args.tape.now in
+    superstep_ended turn r c.turned.new.self c.in_ok-outcomes.outcomes (open_phase r.phase c.requires.open) c.in_ok-outcomes.ensures c.in_ok-turned.ensures.ok (sym c.in_ok-turned.ensures.answer ∙ c.if-not-branch.true)
+
 pub returns : goal.returns
 returns g c =
     let turn = turn_of (g.P.Program.acts c.args.program.now) (g.P.Program.ending c.args.program.now) in
     let r : Run = c.args.tape.now in
     let t : Run = c.turned.new.self in
-    let opened = open_phase r.phase c.requires.open in
-    let os : List OutcomeParts = c.in_ok-outcomes.outcomes in
-    let answer = sym c.in_ok-turned.ensures.answer in
-    elim c.if-branch.branch [
-      | then-branch+in_ok-plain_delivery w ↦ w.tape-is ∙ superstep_made turn r t _ os opened c.in_ok-outcomes.ensures c.in_ok-turned.ensures.ok (answer ∙ w.if-branch.true) w.in_ok-plain_delivery.ensures
-      | else-branch w ↦ w.tape-is ∙ superstep_ended turn r t os opened c.in_ok-outcomes.ensures c.in_ok-turned.ensures.ok (answer ∙ w.if-branch.false)
-    ]
+    let made : after_delivery t ≡ advance turn r =
+    superstep_made turn r t (after_delivery t) c.in_ok-outcomes.outcomes (open_phase r.phase c.requires.open) c.in_ok-outcomes.ensures c.in_ok-turned.ensures.ok (sym c.in_ok-turned.ensures.answer ∙ c.if-not-branch.false) refl in
+    subst (λ (x : Run). OnOk c.plain_delivery.result (c.plain_delivery.new.tape ≡ x)) made c.plain_delivery.ensures

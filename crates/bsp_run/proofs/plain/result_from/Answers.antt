@@ -13,7 +13,7 @@ use Rattle.bsp_run.proofs.plain.result_from.Goals as goal
 pub loop-step-init : goal.loop-step-init
 loop-step-init g c =
     let input : Input = c.args.input.now in
-    underway_start (turn_of (g.P.Program.acts c.args.program.now) (g.P.Program.ending c.args.program.now)) input (input.limit - 0) c.args.first c.args.kept.now (omega arith) (lawful_input input c.requires.lawful).some_superstep c.requires.kept
+    underway_start (turn_of (g.P.Program.acts c.args.program.now) (g.P.Program.ending c.args.program.now)) input (input.limit - 0) c.args.views c.args.kept.now (omega arith) (lawful_input input c.requires.lawful).some_superstep c.requires.kept
 
 pub unrecorded_turns-requires-clause-opened : goal.unrecorded_turns-requires-clause-opened
 unrecorded_turns-requires-clause-opened g c κs within =
