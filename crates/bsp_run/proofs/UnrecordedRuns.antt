@@ -1,6 +1,6 @@
 -- Runs of which no record is kept.
 use Rattle.std.proofs.Common.{◌≡◌, ◌≢◌, ◌≤◌, ◌<◌, ◌+◌, ◌==◌, ◌++◌, ◌∷◌, ℕ, suc, Bool, true, false, cond, List, [], map, length, Option, None, Some, refl, sym, ap, ◌∙◌, subst, arith, length-append}
-use Rattle.std.specs.Prelude.{option_to_list}
+use Rattle.std.specs.Prelude.{is_some, option_to_list}
 use Rattle.std.specs.List.{range_with_len}
 use Rattle.std.proofs.lemmas.Grind.{flat_map-append}
 use Rattle.std.proofs.lemmas.Bool.Decides.{nat_tests}
@@ -32,7 +32,7 @@ use Rattle.bsp_run.specs.Condition.{AreOutcomesOf, IsEnd, IsInPhase, IsTurned, i
 use Rattle.bsp_run.specs.Result.{status_in, status_of, memories_of, lines_of, lines_of_process, costs_of, cost_of_delivery, cost_of_end, total_of, result_of}
 use Rattle.bsp_run.specs.Inside.Printed.{lines_and, lines_in, AreLinesAnd}
 use Rattle.bsp_run.specs.Inside.Settings.{AreTurned}
-use Rattle.bsp_run.specs.Inside.IsUnrecorded.{AreKept, IsUnrecorded, IsUnrecordedIn, HaveTurns, AreTaken}
+use Rattle.bsp_run.specs.Inside.IsUnrecorded.{AreKept, IsUnrecorded, IsUnrecordedIn, HaveTurns, HasEnded, AreTaken}
 use Rattle.bsp_run.proofs.Lists.{each_below-agree}
 use Rattle.bsp_run.proofs.Conditions.{length-views_of, count_of_outcomes}
 use Rattle.bsp_run.proofs.Laws.{supersteps-limit, outcomes-last, outcomes-ended}
@@ -49,13 +49,13 @@ pub record IsUnderway (turn : ViewParts → OutcomeParts) (input : Input) (n : �
   pub phase : so_far.phase ≡ cond (n == 0) (Ended Limit) Open
   pub same : IsUnrecorded so_far vs kept
 
-pub unrecorded_start : (input : Input) (ps : List ℕ) (vs : List ViewParts) (sums : Tally) → IsLawfulInput input → ps ≡ range_with_len 0 (length vs) → vs ≡ open_views (start input)
+pub unrecorded_start : (input : Input) (ps : List ℕ) (vs : List ViewParts) (sums : Tally) → IsLawfulInput input → ps ≡ range_with_len 0 (length input.mems) → vs ≡ open_views (start input)
     → sums.g ≡ input.g → sums.l ≡ input.l → sums.lines.items ≡ [] → sums.costs ≡ [] → AreKept (start input) ps vs sums
-unfolding start
+unfolding start first_state
 unrecorded_start input ps vs sums h ep ev eg el en ec =
     record {
       run = start_is_run input h;
-      processes = ep ∙ ap (λ (vs : List ViewParts). range_with_len 0 (length vs)) ev ∙ ap (range_with_len 0) (length-views_of input.args 0 (first_state input));
+      processes = ep;
       views = ev;
       g = eg;
       l = el;
@@ -194,13 +194,6 @@ limit_result_is r memories lines costs e em el ec =
     let cs = ec ∙ sym (append-nil (map (cost_of_delivery r.g r.l) (outcomes_of r.past))) ∙ ap (λ (os : List (List OutcomeParts)). map (cost_of_delivery r.g r.l) (outcomes_of r.past) ++ map cost_of_end os) last in
     λ i. record { status = st i; memories = ms i; lines = ls i; costs = cs i; total = total_of (cs i) }
 
--- no superstep ends at the limit before its delivery
-pub no_limit : (status : Status) (step : ℕ) (slots : List (List Area)) (os : List OutcomeParts) → end_of step slots os ≡ Some status → is_limit (Ended status) ≡ false
-no_limit Halted step slots os e = refl
-no_limit Limit step slots os e = absurd (end_of-limit step slots os e)
-no_limit (Faulted s faults) step slots os e = refl
-no_limit (SyncFaulted s fault) step slots os e = refl
-
 -- the limit is reached where no superstep is left
 limit_test : (k n limit : ℕ) → k + (n + 1) ≡ limit → ((k + 1) == limit) ≡ (n == 0)
 limit_test k n limit h = grind (arith, nat_tests)
@@ -257,23 +250,29 @@ limit_result r vs kept os memories sums h em es =
     let lines = ap (λ (ms : List (List ℕ)). each_below (length ms) printed) seen ∙ each_below-agree (length r.state.memories) printed (lines_of_process (outcomes_of r.past)) (λ p l. h.same.lines p) in
     ap (summed Limit memories) es ∙ limit_result_is r memories (each_below (length memories) printed) kept.tally.costs h.phase seen lines h.same.costs
 
+-- no superstep ends at the limit before its delivery
+pub no_limit : (status : Status) (step : ℕ) (slots : List (List Area)) (os : List OutcomeParts) → end_of step slots os ≡ Some status → is_limit (Ended status) ≡ false
+no_limit Halted step slots os e = refl
+no_limit Limit step slots os e = absurd (end_of-limit step slots os e)
+no_limit (Faulted s faults) step slots os e = refl
+no_limit (SyncFaulted s fault) step slots os e = refl
+
 -- the turns of the open superstep are taken
 abbrev pub turned_so : (ViewParts → OutcomeParts) → Run → Run
 turned_so turn r = after_turns r (map turn (open_views r))
 
--- The turns that are gathered are those of the views, and what is kept beside them serves the run.
-pub taken_on : (turn : ViewParts → OutcomeParts) (r : Run) (vs : List ViewParts) (kept now : Unrecorded) → IsUnrecorded r vs kept → HaveTurns r vs now.taken.outcomes → now.taken.outcomes ≡ map turn vs → end_of (length r.past) r.state.table now.taken.outcomes ≡ None
-    → now.processes.items ≡ kept.processes.items → now.tally ≡ kept.tally → AreTaken (turned_so turn r) vs now None
-taken_on turn r vs kept now h have made none ep et =
-    let os : List OutcomeParts = now.taken.outcomes in
-    subst (λ (us : List OutcomeParts). IsUnrecordedIn Turned (after_turns r us) vs now os) (turns_are turn r vs kept os h made) (kept_then r vs kept now os None h have none ep et)
+taken_by : (e : Option Status) (r t : Run) (vs : List ViewParts) (now : Unrecorded) → now.end ≡ e → end_of (length r.past) r.state.table now.taken.outcomes ≡ e → IsUnrecordedIn (phase_after e) t vs now now.taken.outcomes → AreTaken (is_some e) t vs now
+taken_by None r t vs now e ends h = (e, h)
+taken_by (Some status) r t vs now e ends h =
+    (ap is_turned h.phase, subst (λ (o : Option Status). HasEnded o t vs now) (sym e) (h, no_limit status (length r.past) r.state.table now.taken.outcomes ends))
 
--- A run that its turns have ended gives this.
-pub taken_last : (turn : ViewParts → OutcomeParts) (r : Run) (vs : List ViewParts) (kept : Unrecorded) (os : List OutcomeParts) (status : Status) (given : RunResult) → IsUnrecorded r vs kept → os ≡ map turn vs → end_of (length r.past) r.state.table os ≡ Some status
-    → given ≡ result_of (after_turns r os) → (is_turned (turned_so turn r).phase ≡ false) × (given ≡ result_of (turned_so turn r))
-taken_last turn r vs kept os status given h made ends is =
-    let same = ap (after_turns r) (turns_are turn r vs kept os h made) in
-    (sym (ap (λ (x : Run). is_turned x.phase) same) ∙ ap is_turned (phase_then r os (Some status) ends), is ∙ ap result_of same)
+-- The turns that are gathered are those of the views, and what is kept beside them serves the run.
+pub taken_on : (turn : ViewParts → OutcomeParts) (r : Run) (vs : List ViewParts) (kept now : Unrecorded) → IsUnrecorded r vs kept → HaveTurns r vs now.taken.outcomes → now.taken.outcomes ≡ map turn vs → now.end ≡ end_of (length r.past) r.state.table now.taken.outcomes
+    → now.processes.items ≡ kept.processes.items → now.tally ≡ kept.tally → AreTaken (is_some now.end) (turned_so turn r) vs now
+taken_on turn r vs kept now h have made ends ep et =
+    let os : List OutcomeParts = now.taken.outcomes in
+    taken_by now.end r (turned_so turn r) vs now refl (sym ends)
+    (subst (λ (us : List OutcomeParts). IsUnrecordedIn (phase_after now.end) (after_turns r us) vs now os) (turns_are turn r vs kept os h made) (kept_then r vs kept now os now.end h have (sym ends) ep et))
 
 -- The next superstep has opened, or the limit is reached.
 pub underway_next : (turn : ViewParts → OutcomeParts) (input : Input) (n : ℕ) (vs ws : List ViewParts) (old new : Unrecorded) (u : IsUnderway turn input (n + 1) vs old) → (turned_so turn u.so_far).phase ≡ Turned
@@ -297,8 +296,9 @@ ended_is_run turn input n vs kept u closed =
     sym (times-closed turn n (turned_so turn r) (turns_closed r (map turn (open_views r)))) ∙ ap (times n (advance turn)) (sym next) ∙ sym (times_more turn (n + 1) n r (omega arith)) ∙ u.rest
 
 -- So is the run with no superstep left.
-pub limit_is_run : (turn : ViewParts → OutcomeParts) (input : Input) (n : ℕ) (vs : List ViewParts) (kept : Unrecorded) (u : IsUnderway turn input n vs kept) → n ≡ 0 → u.so_far ≡ run turn input
-limit_is_run turn input n vs kept u z = sym (ap (λ k. times k (advance turn) u.so_far) z) ∙ u.rest
-
-pub kept_at_limit : (turn : ViewParts → OutcomeParts) (input : Input) (n : ℕ) (vs : List ViewParts) (kept : Unrecorded) (u : IsUnderway turn input n vs kept) → n ≡ 0 → IsUnrecordedIn (Ended Limit) u.so_far vs kept (u.so_far).outcomes
-kept_at_limit turn input n vs kept u z = record { same = u.same; phase = u.phase ∙ ap (λ k. cond (k == 0) (Ended Limit) Open) z; outcomes = refl }
+pub limit_is_run : (turn : ViewParts → OutcomeParts) (input : Input) (n : ℕ) (vs : List ViewParts) (kept : Unrecorded) → IsUnderway turn input n vs kept → n ≡ 0 → kept.end ≡ None → HasEnded kept.end (run turn input) vs kept
+limit_is_run turn input n vs kept u z none =
+    let r : Run = u.so_far in
+    let whole : r ≡ run turn input = sym (ap (λ k. times k (advance turn) r) z) ∙ u.rest in
+    let limit : IsUnrecordedIn (Ended Limit) r vs kept r.outcomes = record { same = u.same; phase = u.phase ∙ ap (λ k. cond (k == 0) (Ended Limit) Open) z; outcomes = refl } in
+    subst (λ (o : Option Status). HasEnded o (run turn input) vs kept) (sym none) (subst (λ (x : Run). IsUnrecordedIn (Ended Limit) x vs kept x.outcomes) whole limit)

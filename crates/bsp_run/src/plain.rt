@@ -6,7 +6,7 @@ ghost use Rattle.bsp_model.specs.Input.{input_fault};
 ghost use Rattle.bsp_step.specs.Turn.{turn_of};
 ghost use Rattle.bsp_run.specs.Run.{Run, start, advance, after_turns, after_delivery, open_views, run};
 ghost use Rattle.bsp_run.specs.Condition.{is_ended, is_open};
-ghost use Rattle.bsp_run.specs.Inside.IsUnrecorded.{IsUnrecorded, AreTaken};
+ghost use Rattle.bsp_run.specs.Inside.IsUnrecorded.{IsUnrecorded, AreTaken, HasEnded};
 ghost use Rattle.bsp_run.specs.Inside.Turns.{AreTurnsOf};
 ghost use Rattle.bsp_run.specs.Result.{result_of};
 ghost use Rattle.bsp_run.specs.Law.{IsBspRun, IsBspResult};
@@ -99,45 +99,62 @@ pub fn run_plain<P: Program>(alloc: Global, program: &P, input: &Input) -> Resul
     Ok(tape.finish()?)
 }
 
-/// Takes the turns of the open superstep of a run of which no record is kept, in which the processes see these views. It answers what the run gives,
-/// where they end it.
+/// Takes the turns of the open superstep of a run of which no record is kept, in which the processes see these views. True where they end the run.
 fn unrecorded_turns<P: Program>(
     alloc: Global,
     program: &P,
     views: &Views,
     kept: &mut Unrecorded,
-) -> Result<Option<RunResult>, OutOfMemory>
+) -> Result<bool, OutOfMemory>
     requires opened { (r : Run) × ((r.phase ≡ Phase.Open) × IsUnrecorded r views.now kept.old) }
-    ensures { (r : Run) → r.phase ≡ Phase.Open → IsUnrecorded r views.now kept.old → IfOk result (AreTaken
+    ensures { (r : Run) → r.phase ≡ Phase.Open → IsUnrecorded r views.now kept.old → IfOk result (λ ends. AreTaken ends
         (after_turns r (map (turn_of (P.acts program.now) (P.ending program.now)) (open_views r))) views.now kept.new) }
 {
     let processes = kept.processes.as_slice();
     all_turns(alloc, program, processes, views, &mut kept.taken)?;
-    match views.end(alloc, &kept.taken.outcomes)? {
-        Some(status) => Ok(Some(kept.ended(alloc, status)?)),
-        None => Ok(None),
-    }
+    kept.end = views.end(alloc, &kept.taken.outcomes)?;
+    Ok(kept.end.is_some())
 }
 
-/// What `lawful_result` answers, where these views are open, and this is kept beside them.
-fn result_from<P: Program>(
+/// The supersteps of a run of which no record is kept, from the first on, in which the processes see these views. It answers what they see in the last
+/// one, or at the limit after it.
+fn unrecorded_supersteps<P: Program>(
     alloc: Global,
     program: &P,
     input: &Input,
     mut views: Views,
     kept: &mut Unrecorded,
-) -> Result<RunResult, OutOfMemory>
+) -> Result<Views, OutOfMemory>
     requires lawful { input_fault input.now ≡ None }
     requires kept { IsUnrecorded (start input.now) views kept.old }
-    ensures { IfOk result (λ r. r ≡ result_of (run (turn_of (P.acts program.now) (P.ending program.now)) input.now)) }
+    requires end { kept.old.end ≡ None }
+    ensures { IfOk result (λ last. HasEnded kept.new.end
+        (run (turn_of (P.acts program.now) (P.ending program.now)) input.now) last kept.new) }
 {
     for step in 0..input.limit {
-        if let Some(result) = unrecorded_turns(alloc, program, &views, kept)? {
-            return Ok(result);
+        if unrecorded_turns(alloc, program, &views, kept)? {
+            return Ok(views);
         }
         views = kept.go_on(alloc, views)?;
     }
-    kept.ended_at_limit(alloc, &views)
+    Ok(views)
+}
+
+/// What `lawful_result` answers, where this is kept before the first superstep.
+fn unrecorded_result<P: Program>(
+    alloc: Global,
+    program: &P,
+    input: &Input,
+    kept: &mut Unrecorded,
+) -> Result<RunResult, OutOfMemory>
+    requires lawful { input_fault input.now ≡ None }
+    requires kept { IsUnrecorded (start input.now) (open_views (start input.now)) kept.old }
+    requires end { kept.old.end ≡ None }
+    ensures { IfOk result (λ r. r ≡ result_of (run (turn_of (P.acts program.now) (P.ending program.now)) input.now)) }
+{
+    let views = first_views(alloc, input, Recording::None)?;
+    let last = unrecorded_supersteps(alloc, program, input, views, kept)?;
+    kept.result(alloc, &last)
 }
 
 /// What `run_result` answers, where the input is known to be lawful.
@@ -149,9 +166,9 @@ pub fn lawful_result<P: Program>(
     requires lawful { input_fault input.now ≡ None }
     ensures { IfOk result (λ r. r ≡ result_of (run (turn_of (P.acts program.now) (P.ending program.now)) input.now)) }
 {
-    let views = first_views(alloc, input, Recording::None)?;
-    let mut kept = Unrecorded::open(alloc, input, &views)?;
-    result_from(alloc, program, input, views, &mut kept)
+    let processes = numbers(alloc, input.mems.len())?;
+    let mut kept = Unrecorded::new(alloc, input, processes);
+    unrecorded_result(alloc, program, input, &mut kept)
 }
 
 /// What the run of a program on an input gives. It keeps no record of the run: beside the lines and the costs, memory for one superstep.

@@ -9,10 +9,9 @@ ghost use Rattle.bsp_run.specs.Run.{Run, start, open_views, after_delivery, is_l
 ghost use Rattle.bsp_run.specs.Setting.{next_views};
 ghost use Rattle.bsp_run.specs.Result.{result_of};
 ghost use Rattle.bsp_run.specs.Inside.Settings.{AreTurned};
-ghost use Rattle.bsp_run.specs.Inside.IsUnrecorded.{IsUnrecorded, IsUnrecordedIn};
+ghost use Rattle.bsp_run.specs.Inside.IsUnrecorded.{IsUnrecorded, IsUnrecordedIn, HasEnded};
 
 use crate::history::{memories_of_outcomes, memories_of_views};
-use crate::numbers::numbers;
 use crate::tally::Tally;
 use crate::wide::turns_by_one;
 use crate::{Phase, RunResult, Status, TurnRows, Views};
@@ -36,6 +35,8 @@ pub(crate) struct Unrecorded {
     pub(crate) processes: Vec<usize>,
     pub(crate) tally: Tally,
     pub(crate) taken: Taken,
+    /// How these turns ended the run, if they did.
+    pub(crate) end: Option<Status>,
 }
 
 /// The turns of all processes, gathered in the room of the turns that were taken before.
@@ -81,31 +82,30 @@ fn next_views(
 }
 
 impl Unrecorded {
-    /// What is kept before the first superstep, of a run that opens with these views.
-    pub(crate) fn open(
-        alloc: Global,
-        input: &Input,
-        views: &Views,
-    ) -> Result<Unrecorded, OutOfMemory>
+    /// What is kept before the first superstep, of a run of these processes.
+    pub(crate) fn new(alloc: Global, input: &Input, processes: Vec<usize>) -> Unrecorded
         requires lawful { input_fault input.now ≡ None }
-        requires views { views.now ≡ open_views (start input.now) }
-        ensures { IfOk result (IsUnrecorded (start input.now) views.now) }
+        requires processes { processes.items ≡ range_with_len 0 (length input.now.mems) }
+        ensures kept { IsUnrecorded (start input.now) (open_views (start input.now)) result }
+        ensures end { result.end ≡ None }
     {
-        Ok(Unrecorded {
-            processes: numbers(alloc, views.len())?,
+        Unrecorded {
+            processes,
             tally: Tally::new(alloc, input),
             taken: Taken {
                 outcomes: Outcomes::new(),
                 spare: None,
             },
-        })
+            end: None,
+        }
     }
 
     /// Makes the deliveries of the turns that were taken at these views. It answers what the processes see next.
     pub(crate) fn go_on(&mut self, alloc: Global, views: Views) -> Result<Views, OutOfMemory>
         requires turned { (r : Run) × IsUnrecordedIn Phase.Turned r views self.old self.old.taken.outcomes }
-        ensures { (r : Run) → IsUnrecordedIn Phase.Turned r views self.old self.old.taken.outcomes
+        ensures views { (r : Run) → IsUnrecordedIn Phase.Turned r views self.old self.old.taken.outcomes
             → IfOk result (λ next. IsUnrecorded (after_delivery r) next self.new) }
+        ensures end { OnOk result (self.new.end ≡ self.old.end) }
     {
         let outcomes = &self.taken.outcomes;
         let (views, h) = next_views(alloc, views, self.processes.as_slice(), outcomes)?;
@@ -113,8 +113,19 @@ impl Unrecorded {
         Ok(views)
     }
 
+    /// What the run gives that has ended, where the processes see these views. What was added up is handed out.
+    pub(crate) fn result(&mut self, alloc: Global, views: &Views) -> Result<RunResult, OutOfMemory>
+        requires ended { (r : Run) × HasEnded self.old.end r views.now self.old }
+        ensures { (r : Run) → HasEnded self.old.end r views.now self.old → IfOk result (λ given. given ≡ result_of r) }
+    {
+        match self.end.take() {
+            Some(status) => self.ended(alloc, status),
+            None => self.ended_at_limit(alloc, views),
+        }
+    }
+
     /// What the run gives that ended so with the turns that were taken. What was added up is handed out.
-    pub(crate) fn ended(&mut self, alloc: Global, status: Status) -> Result<RunResult, OutOfMemory>
+    fn ended(&mut self, alloc: Global, status: Status) -> Result<RunResult, OutOfMemory>
         requires ended { (r : Run)
             × ((vs : _) × IsUnrecordedIn (Phase.Ended status) r vs self.old self.old.taken.outcomes) }
         requires before { is_limit (Phase.Ended status) ≡ false }
@@ -128,11 +139,7 @@ impl Unrecorded {
     }
 
     /// What the run gives that ended at the limit, where the processes would see these views. What was added up is handed out.
-    pub(crate) fn ended_at_limit(
-        &mut self,
-        alloc: Global,
-        views: &Views,
-    ) -> Result<RunResult, OutOfMemory>
+    fn ended_at_limit(&mut self, alloc: Global, views: &Views) -> Result<RunResult, OutOfMemory>
         requires ended { (r : Run)
             × IsUnrecordedIn (Phase.Ended Status.Limit) r views.now self.old r.outcomes }
         ensures { (r : Run) → IsUnrecordedIn (Phase.Ended Status.Limit) r views.now self.old r.outcomes

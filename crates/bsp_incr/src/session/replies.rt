@@ -1,6 +1,6 @@
 //! A session from its input to its last batch.
 
-ghost use Rattle.std.specs.Prelude.{◌≡◌, ◌<◌, ◌≤◌, ◌++◌, None, Some, IfOk, IfErr, OnOk, map};
+ghost use Rattle.std.specs.Prelude.{◌≡◌, ◌<◌, ◌≤◌, ◌++◌, [], None, Some, IfOk, IfErr, OnOk, map};
 ghost use Rattle.bsp_model.specs.Input.{input_fault};
 ghost use Rattle.bsp_step.specs.Turn.{turn_of};
 ghost use Rattle.bsp_run.specs.Run.{run};
@@ -19,6 +19,7 @@ use bsp_pool::Gate;
 use bsp_run::{History, RunError, lawful_result};
 use bsp_step::Program;
 use std::alloc::{AllocError, Global};
+use std::mem::replace;
 use std::thread::Threads;
 
 /// The reply that gives a history.
@@ -90,20 +91,36 @@ fn add_replies<P: Program + Drop, R: Threads + Sync, G: Gate>(
     Ok(())
 }
 
+/// Adds the replies to the opening of a session, whose update is handed out, and to its batches.
+fn add_all_replies<P: Program + Drop, R: Threads + Sync, G: Gate>(
+    workers: &Workers<'_, R, G>,
+    opened: &mut (Session<P>, Update),
+    batches: &[Batch],
+    all: &mut Vec<Reply>,
+) -> Result<(), OutOfMemory>
+    requires exact { IsExact (P.looks opened.old.0.program) None opened.old.0.history opened.old.1 }
+    requires none { all.old.items ≡ [] }
+    ensures { OnOk result (all.new.items ≡ replies (P.looks opened.old.0.program)
+        (turn_by P.Program opened.old.0.program) opened.old.0.input batches.now) }
+{
+    let update = replace(&mut opened.1, Update::none(workers.alloc));
+    let opening = opening_reply(&opened.0, update)?;
+    all.push(opening)?;
+    add_replies(workers, &mut opened.0, batches, all)
+}
+
 /// The replies to the opening of a session, and to its batches.
 fn all_replies<P: Program + Drop, R: Threads + Sync, G: Gate>(
     workers: &Workers<'_, R, G>,
-    opened: (Session<P>, Update),
+    mut opened: (Session<P>, Update),
     batches: &[Batch],
 ) -> Result<Vec<Reply>, OutOfMemory>
     requires exact { IsExact (P.looks opened.0.program) None opened.0.history opened.1 }
     ensures { IfOk result (λ all. all.items ≡ replies (P.looks opened.0.program)
         (turn_by P.Program opened.0.program) opened.0.input batches.now) }
 {
-    let (mut session, update) = opened;
     let mut all = Vec::new(workers.alloc);
-    all.push(opening_reply(&session, update)?)?;
-    add_replies(workers, &mut session, batches, &mut all)?;
+    add_all_replies(workers, &mut opened, batches, &mut all)?;
     Ok(all)
 }
 

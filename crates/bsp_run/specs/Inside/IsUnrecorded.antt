@@ -1,17 +1,18 @@
 -- What is kept of a run so far whose record is not.
-use Rattle.std.specs.Prelude.{◌≡◌, ℕ, List, Option, None, Some, false, map, length}
+use Rattle.std.specs.Prelude.{◌≡◌, ℕ, Bool, true, false, List, Option, None, Some, map, length}
 use Rattle.std.specs.List.{range_with_len}
 use Rattle.bsp_step.specs.ViewParts.{ViewParts}
 use Rattle.bsp_step.specs.OutcomeParts.{OutcomeParts}
 use Rattle.bsp_run.specs.declared.phase.Phase.{Phase}
-use Rattle.bsp_run.specs.declared.phase.Phase.TheVariants.{Open, Turned}
-use Rattle.bsp_run.specs.declared.result.RunResult.{RunResult}
+use Rattle.bsp_run.specs.declared.phase.Phase.TheVariants.{Open, Turned, Ended}
+use Rattle.bsp_run.specs.declared.result.Status.{Status}
+use Rattle.bsp_run.specs.declared.result.Status.TheVariants.{Limit}
 use Rattle.bsp_run.specs.declared.tally.Tally.{Tally}
 use Rattle.bsp_run.specs.declared.unrecorded.Unrecorded.{Unrecorded}
-use Rattle.bsp_run.specs.Run.{Run, open_views}
+use Rattle.bsp_run.specs.Run.{Run, open_views, is_limit}
 use Rattle.bsp_run.specs.Condition.{AreOutcomesOf, IsRun, is_turned}
 use Rattle.bsp_run.specs.Supersteps.{outcomes_of}
-use Rattle.bsp_run.specs.Result.{lines_of_process, cost_of_delivery, result_of}
+use Rattle.bsp_run.specs.Result.{lines_of_process, cost_of_delivery}
 use Rattle.bsp_run.specs.Inside.Printed.{lines_in}
 
 -- What is kept is what the processes of the run see, and what its result adds up of the supersteps that ended by delivery.
@@ -40,7 +41,12 @@ pub record IsUnrecordedIn (comes : Phase) (r : Run) (vs : List ViewParts) (kept 
   pub phase : r.phase ≡ comes
   pub outcomes : r.outcomes ≡ os
 
--- A run whose turns are taken: it goes on by its deliveries, or it has ended and gives this.
-abbrev pub AreTaken : Run → List ViewParts → Unrecorded → Option RunResult → Type 0
-AreTaken r vs kept None = IsUnrecordedIn Turned r vs kept kept.taken.outcomes
-AreTaken r vs kept (Some given) = (is_turned r.phase ≡ false) × (given ≡ result_of r)
+-- What is kept of a run that has ended so, by its last turns or at the limit.
+abbrev pub HasEnded : Option Status → Run → List ViewParts → Unrecorded → Type 0
+HasEnded (Some status) r vs kept = IsUnrecordedIn (Ended status) r vs kept kept.taken.outcomes × (is_limit (Ended status) ≡ false)
+HasEnded None r vs kept = IsUnrecordedIn (Ended Limit) r vs kept r.outcomes
+
+-- A run whose turns are taken: they have ended it, or it goes on by its deliveries.
+abbrev pub AreTaken : Bool → Run → List ViewParts → Unrecorded → Type 0
+AreTaken true r vs kept = (is_turned r.phase ≡ false) × HasEnded kept.end r vs kept
+AreTaken false r vs kept = (kept.end ≡ None) × IsUnrecordedIn Turned r vs kept kept.taken.outcomes

@@ -8,8 +8,8 @@ use Rattle.bsp_run.proofs.unrecorded.Unrecorded.go_on.Goals as goal
 pub next_views-requires-clause-turned : goal.next_views-requires-clause-turned
 next_views-requires-clause-turned c = (c.requires.turned.0, are_turned c.requires.turned.0 c.args.views c.args.self.now c.args.self.now.taken.outcomes c.requires.turned.1)
 
-pub returns : goal.returns
-returns c = λ r t.
+pub returns-clause-views : goal.returns-clause-views
+returns-clause-views c = λ r t.
     let more = c.in_ok-add_delivery.ensures in
     unrecorded_delivered r c.args.self.now.taken.outcomes c.args.self.now c.args.views _ _ _ t refl (c.in_ok-views.ensures.views r (are_turned r c.args.views c.args.self.now c.args.self.now.taken.outcomes t)) more.g more.l more.lines more.costs
 
