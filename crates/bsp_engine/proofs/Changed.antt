@@ -47,6 +47,11 @@ module _ {A : Type 0} (piece : ℕ → A → List ℕ) (same : A → A → Bool)
       ∙ ap (λ (k : ℕ). pieces olds news i ++ piece_if piece k item) all in
       more ∙ ap (λ t. t ++ piece_if piece i item) so_far ∙ append_assoc text (pieces olds news i) (piece_if piece i item) ∙ ap (λ t. text ++ t) (sym next)
 
+  -- where there was nothing before, all is told
+  pub all_told : (n : ℕ) (news : List A) → numbered (piece_if piece) n (others same [] news) ≡ numbered piece n news
+  all_told n [] = refl
+  all_told n (x ∷ news) = ap (λ l. piece n x ++ l) (all_told (n + 1) news)
+
   -- nothing is told where there is the same, or nothing
   same_untold : ((x y : A) → Decides (same x y) (x ≡ y)) → (p : ℕ) (o : Option A) → piece_of piece same p o o ≡ []
   same_untold d p None = refl

@@ -26,6 +26,7 @@ pub mod Optional
 pub mod Telling
 pub mod TooLong
 pub mod Trees
+pub mod Handing
 pub mod LawOfReports
 pub mod Untouched
 pub mod WholeAgain

@@ -1,12 +1,11 @@
 -- Texts that grow by a piece for each item.
-use Rattle.std.proofs.Common.{◌≡◌, ℕ, ◌+◌, ◌-◌, ◌^◌, ◌<◌, ◌≤◌, min, List, [], ◌∷◌, ◌++◌, length, take, drop, get_or, Some, Result, Ok, Err, OnOk, sym, ap, ◌∙◌, append_assoc, arith}
+use Rattle.std.proofs.Common.{◌≡◌, ℕ, ◌+◌, ◌-◌, ◌^◌, ◌<◌, ◌≤◌, min, List, [], ◌∷◌, ◌++◌, length, take, drop, get_or, Result, Ok, Err, OnOk, sym, ap, ◌∙◌, append_assoc, arith}
 use Rattle.std.specs.Prelude.{decimal, slice_set}
-use Rattle.std.specs.List.{flat_map, slice_get}
+use Rattle.std.specs.List.{flat_map}
 use Rattle.std.proofs.Math.Seq.{take-add}
 use Rattle.std.proofs.lemmas.Grind.{flat_map-append}
 use Rattle.std.proofs.lemmas.Fmt.{length-decimal-le}
 use Rattle.std.proofs.lemmas.List.{append-nil, drop_more, drop-set, flat_map_more, length-take, length-take-le, take_min, take_more}
-use Rattle.std.proofs.lemmas.Option.{get_or_from_slice_get}
 use Rattle.bsp_engine.specs.Lines.{field, fields, numbered}
 
 pub numbered-snoc : {A : Type 0} (piece : ℕ → A → List ℕ) (n : ℕ) (xs : List A) (x : A) → numbered piece n (xs ++ x ∷ []) ≡ numbered piece n xs ++ piece (n + length xs) x
@@ -29,10 +28,6 @@ numbered_grows piece text old new xs i x h is so_far next =
 pub pieces_grow : {A : Type 0} (piece : A → List ℕ) (text old new : List ℕ) (xs : List A) (i : ℕ) (x : A) → i < length xs → x ≡ get_or xs i x → old ≡ text ++ flat_map piece (take i xs) → new ≡ old ++ piece x → new ≡ text ++ flat_map piece (take (i + 1) xs)
 pieces_grow piece text old new xs i x h is so_far next =
     next ∙ (ap (λ l. l ++ piece x) so_far ∙ (flat_map_more piece text (take i xs) x ∙ ap (λ l. text ++ flat_map piece l) (ap (λ y. take i xs ++ y ∷ []) is ∙ sym (take_more xs i x h))))
-
--- what a list has at an index below its length
-pub found_at : {A : Type 0} (xs : List A) (i : ℕ) (x : A) → i < length xs → slice_get xs i ≡ Some x → x ≡ get_or xs i x
-found_at xs i x h is = sym (get_or_from_slice_get xs i x x is)
 
 -- two pieces, of which the last comes only at an `Ok`
 pub two_pieces : {X E : Type 0} (r : Result X E) (old a b one two : List ℕ) → one ≡ old ++ a → OnOk r (two ≡ one ++ b) → OnOk r (two ≡ old ++ (a ++ b))

@@ -9,11 +9,9 @@ use Rattle.bsp_engine.specs.declared.errors.JobError.{JobError}
 use Rattle.bsp_engine.specs.declared.errors.JobError.TheVariants.{Fault, OutOfMemory}
 use Rattle.bsp_engine.specs.declared.errors.JobFault.{JobFault}
 use Rattle.bsp_engine.specs.declared.errors.EngineError.{EngineError}
-use Rattle.bsp_engine.specs.declared.errors.EngineError.TheVariants.{Job as Refused, Read, TooLong as DocumentTooLong, Write}
+use Rattle.bsp_engine.specs.declared.errors.EngineError.TheVariants.{Job as Refused, Read, TooLong, Write, OutOfMemory as NoMemory}
 use Rattle.bsp_engine.specs.declared.jobs.Job.{Job}
 use Rattle.bsp_engine.specs.declared.options.Detail.{Detail}
-use Rattle.bsp_engine.specs.declared.reading.ReadError.{ReadError}
-use Rattle.bsp_engine.specs.declared.reading.ReadError.TheVariants.{Failed, TooLong, OutOfMemory as NoRoom}
 use Rattle.bsp_engine.specs.Answer.{IsFailure}
 use Rattle.bsp_engine.specs.Catalogue.{Meaning}
 use Rattle.bsp_engine.specs.Document.{WithOwnText}
@@ -23,7 +21,7 @@ use Rattle.bsp_engine.specs.Live.{due_of}
 use Rattle.bsp_engine.specs.Refusal.{IfFault}
 use Rattle.bsp_engine.specs.Talk.{Due, Event, TalksUntil}
 use Rattle.bsp_engine.specs.Inside.LiveReplies.{live_replying}
-use Rattle.bsp_engine.specs.Inside.Refusal.{job_error_of, read_error_of}
+use Rattle.bsp_engine.specs.Inside.Refusal.{IsUnread, job_error_of}
 use Rattle.bsp_engine.proofs.Answering.{err_of}
 use Rattle.bsp_engine.proofs.LiveLaws.{are_live_replies}
 
@@ -40,7 +38,7 @@ module _ {P : Type 0} (meaning : Meaning P) (acts : P → ViewParts → List Act
   admitted_if : (bytes : List ℕ) (r : Result (Job P) JobFault) → length bytes ≤ 16777216 → job_of meaning bytes ≡ r → admitted meaning bytes ≡ or_refused r
   admitted_if bytes r short is = let fits : nat_lt 16777216 (length bytes) ≡ false = grind (arith, nat_tests) in rw fits (ap or_refused is)
 
-  admitted_long : (bytes : List ℕ) → 16777216 < length bytes → admitted meaning bytes ≡ Err DocumentTooLong
+  admitted_long : (bytes : List ℕ) → 16777216 < length bytes → admitted meaning bytes ≡ Err TooLong
   admitted_long bytes h = let long : nat_lt 16777216 (length bytes) ≡ true = grind (arith, nat_tests) in rw long
 
   fails : (bytes : List ℕ) (r : Result (Job P) EngineError) (old new : Option (List Event)) (silent : Type 0) (answer : Result (Unit {0}) EngineError) → IsFailure answer → silent → FollowsIf acts ending looks detail bytes r old new silent answer
@@ -71,17 +69,19 @@ module _ {P : Type 0} (meaning : Meaning P) (acts : P → ViewParts → List Act
       subst (λ (r : Result (Job P) EngineError). FollowsIf acts ending looks detail bytes r old new silent answer) (sym (admitted_if bytes (job_of meaning bytes) short (ap (λ b. job_of meaning b) (λ k. bytes))))
       (talked_if bytes (job_of meaning bytes) due old new silent answer h talks)
 
-  too_long : (source : Option (List ℕ)) (old new : Option (List Event)) (silent : Type 0) (answer : Result (Unit {0}) EngineError) → IfSome source (λ all. 16777216 < length all) → answer ≡ Err DocumentTooLong → silent → IfSome source (λ all. Follows meaning acts ending looks detail all old new silent answer)
+  too_long : (source : Option (List ℕ)) (old new : Option (List Event)) (silent : Type 0) (answer : Result (Unit {0}) EngineError) → IfSome source (λ all. 16777216 < length all) → answer ≡ Err TooLong → silent → IfSome source (λ all. Follows meaning acts ending looks detail all old new silent answer)
   too_long None old new silent answer long is nothing = tt
-  too_long (Some all) old new silent answer long is nothing = refused all DocumentTooLong old new silent answer (admitted_long all long) is nothing
+  too_long (Some all) old new silent answer long is nothing = refused all TooLong old new silent answer (admitted_long all long) is nothing
 
   unread : (source : Option (List ℕ)) (old new : Option (List Event)) (silent : Type 0) (answer : Result (Unit {0}) EngineError) → IsFailure answer → silent → IfSome source (λ all. Follows meaning acts ending looks detail all old new silent answer)
   unread None old new silent answer failure nothing = tt
   unread (Some all) old new silent answer failure nothing = fails all (admitted meaning all) old new silent answer failure nothing
 
   -- where the document was not read
-  pub follows_unread : {X : Type 0} (source : Option (List ℕ)) (r : Result X ReadError) (e : ReadError) (old new : Option (List Event)) (silent : Type 0) (answer : Result (Unit {0}) EngineError) → r ≡ Err e
-      → (r ≡ Err TooLong → IfSome source (λ all. 16777216 < length all)) → IsErrAnd answer (λ x. x ≡ read_error_of e) → silent → IfSome source (λ all. Follows meaning acts ending looks detail all old new silent answer)
-  follows_unread source r Failed old new silent answer was long made nothing = unread source old new silent answer (inl (err_of answer (read_error_of Failed) made)) nothing
-  follows_unread source r TooLong old new silent answer was long made nothing = too_long source old new silent answer (long was) (err_of answer DocumentTooLong made) nothing
-  follows_unread source r NoRoom old new silent answer was long made nothing = unread source old new silent answer (inr (err_of answer (read_error_of NoRoom) made)) nothing
+  pub follows_unread : {X : Type 0} (source : Option (List ℕ)) (r : Result X EngineError) (e : EngineError) (old new : Option (List Event)) (silent : Type 0) (answer : Result (Unit {0}) EngineError) → r ≡ Err e → IsUnread e
+      → (r ≡ Err TooLong → IfSome source (λ all. 16777216 < length all)) → IsErrAnd answer (λ x. x ≡ e) → silent → IfSome source (λ all. Follows meaning acts ending looks detail all old new silent answer)
+  follows_unread source r Read old new silent answer was of long made nothing = unread source old new silent answer (inl (err_of answer Read made)) nothing
+  follows_unread source r TooLong old new silent answer was of long made nothing = too_long source old new silent answer (long was) (err_of answer TooLong made) nothing
+  follows_unread source r NoMemory old new silent answer was of long made nothing = unread source old new silent answer (inr (err_of answer NoMemory made)) nothing
+  follows_unread source r (Refused fault) old new silent answer was of long made nothing = absurd of
+  follows_unread source r Write old new silent answer was of long made nothing = absurd of

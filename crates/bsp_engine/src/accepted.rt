@@ -41,26 +41,35 @@ pub fn apply<P: Program + Drop, R: Threads + Sync, G: Gate>(
     session.apply(crew.rt, crew.alloc, batch, crew.workers, crew.gate)
 }
 
-/// Appends the lines of the run after a batch: all, or what of it is another than in the result of the run before. Answers its own result where there
-/// was one.
+/// Appends the lines of the run after a batch: all, or what of it is another than in the result of the run before. That result, if there is one, then is
+/// what the run after gives.
 fn push_history(
     text: &mut Vec<u8>,
-    before: Option<Last>,
+    last: &mut Option<Last>,
     history: &History,
     batch: &[Edit],
     update: &Update,
-) -> Result<Option<Last>, OutOfMemory>
-    requires { IfSome before (λ last. IsResultBefore last batch.now update.now history.now) }
-    ensures text { OnOk result (text.new.items ≡ text.old.items ++ lines_after before (result_of history.now)) }
-    ensures is { IfOk result (λ r. IsResultIn r history.now) }
-    ensures asked { IfOk result (λ r. is_some r ≡ is_some before) }
+) -> Result<(), OutOfMemory>
+    requires { IfSome last.old (λ last. IsResultBefore last batch.now update.now history.now) }
+    ensures text { OnOk result (text.new.items ≡ text.old.items ++ lines_after last.old (result_of history.now)) }
+    ensures is { IsResultIn last.new history.now }
+    ensures asked { OnOk result (is_some last.new ≡ is_some last.old) }
 {
-    match before {
-        Some(mut last) => {
-            last.tell(text, history, batch, update)?;
-            Ok(Some(last))
+    match last.take() {
+        Some(mut before) => match before.tell(text, history, batch, update) {
+            Ok(()) => {
+                last.insert(before);
+                Ok(())
+            }
+            Err(error) => {
+                drop(before);
+                Err(error)
+            }
+        },
+        None => {
+            drop(push_run(text, false, history)?);
+            Ok(())
         }
-        None => push_run(text, false, history),
     }
 }
 
@@ -78,7 +87,6 @@ pub fn push_accepted(
     ensures is { IsResultIn last.new history.now }
     ensures asked { OnOk result (is_some last.new ≡ is_some last.old) }
 {
-    let before = last.take();
-    *last = push_history(text, before, history, batch, update)?;
+    push_history(text, last, history, batch, update)?;
     push_update(text, places, update)
 }

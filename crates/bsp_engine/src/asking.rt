@@ -6,7 +6,7 @@ ghost use Rattle.bsp_engine.specs.Asked.{asked_at, asked_of, begins_with_word, d
 ghost use Rattle.bsp_engine.specs.Tree.{tree_of};
 
 use crate::errors::JobError;
-use crate::jobs::{batch_in, has_negative_edit, is_batch};
+use crate::jobs::{Described, has_negative_edit, is_batch};
 use crate::limits::MOST_DOCUMENT_BYTES;
 use crate::tree::{read_tree, value_at};
 use bsp_incr::Batch;
@@ -117,7 +117,7 @@ fn asked_at(alloc: Global, table: &Table) -> Result<Asked, OutOfMemory>
     if has_negative_edit(value) {
         return Ok(Asked::Nothing(Unread::BadWord));
     }
-    Ok(Asked::Batch(batch_in(alloc, value)?))
+    Ok(Asked::Batch(Batch::read(alloc, value)?))
 }
 
 /// What the bytes of such a document ask.

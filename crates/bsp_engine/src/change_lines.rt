@@ -1,6 +1,6 @@
 //! The text of what of a result is another than in the result before.
 
-ghost use Rattle.std.specs.Prelude.{◌≡◌, ◌++◌, Some, false, OnOk, IfOk, option_map, slice_get};
+ghost use Rattle.std.specs.Prelude.{◌≡◌, ◌++◌, [], Some, false, OnOk, IfOk, option_map, slice_get, unwrap_or};
 ghost use Rattle.bsp_engine.specs.Changes.{changes_lines, changes_of, count_line, other, other_lines, other_number, others, piece_if, same_lines, same_row, same_words};
 ghost use Rattle.bsp_engine.specs.Lines.{numbered};
 ghost use Rattle.bsp_engine.specs.Text.{cost_line, memory_line};
@@ -39,22 +39,24 @@ pub fn push_other_memory<'a>(
 }
 
 /// The memory of a process, if there is one.
-fn memory_at(memories: &Memories, pid: usize) -> Option<MemoryRef<'_>>
-    ensures { result ≡ slice_get memories.now pid }
+fn memory_at(memories: Option<&Memories>, pid: usize) -> Option<MemoryRef<'_>>
+    ensures { result ≡ slice_get (unwrap_or (option_map (λ m. m.now) memories.entry) []) pid }
 {
+    let memories = memories?;
     if pid >= memories.len() {
         return None;
     }
     Some(memories.get(pid))
 }
 
-fn push_other_memories(
+/// Appends the line of each memory that is another than before, if there were any.
+pub fn push_other_memories(
     text: &mut Vec<u8>,
-    olds: &Memories,
+    olds: Option<&Memories>,
     news: &Memories,
 ) -> Result<(), OutOfMemory>
     ensures { OnOk result (text.new.items ≡ text.old.items ++
-        numbered (piece_if memory_line) 0 (others same_words olds.now news.now)) }
+        numbered (piece_if memory_line) 0 (others same_words (unwrap_or (option_map (λ m. m.now) olds.entry) []) news.now)) }
 {
     for pid in 0..news.len() {
         push_other_memory(text, pid as u64, memory_at(olds, pid), &news.get(pid))?;
@@ -162,7 +164,7 @@ pub fn push_changes(text: &mut Vec<u8>, old: &RunResult, new: &RunResult) -> Res
     ensures { OnOk result (text.new.items ≡ text.old.items ++ changes_lines (changes_of old.now new.now)) }
 {
     push_status(text, &new.status)?;
-    push_other_memories(text, &old.memories, &new.memories)?;
+    push_other_memories(text, Some(&old.memories), &new.memories)?;
     push_all_other_lines(text, old.lines.as_slice(), new.lines.as_slice())?;
     push_other_costs(text, old.costs.as_slice(), new.costs.as_slice())?;
     push_other_count(text, old.costs.len(), new.costs.len())?;

@@ -1,111 +1,95 @@
 //! The input of a live session as a document without batches.
 
-ghost use Rattle.std.specs.Prelude.{◌≡◌, ◌++◌, OnOk, codes, decimal};
+ghost use Rattle.std.specs.Prelude.{◌≡◌, ◌++◌, ◌∷◌, [], OnOk, codes};
 ghost use Rattle.bsp_engine.specs.Lines.{numbered};
-ghost use Rattle.bsp_engine.specs.Document.{comma, document_block, document_text, entry, rows_line, words_text};
+ghost use Rattle.bsp_engine.specs.Document.{array_text, document_block, document_text, entry};
 
 use crate::lines::push_line;
-use bsp_model::{Input, Memory, OutOfMemory, Words};
+use bsp_model::{Input, Memory, OutOfMemory, Seq};
 use itoa::Buffer;
 
-/// Appends what stands before the item of this number in an array.
-fn push_comma(text: &mut Vec<u8>, number: usize) -> Result<(), OutOfMemory>
-    ensures { OnOk result (text.new.items ≡ text.old.items ++ comma number) }
-{
-    if number == 0 {
-        return Ok(());
+/// What stands in a document as the value of a key, or in an array.
+trait Written {
+    ghost use Rattle.std.specs.Prelude.{ℕ, List};
+
+    // The text of a value.
+    ghost written: { Self → List ℕ };
+
+    /// Appends the text of the value.
+    fn push_to(&self, text: &mut Vec<u8>) -> Result<(), OutOfMemory>
+        ensures { OnOk result (text.new.items ≡ text.old.items ++ written self.now) };
+}
+
+impl Written for u64 {
+    ghost use Rattle.std.specs.Prelude.{decimal};
+
+    ghost written = { decimal };
+
+    fn push_to(&self, text: &mut Vec<u8>) -> Result<(), OutOfMemory> {
+        let mut buffer = Buffer::new();
+        text.extend_from_slice(buffer.format(*self).as_bytes())
     }
-    text.extend_from_slice(b", ")
 }
 
-/// Appends a word as the item of this number.
-fn push_word(text: &mut Vec<u8>, number: usize, word: u64) -> Result<(), OutOfMemory>
-    ensures { OnOk result (text.new.items ≡ text.old.items ++ entry decimal number word) }
-{
-    let mut buffer = Buffer::new();
-    push_comma(text, number)?;
-    text.extend_from_slice(buffer.format(word).as_bytes())
+impl Written for Memory {
+    ghost use Rattle.bsp_engine.specs.Document.{words_text};
+
+    ghost written = { words_text };
+
+    fn push_to(&self, text: &mut Vec<u8>) -> Result<(), OutOfMemory> {
+        let mut words = Vec::from_elem(*text.allocator(), 0, self.len())?;
+        self.read(0, words.as_mut_slice());
+        push_array(text, words.as_slice())
+    }
 }
 
-/// Appends the words of a memory as items.
-fn push_memory_words(text: &mut Vec<u8>, memory: &Memory) -> Result<(), OutOfMemory>
-    ensures { OnOk result (text.new.items ≡ text.old.items ++ numbered (entry decimal) 0 memory.now) }
+impl<T: Written> Written for Seq<T> {
+    ghost use Rattle.bsp_engine.specs.Document.{array_text};
+
+    ghost written = { array_text T.written };
+
+    fn push_to(&self, text: &mut Vec<u8>) -> Result<(), OutOfMemory> {
+        push_array(text, self.as_slice())
+    }
+}
+
+/// Appends the item of this number of an array.
+fn push_item<T: Written>(text: &mut Vec<u8>, number: usize, item: &T) -> Result<(), OutOfMemory>
+    ensures { OnOk result (text.new.items ≡ text.old.items ++ entry T.written number item.now) }
 {
-    for address in 0..memory.len() {
-        match memory.load(address as u64) {
-            Some(word) => push_word(text, address, word)?,
-            None => unreachable!(),
-        }
+    if number > 0 {
+        text.extend_from_slice(b", ")?;
+    }
+    item.push_to(text)
+}
+
+/// Appends the items of an array.
+fn push_items<T: Written>(text: &mut Vec<u8>, items: &[T]) -> Result<(), OutOfMemory>
+    ensures { OnOk result (text.new.items ≡ text.old.items ++ numbered (entry T.written) 0 items.now) }
+{
+    for (number, item) in items.iter().enumerate() {
+        push_item(text, number, item)?;
     }
     Ok(())
 }
 
-/// Appends a memory as the item of this number.
-fn push_memory(text: &mut Vec<u8>, number: usize, memory: &Memory) -> Result<(), OutOfMemory>
-    ensures { OnOk result (text.new.items ≡ text.old.items ++ entry words_text number memory.now) }
+/// Appends the array of these items.
+fn push_array<T: Written>(text: &mut Vec<u8>, items: &[T]) -> Result<(), OutOfMemory>
+    ensures { OnOk result (text.new.items ≡ text.old.items ++ array_text T.written items.now) }
 {
-    push_comma(text, number)?;
-    text.push(b'[')?;
-    push_memory_words(text, memory)?;
+    text.extend_from_slice(b"[")?;
+    push_items(text, items)?;
     text.extend_from_slice(b"]")
 }
 
-/// Appends memories as items.
-fn push_memories(text: &mut Vec<u8>, memories: &[Memory]) -> Result<(), OutOfMemory>
-    ensures { OnOk result (text.new.items ≡ text.old.items ++ numbered (entry words_text) 0 memories.now) }
+/// Appends the line of a key.
+fn push_key<T: Written>(text: &mut Vec<u8>, key: &str, value: &T) -> Result<(), OutOfMemory>
+    ensures { OnOk result (text.new.items ≡ text.old.items ++ (key.now ++ codes " = " ++ T.written value.now ++ 10 ∷ [])) }
 {
-    for (pid, memory) in memories.iter().enumerate() {
-        push_memory(text, pid, memory)?;
-    }
-    Ok(())
-}
-
-/// Appends words as items.
-fn push_words(text: &mut Vec<u8>, words: &[u64]) -> Result<(), OutOfMemory>
-    ensures { OnOk result (text.new.items ≡ text.old.items ++ numbered (entry decimal) 0 words.now) }
-{
-    for (index, word) in words.iter().enumerate() {
-        push_word(text, index, *word)?;
-    }
-    Ok(())
-}
-
-/// Appends the arguments of a process as the item of this number.
-fn push_arguments(text: &mut Vec<u8>, number: usize, words: &Words) -> Result<(), OutOfMemory>
-    ensures { OnOk result (text.new.items ≡ text.old.items ++ entry words_text number words.now) }
-{
-    push_comma(text, number)?;
-    text.push(b'[')?;
-    push_words(text, words.as_slice())?;
-    text.extend_from_slice(b"]")
-}
-
-/// Appends argument lists as items.
-fn push_all_arguments(text: &mut Vec<u8>, arguments: &[Words]) -> Result<(), OutOfMemory>
-    ensures { OnOk result (text.new.items ≡ text.old.items ++ numbered (entry words_text) 0 arguments.now) }
-{
-    for (pid, words) in arguments.iter().enumerate() {
-        push_arguments(text, pid, words)?;
-    }
-    Ok(())
-}
-
-/// Appends the line of the key `memory`.
-fn push_memory_line(text: &mut Vec<u8>, memories: &[Memory]) -> Result<(), OutOfMemory>
-    ensures { OnOk result (text.new.items ≡ text.old.items ++ rows_line (codes "memory") memories.now) }
-{
-    text.extend_from_slice(b"memory = [")?;
-    push_memories(text, memories)?;
-    text.extend_from_slice(b"]\n")
-}
-
-/// Appends the line of the key `args`.
-fn push_args_line(text: &mut Vec<u8>, arguments: &[Words]) -> Result<(), OutOfMemory>
-    ensures { OnOk result (text.new.items ≡ text.old.items ++ rows_line (codes "args") arguments.now) }
-{
-    text.extend_from_slice(b"args = [")?;
-    push_all_arguments(text, arguments)?;
-    text.extend_from_slice(b"]\n")
+    text.extend_from_slice(key.as_bytes())?;
+    text.extend_from_slice(b" = ")?;
+    value.push_to(text)?;
+    text.extend_from_slice(b"\n")
 }
 
 /// Appends the document of an input, with this text of the keys that are the catalogue's own.
@@ -116,8 +100,8 @@ fn push_document(text: &mut Vec<u8>, own: &[u8], input: &Input) -> Result<(), Ou
     push_line(text, "limit =", &[input.limit])?;
     push_line(text, "g =", &[input.g])?;
     push_line(text, "l =", &[input.l])?;
-    push_memory_line(text, input.mems.as_slice())?;
-    push_args_line(text, input.args.as_slice())?;
+    push_key(text, "memory", &input.mems)?;
+    push_key(text, "args", &input.args)?;
     text.extend_from_slice(own)
 }
 

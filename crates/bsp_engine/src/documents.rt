@@ -35,11 +35,33 @@ fn answer<C: Catalogue, R: Threads + Sync, G: Gate>(
     Ok(report_for(crew, options.scratch, options.detail, job)?)
 }
 
+/// Writes the report of a document: all of it is made before the first write.
+fn write_report<C: Catalogue, R: Threads + Sync, K: Sink, G: Gate>(
+    crew: &Crew<'_, R, G>,
+    options: Options,
+    bytes: &[u8],
+    writer: &mut K,
+) -> Result<(), EngineError>
+    requires short { length bytes.now ≤ most_document_bytes }
+    requires sink { K.failures writer.old < 2 ^ 64 - 1 }
+    ensures answer { IsAnswered C.meaning C.Program.acts C.Program.ending C.Program.looks options.scratch options.detail bytes.now (K.contents writer.old) (K.contents writer.new) result }
+    ensures nothing { IfErr result (λ e. e ≢ EngineError.Write → writer.new ≡ writer.old) }
+    ensures read { result ≢ Err EngineError.Read }
+    ensures write_failed { result ≡ Err EngineError.Write → K.failures writer.new ≡ K.failures writer.old + 1 }
+    ensures write_calm { result ≢ Err EngineError.Write → K.failures writer.new ≡ K.failures writer.old }
+{
+    let text = answer::<C, _, _>(crew, bytes, options)?;
+    match write_text(writer, text.as_slice()) {
+        Ok(()) => Ok(()),
+        Err(_) => Err(EngineError::Write),
+    }
+}
+
 /// Reads a document to its end, runs its job by 1 to 16 workers, and writes the report: all of it is made before the first write.
 ///
 /// From scratch each input is run from its start on the calling thread, and the report has no updates. With places each update tells its own, and with
 /// changes each block after the first only what is another than before.
-/// At most 16,777,217 bytes are taken from the reader, and more than 16,777,216 are `TooLong`. Others are left in `document`.
+/// At most 16,777,217 bytes are taken from the reader, and more than 16,777,216 are `TooLong`. The document is left in `document`.
 /// `Job` is answered where the bytes are no job, `Read` where a read failed, `Write` where a write failed or took no byte; then a beginning of
 /// the report went out. After every other error nothing was written.
 pub fn engine<C: Catalogue, R: Threads + Sync, S: Source, K: Sink, G: Gate>(
@@ -73,17 +95,12 @@ pub fn engine<C: Catalogue, R: Threads + Sync, S: Source, K: Sink, G: Gate>(
     ensures write_failed { result ≡ Err EngineError.Write → K.failures writer.new ≡ K.failures writer.old + 1 }
     ensures write_calm { result ≢ Err EngineError.Write → K.failures writer.new ≡ K.failures writer.old }
 {
-    let bytes = read_all(alloc, reader)?;
-    *document = bytes;
+    read_all(reader, document)?;
     let crew = Crew {
         rt,
         alloc,
         workers: options.workers,
         gate,
     };
-    let text = answer::<C, _, _>(&crew, document.as_slice(), options)?;
-    match write_text(writer, text.as_slice()) {
-        Ok(()) => Ok(()),
-        Err(_) => Err(EngineError::Write),
-    }
+    write_report::<C, _, _, _>(&crew, options, document.as_slice(), writer)
 }

@@ -3,9 +3,8 @@
 ghost use Rattle.std.specs.Prelude.{◌≡◌};
 ghost use Rattle.bsp_engine.specs.declared.errors.JobError.TheVariants.{OutOfMemory as RefusedMemory};
 ghost use Rattle.bsp_engine.specs.Faults.{fault_line, exit_status};
-ghost use Rattle.bsp_engine.specs.Inside.Refusal.{job_error_of, read_error_of};
+ghost use Rattle.bsp_engine.specs.Inside.Refusal.{job_error_of};
 
-use crate::reading::ReadError;
 use bsp_model::{InputFault, OutOfMemory};
 use thiserror::Error;
 
@@ -69,18 +68,6 @@ impl From<JobError> for EngineError {
         match error {
             JobError::Fault(fault) => EngineError::Job(fault),
             JobError::OutOfMemory => EngineError::OutOfMemory,
-        }
-    }
-}
-
-impl From<ReadError> for EngineError {
-    ghost from_gives = { λ e r. r ≡ read_error_of e };
-
-    fn from(error: ReadError) -> EngineError {
-        match error {
-            ReadError::Failed => EngineError::Read,
-            ReadError::TooLong => EngineError::TooLong,
-            ReadError::OutOfMemory => EngineError::OutOfMemory,
         }
     }
 }

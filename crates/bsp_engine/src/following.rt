@@ -54,7 +54,9 @@ fn follow_document<C: Catalogue, R: Threads + Sync, T: Terminal, G: Gate>(
     ensures write { result ≡ Err EngineError.Write → HasNotWritten (T.log terminal.new) }
 {
     let mut attendant = attendant_of::<C, _, _>(crew, detail, bytes)?;
-    talk(crew, &mut attendant, terminal)
+    let talked = talk(crew, &mut attendant, terminal);
+    drop(attendant);
+    talked
 }
 
 /// Reads a document to its end, says its report and a line `ready`, and then answers each line that is heard with a block, until there are no more.
@@ -90,8 +92,7 @@ pub fn follow<C: Catalogue, R: Threads + Sync, S: Source, T: Terminal, G: Gate>(
     ensures read_calm { result ≢ Err EngineError.Read → S.failures source.new ≡ S.failures source.old }
     ensures write_failed { result ≡ Err EngineError.Write → HasNotWritten (T.log terminal.new) }
 {
-    let bytes = read_all(alloc, source)?;
-    *document = bytes;
+    read_all(source, document)?;
     let crew = Crew {
         rt,
         alloc,

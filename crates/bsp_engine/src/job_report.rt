@@ -1,6 +1,6 @@
 //! The report of a job.
 
-ghost use Rattle.std.specs.Prelude.{◌≡◌, ◌++◌, IfOk, OnOk, None, false, true};
+ghost use Rattle.std.specs.Prelude.{◌≡◌, IfOk, None, false, true};
 ghost use Rattle.bsp_model.specs.Input.{input_fault};
 ghost use Rattle.bsp_engine.specs.Blocks.{text_of};
 ghost use Rattle.bsp_engine.specs.Inside.Replies.{replies_of};
@@ -49,23 +49,7 @@ fn scratch_report<P: Program + Drop>(
     report(alloc, replies.as_slice(), detail)
 }
 
-/// Appends the report of a job, as that of a session, which is let go.
-fn push_session_report<P: Program + Drop, R: Threads + Sync, G: Gate>(
-    crew: &Crew<'_, R, G>,
-    detail: Detail,
-    job: Job<P>,
-    text: &mut Vec<u8>,
-) -> Result<(), OutOfMemory>
-    requires lawful { input_fault job.input ≡ None }
-    ensures { OnOk result (text.new.items ≡ text.old.items ++ text_of detail (replies_of P.acts P.ending P.looks false job)) }
-{
-    match begin(crew, detail, job, text, b"") {
-        Ok(_) => Ok(()),
-        Err(error) => Err(error),
-    }
-}
-
-/// The report of a job, as that of a session.
+/// The report of a job, as that of a session, which is let go.
 fn session_report<P: Program + Drop, R: Threads + Sync, G: Gate>(
     crew: &Crew<'_, R, G>,
     detail: Detail,
@@ -75,8 +59,13 @@ fn session_report<P: Program + Drop, R: Threads + Sync, G: Gate>(
     ensures { IfOk result (λ text. text.items ≡ text_of detail (replies_of P.acts P.ending P.looks false job)) }
 {
     let mut text = Vec::with_capacity(crew.alloc, ROOM_OF_A_BLOCK)?;
-    push_session_report(crew, detail, job, &mut text)?;
-    Ok(text)
+    match begin(crew, detail, job, &mut text, b"") {
+        Ok(live) => {
+            drop(live);
+            Ok(text)
+        }
+        Err(error) => Err(error),
+    }
 }
 
 /// The report of a job, by a session or from scratch.

@@ -2,15 +2,15 @@
 //!
 //! A document is read in this order: its tree (`tree`, J1), the keys and the shapes of their values (`keys`, `shapes`; J2 to J4), whether its
 //! keys say a program (J5), the sizes of the input (`sizes`, J6), and the signs of the numbers (`signs`, J7). The first fault is answered with its
-//! place (`wrong`). Where there is none, and only then, the values are made (the catalogue's program, `inputs`, `batches`).
+//! place (`wrong`). Where there is none, and only then, the values are made (the catalogue's program, `inputs`, `values`).
 
-mod batches;
 mod inputs;
 mod keys;
 mod own;
 mod shapes;
 mod signs;
 mod sizes;
+mod values;
 mod wrong;
 
 ghost use Rattle.std.specs.Prelude.{◌≡◌, IfOk, IfErr, IsSomeAnd, None, OnOk, Some, Ok, Err};
@@ -24,9 +24,7 @@ ghost use Rattle.bsp_engine.specs.Tree.{tree_of};
 
 use crate::catalogue::Catalogue;
 use crate::errors::{JobError, JobFault};
-use crate::tree::read_tree;
-pub use batches::batch_in;
-use batches::read_batches;
+use crate::tree::{elements_at, read_tree};
 use bsp_incr::Batch;
 use bsp_model::{Input, Seq};
 use inputs::read_input;
@@ -39,6 +37,8 @@ use sizes::check_sizes;
 pub use sizes::count_of_args;
 use std::alloc::Global;
 use toml::Table;
+pub use values::Described;
+use values::read_all;
 pub use wrong::{Path, Wrong};
 
 /// A program, its input, over which a run may start, and batches of edits.
@@ -75,7 +75,7 @@ fn job_in<C: Catalogue>(alloc: Global, table: &Table) -> Result<Job<C::Program>,
     Ok(Job {
         program: C::program(alloc, table)?,
         input: read_input(alloc, table)?,
-        batches: read_batches(alloc, table)?,
+        batches: read_all(alloc, elements_at(table, "batches"))?,
     })
 }
 

@@ -196,25 +196,6 @@ fn tell_all<P: Program + Drop, R: Threads + Sync, G: Gate>(
     text.extend_from_slice(end)
 }
 
-/// Opens the session of a program, makes the batches, and appends the report and the end.
-fn start<P: Program + Drop, R: Threads + Sync, G: Gate>(
-    crew: &Crew<'_, R, G>,
-    detail: Detail,
-    program: P,
-    input: Input,
-    batches: &[Batch],
-    text: &mut Vec<u8>,
-    end: &[u8],
-) -> Result<Live<P>, OutOfMemory>
-    requires lawful { input_fault input ≡ None }
-    ensures live { IfOk result (λ live. live ≡ after_batches (opened detail.changes program input) batches.now) }
-    ensures text { OnOk result (text.new.items ≡ text.old.items ++ text_of detail (replies_of P.acts P.ending P.looks false (record { program = program; input = input; batches = batches.now })) ++ end.now) }
-{
-    let (mut live, update) = open(crew, program, input)?;
-    tell_all(crew, detail, &mut live, &update, batches, text, end)?;
-    Ok(live)
-}
-
 /// Opens the session of a job, makes its batches, and appends its report and the end.
 pub fn begin<P: Program + Drop, R: Threads + Sync, G: Gate>(
     crew: &Crew<'_, R, G>,
@@ -232,7 +213,17 @@ pub fn begin<P: Program + Drop, R: Threads + Sync, G: Gate>(
         input,
         batches,
     } = job;
-    start(crew, detail, program, input, batches.as_slice(), text, end)
+    let (mut live, update) = open(crew, program, input)?;
+    let told = tell_all(
+        crew,
+        detail,
+        &mut live,
+        &update,
+        batches.as_slice(),
+        text,
+        end,
+    );
+    told.and(Ok(live))
 }
 
 /// Takes the last accepted batch back that still stands, and appends what is answered.

@@ -3,13 +3,13 @@
 ghost use Rattle.std.specs.Prelude.{◌≡◌, ◌++◌, OnOk, codes};
 ghost use Rattle.std.specs.List.{flat_map};
 ghost use Rattle.bsp_engine.specs.Lines.{field, line, numbered};
-ghost use Rattle.bsp_engine.specs.Text.{fault_word, process_fault_line, sync_fault_word, status_lines, memory_line, print_lines, cost_line, result_lines, counts_line, update_places, update_lines, edit_fault_word, refusal_line};
+ghost use Rattle.bsp_engine.specs.Text.{fault_word, process_fault_line, sync_fault_word, status_lines, print_lines, cost_line, counts_line, update_places, update_lines, edit_fault_word, refusal_line};
 
-use crate::lines::{push_field, push_line, push_long_line, push_words_line};
+use crate::lines::{push_field, push_line, push_long_line};
 use crate::places::push_places;
 use bsp_incr::{EditFault, EditRefusal, Update};
-use bsp_model::{CostRow, Fault, Memories, OutOfMemory, SyncFault};
-use bsp_run::{Lines, ProcessFault, RunResult, Status};
+use bsp_model::{CostRow, Fault, OutOfMemory, SyncFault};
+use bsp_run::{Lines, ProcessFault, Status};
 
 fn fault_word(fault: Fault) -> &'static str
     ensures { result.now ≡ fault_word fault }
@@ -104,15 +104,6 @@ pub fn push_status(text: &mut Vec<u8>, status: &Status) -> Result<(), OutOfMemor
     }
 }
 
-fn push_memories(text: &mut Vec<u8>, memories: &Memories) -> Result<(), OutOfMemory>
-    ensures { OnOk result (text.new.items ≡ text.old.items ++ numbered memory_line 0 memories.now) }
-{
-    for pid in 0..memories.len() {
-        push_words_line(text, "memory", pid as u64, &memories.get(pid))?;
-    }
-    Ok(())
-}
-
 pub fn push_lines(text: &mut Vec<u8>, pid: u64, lines: &Lines) -> Result<(), OutOfMemory>
     ensures { OnOk result (text.new.items ≡ text.old.items ++ print_lines pid lines.now) }
 {
@@ -122,7 +113,8 @@ pub fn push_lines(text: &mut Vec<u8>, pid: u64, lines: &Lines) -> Result<(), Out
     Ok(())
 }
 
-fn push_all_lines(text: &mut Vec<u8>, lines: &[Lines]) -> Result<(), OutOfMemory>
+/// Appends the lines of each process.
+pub fn push_all_lines(text: &mut Vec<u8>, lines: &[Lines]) -> Result<(), OutOfMemory>
     ensures { OnOk result (text.new.items ≡ text.old.items ++ numbered print_lines 0 lines.now) }
 {
     for (pid, lines) in lines.iter().enumerate() {
@@ -135,26 +127,6 @@ pub fn push_cost(text: &mut Vec<u8>, step: u64, row: &CostRow) -> Result<(), Out
     ensures { OnOk result (text.new.items ≡ text.old.items ++ cost_line step row.now) }
 {
     push_line(text, "cost", &[step, row.work, row.h, row.cost])
-}
-
-fn push_costs(text: &mut Vec<u8>, costs: &[CostRow]) -> Result<(), OutOfMemory>
-    ensures { OnOk result (text.new.items ≡ text.old.items ++ numbered cost_line 0 costs.now) }
-{
-    for (step, row) in costs.iter().enumerate() {
-        push_cost(text, step as u64, row)?;
-    }
-    Ok(())
-}
-
-/// Appends all of a result.
-pub fn push_result(text: &mut Vec<u8>, run: &RunResult) -> Result<(), OutOfMemory>
-    ensures { OnOk result (text.new.items ≡ text.old.items ++ result_lines run.now) }
-{
-    push_status(text, &run.status)?;
-    push_memories(text, &run.memories)?;
-    push_all_lines(text, run.lines.as_slice())?;
-    push_costs(text, run.costs.as_slice())?;
-    push_line(text, "total", &[run.total])
 }
 
 fn push_counts(text: &mut Vec<u8>, executed: u64, redelivered: u64) -> Result<(), OutOfMemory>

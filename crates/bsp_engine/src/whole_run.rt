@@ -1,14 +1,44 @@
 //! All of a run, as a report tells it.
 
-ghost use Rattle.std.specs.Prelude.{◌≡◌, ◌++◌, IfOk, OnOk, is_some};
+ghost use Rattle.std.specs.Prelude.{◌≡◌, ◌++◌, IfOk, IfSome, OnOk, is_some};
 ghost use Rattle.bsp_run.specs.Result.{result_of};
 ghost use Rattle.bsp_engine.specs.Text.{result_lines};
 ghost use Rattle.bsp_engine.specs.Inside.Given.{IsResultIn};
 
+use crate::change_lines::{push_other_costs, push_other_memories};
 use crate::last::Last;
-use crate::reporting::push_result;
+use crate::lines::push_line;
+use crate::reporting::{push_all_lines, push_status};
 use bsp_model::OutOfMemory;
-use bsp_run::History;
+use bsp_run::{History, RunResult};
+
+/// Appends all of a result.
+pub fn push_result(text: &mut Vec<u8>, run: &RunResult) -> Result<(), OutOfMemory>
+    ensures { OnOk result (text.new.items ≡ text.old.items ++ result_lines run.now) }
+{
+    push_status(text, &run.status)?;
+    push_other_memories(text, None, &run.memories)?;
+    push_all_lines(text, run.lines.as_slice())?;
+    push_other_costs(text, &[], run.costs.as_slice())?;
+    push_line(text, "total", &[run.total])
+}
+
+/// Appends all of a result. Answers a copy of it, if that is asked for.
+fn push_copied(
+    text: &mut Vec<u8>,
+    asked: bool,
+    run: &RunResult,
+) -> Result<Option<Last>, OutOfMemory>
+    ensures text { OnOk result (text.new.items ≡ text.old.items ++ result_lines run.now) }
+    ensures is { IfOk result (λ r. IfSome r (λ last. last ≡ run.now)) }
+    ensures asked { IfOk result (λ r. is_some r ≡ asked) }
+{
+    push_result(text, run)?;
+    if !asked {
+        return Ok(None);
+    }
+    Ok(Some(Last::copy_of(*text.allocator(), run)?))
+}
 
 /// Appends all of what a history gives. Answers it too, if it is asked for.
 pub fn push_run(
@@ -21,9 +51,7 @@ pub fn push_run(
     ensures asked { IfOk result (λ r. is_some r ≡ asked) }
 {
     let run = history.result()?;
-    push_result(text, &run)?;
-    if !asked {
-        return Ok(None);
-    }
-    Ok(Some(Last::copy_of(*text.allocator(), &run)?))
+    let copied = push_copied(text, asked, &run);
+    drop(run);
+    copied
 }

@@ -47,6 +47,21 @@ fn words_of(table: &Table, wrong: &Wrong<'_>) -> usize {
     }
 }
 
+/// Which number of the described input is past its limits.
+fn number_line(
+    alloc: Global,
+    table: &Table,
+    wrong: &Wrong<'_>,
+    place: &str,
+) -> Result<String, OutOfMemory> {
+    let number = integer_at(table, wrong.key).unwrap_or(0);
+    let (name, least, most) = match wrong.key {
+        "limit" => ("I6", 1, MOST_SUPERSTEPS),
+        _ => ("I7", 0, HIGHEST_PRICE),
+    };
+    format!(in alloc; "{name}, {place}: {number}, not {least} to {most}")
+}
+
 /// Which size of the described input is past its limit.
 fn size_line(
     alloc: Global,
@@ -58,28 +73,17 @@ fn size_line(
     let processes = elements_at(table, "memory").len();
     let lists = count_of_args(table, processes);
     let words = words_of(table, wrong);
-    let number = integer_at(table, wrong.key).unwrap_or(0);
-    match fault {
-        InputFault::NoProcess => format!(in alloc; "I1, {place}: 0 processes, at least 1"),
-        InputFault::TooMany => {
-            format!(in alloc; "I2, {place}: {processes} processes, at most {MOST_PROCESSES}")
+    let (name, count, what, limit, end) = match fault {
+        InputFault::NoProcess => ("I1", 0, "processes, at least", 1, ""),
+        InputFault::TooMany => ("I2", processes, "processes, at most", MOST_PROCESSES, ""),
+        InputFault::LengthsDiffer => ("I3", lists, "lists for", processes, " processes"),
+        InputFault::MemoryTooLong => ("I4", words, "words, at most", MOST_MEMORY_WORDS, ""),
+        InputFault::ArgsTooLong => ("I5", words, "words, at most", MOST_ARGUMENTS, ""),
+        InputFault::BadLimit | InputFault::BadPrice => {
+            return number_line(alloc, table, wrong, place);
         }
-        InputFault::LengthsDiffer => {
-            format!(in alloc; "I3, {place}: {lists} lists for {processes} processes")
-        }
-        InputFault::MemoryTooLong => {
-            format!(in alloc; "I4, {place}: {words} words, at most {MOST_MEMORY_WORDS}")
-        }
-        InputFault::ArgsTooLong => {
-            format!(in alloc; "I5, {place}: {words} words, at most {MOST_ARGUMENTS}")
-        }
-        InputFault::BadLimit => {
-            format!(in alloc; "I6, {place}: {number}, not 1 to {MOST_SUPERSTEPS}")
-        }
-        InputFault::BadPrice => format!(in alloc;
-            "I7, {place}: {number}, not 0 to {HIGHEST_PRICE}"
-        ),
-    }
+    };
+    format!(in alloc; "{name}, {place}: {count} {what} {limit}{end}")
 }
 
 /// The line of what is wrong: the place, and the reason.

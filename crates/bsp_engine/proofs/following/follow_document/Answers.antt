@@ -18,10 +18,10 @@ returns-in_err-attendant-clause-write g c = λ is. absurd (no_job_is_no_write c.
 pub returns-clause-answer : goal.returns-clause-answer
 returns-clause-answer g c =
     follows_job g.C.Catalogue.meaning g.C.Program.Program.acts g.C.Program.Program.ending g.C.Program.Program.looks c.args.detail c.args.bytes.now (due_from g.C.Program.Program.acts g.C.Program.Program.ending g.C.Program.Program.looks c.in_ok-attendant.attendant)
-    (g.T.Terminal.log c.args.terminal.now) (g.T.Terminal.log c.talk.new.terminal) (c.talk.new.terminal ≡ c.args.terminal.now) c.talk.result c.requires.short c.in_ok-attendant.ensures.ok c.talk.ensures
+    (g.T.Terminal.log c.args.terminal.now) (g.T.Terminal.log c.talk-talked.new.terminal) (c.talk-talked.new.terminal ≡ c.args.terminal.now) c.talk-talked.result c.requires.short c.in_ok-attendant.ensures.ok c.talk-talked.ensures
 
 pub returns-clause-read : goal.returns-clause-read
-returns-clause-read g c = reads_fail c.talk.result (due_from g.C.Program.Program.acts g.C.Program.Program.ending g.C.Program.Program.looks c.in_ok-attendant.attendant) (g.T.Terminal.log c.args.terminal.now) (g.T.Terminal.log c.talk.new.terminal) c.talk.ensures
+returns-clause-read g c = reads_fail c.talk-talked.result (due_from g.C.Program.Program.acts g.C.Program.Program.ending g.C.Program.Program.looks c.in_ok-attendant.attendant) (g.T.Terminal.log c.args.terminal.now) (g.T.Terminal.log c.talk-talked.new.terminal) c.talk-talked.ensures
 
 pub returns-clause-write : goal.returns-clause-write
-returns-clause-write g c = writes_fail c.talk.result (due_from g.C.Program.Program.acts g.C.Program.Program.ending g.C.Program.Program.looks c.in_ok-attendant.attendant) (g.T.Terminal.log c.args.terminal.now) (g.T.Terminal.log c.talk.new.terminal) c.talk.ensures
+returns-clause-write g c = writes_fail c.talk-talked.result (due_from g.C.Program.Program.acts g.C.Program.Program.ending g.C.Program.Program.looks c.in_ok-attendant.attendant) (g.T.Terminal.log c.args.terminal.now) (g.T.Terminal.log c.talk-talked.new.terminal) c.talk-talked.ensures

@@ -4,4 +4,4 @@ use Rattle.bsp_engine.proofs.reading.read_all.Goals as goal
 
 pub returns-in_err-read_some-clause-taken : goal.returns-in_err-read_some-clause-taken
 returns-in_err-read_some-clause-taken g c =
-    takes_more _ _ _ c.loop-source.bytes.items (16777217 - length c.loop-source.bytes.items) 16777217 c.loop-source.invariant.read c.read_some.ensures.taken (omega arith)
+    takes_more _ _ _ c.loop-source.document.items (16777217 - length c.loop-source.document.items) 16777217 c.loop-source.invariant.read c.read_some.ensures.taken (omega arith)

@@ -4,10 +4,10 @@ use Rattle.bsp_engine.proofs.reading.read_all.Given as goal
 
 abbrev pub invariant-loop-source : goal.invariant-loop-source
 invariant-loop-source g l = record {
-  within : length l.bytes.items ≤ 16777217;
-  read : Consumes (g.S.Source.remaining l.initial.source) (g.S.Source.remaining l.source) l.bytes.items;
+  within : length l.document.items ≤ 16777217;
+  read : Consumes (g.S.Source.remaining l.initial.source) (g.S.Source.remaining l.source) l.document.items;
   failures : g.S.Source.failures l.source ≡ g.S.Source.failures l.initial.source;
 }
 
 abbrev pub decreases-loop-source : goal.decreases-loop-source
-decreases-loop-source g l = 16777217 - length l.bytes.items
+decreases-loop-source g l = 16777217 - length l.document.items

@@ -1,7 +1,0 @@
-use Rattle.std.proofs.Common.{◌≡◌, ◌++◌, take}
-use Rattle.bsp_engine.specs.Lines.{numbered}
-use Rattle.bsp_engine.specs.Text.{cost_line}
-use Rattle.bsp_engine.proofs.reporting.push_costs.Given as goal
-
-abbrev pub invariant-loop-step : goal.invariant-loop-step
-invariant-loop-step l = l.text.items ≡ l.initial.text.items ++ numbered cost_line 0 (take l.step l.costs)
