@@ -12,8 +12,6 @@ use Rattle.bsp_table.specs.declared.area.Area.{Area}
 use Rattle.bsp_table.specs.NextTable.{IsSlotInside}
 use Rattle.bsp_step.specs.ViewParts.{ViewParts, IsQueue, IsTableFor, IsShortMessage}
 use Rattle.bsp_deliver.specs.Condition.{AreDeliverable}
-use Rattle.bsp_step.specs.OutcomeParts.{OutcomeParts}
-use Rattle.bsp_run.specs.declared.phase.Phase.TheVariants.{Open}
 use Rattle.bsp_run.specs.declared.setting.Setting.{Setting}
 use Rattle.bsp_run.specs.declared.superstep.Superstep.{Superstep}
 use Rattle.bsp_run.specs.State.{State, cell_of, first_state, no_messages, view_of, views_of}

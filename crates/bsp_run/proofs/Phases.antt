@@ -1,5 +1,5 @@
 -- What a run keeps from phase to phase.
-use Rattle.std.proofs.Common.{◌≡◌, ◌≤◌, ◌<◌, ◌+◌, ℕ, List, [], ◌∷◌, ◌++◌, map, length, arith, refl, sym, ap, ◌∙◌, subst, Option, Some, None, ◌==◌, Bool, true, false, cond, length-append}
+use Rattle.std.proofs.Common.{◌≡◌, ◌≤◌, ◌<◌, ◌+◌, ℕ, List, [], ◌∷◌, map, length, arith, refl, sym, ap, ◌∙◌, subst, Option, Some, None, ◌==◌, Bool, true, false, cond, length-append}
 use Rattle.std.specs.Prelude.{is_some, not, ◌&&◌}
 use Rattle.std.specs.List.{list_any, range_with_len}
 use Rattle.bsp_model.specs.declared.request.Message.{Message}
@@ -12,7 +12,7 @@ use Rattle.std.proofs.lemmas.Bool.Decides.{nat_tests}
 use Rattle.bsp_table.specs.declared.area.Area.{Area}
 use Rattle.bsp_table.specs.NextTable.{AreFull, AreSlotsInside, ArePushesInside, AreWithin, next_table, table_fault, are_alike}
 use Rattle.bsp_table.proofs.NextTables.{full_after, few_after, inside_after, within_after}
-use Rattle.bsp_step.specs.ViewParts.{ViewParts, IsQueue}
+use Rattle.bsp_step.specs.ViewParts.{IsQueue}
 use Rattle.bsp_step.specs.OutcomeParts.{OutcomeParts}
 use Rattle.bsp_deliver.specs.Requests.{each_below}
 use Rattle.bsp_deliver.specs.Delivery.{delivery_parts, next_memory, next_queue}
@@ -21,7 +21,6 @@ use Rattle.bsp_deliver.specs.SyncFault.{sync_fault, is_sync, same_tag, next_tag_
 use Rattle.bsp_run.specs.declared.result.ProcessFault.{ProcessFault}
 use Rattle.bsp_run.specs.declared.result.Status.{Status}
 use Rattle.bsp_run.specs.declared.result.Status.TheVariants.{Halted, Limit, Faulted, SyncFaulted}
-use Rattle.bsp_run.specs.declared.phase.Phase.{Phase}
 use Rattle.bsp_run.specs.declared.phase.Phase.TheVariants.{Open, Turned, Ended}
 use Rattle.bsp_run.specs.declared.superstep.Superstep.{Superstep}
 use Rattle.bsp_run.specs.State.{State, views_of, next_state, pops_of, pushes_of}
@@ -31,7 +30,7 @@ use Rattle.bsp_run.specs.Inside.Opening.{CanOpen, state_of}
 use Rattle.bsp_run.specs.Condition.{deliveries_of, IsState, IsRun, IsInPhase, IsTurned, IsOpen, AreOutcomesOf}
 use Rattle.bsp_run.specs.Inside.Condition.{CanSync, IsNextTable}
 use Rattle.bsp_run.proofs.Lists.{map_twice}
-use Rattle.bsp_run.proofs.Opens.{can_open, reopened, state_seen}
+use Rattle.bsp_run.proofs.Opens.{can_open}
 use Rattle.bsp_run.proofs.Conditions.{count_of_outcomes, sizes, sizes-same, outcome_at, AreDeliverable-from_turns, pops_are_slots, pushes_are_inside, pushes_within}
 use Rattle.bsp_run.proofs.Deliveries.{All-each_below, length-next_memory, queue_within, tag_within, sizes-next}
 

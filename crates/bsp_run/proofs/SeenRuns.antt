@@ -1,5 +1,5 @@
 -- A run is read off the views of its open superstep.
-use Rattle.std.proofs.Common.{◌≡◌, ◌≤◌, ◌+◌, ◌∙◌, ◌==◌, ◌++◌, ◌∷◌, ℕ, List, [], length, length-append, cond, get_or, sym, ap, refl}
+use Rattle.std.proofs.Common.{◌≡◌, ◌+◌, ◌∙◌, ◌==◌, ◌++◌, ◌∷◌, ℕ, List, [], length, length-append, cond, get_or, sym, ap, refl}
 use Rattle.bsp_model.specs.declared.input.Input.{Input}
 use Rattle.bsp_model.specs.Inside.LawfulInput.{IsLawfulInput}
 use Rattle.bsp_step.specs.ViewParts.{ViewParts}
@@ -8,7 +8,7 @@ use Rattle.bsp_run.specs.declared.superstep.Superstep.{Superstep}
 use Rattle.bsp_run.specs.declared.phase.Phase.{Phase}
 use Rattle.bsp_run.specs.declared.phase.Phase.TheVariants.{Open, Ended}
 use Rattle.bsp_run.specs.declared.result.Status.TheVariants.{Limit}
-use Rattle.bsp_run.specs.State.{State, next_state, view_of, views_of}
+use Rattle.bsp_run.specs.State.{next_state, view_of, views_of}
 use Rattle.bsp_run.specs.Run.{Run, start, open_views, after_delivery}
 use Rattle.bsp_run.specs.Setting.{next_views}
 use Rattle.bsp_run.specs.Condition.{IsRun, no_view}

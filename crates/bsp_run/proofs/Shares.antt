@@ -11,13 +11,11 @@ use Rattle.bsp_step.specs.Act.{Act}
 use Rattle.bsp_step.specs.Turn.{turn_of}
 use Rattle.bsp_run.specs.declared.phase.Phase.TheVariants.{Open}
 use Rattle.bsp_run.specs.Run.{Run, open_views, after_turns, after_delivery, advance}
-use Rattle.bsp_deliver.specs.Condition.{IsAscending}
 use Rattle.bsp_run.specs.Condition.{AreOutcomesOf, no_view, is_turned, deliveries_of}
-use Rattle.bsp_run.specs.Supersteps.{superstep_shown}
 use Rattle.bsp_run.specs.Shares.{turns_of, deliveries_to}
-use Rattle.bsp_run.proofs.Runs.{advance-delivers, advance-ends, outcomes_shown-turned, turned_phase_is}
+use Rattle.bsp_run.proofs.Runs.{advance-delivers, advance-ends}
 use Rattle.bsp_run.specs.Inside.Turns.{AreTurnsOf}
-use Rattle.bsp_run.proofs.Lists.{range_ascending, range_below}
+use Rattle.bsp_run.proofs.Lists.{range_below}
 use Rattle.bsp_run.proofs.Turns.{AreOutcomesOf-turns}
 
 -- the turns of all processes, by number, are those of all views

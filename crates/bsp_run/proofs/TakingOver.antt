@@ -2,21 +2,19 @@
 use Rattle.std.proofs.Common.{◌≡◌, ◌<◌, ◌+◌, ◌*◌, ◌∙◌, ℕ, List, [], ◌∷◌, ◌++◌, None, length, map, cond, ◌==◌, arith, get_or, refl, sym, ap, subst}
 use Rattle.std.proofs.lemmas.List.{get_or_default, get_or-map, length-map}
 use Rattle.bsp_model.specs.declared.cost.CostRow.{CostRow}
-use Rattle.bsp_table.specs.declared.area.Area.{Area}
 use Rattle.bsp_step.specs.ViewParts.{ViewParts}
 use Rattle.bsp_step.specs.OutcomeParts.{OutcomeParts}
 use Rattle.bsp_run.specs.declared.superstep.Superstep.{Superstep}
 use Rattle.bsp_run.specs.declared.phase.Phase.{Phase}
 use Rattle.bsp_run.specs.declared.phase.Phase.TheVariants.{Open, Turned, Ended}
 use Rattle.bsp_run.specs.declared.result.Status.TheVariants.{Limit}
-use Rattle.bsp_run.specs.State.{State, next_state, view_of, views_of}
+use Rattle.bsp_run.specs.State.{next_state, views_of}
 use Rattle.bsp_deliver.specs.Cost.{h_relation}
 use Rattle.bsp_run.specs.Result.{largest_work, cost_of_delivery}
 use Rattle.bsp_run.specs.Supersteps.{no_superstep, superstep_at, outcomes_of}
-use Rattle.bsp_run.specs.Inside.Opening.{state_of}
 use Rattle.bsp_run.specs.Ending.{end_of}
 use Rattle.bsp_run.specs.Run.{Run, open_views, after_turns, after_delivery, phase_after}
-use Rattle.bsp_run.specs.Condition.{IsRun, IsInPhase, IsOpen, AreOutcomesOf, deliveries_of, no_view}
+use Rattle.bsp_run.specs.Condition.{IsRun, IsInPhase, IsOpen, AreOutcomesOf}
 use Rattle.bsp_run.specs.Inside.Tape.{args_in, state_in}
 use Rattle.bsp_run.proofs.Phases.{turned_is_run, next_is_run}
 use Rattle.bsp_run.proofs.SeenRuns.{delivered_is, views_then}

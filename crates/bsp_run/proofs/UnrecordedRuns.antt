@@ -1,5 +1,5 @@
 -- Runs of which no record is kept.
-use Rattle.std.proofs.Common.{◌≡◌, ◌≢◌, ◌≤◌, ◌<◌, ◌+◌, ◌==◌, ◌++◌, ◌∷◌, ℕ, suc, Bool, true, false, cond, List, [], map, length, Option, None, Some, refl, sym, ap, ◌∙◌, subst, arith, length-append}
+use Rattle.std.proofs.Common.{◌≡◌, ◌≤◌, ◌<◌, ◌+◌, ◌==◌, ◌++◌, ◌∷◌, ℕ, Bool, true, false, cond, List, [], map, length, Option, None, Some, refl, sym, ap, ◌∙◌, subst, arith, length-append}
 use Rattle.std.specs.Prelude.{is_some, option_to_list}
 use Rattle.std.specs.List.{range_with_len}
 use Rattle.std.proofs.lemmas.Grind.{flat_map-append}
@@ -28,7 +28,7 @@ use Rattle.bsp_run.specs.Ending.{end_of}
 use Rattle.bsp_run.specs.Supersteps.{outcomes_of, last_superstep, supersteps_of}
 use Rattle.bsp_run.specs.Run.{Run, start, open_views, after_turns, after_delivery, phase_after, is_limit, advance, times, run}
 use Rattle.bsp_run.specs.Setting.{next_views}
-use Rattle.bsp_run.specs.Condition.{AreOutcomesOf, IsEnd, IsInPhase, IsTurned, is_open, is_turned, is_ended}
+use Rattle.bsp_run.specs.Condition.{AreOutcomesOf, IsEnd, IsInPhase, IsTurned, is_turned, is_ended}
 use Rattle.bsp_run.specs.Result.{status_in, status_of, memories_of, lines_of, lines_of_process, costs_of, cost_of_delivery, cost_of_end, total_of, result_of}
 use Rattle.bsp_run.specs.Inside.Printed.{lines_and, lines_in, AreLinesAnd}
 use Rattle.bsp_run.specs.Inside.Settings.{AreTurned}

@@ -2,18 +2,14 @@ use Rattle.std.proofs.Common.{◌≡◌, ◌∙◌, ◌<◌, ℕ, All, List, ap,
 use Rattle.std.specs.Prelude.{is_some}
 use Rattle.std.proofs.lemmas.Bool.Decides.{nat_tests}
 use Rattle.std.proofs.lemmas.List.FromFn.{length-range_with_len}
-use Rattle.bsp_step.specs.OutcomeParts.{OutcomeParts}
-use Rattle.bsp_table.specs.declared.area.Area.{Area}
 use Rattle.bsp_deliver.specs.Condition.{AreDeliverable, IsAscending}
 use Rattle.bsp_deliver.proofs.AllProcesses.{all_known, all_ascending}
 use Rattle.bsp_run.specs.Run.{Run}
 use Rattle.bsp_run.specs.Condition.{IsTurned, deliveries_of}
-use Rattle.bsp_run.specs.Inside.Condition.{CanSync}
 use Rattle.bsp_run.specs.Inside.Settings.{AreTurned}
 use Rattle.bsp_run.proofs.Conditions.{AreDeliverable-from_turns}
 use Rattle.bsp_run.proofs.NextViews.{opens_next, views_next}
-use Rattle.bsp_run.proofs.Phases.{can_sync, is_turned_run}
-use Rattle.bsp_run.proofs.Settings.{open_setting, setting_next}
+use Rattle.bsp_run.proofs.Phases.{is_turned_run}
 use Rattle.bsp_run.proofs.Shares.{deliveries_made}
 use Rattle.bsp_run.proofs.unrecorded.next_views.Goals as goal
 

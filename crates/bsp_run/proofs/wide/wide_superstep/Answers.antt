@@ -1,7 +1,6 @@
 use Rattle.std.proofs.Common.{◌≡◌, ◌∙◌, List, OnOk, length, ap, refl, subst, sym}
 use Rattle.std.specs.List.{range_with_len}
 use Rattle.bsp_step.specs.ViewParts.{ViewParts}
-use Rattle.bsp_step.specs.OutcomeParts.{OutcomeParts}
 use Rattle.bsp_step.specs.Turn.{turn_of}
 use Rattle.bsp_run.specs.Run.{Run, after_delivery, advance}
 use Rattle.bsp_run.proofs.Runs.{open_phase, turned_phase_is}

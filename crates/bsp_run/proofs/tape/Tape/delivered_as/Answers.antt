@@ -1,6 +1,5 @@
-use Rattle.std.proofs.Common.{◌≡◌, ◌+◌, ◌∙◌, All, List, ap, sym, subst, length, arith}
+use Rattle.std.proofs.Common.{◌≡◌, ◌+◌, ◌∙◌, All, ap, sym, subst, length, arith}
 use Rattle.std.proofs.lemmas.List.Elements.{All-push}
-use Rattle.bsp_step.specs.ViewParts.{ViewParts}
 use Rattle.bsp_run.specs.Run.{Run, open_views, after_delivery}
 use Rattle.bsp_run.specs.Setting.{next_views}
 use Rattle.bsp_run.specs.Inside.Tape.{run_of}

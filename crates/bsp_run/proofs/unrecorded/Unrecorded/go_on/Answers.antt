@@ -1,5 +1,4 @@
 use Rattle.std.proofs.Common.{◌∙◌, refl, arith}
-use Rattle.bsp_run.specs.Run.{Run}
 use Rattle.bsp_run.specs.declared.phase.Phase.TheVariants.{Turned}
 use Rattle.bsp_run.specs.Inside.IsUnrecorded.{IsUnrecordedIn}
 use Rattle.bsp_run.proofs.UnrecordedRuns.{are_turned, as_many, unrecorded_delivered}

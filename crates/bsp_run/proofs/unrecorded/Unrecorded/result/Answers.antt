@@ -1,4 +1,4 @@
-use Rattle.std.proofs.Common.{◌≡◌, ◌∙◌, Option, Some, None, sym, subst}
+use Rattle.std.proofs.Common.{◌∙◌, Option, Some, None, sym, subst}
 use Rattle.bsp_run.specs.declared.result.Status.{Status}
 use Rattle.bsp_run.specs.Inside.IsUnrecorded.{HasEnded}
 use Rattle.bsp_run.proofs.unrecorded.Unrecorded.result.Goals as goal
