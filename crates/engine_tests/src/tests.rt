@@ -1,6 +1,8 @@
-//! What no clause says and no document shows: failing readers and writers, and workers that meet.
+//! What no clause says and no document shows: failing readers and writers, live sessions at a terminal with a log, and workers that meet.
 
 mod bundled;
 mod failing;
 mod failures;
+mod following;
+mod logged;
 mod workers;

@@ -10,7 +10,7 @@ use std::alloc::Global;
 use std::thread::Threads;
 
 /// The bundled programs by their names.
-struct BundledPrograms;
+pub struct BundledPrograms;
 
 impl ByName for BundledPrograms {
     ghost use Rattle.bsp_programs.specs.Bundled.{program_named};
@@ -25,7 +25,7 @@ impl ByName for BundledPrograms {
 }
 
 /// The catalogue of the bundled programs.
-type AllBundled = Named<BundledPrograms>;
+pub type AllBundled = Named<BundledPrograms>;
 
 /// How a document is read, and its report written.
 #[derive(Clone, Copy)]
@@ -47,6 +47,16 @@ pub const STEADY: Flow = Flow {
     takes_none: false,
 };
 
+/// One worker, and whole blocks alone.
+pub const ONE_WORKER: Options = Options {
+    workers: 1,
+    scratch: false,
+    detail: Detail {
+        places: false,
+        changes: false,
+    },
+};
+
 /// Whether the engine with the bundled programs writes these bytes for a document, and ends so, after one failure where it ends by an error.
 pub fn writes<R: Threads + Sync, G: Gate>(
     rt: &R,
@@ -65,11 +75,7 @@ pub fn writes<R: Threads + Sync, G: Gate>(
     let mut left = Vec::new(alloc);
     let options = Options {
         workers,
-        scratch: false,
-        detail: Detail {
-            places: false,
-            changes: false,
-        },
+        ..ONE_WORKER
     };
     let done = engine::<AllBundled, _, _, _, _>(
         rt,
