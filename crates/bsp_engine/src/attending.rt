@@ -1,16 +1,20 @@
 //! Who answers the lines of a live session, one after the other.
 
-ghost use Rattle.std.specs.Prelude.{◌≡◌, ◌∷◌, ◌++◌, List, ℕ, IfOk, OnOk, None, false};
-ghost use Rattle.bsp_model.specs.Input.{input_fault};
+ghost use Rattle.std.specs.Prelude.{◌≡◌, ◌∷◌, ◌++◌, List, ℕ, IfErr, IfOk, IsOkAnd, OnOk, Err, false};
 ghost use Rattle.bsp_engine.specs.Asked.{asked_of, is_document};
+ghost use Rattle.bsp_engine.specs.Document.{WithOwnText};
+ghost use Rattle.bsp_engine.specs.JobOf.{job_of};
+ghost use Rattle.bsp_engine.specs.Refusal.{IfFault};
 ghost use Rattle.bsp_engine.specs.Inside.DueAt.{due_at, due_from};
 ghost use Rattle.bsp_engine.specs.Inside.LiveReplies.{live_replying};
 ghost use Rattle.bsp_engine.specs.Live.{after, answer_block, answer_to, due_of, last_result};
 
 use crate::asking::{asked_of, is_document};
+use crate::catalogue::Catalogue;
 use crate::crew::Crew;
 use crate::document::put_document;
-use crate::jobs::Job;
+use crate::errors::JobError;
+use crate::jobs::read_job_and_keys;
 use crate::lines::push_line;
 use crate::live::{Live, begin, push_answer};
 use crate::options::Detail;
@@ -33,16 +37,18 @@ pub struct Attendant<P: Program> {
     pub text: Vec<u8>,
 }
 
-/// Who answers the lines of a job's session. The first text is to be said next; `own` is the text of the keys that are the catalogue's own.
-pub fn attendant_for<P: Program + Drop, R: Threads + Sync, G: Gate>(
+/// Who answers the lines of a document's session. The first text is to be said next.
+pub fn attendant_of<C: Catalogue, R: Threads + Sync, G: Gate>(
     crew: &Crew<'_, R, G>,
     detail: Detail,
-    job: Job<P>,
-    own: Vec<u8>,
-) -> Result<Attendant<P>, OutOfMemory>
-    requires lawful { input_fault job.input ≡ None }
-    ensures { IfOk result (λ attendant. due_from P.acts P.ending P.looks attendant ≡ due_of P.acts P.ending (live_replying P.acts P.ending P.looks) detail own.items job) }
+    bytes: &[u8],
+) -> Result<Attendant<C::Program>, JobError>
+    ensures ok { IfOk result (λ attendant. IsOkAnd (job_of C.meaning bytes.now) (λ job. WithOwnText bytes.now (λ own.
+        due_from C.Program.acts C.Program.ending C.Program.looks attendant
+        ≡ due_of C.Program.acts C.Program.ending (live_replying C.Program.acts C.Program.ending C.Program.looks) detail own job))) }
+    ensures fault { IfErr result (λ e. IfFault e (λ f. job_of C.meaning bytes.now ≡ Err f)) }
 {
+    let (job, own) = read_job_and_keys::<C>(crew.alloc, bytes)?;
     let last = job.batches.len() as u64;
     let mut text = Vec::new(crew.alloc);
     let live = begin(crew, detail, job, &mut text, b"ready\n")?;

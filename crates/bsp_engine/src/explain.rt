@@ -15,8 +15,7 @@ fn escaped(alloc: Global, text: &str) -> Result<String, OutOfMemory> {
     let mut line = String::new(alloc);
     for c in text.chars() {
         if c.is_control() {
-            let code = format!(in alloc; "\\u{{{:x}}}", c as u32)?;
-            line.push_str(code.as_str())?;
+            write!(line, "\\u{{{:x}}}", c as u32)?;
         } else {
             line.push(c)?;
         }
@@ -41,12 +40,11 @@ pub fn explanation<C: Catalogue>(
     alloc: Global,
     document: &[u8],
 ) -> Result<Option<String>, OutOfMemory> {
-    let line = match std::str::from_utf8(document) {
-        Ok(text) => text_line::<C>(alloc, text)?,
-        Err(error) => Some(format!(in alloc; "byte {}: not UTF-8", error.valid_up_to())?),
-    };
-    match line {
-        Some(line) => Ok(Some(escaped(alloc, line.as_str())?)),
-        None => Ok(None),
+    match std::str::from_utf8(document) {
+        Ok(text) => text_line::<C>(alloc, text),
+        Err(error) => {
+            let place = error.valid_up_to();
+            Ok(Some(format!(in alloc; "byte {place}: not UTF-8")?))
+        }
     }
 }

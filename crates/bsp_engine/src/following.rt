@@ -1,22 +1,15 @@
 //! Live sessions: the report of a document, and then a block for each line that is heard.
 
-ghost use Rattle.std.specs.Prelude.{◌≡◌, ◌≢◌, ◌⊎◌, ◌<◌, ◌≤◌, ◌+◌, ◌-◌, ◌^◌, length, IfErr, IfOk, IfSome, IsOkAnd, Err};
-ghost use Rattle.bsp_engine.specs.Document.{WithOwnText};
+ghost use Rattle.std.specs.Prelude.{◌≡◌, ◌≢◌, ◌⊎◌, ◌<◌, ◌≤◌, ◌+◌, ◌-◌, ◌^◌, length, IfSome, Err};
 ghost use Rattle.bsp_engine.specs.Followed.{Follows};
-ghost use Rattle.bsp_engine.specs.JobOf.{job_of};
 ghost use Rattle.bsp_engine.specs.Limits.{most_document_bytes};
-ghost use Rattle.bsp_engine.specs.Live.{due_of};
-ghost use Rattle.bsp_engine.specs.Refusal.{IfFault};
-ghost use Rattle.bsp_engine.specs.Inside.DueAt.{due_from};
-ghost use Rattle.bsp_engine.specs.Inside.LiveReplies.{live_replying};
 ghost use Rattle.bsp_engine.specs.Talk.{HasFailed, HasNotWritten};
 
-use crate::attending::{Attendant, attendant_for};
+use crate::attending::attendant_of;
 use crate::catalogue::Catalogue;
 use crate::crew::Crew;
-use crate::errors::{EngineError, JobError, JobFault};
+use crate::errors::{EngineError, JobFault};
 use crate::flow::Source;
-use crate::jobs::read_job_and_keys;
 use crate::options::{Detail, Options};
 use crate::reading::read_all;
 use crate::talking::talk;
@@ -24,21 +17,6 @@ use crate::terminal::Terminal;
 use bsp_pool::Gate;
 use std::alloc::Global;
 use std::thread::Threads;
-
-/// Who answers the lines of a document's session.
-fn attendant_of<C: Catalogue, R: Threads + Sync, G: Gate>(
-    crew: &Crew<'_, R, G>,
-    detail: Detail,
-    bytes: &[u8],
-) -> Result<Attendant<C::Program>, JobError>
-    ensures ok { IfOk result (λ attendant. IsOkAnd (job_of C.meaning bytes.now) (λ job. WithOwnText bytes.now (λ own.
-        due_from C.Program.acts C.Program.ending C.Program.looks attendant
-        ≡ due_of C.Program.acts C.Program.ending (live_replying C.Program.acts C.Program.ending C.Program.looks) detail own job))) }
-    ensures fault { IfErr result (λ e. IfFault e (λ f. job_of C.meaning bytes.now ≡ Err f)) }
-{
-    let (job, own) = read_job_and_keys::<C>(crew.alloc, bytes)?;
-    Ok(attendant_for(crew, detail, job, own)?)
-}
 
 /// Says the report of a document, and then answers each line.
 fn follow_document<C: Catalogue, R: Threads + Sync, T: Terminal, G: Gate>(

@@ -131,32 +131,20 @@ fn follow_file<
     ended::<C, R>(rt, outcome, document.as_slice())
 }
 
-/// Runs the job of the document on standard input, or follows the file.
-fn run_asked<
-    C: Catalogue,
-    R: Alloc<A = Global> + Files + Input + Print + Eprint + Threads + Clock + Sync,
->(rt: &R, options: Options, followed: Option<&str>) -> ExitCode
-    requires workers { (0 < options.workers) × (options.workers ≤ 16) }
-{
-    match followed {
-        Some(_) if options.scratch => {
-            let _ = eprintln!(rt;
-                "error: the argument '--follow <FILE>' cannot be used with '--scratch'"
-            );
-            ExitCode::from(2)
-        }
-        Some(path) => follow_file::<C, R>(rt, options, path),
-        None => run_input::<C, R>(rt, options),
-    }
-}
-
 /// Does what the words ask for; the first word is the program's name.
 fn run_words<
     C: Catalogue,
     R: Alloc<A = Global> + Files + Input + Print + Eprint + Threads + Clock + Sync,
 >(rt: &R, tool: &Tool, words: &[&str]) -> ExitCode {
     match read_options(rt.alloc(), tool, words) {
-        Ok((options, followed)) => run_asked::<C, R>(rt, options, followed),
+        Ok((options, Some(_))) if options.scratch => {
+            let _ = eprintln!(rt;
+                "error: the argument '--follow <FILE>' cannot be used with '--scratch'"
+            );
+            ExitCode::from(2)
+        }
+        Ok((options, Some(path))) => follow_file::<C, R>(rt, options, path),
+        Ok((options, None)) => run_input::<C, R>(rt, options),
         Err(error) => refused(rt, error),
     }
 }

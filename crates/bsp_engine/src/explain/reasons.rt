@@ -1,5 +1,6 @@
 //! What is wrong with a document that is TOML, in words.
 
+use super::escaped;
 use crate::errors::JobFault;
 use crate::jobs::{Wrong, count_of_args};
 use crate::tree::{elements, elements_at, integer_at};
@@ -13,15 +14,16 @@ use toml::Table;
 /// The key, and where in its value the fault is. Batches count from 1, as their blocks do.
 fn place_of(alloc: Global, wrong: &Wrong<'_>) -> Result<String, OutOfMemory> {
     let key = wrong.key;
-    match (wrong.path.outer, wrong.path.inner) {
-        (None, _) => format!(in alloc; "{key}"),
-        (Some(batch), None) if key == "batches" => {
-            format!(in alloc; "batches, batch {}", batch.saturating_add(1))
-        }
-        (Some(batch), Some(edit)) if key == "batches" => {
-            format!(in alloc; "batches, batch {}, edit {edit}", batch.saturating_add(1))
-        }
-        (Some(pid), _) => format!(in alloc; "{key}, process {pid}"),
+    let Some(outer) = wrong.path.outer else {
+        return escaped(alloc, key);
+    };
+    if key != "batches" {
+        return format!(in alloc; "{key}, process {outer}");
+    }
+    let batch = outer.saturating_add(1);
+    match wrong.path.inner {
+        Some(edit) => format!(in alloc; "batches, batch {batch}, edit {edit}"),
+        None => format!(in alloc; "batches, batch {batch}"),
     }
 }
 

@@ -1,5 +1,6 @@
 //! Where a text is no TOML.
 
+use super::escaped;
 use bsp_model::OutOfMemory;
 use std::alloc::{AllocError, Global};
 
@@ -30,8 +31,8 @@ pub fn syntax_line(
     let bytes = text.as_bytes();
     let (line, column) = position_after(&bytes[..span.start.min(bytes.len())]);
     let reason = match error.message().split_once("\n") {
-        Some((first, _)) => first,
-        None => error.message(),
+        Some((first, _)) => escaped(alloc, first)?,
+        None => escaped(alloc, error.message())?,
     };
     format!(in alloc; "line {line}, column {column}: {reason}")
 }

@@ -50,13 +50,7 @@ fn check_shapes<C: Catalogue>(table: &Table) -> Result<(), Wrong<'static>>
 fn is_known_key<C: Catalogue>(key: &str) -> bool
     ensures { result ≡ is_known_key C.meaning key.now }
 {
-    C::is_key(key)
-        || key == "limit"
-        || key == "g"
-        || key == "l"
-        || key == "memory"
-        || key == "args"
-        || key == "batches"
+    C::is_key(key) || matches!(key, "limit" | "g" | "l" | "memory" | "args" | "batches")
 }
 
 /// The first key that nobody reads, by their order as texts.

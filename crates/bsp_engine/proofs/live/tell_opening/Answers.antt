@@ -1,4 +1,4 @@
-use Rattle.std.proofs.Common.{◌∷◌, [], None, Some, codes}
+use Rattle.std.proofs.Common.{◌∷◌, [], Some, codes}
 use Rattle.bsp_run.specs.Result.{result_of}
 use Rattle.bsp_engine.specs.Lines.{line}
 use Rattle.bsp_engine.specs.Text.{result_lines, update_lines}

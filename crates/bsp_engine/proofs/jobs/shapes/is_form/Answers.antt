@@ -1,7 +1,4 @@
-use Rattle.std.proofs.Common.{◌-◌, sym, ◌∙◌, map, take, drop, length}
-use Rattle.std.specs.List.{list_all}
-use Rattle.toml.specs.View.{view}
-use Rattle.bsp_engine.specs.Keys.{is_integer}
+use Rattle.std.proofs.Common.{sym, ◌∙◌}
 use Rattle.bsp_engine.proofs.Trees.{form_viewed}
 use Rattle.bsp_engine.proofs.Walks.{same_not}
 use Rattle.bsp_engine.proofs.jobs.shapes.is_form.Goals as goal
