@@ -125,7 +125,7 @@ fn asked_by(alloc: Global, document: &[u8]) -> Result<Asked, OutOfMemory>
     ensures { IfOk result (λ asked. asked ≡ asked_at (tree_of document.now)) }
 {
     match read_tree(alloc, document) {
-        Ok(table) => Ok(asked_at(alloc, &table)?),
+        Ok(table) => asked_at(alloc, &table),
         Err(JobError::Fault(_)) => Ok(Asked::Nothing(Unread::NotToml)),
         Err(JobError::OutOfMemory) => Err(AllocError),
     }
@@ -143,5 +143,5 @@ pub fn asked_of(alloc: Global, line: &[u8]) -> Result<Asked, OutOfMemory>
         return Ok(Asked::Undo);
     }
     let document = document_of(alloc, line)?;
-    Ok(asked_by(alloc, document.as_slice())?)
+    asked_by(alloc, document.as_slice())
 }

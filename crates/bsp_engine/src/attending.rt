@@ -100,10 +100,7 @@ fn write_next_block<P: Program + Drop, R: Threads + Sync, G: Gate>(
         return Err(AllocError);
     };
     attendant.last = number;
-    match write_block(crew, attendant, line) {
-        Ok(()) => Ok(()),
-        Err(error) => Err(error),
-    }
+    write_block(crew, attendant, line)
 }
 
 /// Writes the answer to a line, which has no LF.
@@ -116,11 +113,9 @@ pub fn respond<P: Program + Drop, R: Threads + Sync, G: Gate>(
         due_at P.acts P.ending P.looks attendant.old (line.now ∷ later) ≡ due_from P.acts P.ending P.looks attendant.new later) }
 {
     if !is_document(line) {
-        write_next_block(crew, attendant, line)?;
-        return Ok(());
+        return write_next_block(crew, attendant, line);
     }
     let own = attendant.own.as_slice();
     let input = attendant.live.input();
-    put_document(&mut attendant.text, own, input)?;
-    Ok(())
+    put_document(&mut attendant.text, own, input)
 }
