@@ -73,9 +73,9 @@ fn job_in<C: Catalogue>(alloc: Global, table: &Table) -> Result<Job<C::Program>,
 {
     check::<C>(table)?;
     Ok(Job {
-        program: C::program(alloc, table)?,
-        input: read_input(alloc, table)?,
         batches: read_all(alloc, elements_at(table, "batches"))?,
+        input: read_input(alloc, table)?,
+        program: C::program(alloc, table)?,
     })
 }
 

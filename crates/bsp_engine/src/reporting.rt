@@ -3,7 +3,7 @@
 ghost use Rattle.std.specs.Prelude.{◌≡◌, ◌++◌, OnOk, codes};
 ghost use Rattle.std.specs.List.{flat_map};
 ghost use Rattle.bsp_engine.specs.Lines.{field, line, numbered};
-ghost use Rattle.bsp_engine.specs.Text.{fault_word, process_fault_line, sync_fault_word, status_lines, print_lines, cost_line, counts_line, update_places, update_lines, edit_fault_word, refusal_line};
+ghost use Rattle.bsp_engine.specs.Text.{fault_word, process_fault_line, sync_fault_word, status_lines, print_lines, cost_line, update_places, update_lines, edit_fault_word, refusal_line};
 
 use crate::lines::{push_field, push_line, push_long_line};
 use crate::places::push_places;
@@ -87,12 +87,7 @@ fn sync_fault_word(fault: SyncFault) -> &'static str
     }
 }
 
-fn push_sync_fault(text: &mut Vec<u8>, step: u64, fault: SyncFault) -> Result<(), OutOfMemory>
-    ensures { OnOk result (text.new.items ≡ text.old.items ++ status_lines (Status.SyncFaulted step fault)) }
-{
-    push_parted_line(text, "status syncfault", step, sync_fault_word(fault), &[])
-}
-
+/// Appends how a run ended.
 pub fn push_status(text: &mut Vec<u8>, status: &Status) -> Result<(), OutOfMemory>
     ensures { OnOk result (text.new.items ≡ text.old.items ++ status_lines status.now) }
 {
@@ -100,7 +95,15 @@ pub fn push_status(text: &mut Vec<u8>, status: &Status) -> Result<(), OutOfMemor
         Status::Halted => text.extend_from_slice(b"status halted\n"),
         Status::Limit => text.extend_from_slice(b"status limit\n"),
         Status::Faulted { step, faults } => push_faulted(text, *step, faults.as_slice()),
-        Status::SyncFaulted { step, fault } => push_sync_fault(text, *step, *fault),
+        Status::SyncFaulted { step, fault } => {
+            push_parted_line(
+                text,
+                "status syncfault",
+                *step,
+                sync_fault_word(*fault),
+                &[],
+            )
+        }
     }
 }
 
@@ -129,12 +132,6 @@ pub fn push_cost(text: &mut Vec<u8>, step: u64, row: &CostRow) -> Result<(), Out
     push_line(text, "cost", &[step, row.work, row.h, row.cost])
 }
 
-fn push_counts(text: &mut Vec<u8>, executed: u64, redelivered: u64) -> Result<(), OutOfMemory>
-    ensures { OnOk result (text.new.items ≡ text.old.items ++ counts_line executed redelivered) }
-{
-    push_parted_line(text, "executed", executed, "redelivered", &[redelivered])
-}
-
 fn push_update_places(text: &mut Vec<u8>, places: bool, update: &Update) -> Result<(), OutOfMemory>
     ensures { OnOk result (text.new.items ≡ text.old.items ++ update_places places update.now) }
 {
@@ -150,11 +147,9 @@ pub fn push_update(text: &mut Vec<u8>, places: bool, update: &Update) -> Result<
     ensures { OnOk result (text.new.items ≡ text.old.items ++ update_lines places (Some update.now)) }
 {
     push_update_places(text, places, update)?;
-    push_counts(
-        text,
-        update.executed.len() as u64,
-        update.redelivered.len() as u64,
-    )
+    let executed = update.executed.len() as u64;
+    let redelivered = update.redelivered.len() as u64;
+    push_parted_line(text, "executed", executed, "redelivered", &[redelivered])
 }
 
 fn edit_fault_word(fault: EditFault) -> &'static str

@@ -91,15 +91,13 @@ fn run_input<C: Catalogue, R: Alloc<A = Global> + Input + Print + Eprint + Threa
 ) -> ExitCode
     requires workers { (0 < options.workers) × (options.workers ≤ 16) }
 {
-    let mut reader = Counted::new(rt.reader());
-    let mut writer = Counted::new(io::writer(rt));
     let mut document = Vec::new(rt.alloc());
     let outcome = engine::<C, R, _, _, _>(
         rt,
         rt.alloc(),
         options,
-        &mut reader,
-        &mut writer,
+        &mut Counted::new(rt.reader()),
+        &mut Counted::new(io::writer(rt)),
         &mut document,
         &Timed::new(rt),
     );
@@ -116,15 +114,13 @@ fn follow_file<
     let Ok(file) = fs::open(rt, path) else {
         return failed(rt, EngineError::Read);
     };
-    let mut source = Counted::new(file);
-    let mut terminal = Console::new(rt.reader(), io::writer(rt));
     let mut document = Vec::new(rt.alloc());
     let outcome = follow::<C, R, _, _, _>(
         rt,
         rt.alloc(),
         options,
-        &mut source,
-        &mut terminal,
+        &mut Counted::new(file),
+        &mut Console::new(rt.reader(), io::writer(rt)),
         &mut document,
         &Timed::new(rt),
     );
