@@ -1,6 +1,6 @@
 //! A session from its input to its last batch.
 
-ghost use Rattle.std.specs.Prelude.{◌≡◌, ◌<◌, ◌≤◌, ◌++◌, [], None, Some, IfOk, IfErr, OnOk, map};
+ghost use Rattle.std.specs.Prelude.{◌≡◌, ◌<◌, ◌≤◌, ◌++◌, None, Some, IfOk, IfErr, OnOk, map};
 ghost use Rattle.bsp_model.specs.Input.{input_fault};
 ghost use Rattle.bsp_step.specs.Turn.{turn_of};
 ghost use Rattle.bsp_run.specs.Run.{run};
@@ -91,22 +91,22 @@ fn add_replies<P: Program + Drop, R: Threads + Sync, G: Gate>(
     Ok(())
 }
 
-/// Adds the replies to the opening of a session, whose update is handed out, and to its batches.
-fn add_all_replies<P: Program + Drop, R: Threads + Sync, G: Gate>(
+/// The replies to the opening of a session, whose update is handed out, and to its batches.
+fn replies_once_open<P: Program + Drop, R: Threads + Sync, G: Gate>(
     workers: &Workers<'_, R, G>,
     opened: &mut (Session<P>, Update),
     batches: &[Batch],
-    all: &mut Vec<Reply>,
-) -> Result<(), OutOfMemory>
+) -> Result<Vec<Reply>, OutOfMemory>
     requires exact { IsExact (P.looks opened.old.0.program) None opened.old.0.history opened.old.1 }
-    requires none { all.old.items ≡ [] }
-    ensures { OnOk result (all.new.items ≡ replies (P.looks opened.old.0.program)
+    ensures { IfOk result (λ all. all.items ≡ replies (P.looks opened.old.0.program)
         (turn_by P.Program opened.old.0.program) opened.old.0.input batches.now) }
 {
+    let mut all = Vec::new(workers.alloc);
     let update = replace(&mut opened.1, Update::none(workers.alloc));
     let opening = opening_reply(&opened.0, update)?;
     all.push(opening)?;
-    add_replies(workers, &mut opened.0, batches, all)
+    add_replies(workers, &mut opened.0, batches, &mut all)?;
+    Ok(all)
 }
 
 /// The replies to the opening of a session, and to its batches.
@@ -119,9 +119,7 @@ fn all_replies<P: Program + Drop, R: Threads + Sync, G: Gate>(
     ensures { IfOk result (λ all. all.items ≡ replies (P.looks opened.0.program)
         (turn_by P.Program opened.0.program) opened.0.input batches.now) }
 {
-    let mut all = Vec::new(workers.alloc);
-    add_all_replies(workers, &mut opened, batches, &mut all)?;
-    Ok(all)
+    replies_once_open(workers, &mut opened, batches)
 }
 
 /// The replies of a session: the opening first, then one for each batch. 1 to 16 workers share the turns and the deliveries.
