@@ -73,9 +73,9 @@ fn job_in<C: Catalogue>(alloc: Global, table: &Table) -> Result<Job<C::Program>,
 {
     check::<C>(table)?;
     Ok(Job {
-        batches: read_all(alloc, elements_at(table, "batches"))?,
-        input: read_input(alloc, table)?,
         program: C::program(alloc, table)?,
+        input: read_input(alloc, table)?,
+        batches: read_all(alloc, elements_at(table, "batches"))?,
     })
 }
 
@@ -101,6 +101,11 @@ pub fn read_job_and_keys<C: Catalogue>(
 {
     let table = read_tree(alloc, bytes)?;
     let job = job_in::<C>(alloc, &table)?;
-    let own = own_text(alloc, table)?;
-    Ok((job, own))
+    match own_text(alloc, table) {
+        Ok(own) => Ok((job, own)),
+        Err(_) => {
+            drop(job);
+            Err(JobError::OutOfMemory)
+        }
+    }
 }
