@@ -68,11 +68,12 @@ fn find<R: Threads + Sync + Abort>(
     assert!(rt; done == want && terminal.has_said(said.as_bytes()));
 }
 
-/// The first line ends in the third piece.
+/// A batch, whose line ends in the third piece, and `undo`.
 const UNDONE: &[u8] = b"[[\"word\", 0, 0, 8]]\nundo\n";
 
+/// The batch is taken back, a line after it is not read, or a read fails before that line has ended.
 #[test]
-fn a_batch_and_undo(rt: HostRuntime) {
+fn a_batch_and_a_line_after_it(rt: HostRuntime) {
     let said = changed_and!(
         "run 2
 status halted
@@ -88,18 +89,9 @@ executed 3 redelivered 3
 "
     );
     find(&rt, rt.alloc(), UNDONE, usize::MAX, said, Ok(()));
-}
-
-#[test]
-fn a_line_that_is_not_read(rt: HostRuntime) {
     let lines = b"[[\"word\", 0, 0, 8]]\nhalt";
     let said = changed_and!("run 2\nunread J1\n");
     find(&rt, rt.alloc(), lines, usize::MAX, said, Ok(()));
-}
-
-/// The batch is answered, and a read fails before the next line has ended.
-#[test]
-fn a_read_that_fails(rt: HostRuntime) {
     let said = changed_and!("");
     find(&rt, rt.alloc(), UNDONE, 3, said, Err(EngineError::Read));
 }

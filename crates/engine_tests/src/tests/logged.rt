@@ -1,10 +1,10 @@
 //! A terminal whose log is known.
 
-ghost use Rattle.std.specs.Prelude.{◌≡◌, ◌∷◌, [], IfOk, OnOk, OnErr, if◌then◌else◌};
+ghost use Rattle.std.specs.Prelude.{◌∷◌, [], OnOk, OnErr, if◌then◌else◌};
 ghost use Rattle.bsp_engine.specs.Talk.{Fails, Goes, heard, said};
 
 use bsp_engine::{Failed, Terminal};
-use std::alloc::{AllocError, Global};
+use std::alloc::Global;
 use std::collections::VecDeque;
 
 /// Bytes that were heard or said at once.
@@ -12,13 +12,6 @@ use std::collections::VecDeque;
 struct Piece {
     is_said: bool,
     bytes: Vec<u8>,
-}
-
-fn copied(alloc: Global, is_said: bool, bytes: &[u8]) -> Result<Piece, AllocError>
-    ensures { IfOk result (λ piece. (piece.is_said ≡ is_said) × (piece.bytes.items ≡ bytes.now)) }
-{
-    let bytes = bytes.iter().copied().collect(alloc)?;
-    Ok(Piece { is_said, bytes })
 }
 
 /// A terminal at which a text is heard, at most `at_once` bytes a call, and as many are said. It keeps what happens, the newest first.
@@ -74,14 +67,10 @@ impl<'a> LoggedTerminal<'a> {
             (⟦<LoggedTerminal<'a> as Terminal>⟧.log self.old)
             (⟦<LoggedTerminal<'a> as Terminal>⟧.log self.new)) }
     {
-        if self.has_failed {
-            return Err(Failed);
-        }
-        let is_kept = match copied(self.alloc, is_said, bytes) {
-            Ok(piece) => self.pieces.push_front(piece).is_ok(),
-            Err(_) => false,
-        };
-        if is_kept {
+        if !self.has_failed
+            && let Ok(bytes) = bytes.iter().copied().collect(self.alloc)
+            && self.pieces.push_front(Piece { is_said, bytes }).is_ok()
+        {
             return Ok(());
         }
         self.has_failed = true;
