@@ -8,6 +8,7 @@ mod history;
 mod in_order;
 mod keeping;
 mod law;
+mod lightness;
 mod lines;
 mod next;
 mod numbers;
