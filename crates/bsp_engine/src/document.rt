@@ -8,7 +8,7 @@ use crate::lines::push_line;
 use bsp_model::{Input, Memory, OutOfMemory, Seq};
 use itoa::Buffer;
 
-/// What stands in a document as the value of a key, or in an array.
+/// A value that stands in a document at a key, or in an array.
 trait Written {
     ghost use Rattle.std.specs.Prelude.{ℕ, List};
 

@@ -1,4 +1,4 @@
-//! What the values of a document describe. It is of use only where they have their shapes.
+//! The values that a document describes. They are of use only where the document has no fault.
 
 ghost use Rattle.std.specs.Prelude.{◌≡◌, IfOk, map};
 ghost use Rattle.toml.specs.View.{view};
@@ -10,14 +10,14 @@ use bsp_model::{Memory, OutOfMemory, Seq};
 use std::alloc::Global;
 use toml::Value;
 
-/// What a value of a document describes.
+/// A value that a document describes.
 pub trait Described: Drop {
     ghost use Rattle.toml.specs.Data.{Data};
 
-    // What a value describes.
+    // The value that a part of a document describes.
     ghost described: { Data → Self };
 
-    /// What the value describes.
+    /// Reads the value that a part of a document describes.
     fn read(alloc: Global, value: &Value) -> Result<Self, OutOfMemory>
         ensures { IfOk result (λ x. x ≡ described (view value.now)) };
 }
@@ -91,7 +91,7 @@ fn edit_in(values: &[Value]) -> Edit
     }
 }
 
-/// What each of the values describes.
+/// Reads the value that each part of a document describes.
 pub fn read_all<T: Described>(alloc: Global, values: &[Value]) -> Result<Seq<T>, OutOfMemory>
     ensures { IfOk result (λ all. all ≡ map T.described (map view values.now)) }
 {
