@@ -22,7 +22,7 @@ LAST = (
     DOCUMENTS,
     Part(("ci/random", "300"), 1_500),
     live(40),
-    Part(("ci/sessions",), 6),
+    Part(("ci/sessions",), 9),
     Part(("ci/count_allocations",), 6),
     Part(("ci/refuse_allocations",), 14_000),
 )

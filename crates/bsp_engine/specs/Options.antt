@@ -33,14 +33,19 @@ changes_rule = flag_rule (codes "changes")
 abbrev pub follow_rule : Rule
 follow_rule = record (new_rule (codes "follow")) { long = Some (codes "follow"); value_names = 1 }
 
+-- `--quiet`
+abbrev pub quiet_rule : Rule
+quiet_rule = flag_rule (codes "quiet")
+
 -- a command that has a version, which `--version` tells
 abbrev pub with_version : App → App
 with_version a = record a { top = record a.top { has_version = true } }
 
--- the command of a tool with this name: its version, and these five options
+-- the command of a tool with this name: its version, and these six options
 abbrev pub tool_app : List ℕ → App
 tool_app name =
-    with_rule (with_rule (with_rule (with_rule (with_rule (with_version (new_app name)) workers_rule) scratch_rule) places_rule) changes_rule) follow_rule
+    let running = with_rule (with_rule (with_version (new_app name)) workers_rule) scratch_rule in
+    with_rule (with_rule (with_rule (with_rule running places_rule) changes_rule) follow_rule) quiet_rule
 
 -- the number that a text writes
 abbrev pub number_of : Text → ℕ
@@ -71,4 +76,5 @@ options_of rows =
       workers = workers_of (one_of (codes "workers") rows);
       scratch = is_given (one_of (codes "scratch") rows);
       detail = detail_of rows;
+      quiet = is_given (one_of (codes "quiet") rows);
     }

@@ -20,6 +20,7 @@ use crate::live::{Live, begin, push_answer};
 use crate::options::Detail;
 use bsp_model::OutOfMemory;
 use bsp_pool::Gate;
+use bsp_run::DEPTH_OF_RUNS;
 use bsp_step::Program;
 use std::alloc::AllocError;
 use std::thread::Threads;
@@ -74,6 +75,7 @@ fn write_block<P: Program + Drop, R: Threads + Sync, G: Gate>(
     let asked = asked_of(crew.alloc, line)?;
     attendant.text.clear();
     let number = attendant.last;
+    crew.gate.enter(DEPTH_OF_RUNS, number);
     push_line(&mut attendant.text, "run", &[number])?;
     let places = attendant.places;
     push_answer(

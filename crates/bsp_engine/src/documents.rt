@@ -51,6 +51,7 @@ fn write_report<C: Catalogue, R: Threads + Sync, K: Sink, G: Gate>(
     ensures write_calm { result ≢ Err EngineError.Write → K.failures writer.new ≡ K.failures writer.old }
 {
     let text = answer::<C, _, _>(crew, bytes, options)?;
+    crew.gate.leave();
     match write_text(writer, text.as_slice()) {
         Ok(()) => Ok(()),
         Err(_) => Err(EngineError::Write),

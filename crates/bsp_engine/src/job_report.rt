@@ -10,7 +10,7 @@ use crate::crew::Crew;
 use crate::jobs::Job;
 use crate::live::begin;
 use crate::options::Detail;
-use bsp_incr::{Reply, scratch_run};
+use bsp_incr::{Reply, scratch_run_behind};
 use bsp_model::OutOfMemory;
 use bsp_pool::Gate;
 use bsp_run::RunError;
@@ -20,7 +20,10 @@ use std::thread::Threads;
 
 /// The replies to a job, each run of which is made from scratch.
 #[tactic(auto, using(bsp_incr::proofs::Replying::scratch_replies_fixed), unfolding(crate::specs::Inside::Replies::replies_of))]
-fn scratch_replies<P: Program + Drop>(alloc: Global, job: Job<P>) -> Result<Vec<Reply>, OutOfMemory>
+fn scratch_replies<P: Program + Drop, R, G: Gate>(
+    crew: &Crew<'_, R, G>,
+    job: Job<P>,
+) -> Result<Vec<Reply>, OutOfMemory>
     requires lawful { input_fault job.input ≡ None }
     ensures { IfOk result (λ all. all.items ≡ replies_of P.acts P.ending P.looks true job) }
 {
@@ -29,7 +32,7 @@ fn scratch_replies<P: Program + Drop>(alloc: Global, job: Job<P>) -> Result<Vec<
         input,
         batches,
     } = job;
-    match scratch_run(alloc, &program, input, batches.as_slice()) {
+    match scratch_run_behind(crew.alloc, &program, input, batches.as_slice(), crew.gate) {
         Ok(replies) => Ok(replies),
         Err(RunError::Input(_)) => unreachable!(),
         Err(RunError::OutOfMemory) => Err(AllocError),
@@ -37,16 +40,16 @@ fn scratch_replies<P: Program + Drop>(alloc: Global, job: Job<P>) -> Result<Vec<
 }
 
 /// The report of a job from scratch, which has no updates: the calling thread makes each run alone.
-fn scratch_report<P: Program + Drop>(
-    alloc: Global,
+fn scratch_report<P: Program + Drop, R, G: Gate>(
+    crew: &Crew<'_, R, G>,
     detail: Detail,
     job: Job<P>,
 ) -> Result<Vec<u8>, OutOfMemory>
     requires lawful { input_fault job.input ≡ None }
     ensures { IfOk result (λ text. text.items ≡ text_of detail (replies_of P.acts P.ending P.looks true job)) }
 {
-    let replies = scratch_replies(alloc, job)?;
-    report(alloc, replies.as_slice(), detail)
+    let replies = scratch_replies(crew, job)?;
+    report(crew.alloc, replies.as_slice(), detail)
 }
 
 /// The report of a job, as that of a session, which is let go.
@@ -79,7 +82,7 @@ pub fn report_for<P: Program + Drop, R: Threads + Sync, G: Gate>(
     ensures { IfOk result (λ text. text.items ≡ text_of detail (replies_of P.acts P.ending P.looks scratch job)) }
 {
     if scratch {
-        scratch_report(crew.alloc, detail, job)
+        scratch_report(crew, detail, job)
     } else {
         session_report(crew, detail, job)
     }

@@ -24,7 +24,7 @@ use crate::whole_run::push_run;
 use bsp_incr::{Batch, Edit, EditError, Session, Update};
 use bsp_model::{Input, OutOfMemory};
 use bsp_pool::Gate;
-use bsp_run::RunError;
+use bsp_run::{DEPTH_OF_RUNS, RunError};
 use bsp_step::Program;
 use std::alloc::{AllocError, Global};
 use std::collections::VecDeque;
@@ -170,6 +170,7 @@ fn make_all<P: Program + Drop, R: Threads + Sync, G: Gate>(
     ensures text { OnOk result (text.new.items ≡ text.old.items ++ blocks_after detail 1 (last_result P.acts P.ending live.old) (live_replies P.acts P.ending P.looks live.old batches.now)) }
 {
     for (index, batch) in batches.iter().enumerate() {
+        crew.gate.enter(DEPTH_OF_RUNS, index as u64 + 1);
         push_line(text, "run", &[index as u64 + 1])?;
         make(crew, detail.places, live, text, batch.as_slice())?;
     }

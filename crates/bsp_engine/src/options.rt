@@ -30,6 +30,8 @@ pub struct Options {
     pub scratch: bool,
     /// What the report tells.
     pub detail: Detail,
+    /// Whether long work shows no progress.
+    pub quiet: bool,
 }
 
 /// A tool: how its command line is called, and what the help tells. The options are those of every tool.
@@ -83,6 +85,8 @@ const PLACES_HELP: &str = "Lists the places of turns and deliveries, by superste
 
 const CHANGES_HELP: &str =
     "Reports each run after the first as its changes against the previous run";
+
+const QUIET_HELP: &str = "Shows no progress on a terminal";
 
 fn workers_arg<'a>(alloc: Global) -> Arg<'a>
     ensures own { result.global ≡ false }
@@ -139,7 +143,8 @@ fn command<'a>(alloc: Global, tool: &Tool) -> Result<Command<'a>, AllocError>
     running_command(alloc, tool)?
         .arg(flag_arg(alloc, "places", PLACES_HELP))?
         .arg(flag_arg(alloc, "changes", CHANGES_HELP))?
-        .arg(follow_arg(alloc))
+        .arg(follow_arg(alloc))?
+        .arg(flag_arg(alloc, "quiet", QUIET_HELP))
 }
 
 /// The number, if it is from 1 to 16, else 1.
@@ -184,10 +189,12 @@ fn options_in(matches: &ArgMatches<'_>) -> Options
     ensures { result ≡ options_of (rows_of (found_of matches.now)) }
 {
     let scratch = is_given(matches, "scratch");
+    let quiet = is_given(matches, "quiet");
     Options {
         workers: workers_in(matches),
         scratch,
         detail: detail_in(matches),
+        quiet,
     }
 }
 

@@ -46,7 +46,9 @@ fn answer<P: Program + Drop, R: Threads + Sync, G: Gate, T: Terminal>(
     ensures ok { OnOk result (Answered (due_at P.acts P.ending P.looks attendant.old) (due_at P.acts P.ending P.looks attendant.new) line.now (T.log terminal.old) (T.log terminal.new)) }
     ensures err { IfErr result (λ e. Stopped (due_at P.acts P.ending P.looks attendant.old) line.now (T.log terminal.old) (T.log terminal.new) e) }
 {
-    match respond(crew, attendant, line) {
+    let answered = respond(crew, attendant, line);
+    crew.gate.leave();
+    match answered {
         Ok(()) => say_all(terminal, attendant.text.as_slice()),
         Err(_) => Err(EngineError::OutOfMemory),
     }
@@ -170,6 +172,7 @@ pub fn talk<P: Program + Drop, R: Threads + Sync, G: Gate, T: Terminal>(
 ) -> Result<(), EngineError>
     ensures { TalksUntil (due_from P.acts P.ending P.looks attendant.old) (T.log terminal.old) (T.log terminal.new) result }
 {
+    crew.gate.leave();
     say_all(terminal, attendant.text.as_slice())?;
     let mut begun = Vec::new(crew.alloc);
     listen(crew, attendant, terminal, &mut begun)

@@ -12,9 +12,10 @@ use crate::errors::EngineError;
 use crate::explain::explanation;
 use crate::following::follow;
 use crate::options::{Options, Tool, read_options, words_status};
+use crate::progress::{Progress, Watched};
 use crate::terminal::Console;
 use bsp_model::OutOfMemory;
-use bsp_pool::Timed;
+use bsp_pool::Gate;
 use std::alloc::Global;
 use std::env::Env;
 use std::process::ExitCode;
@@ -85,12 +86,13 @@ fn ended<C: Catalogue, R: Alloc<A = Global> + Eprint>(
 }
 
 /// Runs the job of the document on standard input.
-fn run_input<C: Catalogue, R: Alloc<A = Global> + Input + Print + Eprint + Threads + Clock + Sync>(
-    rt: &R,
-    options: Options,
-) -> ExitCode
+fn run_input<
+    C: Catalogue,
+    R: Alloc<A = Global> + Input + Print + Eprint + Watched + Threads + Clock + Sync,
+>(rt: &R, options: Options) -> ExitCode
     requires workers { (0 < options.workers) × (options.workers ≤ 16) }
 {
+    let progress = Progress::new(rt, !options.quiet && rt.is_watched());
     let mut document = Vec::new(rt.alloc());
     let outcome = engine::<C, R, _, _, _>(
         rt,
@@ -99,21 +101,23 @@ fn run_input<C: Catalogue, R: Alloc<A = Global> + Input + Print + Eprint + Threa
         &mut Counted::new(rt.reader()),
         &mut Counted::new(io::writer(rt)),
         &mut document,
-        &Timed::new(rt),
+        &progress,
     );
+    progress.leave();
     ended::<C, R>(rt, outcome, document.as_slice())
 }
 
 /// Runs the job of the document in a file, and then answers each line of standard input.
 fn follow_file<
     C: Catalogue,
-    R: Alloc<A = Global> + Files + Input + Print + Eprint + Threads + Clock + Sync,
+    R: Alloc<A = Global> + Files + Input + Print + Eprint + Watched + Threads + Clock + Sync,
 >(rt: &R, options: Options, path: &str) -> ExitCode
     requires workers { (0 < options.workers) × (options.workers ≤ 16) }
 {
     let Ok(file) = fs::open(rt, path) else {
         return failed(rt, EngineError::Read);
     };
+    let progress = Progress::new(rt, !options.quiet && rt.is_watched());
     let mut document = Vec::new(rt.alloc());
     let outcome = follow::<C, R, _, _, _>(
         rt,
@@ -122,15 +126,16 @@ fn follow_file<
         &mut Counted::new(file),
         &mut Console::new(rt.reader(), io::writer(rt)),
         &mut document,
-        &Timed::new(rt),
+        &progress,
     );
+    progress.leave();
     ended::<C, R>(rt, outcome, document.as_slice())
 }
 
 /// Does what the words ask for; the first word is the program's name.
 fn run_words<
     C: Catalogue,
-    R: Alloc<A = Global> + Files + Input + Print + Eprint + Threads + Clock + Sync,
+    R: Alloc<A = Global> + Files + Input + Print + Eprint + Watched + Threads + Clock + Sync,
 >(rt: &R, tool: &Tool, words: &[&str]) -> ExitCode {
     match read_options(rt.alloc(), tool, words) {
         Ok((options, Some(_))) if options.scratch => {
@@ -150,7 +155,7 @@ fn run_words<
 /// this answers.
 pub fn run_tool<
     C: Catalogue,
-    R: Env + Alloc<A = Global> + Files + Input + Print + Eprint + Threads + Clock + Sync,
+    R: Env + Alloc<A = Global> + Files + Input + Print + Eprint + Watched + Threads + Clock + Sync,
 >(rt: &R, tool: &Tool) -> ExitCode {
     let words = match given_words(rt) {
         Ok(words) => words,

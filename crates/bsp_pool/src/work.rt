@@ -104,6 +104,12 @@ pub trait Gate: Sync {
     fn now(&self) -> Option<Instant> {
         None
     }
+
+    /// Called where a part of the work begins, by whoever works it. Parts of depth 1 lie in those of depth 0, and are numbered in each of them.
+    fn enter(&self, _depth: usize, _number: u64) {}
+
+    /// Called where the work is done, or pauses.
+    fn leave(&self) {}
 }
 
 /// The gate that does nothing and tells no time.

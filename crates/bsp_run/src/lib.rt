@@ -42,4 +42,4 @@ pub use superstep::{Arguments, Superstep};
 pub use tape::Tape;
 pub use turn_rows::TurnRows;
 pub use views::{Views, ViewsRef};
-pub use wide::{run_wide, wide_deliveries, wide_turns};
+pub use wide::{DEPTH_OF_RUNS, DEPTH_OF_SUPERSTEPS, run_wide, wide_deliveries, wide_turns};

@@ -20,7 +20,7 @@ use crate::wide::turns_by_one;
 use crate::{History, Phase, RunError, RunResult, Tape, TurnRows, Views};
 use bsp_deliver::{Cells, deliver_some};
 use bsp_model::{Input, OutOfMemory};
-use bsp_pool::Open;
+use bsp_pool::{Gate, Open};
 use bsp_step::{Outcomes, Program};
 use std::alloc::Global;
 
@@ -100,30 +100,32 @@ pub fn run_plain<P: Program>(alloc: Global, program: &P, input: &Input) -> Resul
 }
 
 /// Takes the turns of the open superstep of a run of which no record is kept, in which the processes see these views. True where they end the run.
-fn unrecorded_turns<P: Program>(
+fn unrecorded_turns<P: Program, G: Gate>(
     alloc: Global,
     program: &P,
     views: &Views,
     kept: &mut Unrecorded,
+    gate: &G,
 ) -> Result<bool, OutOfMemory>
     requires opened { (r : Run) × ((r.phase ≡ Phase.Open) × IsUnrecorded r views.now kept.old) }
     ensures { (r : Run) → r.phase ≡ Phase.Open → IsUnrecorded r views.now kept.old → IfOk result (λ ends. AreTaken ends
         (after_turns r (map (turn_of (P.acts program.now) (P.ending program.now)) (open_views r))) views.now kept.new) }
 {
     let processes = kept.processes.as_slice();
-    all_turns(alloc, program, processes, views, &mut kept.taken)?;
+    all_turns(alloc, program, processes, views, &mut kept.taken, gate)?;
     kept.end = views.end(alloc, &kept.taken.outcomes)?;
     Ok(kept.end.is_some())
 }
 
 /// The supersteps of a run of which no record is kept, from the first on, in which the processes see these views. It answers what they see in the last
 /// one, or at the limit after it.
-fn unrecorded_supersteps<P: Program>(
+fn unrecorded_supersteps<P: Program, G: Gate>(
     alloc: Global,
     program: &P,
     input: &Input,
     mut views: Views,
     kept: &mut Unrecorded,
+    gate: &G,
 ) -> Result<Views, OutOfMemory>
     requires lawful { input_fault input.now ≡ None }
     requires kept { IsUnrecorded (start input.now) views kept.old }
@@ -132,7 +134,7 @@ fn unrecorded_supersteps<P: Program>(
         (run (turn_of (P.acts program.now) (P.ending program.now)) input.now) last kept.new) }
 {
     for step in 0..input.limit {
-        if unrecorded_turns(alloc, program, &views, kept)? {
+        if unrecorded_turns(alloc, program, &views, kept, gate)? {
             return Ok(views);
         }
         views = kept.go_on(alloc, views)?;
@@ -141,11 +143,12 @@ fn unrecorded_supersteps<P: Program>(
 }
 
 /// What `lawful_result` answers, where this is kept before the first superstep.
-fn unrecorded_result<P: Program>(
+fn unrecorded_result<P: Program, G: Gate>(
     alloc: Global,
     program: &P,
     input: &Input,
     kept: &mut Unrecorded,
+    gate: &G,
 ) -> Result<RunResult, OutOfMemory>
     requires lawful { input_fault input.now ≡ None }
     requires kept { IsUnrecorded (start input.now) (open_views (start input.now)) kept.old }
@@ -153,22 +156,23 @@ fn unrecorded_result<P: Program>(
     ensures { IfOk result (λ r. r ≡ result_of (run (turn_of (P.acts program.now) (P.ending program.now)) input.now)) }
 {
     let views = first_views(alloc, input, Recording::None)?;
-    let last = unrecorded_supersteps(alloc, program, input, views, kept)?;
+    let last = unrecorded_supersteps(alloc, program, input, views, kept, gate)?;
     kept.result(alloc, &last)
 }
 
-/// What `run_result` answers, where the input is known to be lawful.
-pub fn lawful_result<P: Program>(
+/// What `run_result` answers, where the input is known to be lawful. The gate is passed before each turn.
+pub fn lawful_result<P: Program, G: Gate>(
     alloc: Global,
     program: &P,
     input: &Input,
+    gate: &G,
 ) -> Result<RunResult, OutOfMemory>
     requires lawful { input_fault input.now ≡ None }
     ensures { IfOk result (λ r. r ≡ result_of (run (turn_of (P.acts program.now) (P.ending program.now)) input.now)) }
 {
     let processes = numbers(alloc, input.mems.len())?;
     let mut kept = Unrecorded::new(alloc, input, processes);
-    unrecorded_result(alloc, program, input, &mut kept)
+    unrecorded_result(alloc, program, input, &mut kept, gate)
 }
 
 /// What the run of a program on an input gives. It keeps no record of the run: beside the lines and the costs, memory for one superstep.
@@ -184,6 +188,6 @@ pub fn run_result<P: Program>(
     ensures input { IfErr result (λ e. input_fault input.now ≡ input_fault_of e) }
 {
     checked(input)?;
-    let result = lawful_result(alloc, program, input)?;
+    let result = lawful_result(alloc, program, input, &Open)?;
     Ok(result)
 }

@@ -13,11 +13,11 @@ ghost use Rattle.bsp_run.specs.Inside.IsUnrecorded.{IsUnrecorded, IsUnrecordedIn
 
 use crate::history::{memories_of_outcomes, memories_of_views};
 use crate::tally::Tally;
-use crate::wide::turns_by_one;
+use crate::wide::{DEPTH_OF_SUPERSTEPS, turns_by_one};
 use crate::{Phase, RunResult, Status, TurnRows, Views};
 use bsp_deliver::{Delivered, deliver_some};
 use bsp_model::{Input, OutOfMemory};
-use bsp_pool::Open;
+use bsp_pool::Gate;
 use bsp_step::{Outcome, Outcomes, Program};
 use std::alloc::Global;
 use std::mem;
@@ -40,24 +40,26 @@ pub(crate) struct Unrecorded {
 }
 
 /// The turns of all processes, gathered in the room of the turns that were taken before.
-pub(crate) fn all_turns<P: Program>(
+pub(crate) fn all_turns<P: Program, G: Gate>(
     alloc: Global,
     program: &P,
     processes: &[usize],
     views: &Views,
     taken: &mut Taken,
+    gate: &G,
 ) -> Result<(), OutOfMemory>
     requires all { processes.now ≡ range_with_len 0 (length views.now) }
     ensures { OnOk result (taken.new.outcomes
         ≡ map (turn_of (P.acts program.now) (P.ending program.now)) views.now) }
 {
+    gate.enter(DEPTH_OF_SUPERSTEPS, views.setting().step);
     let before = mem::replace(&mut taken.outcomes, Outcomes::new());
     let room = before.into_room(alloc, processes.len())?;
     let mut rows = TurnRows {
         outcomes: room,
         spare: taken.spare.take(),
     };
-    turns_by_one(alloc, &mut rows, program, views, processes, &Open)?;
+    turns_by_one(alloc, &mut rows, program, views, processes, gate)?;
     taken.spare = rows.spare;
     taken.outcomes = rows.outcomes.share()?;
     Ok(())

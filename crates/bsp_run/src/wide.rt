@@ -27,6 +27,12 @@ use bsp_step::{Outcomes, Program, turn_reusing};
 use std::alloc::Global;
 use std::thread::Threads;
 
+/// At this depth a gate is told of a session's runs: of that of the opening as 0, of those of the batches by their numbers from 1 on.
+pub const DEPTH_OF_RUNS: usize = 0;
+
+/// At this depth a gate is told of a run's supersteps, by their numbers from 0 on.
+pub const DEPTH_OF_SUPERSTEPS: usize = 1;
+
 /// The turns of some processes, in the order of the list, by the calling thread, which passes the gate before each. They are gathered in `rows`.
 pub(crate) fn turns_by_one<P: Program, G: Gate>(
     alloc: Global,
@@ -94,6 +100,7 @@ pub fn wide_turns<P: Program, G: Gate, R: Threads + Sync>(
     requires workers { (0 < workers) × (workers ≤ 16) }
     ensures { IfOk result (λ all. all.outcomes ≡ turns_of (turn_of (P.acts program.now) (P.ending program.now)) views.now processes.now) }
 {
+    gate.enter(DEPTH_OF_SUPERSTEPS, views.setting().step);
     if workers.min(processes.len()) < 2 {
         turns_by_one(alloc, &mut rows, program, views, processes, gate)?;
     } else {

@@ -15,8 +15,8 @@ use crate::edit::{make_edits, refusal_of};
 use crate::rerun::Workers;
 use crate::{Batch, EditError, Reply, Session, Update};
 use bsp_model::{Input, OutOfMemory};
-use bsp_pool::Gate;
-use bsp_run::{History, RunError, lawful_result};
+use bsp_pool::{Gate, Open};
+use bsp_run::{DEPTH_OF_RUNS, History, RunError, lawful_result};
 use bsp_step::Program;
 use std::alloc::{AllocError, Global};
 use std::mem::replace;
@@ -150,12 +150,17 @@ pub fn session_run<P: Program + Drop, R: Threads + Sync, G: Gate>(
 }
 
 /// The reply that gives the run of a lawful input, made afresh.
-fn scratch_done<P: Program>(alloc: Global, program: &P, input: &Input) -> Result<Reply, OutOfMemory>
+fn scratch_done<P: Program, G: Gate>(
+    alloc: Global,
+    program: &P,
+    input: &Input,
+    gate: &G,
+) -> Result<Reply, OutOfMemory>
     requires lawful { input_fault input.now ≡ None }
     ensures { IfOk result
         (λ reply. reply ≡ Reply.Done (result_of (run (turn_by P.Program program.now) input.now)) None) }
 {
-    let result = lawful_result(alloc, program, input)?;
+    let result = lawful_result(alloc, program, input, gate)?;
     Ok(Reply::Done {
         result,
         update: None,
@@ -163,11 +168,12 @@ fn scratch_done<P: Program>(alloc: Global, program: &P, input: &Input) -> Result
 }
 
 /// The reply to a batch, by a run made afresh where the batch is accepted.
-fn scratch_reply<P: Program>(
+fn scratch_reply<P: Program, G: Gate>(
     alloc: Global,
     program: &P,
     input: &mut Input,
     batch: &Batch,
+    gate: &G,
 ) -> Result<Reply, OutOfMemory>
     requires lawful { input_fault input.old ≡ None }
     ensures input { OnOk result (input.new ≡ input_after input.old batch.now) }
@@ -180,17 +186,18 @@ fn scratch_reply<P: Program>(
         None => {}
     }
     let _formers = make_edits(alloc, input, batch.as_slice())?;
-    let reply = scratch_done(alloc, program, input)?;
+    let reply = scratch_done(alloc, program, input, gate)?;
     Ok(reply)
 }
 
 /// The opening's reply, and those to the batches.
-fn all_scratch_replies<P: Program>(
+fn all_scratch_replies<P: Program, G: Gate>(
     alloc: Global,
     program: &P,
     opening: Reply,
     mut input: Input,
     batches: &[Batch],
+    gate: &G,
 ) -> Result<Vec<Reply>, OutOfMemory>
     requires lawful { input_fault input ≡ None }
     requires opening { opening ≡ Reply.Done (result_of (run (turn_by P.Program program.now) input)) None }
@@ -200,14 +207,37 @@ fn all_scratch_replies<P: Program>(
     let mut all = Vec::new(alloc);
     all.push(opening)?;
     for batch in batches {
-        let reply = scratch_reply(alloc, program, &mut input, batch)?;
+        gate.enter(DEPTH_OF_RUNS, all.len() as u64);
+        let reply = scratch_reply(alloc, program, &mut input, batch, gate)?;
         all.push(reply)?;
     }
     Ok(all)
 }
 
-/// The replies of `session_run` without their updates: each accepted input is run by itself on the calling thread, from its first superstep.
-/// `Input(f)` exactly where the input's check answers f, or `OutOfMemory`.
+/// The replies of `session_run` without their updates: each accepted input is run by itself on the calling thread, from its first superstep. The
+/// gate is passed before each turn. `Input(f)` exactly where the input's check answers f, or `OutOfMemory`.
+pub fn scratch_run_behind<P: Program, G: Gate>(
+    alloc: Global,
+    program: &P,
+    input: Input,
+    batches: &[Batch],
+    gate: &G,
+) -> Result<Vec<Reply>, RunError>
+    ensures law { IfOk result (λ all. AreScratchReplies (P.looks program.now)
+        (turn_of (P.acts program.now) (P.ending program.now))
+        input batches.now all.items) }
+    ensures lawful { OnOk result (input_fault input ≡ None) }
+    ensures input { IfErr result (λ e. input_fault input ≡ input_fault_of e) }
+{
+    match input.check() {
+        Ok(()) => {}
+        Err(fault) => return Err(RunError::Input(fault)),
+    }
+    let opening = scratch_done(alloc, program, &input, gate)?;
+    Ok(all_scratch_replies(alloc, program, opening, input, batches, gate)?)
+}
+
+/// `scratch_run_behind` an open gate.
 pub fn scratch_run<P: Program>(
     alloc: Global,
     program: &P,
@@ -220,10 +250,5 @@ pub fn scratch_run<P: Program>(
     ensures lawful { OnOk result (input_fault input ≡ None) }
     ensures input { IfErr result (λ e. input_fault input ≡ input_fault_of e) }
 {
-    match input.check() {
-        Ok(()) => {}
-        Err(fault) => return Err(RunError::Input(fault)),
-    }
-    let opening = scratch_done(alloc, program, &input)?;
-    Ok(all_scratch_replies(alloc, program, opening, input, batches)?)
+    scratch_run_behind(alloc, program, input, batches, &Open)
 }

@@ -74,6 +74,7 @@ pub fn writes<R: Threads + Sync, G: Gate>(
     let mut writer = sink(alloc, flow);
     let mut left = Vec::new(alloc);
     let options = Options {
+        quiet: true,
         workers,
         ..ONE_WORKER
     };

@@ -9,4 +9,5 @@ returns c =
     let found = found_of c.args.matches.now in
     let workers = c.workers_in.ensures ∙ ap workers_of (one_text-rows found (codes "workers")) in
     let scratch = c.is_given-scratch.ensures ∙ ap is_given (one_text-rows found (codes "scratch")) in
-    rw (workers, scratch, c.detail_in.ensures)
+    let quiet = c.is_given-quiet.ensures ∙ ap is_given (one_text-rows found (codes "quiet")) in
+    rw (workers, scratch, c.detail_in.ensures, quiet)

@@ -1,7 +1,7 @@
 use Rattle.bsp_step.specs.Turn.{turn_of}
 use Rattle.bsp_incr.specs.Inside.Replies.{replies}
 use Rattle.bsp_incr.proofs.Replying.{law_of_replies}
-use Rattle.bsp_incr.proofs.session.replies.scratch_run.Goals as goal
+use Rattle.bsp_incr.proofs.session.replies.scratch_run_behind.Goals as goal
 
 pub returns-clause-law : goal.returns-clause-law
 returns-clause-law g c =
