@@ -98,12 +98,13 @@ impl Memories {
     }
 
     /// Adds the memory of one process more, and takes its words out of `memory`, in which the room for the words behind full pages stays. After
-    /// `OutOfMemory` these memories have not changed, and `memory` may have any words.
+    /// `OutOfMemory` these memories have not changed, and `memory` may have any words, but no more than before.
     #[inline(always)]
     pub fn push_from(&mut self, memory: &mut Memory) -> Result<(), OutOfMemory>
         ensures ok { OnOk result (self.new ≡ self.old ++ memory.old ∷ []) }
         ensures err { OnErr result (self.new ≡ self.old) }
         ensures rest { OnOk result (memory.new ≡ []) }
+        ensures few { length memory.new ≤ length memory.old }
     {
         memory.len = memory.last.len();
         let full = take_pages(&mut memory.pages)?;

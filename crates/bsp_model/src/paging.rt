@@ -100,8 +100,20 @@ pub fn shared_pages(alloc: Global, pages: &[Page]) -> Result<SharedSeq<Page>, Ou
 }
 
 /// Makes copies of `source`, which share their words, the pages of a list. After `OutOfMemory` it has none.
-#[inline]
+#[inline(always)]
 pub fn load_pages(pages: &mut Vec<Page>, source: &[Page]) -> Result<(), OutOfMemory>
+    ensures ok { OnOk result (pages.new.items ≡ source.now) }
+    ensures err { OnErr result (pages.new.items ≡ []) }
+{
+    if pages.is_empty() && source.is_empty() {
+        return Ok(());
+    }
+    replace_pages(pages, source)
+}
+
+/// The same, where there are pages.
+#[inline(never)]
+fn replace_pages(pages: &mut Vec<Page>, source: &[Page]) -> Result<(), OutOfMemory>
     ensures ok { OnOk result (pages.new.items ≡ source.now) }
     ensures err { OnErr result (pages.new.items ≡ []) }
 {

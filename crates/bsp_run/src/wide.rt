@@ -50,8 +50,9 @@ pub(crate) fn turns_by_one<P: Program, G: Gate>(
     let mut spare = spare_of(alloc, &mut rows.spare)?;
     for (place, process) in processes.iter().enumerate() {
         gate.pass(place);
-        let outcome = turn_reusing(alloc, program, &views.get(*process), spare)?;
-        spare = rows.outcomes.push(outcome)?;
+        let mut outcome = turn_reusing(alloc, program, &views.get(*process), spare)?;
+        rows.outcomes.push(&mut outcome)?;
+        spare = outcome;
     }
     rows.spare = Some(spare);
     Ok(())

@@ -51,8 +51,9 @@ impl<'a, P: Program> Gathering for Turns<'a, P> {
         let spare = spare_of(alloc, &mut rows.spare)?;
         let mut ctx = Ctx::open_reusing(alloc, &view, spare)?;
         let how = self.program.step(alloc, &mut ctx)?;
-        let spare = rows.outcomes.push(ctx.close(how))?;
-        rows.spare = Some(spare);
+        let mut outcome = ctx.close(how);
+        rows.outcomes.push(&mut outcome)?;
+        rows.spare = Some(outcome);
         Ok(())
     }
 }

@@ -5,10 +5,10 @@ ghost use Rattle.bsp_model.specs.Columns.{row_at};
 ghost use Rattle.std.specs.Bool.{OnTrue};
 ghost use Rattle.bsp_step.specs.Inside.Outcomes.{IsWithoutColumn, first_at, AreSameLists, HasLists};
 
-use crate::{Ended, ListKind, OutcomeRef};
+use crate::{Ended, ListKind, Outcome, OutcomeRef, TurnLists};
 use bsp_model::{
     Column, Fault, Get, LineColumn, MemoryRef, OutOfMemory, PutColumn, SendColumn, Share,
-    StoreColumn, StoresRef,
+    StoreColumn,
 };
 use bsp_table::Area;
 use std::alloc::Global;
@@ -131,15 +131,13 @@ impl Lists {
         &mut self,
         place: usize,
         outcome: &OutcomeRef<'_>,
-        stores: &StoresRef<'_>,
         memory: &MemoryRef<'_>,
     ) -> Result<(), OutOfMemory>
-        requires { stores.now ≡ outcome.now.stores }
         ensures before { (k : ℕ) → k < place → AreSameLists self.old k self.new k }
         ensures there { OnOk result (HasLists self.new place memory.now outcome.now) }
     {
         let faults = put_fault(&mut self.faults, place, outcome.fault);
-        let stores = self.stores.put(place, stores, memory);
+        let stores = self.stores.put(place, &outcome.stores, memory);
         let puts = self.puts.put(place, &outcome.puts);
         let gets = self.gets.put(place, outcome.gets);
         let sends = self.sends.put(place, &outcome.sends);
@@ -147,6 +145,27 @@ impl Lists {
         let pushes = self.pushes.put(place, outcome.pushes);
         let tags = put_tag(&mut self.tags, place, outcome.tag);
         let lines = self.lines.put(place, &outcome.lines);
+        let requests = puts.and(gets).and(sends).and(pops).and(pushes);
+        faults.and(stores).and(requests).and(tags).and(lines)
+    }
+
+    /// The same for an outcome that a turn has just left, beside its memory. Each of its lists is read when its turn comes.
+    #[inline(always)]
+    pub(crate) fn put_turn(&mut self, place: usize, outcome: &Outcome) -> Result<(), OutOfMemory>
+        ensures before { (k : ℕ) → k < place → AreSameLists self.old k self.new k }
+        ensures there { OnOk result (HasLists self.new place outcome.now.memory outcome.now) }
+    {
+        let lists: &TurnLists = &outcome.lists;
+        let memory = lists.memory.as_ref();
+        let faults = put_fault(&mut self.faults, place, outcome.fault);
+        let stores = self.stores.put(place, &lists.stores.as_ref(), &memory);
+        let puts = self.puts.put(place, &lists.puts.as_ref());
+        let gets = self.gets.put(place, lists.gets.as_slice());
+        let sends = self.sends.put(place, &lists.sends.as_ref());
+        let pops = self.pops.put(place, lists.pops.as_slice());
+        let pushes = self.pushes.put(place, lists.pushes.as_slice());
+        let tags = put_tag(&mut self.tags, place, outcome.tag);
+        let lines = self.lines.put(place, &lists.lines.as_ref());
         let requests = puts.and(gets).and(sends).and(pops).and(pushes);
         faults.and(stores).and(requests).and(tags).and(lines)
     }

@@ -203,27 +203,22 @@ impl OutcomeRows {
         }
     }
 
-    /// Adds what the turn of one process more left, and answers an outcome whose lists may serve again. After `OutOfMemory` nothing has changed.
+    /// Adds what the turn of one process more left. The lists of `outcome` may serve again. After `OutOfMemory` these outcomes have not changed.
     #[inline(always)]
-    pub fn push(&mut self, outcome: Outcome) -> Result<Outcome, OutOfMemory>
-        ensures ok { OnOk result (self.new ≡ self.old ++ outcome ∷ []) }
+    pub fn push(&mut self, outcome: &mut Outcome) -> Result<(), OutOfMemory>
+        ensures ok { OnOk result (self.new ≡ self.old ++ outcome.old ∷ []) }
         ensures err { OnErr result (self.new ≡ self.old) }
     {
-        let mut outcome = outcome;
-        let own: &TurnLists = &outcome.lists;
-        let stores = own.stores.as_ref();
-        let memory = own.memory.as_ref();
-        let left = outcome.as_ref();
         let end = TurnEnd {
-            ended: left.ended,
-            work: left.work as u32,
+            ended: outcome.ended,
+            work: outcome.work as u32,
         };
-        self.lists.put(self.ends.len(), &left, &stores, &memory)?;
+        self.lists.put_turn(self.ends.len(), outcome)?;
         self.ends.reserve(1)?;
         let lists: &mut TurnLists = &mut outcome.lists;
         self.memories.push_from(&mut lists.memory)?;
         self.ends.push_reserved(end);
-        Ok(outcome)
+        Ok(())
     }
 
     /// Adds an outcome with another memory of as many words, which are taken out of `memory`. After `OutOfMemory` these outcomes have not changed.
@@ -240,7 +235,7 @@ impl OutcomeRows {
             ended: outcome.ended,
             work: outcome.work as u32,
         };
-        self.lists.put(self.ends.len(), outcome, &outcome.stores, &memory.as_ref())?;
+        self.lists.put(self.ends.len(), outcome, &memory.as_ref())?;
         self.ends.reserve(1)?;
         self.memories.push_from(memory)?;
         self.ends.push_reserved(end);

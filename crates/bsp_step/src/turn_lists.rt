@@ -86,8 +86,13 @@ impl TurnLists {
     /// Adds copies of the requests of other lists, and of their printed lines. After `OutOfMemory` some of them are added.
     fn append_requests(&mut self, more: &TurnLists) -> Result<(), OutOfMemory>
         ensures { OnOk result (self.new ≡ record self.old {
-            puts = self.old.puts ++ more.now.puts; gets = self.old.gets ++ more.now.gets; sends = self.old.sends ++ more.now.sends;
-            pops = self.old.pops ++ more.now.pops; pushes = self.old.pushes ++ more.now.pushes; lines = self.old.lines ++ more.now.lines }) }
+          puts = self.old.puts ++ more.now.puts;
+          gets = self.old.gets ++ more.now.gets;
+          sends = self.old.sends ++ more.now.sends;
+          pops = self.old.pops ++ more.now.pops;
+          pushes = self.old.pushes ++ more.now.pushes;
+          lines = self.old.lines ++ more.now.lines;
+        }) }
     {
         self.puts.append(&more.puts.as_ref())?;
         self.gets.append(more.gets.as_slice())?;

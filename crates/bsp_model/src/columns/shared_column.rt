@@ -97,11 +97,14 @@ impl<T: Drop> SharedColumn<T> {
     }
 
     /// Makes `row` the list of a process, and leaves those behind it out. After `OutOfMemory` its own is left out too.
+    #[inline(always)]
     pub fn put(&mut self, place: usize, row: SharedSeq<T>) -> Result<(), OutOfMemory>
         ensures ok { OnOk result (IsPut [] (row_at self.old) place row (row_at self.new)) }
         ensures err { OnErr result (AreCut [] (row_at self.old) place (row_at self.new)) }
     {
-        self.rows.truncate(place);
+        if place < self.rows.len() {
+            self.rows.truncate(place);
+        }
         if row.is_empty() {
             return Ok(());
         }

@@ -1,7 +1,8 @@
-use Rattle.std.proofs.Common.{[], length, refl, arith}
+use Rattle.std.proofs.Common.{◌≤◌, ℕ, List, [], length, refl, arith}
 use Rattle.std.proofs.lemmas.Result.{MatchResult-from_err}
 use Rattle.bsp_model.specs.Columns.{row_at, IsPut}
 use Rattle.bsp_model.specs.Inside.Pages.{words_of}
+use Rattle.bsp_model.proofs.Pages.{length-words_of, words_len}
 use Rattle.bsp_model.proofs.PagedMemories.{ArePaged-same, memories_of-same, ArePaged-push, memories_of-push}
 use Rattle.bsp_model.proofs.memories.Memories.push_from.Goals as goal
 
@@ -34,3 +35,19 @@ returns-clause-ok c =
 pub returns-clause-rest : goal.returns-clause-rest
 unfolding words_of
 returns-clause-rest c = refl
+
+-- as many words as the memory that is left says that it has
+left : (full : List (List ℕ)) (last : List ℕ) (len count : ℕ) → len ≤ count → length (words_of full last len) ≤ count
+left full last len count few = omega (arith, few, length-words_of full last len)
+
+pub returns-in_err-full-clause-few : goal.returns-in_err-full-clause-few
+returns-in_err-full-clause-few c = left c.take_pages.new.pages.items _ _ _ (omega (arith, words_len _ _ _ _ c.memory.view_is, c.memory.invariant.count, c.len-memory-inside.ensures))
+
+pub returns-in_err-put-clause-few : goal.returns-in_err-put-clause-few
+returns-in_err-put-clause-few c = left c.take_pages.new.pages.items _ _ _ (omega (arith, words_len _ _ _ _ c.memory.view_is, c.memory.invariant.count, c.len-memory-inside.ensures))
+
+pub returns-in_err-push-clause-few : goal.returns-in_err-push-clause-few
+returns-in_err-push-clause-few c = left c.take_pages.new.pages.items _ _ _ (omega (arith, words_len _ _ _ _ c.memory.view_is, c.memory.invariant.count, c.len-memory-inside.ensures))
+
+pub returns-clause-few : goal.returns-clause-few
+returns-clause-few c = left c.take_pages.new.pages.items c.clear.new.self.items 0 _ (omega arith)

@@ -1,50 +1,65 @@
-use Rattle.std.proofs.Common.{◌≡◌, ◌∷◌, [], ◌++◌, ℕ, List, length, ap, subst, ◌∙◌, arith}
+use Rattle.std.proofs.Common.{◌≡◌, ◌∷◌, [], ◌++◌, ℕ, List, length, ap, subst, refl, ◌∙◌, arith}
 use Rattle.bsp_step.specs.declared.turn_lists.TurnLists.{TurnLists}
 use Rattle.bsp_step.specs.OutcomeParts.{OutcomeParts, IsOutcome}
 use Rattle.bsp_step.proofs.OutcomeColumns.{outcomes-push, lawful-push, end_of, same_below, unchanged-below, has_there, on_err}
 use Rattle.bsp_step.proofs.outcome_rows.OutcomeRows.push.Goals as goal
 
-pub returns-in_err-put-clause-err : goal.returns-in_err-put-clause-err
-returns-in_err-put-clause-err c =
+pub returns-in_err-put_turn-clause-err : goal.returns-in_err-put_turn-clause-err
+returns-in_err-put_turn-clause-err c =
     let r = c.self.inside in
     on_err _ c.from_residual.result
-    (unchanged-below r.ends.items r.memories c.deref_mut.result.now r.lists.value c.put.new.self c.len.result c.args.self.now c.deref_mut.ensures.value (omega (arith, c.len.ensures, r.ends.ok)) c.put.ensures.before c.self.view_is)
+    (unchanged-below r.ends.items r.memories c.deref_mut.result.now r.lists.value c.put_turn.new.self c.len.result c.args.self.now c.deref_mut.ensures.value (omega (arith, c.len.ensures, r.ends.ok)) c.put_turn.ensures.before c.self.view_is)
 
 pub returns-in_err-reserve-clause-err : goal.returns-in_err-reserve-clause-err
 returns-in_err-reserve-clause-err c =
     let r = c.self.inside in
     on_err _ c.from_residual-in_err-reserve.result
     (rw c.reserve.ensures.items
-    (unchanged-below r.ends.items r.memories c.deref_mut.result.now r.lists.value c.put.new.self c.len.result c.args.self.now c.deref_mut.ensures.value (omega (arith, c.len.ensures, r.ends.ok)) c.put.ensures.before c.self.view_is))
+    (unchanged-below r.ends.items r.memories c.deref_mut.result.now r.lists.value c.put_turn.new.self c.len.result c.args.self.now c.deref_mut.ensures.value (omega (arith, c.len.ensures, r.ends.ok)) c.put_turn.ensures.before c.self.view_is))
 
 pub returns-in_err-push_from-clause-err : goal.returns-in_err-push_from-clause-err
 returns-in_err-push_from-clause-err c =
     let r = c.self.inside in
     on_err _ c.from_residual-in_err-push_from.result
     (rw (c.reserve.ensures.items, c.in_err-push_from.ensures.err)
-    (unchanged-below r.ends.items r.memories c.deref_mut.result.now r.lists.value c.put.new.self c.len.result c.args.self.now c.deref_mut.ensures.value (omega (arith, c.len.ensures, r.ends.ok)) c.put.ensures.before c.self.view_is))
+    (unchanged-below r.ends.items r.memories c.deref_mut.result.now r.lists.value c.put_turn.new.self c.len.result c.args.self.now c.deref_mut.ensures.value (omega (arith, c.len.ensures, r.ends.ok)) c.put_turn.ensures.before c.self.view_is))
 
 pub invariant_of-self-2 : goal.invariant_of-self-2
 invariant_of-self-2 c =
     let r = c.self.inside in
-    let o = c.args.outcome in
+    let o = c.args.outcome.now in
     let moved : c.push_from.new.self ≡ r.memories ++ o.memory ∷ [] =
     c.in_ok-push_from.ensures.ok ∙ ap (λ (m : List ℕ). r.memories ++ m ∷ []) (ap (λ (l : TurnLists). l.memory) c.deref_mut-lists.ensures.value ∙ ap (λ (p : OutcomeParts). p.memory) c.outcome.view_is) in
     let lawful : IsOutcome o = subst IsOutcome c.outcome.view_is c.outcome.invariant in
     rw (c.push_reserved.ensures.items, c.in_ok-reserve.ensures.items, moved)
-    (lawful-push r.ends.items r.memories r.lists.value c.put.new.self _ o.memory o c.self.invariant
-    (same_below c.deref_mut.result.now r.lists.value c.put.new.self c.len.result (length r.ends.items) c.deref_mut.ensures.value (omega (arith, c.len.ensures, r.ends.ok)) c.put.ensures.before)
-    (has_there c.put.new.self c.len.result (length r.ends.items) c.as_ref-memory.result o.memory c.as_ref-left.result o (omega (arith, c.len.ensures, r.ends.ok)) (c.as_ref-memory.ensures ∙ ap (λ (l : TurnLists). l.memory) c.deref-own.ensures ∙ ap (λ (p : OutcomeParts). p.memory) c.outcome.view_is) (c.as_ref-left.ensures) c.in_ok-put.ensures.there)
-    (ap end_of (c.left.view_is ∙ c.as_ref-left.ensures)) lawful lawful.short_memory)
+    (lawful-push r.ends.items r.memories r.lists.value c.put_turn.new.self _ o.memory o c.self.invariant
+    (same_below c.deref_mut.result.now r.lists.value c.put_turn.new.self c.len.result (length r.ends.items) c.deref_mut.ensures.value (omega (arith, c.len.ensures, r.ends.ok)) c.put_turn.ensures.before)
+    (has_there c.put_turn.new.self c.len.result (length r.ends.items) o.memory o.memory o o (omega (arith, c.len.ensures, r.ends.ok)) refl refl c.in_ok-put_turn.ensures.there)
+    (ap end_of c.outcome.view_is) lawful lawful.short_memory)
 
 pub returns-clause-ok : goal.returns-clause-ok
 returns-clause-ok c =
     let r = c.self.inside in
-    let o = c.args.outcome in
+    let o = c.args.outcome.now in
     let moved : c.push_from.new.self ≡ r.memories ++ o.memory ∷ [] =
     c.in_ok-push_from.ensures.ok ∙ ap (λ (m : List ℕ). r.memories ++ m ∷ []) (ap (λ (l : TurnLists). l.memory) c.deref_mut-lists.ensures.value ∙ ap (λ (p : OutcomeParts). p.memory) c.outcome.view_is) in
     rw (c.push_reserved.ensures.items, c.in_ok-reserve.ensures.items, moved, ← c.self.view_is)
-    (outcomes-push r.ends.items r.memories r.lists.value c.put.new.self _ o.memory o c.self.invariant.count
-    (same_below c.deref_mut.result.now r.lists.value c.put.new.self c.len.result (length r.ends.items) c.deref_mut.ensures.value (omega (arith, c.len.ensures, r.ends.ok)) c.put.ensures.before)
-    (has_there c.put.new.self c.len.result (length r.ends.items) c.as_ref-memory.result o.memory c.as_ref-left.result o (omega (arith, c.len.ensures, r.ends.ok)) (c.as_ref-memory.ensures ∙ ap (λ (l : TurnLists). l.memory) c.deref-own.ensures ∙ ap (λ (p : OutcomeParts). p.memory) c.outcome.view_is) (c.as_ref-left.ensures) c.in_ok-put.ensures.there)
-    (ap end_of (c.left.view_is ∙ c.as_ref-left.ensures)))
+    (outcomes-push r.ends.items r.memories r.lists.value c.put_turn.new.self _ o.memory o c.self.invariant.count
+    (same_below c.deref_mut.result.now r.lists.value c.put_turn.new.self c.len.result (length r.ends.items) c.deref_mut.ensures.value (omega (arith, c.len.ensures, r.ends.ok)) c.put_turn.ensures.before)
+    (has_there c.put_turn.new.self c.len.result (length r.ends.items) o.memory o.memory o o (omega (arith, c.len.ensures, r.ends.ok)) refl refl c.in_ok-put_turn.ensures.there)
+    (ap end_of c.outcome.view_is))
+
+pub invariant_of-outcome : goal.invariant_of-outcome
+invariant_of-outcome c =
+    let i = c.outcome.invariant in
+    let short = i.short_memory in
+    rw c.deref_mut-lists.ensures.value
+    (record {
+      halts = i.halts;
+      short_memory = omega (arith, short, c.push_from.ensures.few, ap (λ (l : TurnLists). length l.memory) c.deref_mut-lists.ensures.value);
+      few_requests = i.few_requests;
+      sends = i.sends;
+      tag = i.tag;
+      lines = i.lines;
+      little_work = i.little_work;
+    })
