@@ -55,6 +55,7 @@ pub const ONE_WORKER: Options = Options {
         places: false,
         changes: false,
     },
+    quiet: true,
 };
 
 /// Whether the engine with the bundled programs writes these bytes for a document, and ends so, after one failure where it ends by an error.
@@ -74,7 +75,6 @@ pub fn writes<R: Threads + Sync, G: Gate>(
     let mut writer = sink(alloc, flow);
     let mut left = Vec::new(alloc);
     let options = Options {
-        quiet: true,
         workers,
         ..ONE_WORKER
     };
