@@ -44,8 +44,8 @@ with_version a = record a { top = record a.top { has_version = true } }
 -- the command of a tool with this name: its version, and these six options
 abbrev pub tool_app : List ℕ → App
 tool_app name =
-    let running = with_rule (with_rule (with_version (new_app name)) workers_rule) scratch_rule in
-    with_rule (with_rule (with_rule (with_rule running places_rule) changes_rule) follow_rule) quiet_rule
+    with_rule (with_rule (with_rule (with_rule (with_rule (with_rule (with_version (new_app name)) workers_rule) scratch_rule)
+    places_rule) changes_rule) follow_rule) quiet_rule
 
 -- the number that a text writes
 abbrev pub number_of : Text → ℕ
