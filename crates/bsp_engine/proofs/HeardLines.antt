@@ -1,5 +1,5 @@
 -- The lines of a text, split at its LFs, are those that are kept byte by byte.
-use Rattle.std.proofs.Common.{◌≡◌, ◌≤◌, ◌<◌, ℕ, ◌+◌, suc, zero, List, [], ◌∷◌, ◌++◌, length, map, take, cond, true, false, refl, sym, ap, ◌∙◌, inl, inr, append_assoc, add-one, arith, nat_lt}
+use Rattle.std.proofs.Common.{◌≡◌, ℕ, ◌+◌, List, [], ◌∷◌, ◌++◌, length, map, take, cond, true, false, refl, sym, ap, ◌∙◌, inl, inr, append_assoc, add-one, arith, nat_lt}
 use Rattle.std.specs.Prelude.{◌==◌, if◌then◌else◌}
 use Rattle.std.proofs.lemmas.Bool.{cases_lt}
 use Rattle.std.proofs.lemmas.Bool.Decides.{nat_tests}
