@@ -142,19 +142,19 @@ fn store_block(ctx: &mut Ctx<'_>, start: u64, count: u64, before: u64) -> Result
     let mut words = [0; 66];
     words[0] = before;
     ctx.load_words(start, &mut words[1..count + 2]).unwrap();
-    let mut cells = [0; 64];
-    make_next_cells(&words[..count + 2], &mut cells[..count]);
-    ctx.store_words(start, &cells[..count])?;
-    Ok(words[count])
+    let last = words[count];
+    make_next_cells(&mut words[..count + 2]);
+    ctx.store_words(start, &words[..count])?;
+    Ok(last)
 }
 
-/// Makes `cells` the next cells of these words. They lie apart from the words, so that several cells are made at once.
-fn make_next_cells(words: &[u64], cells: &mut [u64])
-    requires { length words.now ≡ length cells.old + 2 }
-    ensures { cells.new ≡ next_cells words.now }
+/// Makes the first of these words what the cells between the first and the last of them become.
+fn make_next_cells(words: &mut [u64])
+    requires { 2 ≤ length words.old }
+    ensures { take (length words.old - 2) words.new ≡ next_cells words.old }
 {
-    for i in 0..cells.len() {
-        cells[i] = next_cell(words[i], words[i + 1], words[i + 2]);
+    for i in 0..words.len() - 2 {
+        words[i] = next_cell(words[i], words[i + 1], words[i + 2]);
     }
 }
 
