@@ -53,6 +53,24 @@ class Sessions(InAPlace):
         self.fails("0 passed, 1 failed", "heat was not built", "ci/sessions")
 
 
+class Progress(InAPlace):
+    LINES = "printf 'run 0\\n'; show() { printf '\\rrun 3, superstep 9\\033[K\\r\\033[K' >&2; }"
+
+    def test_a_program_that_shows_its_progress_passes(self):
+        self.place.program("heat", f'{self.LINES}; if [ -t 2 ] && [ "$2" != --quiet ]; then show; fi')
+        self.passes("3 passed, 0 failed", "ci/progress")
+
+    def test_a_program_that_shows_it_always_or_never(self):
+        self.place.program("heat", f"{self.LINES}; show")
+        self.fails("1 passed, 2 failed", "test_quiet", "ci/progress")
+        self.place.program("heat", self.LINES)
+        self.fails("2 passed, 1 failed", "test_a_terminal", "ci/progress")
+
+    def test_a_program_that_is_not_built(self):
+        self.place.script("bin/rt", "exit 1")
+        self.fails("0 passed, 1 failed", "heat was not built", "ci/progress")
+
+
 class Live(InAPlace):
     """Each flaw with talks of which one shows it."""
 

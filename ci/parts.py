@@ -16,13 +16,14 @@ def live(count):
 
 
 DOCUMENTS = Part(("ci/documents",), 6_600)
-FIRST = (Part(("ci/test_gate",), 81), Part(("ci/statement",), 2), Part(("ci/python",), 58))  # before anything is proved
+FIRST = (Part(("ci/test_gate",), 84), Part(("ci/statement",), 2), Part(("ci/python",), 58))  # before anything is proved
 PROOFS = Part(("rt", "ci"), 102)  # 22 crates and 80 must-fail edits
 LAST = (
     DOCUMENTS,
     Part(("ci/random", "300"), 1_500),
     live(40),
-    Part(("ci/sessions",), 9),
+    Part(("ci/sessions",), 6),
+    Part(("ci/progress",), 3),
     Part(("ci/count_allocations",), 6),
     Part(("ci/refuse_allocations",), 14_000),
 )

@@ -99,11 +99,7 @@ impl Cells {
     }
 
     /// Adds one process more, and takes the words out of its memory. After `OutOfMemory` these cells have not changed.
-    pub fn push(
-        &mut self,
-        memory: &mut Memory,
-        queue: &MessagesRef<'_>,
-    ) -> Result<(), OutOfMemory>
+    pub fn push(&mut self, memory: &mut Memory, queue: &MessagesRef<'_>) -> Result<(), OutOfMemory>
         ensures ok { OnOk result (self.new ≡ self.old ++ (memory.old, queue.now) ∷ []) }
         ensures err { OnErr result (self.new ≡ self.old) }
     {
