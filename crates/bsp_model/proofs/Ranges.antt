@@ -4,7 +4,7 @@ use Rattle.std.specs.Prelude.{◌==◌, if◌then◌else◌}
 use Rattle.std.proofs.lemmas.Bool.Decides.{nat_tests}
 use Rattle.std.proofs.lemmas.List.{take_all, take-append-le, drop-append-le, nil_from_length, length-append, length-drop}
 use Rattle.bsp_model.specs.declared.request.Store.{Store}
-use Rattle.bsp_model.specs.declared.stores.range.Range.{Range}
+use Rattle.bsp_model.specs.declared.range.Range.{Range}
 use Rattle.bsp_model.specs.Stores.{records}
 use Rattle.bsp_model.specs.Inside.Ranges.{stores_of, IsApart, AreRanges, longer, last_len}
 

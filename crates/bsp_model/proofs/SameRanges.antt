@@ -3,7 +3,7 @@ use Rattle.std.proofs.Common.{◌≡◌, ◌<◌, ◌+◌, ℕ, List, [], ◌∷
 use Rattle.std.proofs.lemmas.Bool.{cases_lt}
 use Rattle.std.proofs.lemmas.List.{append_cancel_left, get_or-append-add, length-take-le, length-drop}
 use Rattle.bsp_model.specs.declared.request.Store.{Store}
-use Rattle.bsp_model.specs.declared.stores.range.Range.{Range}
+use Rattle.bsp_model.specs.declared.range.Range.{Range}
 use Rattle.bsp_model.specs.Stores.{records, words_stored}
 use Rattle.bsp_model.specs.Inside.Ranges.{stores_of, AreRanges}
 use Rattle.bsp_model.proofs.Ranges.{length-records}

@@ -1,12 +1,16 @@
 -- The words that were stored, where they are kept and where they stand in a memory.
-use Rattle.std.proofs.Common.{◌≡◌, ◌≢◌, ◌<◌, ◌≤◌, ◌+◌, ◌-◌, ℕ, List, [], ◌∷◌, ◌++◌, length, get_or, take, drop, refl, sym, ap, ◌∙◌, subst, arith, take-append-drop, append-nil}
-use Rattle.std.proofs.lemmas.List.{map-append, length-map, length-take, length-drop, nil_from_length, take_all, take-take, drop-drop, drop-take}
+use Rattle.std.proofs.Common.{◌≡◌, ◌≢◌, ◌<◌, ◌≤◌, ◌+◌, ◌-◌, ℕ, true, List, [], ◌∷◌, ◌++◌, length, get_or, take, drop, nat_le, refl, sym, ap, ◌∙◌, subst, arith, add-zero, zero-add, append_assoc, take-append-drop, append-nil}
+use Rattle.std.specs.Prelude.{◌==◌}
+use Rattle.std.proofs.lemmas.Bool.Decides.{nat_tests}
+use Rattle.std.proofs.lemmas.List.{map-append, length-append, length-map, length-take, length-take-le, length-drop, nil_from_length, take_all, take-take, take-append-le, drop-append-le, drop-drop, drop-take}
 use Rattle.bsp_model.specs.declared.request.Store.{Store}
-use Rattle.bsp_model.specs.declared.stores.range.Range.{Range}
+use Rattle.bsp_model.specs.declared.range.Range.{Range}
 use Rattle.bsp_model.specs.Stores.{records, words_stored}
 use Rattle.bsp_model.specs.Inside.Beside.{words_beside, stores_beside, AreBeside}
 use Rattle.bsp_model.specs.Inside.Columns.{pair_at}
-use Rattle.bsp_model.specs.Inside.Ranges.{stores_of, AreRanges}
+use Rattle.bsp_model.specs.Memory.{memory_written}
+use Rattle.bsp_model.specs.Inside.Ranges.{stores_of, longer, last_len, AreRanges, GoOn}
+use Rattle.bsp_model.proofs.Ranges.{AreRanges-longer, stores_of-longer}
 
 words-records : (start : ℕ) (words : List ℕ) → words_stored (records start words) ≡ words
 words-records start [] = refl
@@ -116,3 +120,84 @@ pub stand_beside : (ranges : List Range) (memory words : List ℕ) → length ra
 stand_beside [] memory words one there = absurd (omega arith)
 stand_beside (r ∷ []) memory words one there = sym there
 stand_beside (r ∷ next ∷ later) memory words one there = absurd (omega arith)
+
+-- Words that are written to a memory stand there, and so do the words in front of them.
+
+-- the words of a memory from an address on, once words are written there
+after_write : (memory words : List ℕ) (start : ℕ) → start + length words ≤ length memory
+    → memory_written memory start words ≡ take start memory ++ words ++ drop (start + length words) memory
+after_write memory words start inside =
+    let within : nat_le (start + length words) (length memory) ≡ true = grind (arith, nat_tests) in
+    rw within refl
+
+-- a range of it that ends behind them
+written_range : (memory words : List ℕ) (from len : ℕ) → from + len + length words ≤ length memory
+    → take (len + length words) (drop from (memory_written memory (from + len) words)) ≡ take len (drop from memory) ++ words
+written_range memory words from len inside =
+    let start = from + len in
+    let rest = drop (start + length words) memory in
+    let written = after_write memory words start inside in
+    let front : length (take start memory) ≡ start = length-take-le start memory (omega arith) in
+    let left : drop from (take start memory ++ (words ++ rest)) ≡ drop from (take start memory) ++ (words ++ rest) = drop-append-le from (take start memory) (words ++ rest) (omega (arith, front)) in
+    let there : drop from (take start memory) ≡ take len (drop from memory) = drop-take from len memory in
+    let long : length (take len (drop from memory)) ≡ len = length-take-le len (drop from memory) (omega (arith, length-drop from memory)) in
+    let both : length (take len (drop from memory) ++ words) ≡ len + length words = omega (arith, long, length-append (take len (drop from memory)) words) in
+    ap (λ (m : List ℕ). take (len + length words) (drop from m)) (written ∙ append_assoc (take start memory) words rest)
+    ∙ ap (take (len + length words)) (left ∙ ap (λ (ws : List ℕ). ws ++ (words ++ rest)) there ∙ sym (append_assoc (take len (drop from memory)) words rest))
+    ∙ take-append-le (len + length words) (take len (drop from memory) ++ words) rest (omega (arith, both))
+    ∙ take_all (len + length words) (take len (drop from memory) ++ words) (omega (arith, both))
+
+-- stores that go on behind the one range without words of its own
+pub beside-longer : (ranges : List Range) (values memory words : List ℕ) (start : ℕ) → GoOn ranges values start → AreRanges ranges (words_beside ranges values memory) → length words ≤ length memory - start → 0 < length words
+    → words_beside (longer ranges start (length words)) values (memory_written memory start words) ≡ words_beside ranges values memory ++ words
+beside-longer [] [] memory words start on are inside some =
+    ap (take (length words)) (ap (λ (n : ℕ). drop start (memory_written memory n words)) (sym (add-zero start))) ∙ ap (λ (n : ℕ). take n (drop start (memory_written memory (start + 0) words))) (sym (zero-add (length words))) ∙ written_range memory words start 0 (omega arith)
+beside-longer [] (v ∷ values) memory words start on are inside some = absurd on
+beside-longer (r ∷ []) [] memory words start on are inside some =
+    let test : (start == r.start + r.len) ≡ true = grind (arith, nat_tests) in
+    rw test (ap (λ (n : ℕ). take (r.len + length words) (drop r.start (memory_written memory n words))) on ∙ written_range memory words r.start r.len (omega arith))
+beside-longer (r ∷ []) (v ∷ values) memory words start on are inside some = absurd on
+beside-longer (r ∷ next ∷ later) values memory words start on are inside some = absurd on
+
+pub no_stores : (ranges : List Range) (values memory : List ℕ) → ranges ≡ [] → stores_of ranges (words_beside ranges values memory) ≡ []
+unfolding stores_of
+no_stores ranges values memory none = ap (λ (rs : List Range). stores_of rs (words_beside rs values memory)) none
+
+-- once more words are stored
+pub stores-more : (ranges ranges' : List Range) (all all' words : List ℕ) (start : ℕ) → 0 < length words → AreRanges ranges all → ranges' ≡ longer ranges start (length words) → all' ≡ all ++ words
+    → AreRanges ranges' all' × (stores_of ranges' all' ≡ stores_of ranges all ++ records start words)
+stores-more ranges ranges' all all' words start some are more added =
+    let Made : List Range → List ℕ → Type 0 = λ rs ws. AreRanges rs ws × (stores_of rs ws ≡ stores_of ranges all ++ records start words) in
+    subst (λ rs. Made rs all') (sym more) (subst (Made (longer ranges start (length words))) (sym added) (AreRanges-longer ranges all words start some are, stores_of-longer ranges all words start are))
+
+-- apart from the words of the memory
+pub stored-apart : (ranges ranges' : List Range) (values values' memory memory' words : List ℕ) (start : ℕ) → 0 < length words → AreRanges ranges (words_beside ranges values memory)
+    → ranges' ≡ longer ranges start (length words) → values' ≡ words_beside ranges values memory ++ words
+    → AreRanges ranges' (words_beside ranges' values' memory') × (stores_of ranges' (words_beside ranges' values' memory') ≡ stores_of ranges (words_beside ranges values memory) ++ records start words)
+stored-apart ranges ranges' values values' memory memory' words start some are more added =
+    let all = words_beside ranges values memory in
+    let kept : words_beside ranges' values' memory' ≡ values' = kept_some ranges' values' memory' (omega (arith, some, ap length added, length-append all words)) in
+    stores-more ranges ranges' all (words_beside ranges' values' memory') words start some are more (kept ∙ added)
+
+-- where they stand in the memory
+pub stored-on : (ranges ranges' : List Range) (values memory memory' words : List ℕ) (start : ℕ) → GoOn ranges values start → 0 < length words → length words ≤ length memory - start
+    → AreRanges ranges (words_beside ranges values memory) → ranges' ≡ longer ranges start (length words) → memory' ≡ memory_written memory start words
+    → AreRanges ranges' (words_beside ranges' values memory') × (stores_of ranges' (words_beside ranges' values memory') ≡ stores_of ranges (words_beside ranges values memory) ++ records start words)
+stored-on ranges ranges' values memory memory' words start on some inside are more written =
+    let there : words_beside ranges' values memory' ≡ words_beside (longer ranges start (length words)) values (memory_written memory start words) =
+    ap (λ (rs : List Range). words_beside rs values memory') more ∙ ap (λ (m : List ℕ). words_beside (longer ranges start (length words)) values m) written in
+    stores-more ranges ranges' (words_beside ranges values memory) (words_beside ranges' values memory') words start some are more (there ∙ beside-longer ranges values memory words start on are inside some)
+
+pub last_len-on : (ranges : List Range) (values memory words : List ℕ) (start : ℕ) → GoOn ranges values start → 0 < length words → length words ≤ length memory - start → last_len ranges + length words ≤ length memory
+last_len-on [] [] memory words start on some inside = omega arith
+last_len-on [] (v ∷ values) memory words start on some inside = absurd on
+last_len-on (r ∷ []) [] memory words start on some inside = omega arith
+last_len-on (r ∷ []) (v ∷ values) memory words start on some inside = absurd on
+last_len-on (r ∷ next ∷ later) values memory words start on some inside = absurd on
+
+-- as much is kept where memory was refused
+pub stored-none : (ranges ranges' : List Range) (values values' memory memory' : List ℕ) → AreRanges ranges (words_beside ranges values memory) → ranges' ≡ ranges → words_beside ranges values' memory ≡ words_beside ranges values memory → memory' ≡ memory
+    → AreRanges ranges' (words_beside ranges' values' memory')
+stored-none ranges ranges' values values' memory memory' are same kept unchanged =
+    subst (λ (rs : List Range). AreRanges rs (words_beside rs values' memory')) (sym same)
+    (subst (λ (m : List ℕ). AreRanges ranges (words_beside ranges values' m)) (sym unchanged) (subst (AreRanges ranges) (sym kept) are))

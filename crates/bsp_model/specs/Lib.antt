@@ -1,6 +1,7 @@
 pub mod Columns
 pub mod Input
 pub mod Limits
+pub mod LocalParts
 pub mod Memory
 pub mod ProcessSet
 pub mod PutsTo

@@ -5,8 +5,8 @@ ghost use Rattle.bsp_model.specs.Stores.{records, made_again, words_stored};
 ghost use Rattle.bsp_model.specs.Inside.Beside.{words_beside};
 ghost use Rattle.bsp_model.specs.Inside.Ranges.{stores_of, AreRanges};
 
+use crate::range::Range;
 use crate::seq::are_same;
-use crate::stores::range::Range;
 use crate::{Memory, MemoryRef, OutOfMemory, Same, are_same_words};
 use std::alloc::Global;
 use std::marker::Model;

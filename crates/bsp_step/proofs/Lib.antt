@@ -6,6 +6,7 @@ pub mod Finding
 pub mod Boxed
 pub mod Limits
 pub mod MessagesLeft
+pub mod StoredLists
 pub mod Storing
 pub mod Laws
 pub mod OutcomeColumns

@@ -13,7 +13,7 @@ use Rattle.bsp_model.specs.Limits.{most_memory_words}
 use Rattle.bsp_model.specs.Inside.Beside.{stores_beside, words_beside, AreBeside}
 use Rattle.bsp_model.specs.Inside.Columns.{pair_at}
 use Rattle.bsp_model.specs.Inside.Ranges.{stores_of, AreRanges}
-use Rattle.bsp_model.specs.declared.stores.range.Range.{Range}
+use Rattle.bsp_model.specs.declared.range.Range.{Range}
 use Rattle.bsp_step.specs.declared.list_kind.ListKind.{ListKind}
 use Rattle.bsp_step.specs.declared.list_kind.ListKind.TheVariants.{Faults, Gets, Sends, Pops, Pushes, Tags, Lines}
 use Rattle.bsp_step.specs.declared.lists.Lists.{Lists}

@@ -156,9 +156,8 @@ impl Lists {
         ensures there { OnOk result (HasLists self.new place outcome.now.memory outcome.now) }
     {
         let lists: &TurnLists = &outcome.lists;
-        let memory = lists.memory.as_ref();
         let faults = put_fault(&mut self.faults, place, outcome.fault);
-        let stores = self.stores.put(place, &lists.stores.as_ref(), &memory);
+        let stores = self.stores.put_local(place, &lists.local);
         let puts = self.puts.put(place, &lists.puts.as_ref());
         let gets = self.gets.put(place, lists.gets.as_slice());
         let sends = self.sends.put(place, &lists.sends.as_ref());

@@ -67,8 +67,8 @@ impl Outcome {
         OutcomeRef {
             fault: self.fault,
             ended: self.ended,
-            memory: lists.memory.as_ref(),
-            stores: lists.stores.as_ref(),
+            memory: lists.local.memory(),
+            stores: lists.local.stores(),
             puts: lists.puts.as_ref(),
             gets: lists.gets.as_slice(),
             sends: lists.sends.as_ref(),

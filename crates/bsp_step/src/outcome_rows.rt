@@ -216,7 +216,7 @@ impl OutcomeRows {
         self.lists.put_turn(self.ends.len(), outcome)?;
         self.ends.reserve(1)?;
         let lists: &mut TurnLists = &mut outcome.lists;
-        self.memories.push_from(&mut lists.memory)?;
+        lists.local.move_to(&mut self.memories)?;
         self.ends.push_reserved(end);
         Ok(())
     }

@@ -4,18 +4,16 @@ ghost use Rattle.std.specs.Prelude.{◌≡◌, ◌≤◌, ◌+◌, ◌++◌, ◌
 ghost use Rattle.bsp_step.specs.Inside.TurnLists.{no_lists};
 
 use bsp_model::{
-    Get, Memory, MemoryRef, OutOfMemory, PrintedLines, Puts, Sends, Seq, Stores, TryCopy,
+    Get, LocalMemory, MemoryRef, OutOfMemory, PrintedLines, Puts, Sends, Seq, TryCopy,
 };
 use bsp_table::Area;
 use std::alloc::Global;
 
-/// The lists that a turn leaves, its memory first. They lie in a box, so that an outcome and a context that move take few words with them.
+/// What a turn leaves in lists, its memory first. They lie in a box, so that an outcome and a context that move take few words with them.
 #[derive(Drop)]
 pub struct TurnLists {
-    /// The memory after computing.
-    pub memory: Memory,
-    /// The stores that were made, in order.
-    pub stores: Stores,
+    /// The memory after computing, and the stores that were made, in order.
+    pub local: LocalMemory,
     /// The puts, in issue order, resolved to process and start word.
     pub puts: Puts,
     /// The gets, in issue order, resolved to process and start word.
@@ -36,8 +34,7 @@ impl TurnLists {
         ensures { result ≡ no_lists [] }
     {
         TurnLists {
-            memory: Memory::new(alloc),
-            stores: Stores::new(alloc),
+            local: LocalMemory::new(alloc),
             puts: Puts::new(alloc),
             gets: Seq::new(alloc),
             sends: Sends::new(alloc),
@@ -53,14 +50,13 @@ impl TurnLists {
     pub(crate) fn begin(&mut self, memory: &MemoryRef<'_>) -> Result<(), OutOfMemory>
         ensures { OnOk result (self.new ≡ no_lists memory.now) }
     {
-        self.stores.clear();
         self.puts.clear();
         self.gets.clear();
         self.sends.clear();
         self.pops.clear();
         self.pushes.clear();
         self.lines.clear();
-        self.memory.load_from(memory)
+        self.local.begin(memory)
     }
 
     /// Adds a put to `start` of process `pid`: of `len` words of the memory, from `from` on. After `OutOfMemory` nothing has changed.
@@ -72,13 +68,13 @@ impl TurnLists {
         from: u64,
         len: u64,
     ) -> Result<(), OutOfMemory>
-        requires { from + len ≤ length self.old.memory }
-        ensures ok { let own = take len (drop from self.old.memory) in
+        requires { from + len ≤ length self.old.local.memory }
+        ensures ok { let own = take len (drop from self.old.local.memory) in
             OnOk result (self.new ≡ record self.old { puts = self.old.puts ++ record { target = pid; start = start; words = own } ∷ [] }) }
         ensures err { OnErr result (self.new ≡ self.old) }
     {
         let mut words = vec![in alloc; 0; len as usize]?;
-        self.memory.read(from, words.as_mut_slice());
+        self.local.memory().read(from, words.as_mut_slice());
         self.puts.push(pid, start, words.as_slice())?;
         Ok(())
     }
@@ -106,8 +102,7 @@ impl TurnLists {
 impl TryCopy for TurnLists {
     fn copy(&self) -> Result<TurnLists, OutOfMemory> {
         let mut copy = TurnLists::new(self.gets.allocator());
-        copy.memory.load_from(&self.memory.as_ref())?;
-        copy.stores = self.stores.copy()?;
+        copy.local = self.local.copy()?;
         copy.append_requests(self)?;
         Ok(copy)
     }

@@ -2,7 +2,7 @@
 -- alone, and its words are those of the memory.
 use Rattle.std.specs.Prelude.{ℕ, List, [], ◌∷◌, take, drop}
 use Rattle.bsp_model.specs.declared.request.Store.{Store}
-use Rattle.bsp_model.specs.declared.stores.range.Range.{Range}
+use Rattle.bsp_model.specs.declared.range.Range.{Range}
 use Rattle.bsp_model.specs.Columns.{row_at}
 use Rattle.bsp_model.specs.Inside.Ranges.{stores_of, AreRanges}
 

@@ -1,7 +1,7 @@
 -- The ranges in which stores are kept.
 use Rattle.std.specs.Prelude.{ℕ, ◌+◌, ◌<◌, ◌≤◌, ◌≡◌, ◌≢◌, ◌==◌, List, [], ◌∷◌, ◌++◌, length, take, drop, if◌then◌else◌}
 use Rattle.bsp_model.specs.declared.request.Store.{Store}
-use Rattle.bsp_model.specs.declared.stores.range.Range.{Range}
+use Rattle.bsp_model.specs.declared.range.Range.{Range}
 use Rattle.bsp_model.specs.Stores.{records}
 
 -- the stores of ranges, whose words are these values in order
@@ -31,3 +31,9 @@ longer [] start len = record { start = start; len = len } ∷ []
 longer (r ∷ []) start len =
     if start == r.start + r.len then record { start = r.start; len = r.len + len } ∷ [] else r ∷ record { start = start; len = len } ∷ []
 longer (r ∷ next ∷ later) start len = r ∷ longer (next ∷ later) start len
+
+-- Words that are stored from an address on go on behind one range that goes without words of its own, or are the first.
+abbrev pub GoOn : List Range → List ℕ → ℕ → Type 0
+GoOn [] [] start = Unit {0}
+GoOn (r ∷ []) [] start = start ≡ r.start + r.len
+GoOn ranges values start = ⊥

@@ -5,9 +5,9 @@ ghost use Rattle.bsp_model.specs.Inside.Beside.{stores_beside, AreBeside};
 ghost use Rattle.bsp_model.specs.Inside.Columns.{pair_at};
 
 use super::pairs::Pairs;
-use crate::stores::range::Range;
+use crate::range::Range;
 use crate::stores_ref::range_beside;
-use crate::{MemoryRef, OutOfMemory, StoresRef};
+use crate::{LocalMemory, MemoryRef, OutOfMemory, StoresRef};
 
 /// For each process, by its number, stores in the order in which they were made, in few lists. They are kept beside the memory that its turn left:
 /// where they are one range, whose words stand there, no words are kept.
@@ -54,5 +54,15 @@ impl Pairs<Range, u64> {
         let words = stores.to_words(memory.alloc)?;
         self.put_pair(place, stores.ranges, words.as_slice())?;
         Ok(())
+    }
+
+    /// The same for those that a turn made, beside the memory that it left.
+    #[inline(always)]
+    pub fn put_local(&mut self, place: usize, local: &LocalMemory) -> Result<(), OutOfMemory>
+        ensures before { (k : ℕ) → k < place → pair_at self.new k ≡ pair_at self.old k }
+        ensures beside { OnOk result (AreBeside self.new place local.now.memory) }
+        ensures there { OnOk result (stores_beside self.new place local.now.memory ≡ local.now.stores) }
+    {
+        self.put_pair(place, local.ranges.as_slice(), local.values.as_slice())
     }
 }

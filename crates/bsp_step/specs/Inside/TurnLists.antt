@@ -4,4 +4,4 @@ use Rattle.bsp_step.specs.declared.turn_lists.TurnLists.{TurnLists}
 
 -- those of a turn that did nothing, with this memory
 abbrev pub no_lists : List ℕ → TurnLists
-no_lists memory = record { memory = memory; stores = []; puts = []; gets = []; sends = []; pops = []; pushes = []; lines = [] }
+no_lists memory = record { local = record { memory = memory; stores = [] }; puts = []; gets = []; sends = []; pops = []; pushes = []; lines = [] }

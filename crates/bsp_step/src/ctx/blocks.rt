@@ -18,7 +18,7 @@ impl<'v> Ctx<'v> {
         ensures within { IsSome result ↔ (address + length words.old ≤ length self.now.memory) }
         ensures short { length self.now.memory ≤ MOST_MEMORY_WORDS }
     {
-        self.lists.memory.read(address, words).then_some(())
+        self.lists.local.memory().read(address, words).then_some(())
     }
 
     /// The `len` words of the own memory from `address` on, as they are now, or `None` where they pass its end: `load_words` into a new list.
@@ -31,7 +31,10 @@ impl<'v> Ctx<'v> {
             return Ok(None);
         }
         let mut words = vec![in self.alloc; 0; len as usize]?;
-        self.lists.memory.read(address, words.as_mut_slice());
+        self.lists
+            .local
+            .memory()
+            .read(address, words.as_mut_slice());
         Ok(Some(Words::from_vec(words)))
     }
 
@@ -45,10 +48,10 @@ impl<'v> Ctx<'v> {
         if let Some(fault) = self.fault {
             return Err(Stop::Fault(fault));
         }
-        let room = (self.lists.memory.len() as u64).saturating_sub(address);
+        let room = (self.lists.local.memory().len() as u64).saturating_sub(address);
         let (inside, past) = words.split_at(words.len().min(room as usize));
         let lists: &mut TurnLists = &mut self.lists;
-        lists.stores.make_words(&mut lists.memory, address, inside)?;
+        lists.local.store(address, inside)?;
         if !past.is_empty() {
             return self.refuse(Fault::BadLocal);
         }
@@ -69,7 +72,7 @@ impl<'v> Ctx<'v> {
     ) -> Result<Option<()>, Stop>
         ensures { PutsWords self.old (words_at self.old.memory from len) (λ words. act.put pid words area offset) self.new result }
     {
-        let own = self.lists.memory.len() as u64;
+        let own = self.lists.local.memory().len() as u64;
         if from > own || len > own - from {
             return Ok(None);
         }

@@ -5,8 +5,9 @@ ghost use Rattle.bsp_step.specs.Act as act;
 ghost use Rattle.bsp_step.specs.Calls.{Performs, PerformsAlways};
 
 use crate::{Ctx, Stop, TurnLists};
+use bsp_model::Fault;
 use bsp_model::limits::{MOST_LINE_WORDS, MOST_LINES, MOST_WORK};
-use bsp_model::{Fault, Store};
+use std::slice;
 
 impl<'v> Ctx<'v> {
     /// Makes `value` the word at `address` of the own memory.
@@ -18,15 +19,11 @@ impl<'v> Ctx<'v> {
         if let Some(fault) = self.fault {
             return Err(Stop::Fault(fault));
         }
-        if address >= self.lists.memory.len() as u64 {
+        if address >= self.lists.local.memory().len() as u64 {
             return self.refuse(Fault::BadLocal);
         }
-        let store = Store {
-            addr: address,
-            value,
-        };
         let lists: &mut TurnLists = &mut self.lists;
-        lists.stores.make(&mut lists.memory, store)?;
+        lists.local.store(address, slice::from_ref(&value))?;
         Ok(())
     }
 

@@ -51,7 +51,7 @@ impl<'v> Ctx<'v> {
         ensures same { result ≡ length self.now.view.memory }
         ensures short { result ≤ MOST_MEMORY_WORDS }
     {
-        self.lists.memory.len() as u64
+        self.lists.local.memory().len() as u64
     }
 
     /// The word at `address` of the own memory as it is now, if there is one: exactly below `memory_len`.
@@ -60,7 +60,7 @@ impl<'v> Ctx<'v> {
         ensures within { IsSome result ↔ (address < length self.now.memory) }
         ensures short { length self.now.memory ≤ MOST_MEMORY_WORDS }
     {
-        self.lists.memory.load(address)
+        self.lists.local.memory().load(address)
     }
 
     /// The tag size in force in this superstep: at most `MOST_TAG_WORDS` words.

@@ -16,7 +16,7 @@ impl<'v> Ctx<'v> {
         ensures { Performs self.old (act.push_reg start len) self.new result }
     {
         self.begin_request()?;
-        let words = self.lists.memory.len() as u64;
+        let words = self.lists.local.memory().len() as u64;
         if start > words || len > words - start {
             return self.refuse(Fault::BadLocal);
         }

@@ -70,7 +70,7 @@ impl<'v> Ctx<'v> {
         ensures { Performs self.old (act.get pid area offset into len) self.new result }
     {
         let start = self.resolve(pid, area, offset, len)?;
-        let own = self.lists.memory.len() as u64;
+        let own = self.lists.local.memory().len() as u64;
         if into > own || len > own - into {
             return self.refuse(Fault::BadLocal);
         }

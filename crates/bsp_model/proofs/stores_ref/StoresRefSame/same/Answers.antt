@@ -1,6 +1,6 @@
 use Rattle.std.proofs.Common.{List, ℕ, sym, ap, ◌∙◌}
 use Rattle.std.proofs.lemmas.Bool.{false≢true}
-use Rattle.bsp_model.specs.declared.stores.range.Range.{Range}
+use Rattle.bsp_model.specs.declared.range.Range.{Range}
 use Rattle.bsp_model.specs.Stores.{words_stored}
 use Rattle.bsp_model.specs.Inside.Ranges.{stores_of}
 use Rattle.bsp_model.specs.Inside.Beside.{words_beside}

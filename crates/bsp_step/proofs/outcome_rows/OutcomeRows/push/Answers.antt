@@ -17,19 +17,19 @@ returns-in_err-reserve-clause-err c =
     (rw c.reserve.ensures.items
     (unchanged-below r.ends.items r.memories c.deref_mut.result.now r.lists.value c.put_turn.new.self c.len.result c.args.self.now c.deref_mut.ensures.value (omega (arith, c.len.ensures, r.ends.ok)) c.put_turn.ensures.before c.self.view_is))
 
-pub returns-in_err-push_from-clause-err : goal.returns-in_err-push_from-clause-err
-returns-in_err-push_from-clause-err c =
+pub returns-in_err-move_to-clause-err : goal.returns-in_err-move_to-clause-err
+returns-in_err-move_to-clause-err c =
     let r = c.self.inside in
-    on_err _ c.from_residual-in_err-push_from.result
-    (rw (c.reserve.ensures.items, c.in_err-push_from.ensures.err)
+    on_err _ c.from_residual-in_err-move_to.result
+    (rw (c.reserve.ensures.items, c.in_err-move_to.ensures.err)
     (unchanged-below r.ends.items r.memories c.deref_mut.result.now r.lists.value c.put_turn.new.self c.len.result c.args.self.now c.deref_mut.ensures.value (omega (arith, c.len.ensures, r.ends.ok)) c.put_turn.ensures.before c.self.view_is))
 
 pub invariant_of-self-2 : goal.invariant_of-self-2
 invariant_of-self-2 c =
     let r = c.self.inside in
     let o = c.args.outcome.now in
-    let moved : c.push_from.new.self ≡ r.memories ++ o.memory ∷ [] =
-    c.in_ok-push_from.ensures.ok ∙ ap (λ (m : List ℕ). r.memories ++ m ∷ []) (ap (λ (l : TurnLists). l.memory) c.deref_mut-lists.ensures.value ∙ ap (λ (p : OutcomeParts). p.memory) c.outcome.view_is) in
+    let moved : c.move_to.new.memories ≡ r.memories ++ o.memory ∷ [] =
+    c.in_ok-move_to.ensures.ok ∙ ap (λ (m : List ℕ). r.memories ++ m ∷ []) (ap (λ (l : TurnLists). l.local.memory) c.deref_mut-lists.ensures.value ∙ ap (λ (p : OutcomeParts). p.memory) c.outcome.view_is) in
     let lawful : IsOutcome o = subst IsOutcome c.outcome.view_is c.outcome.invariant in
     rw (c.push_reserved.ensures.items, c.in_ok-reserve.ensures.items, moved)
     (lawful-push r.ends.items r.memories r.lists.value c.put_turn.new.self _ o.memory o c.self.invariant
@@ -41,8 +41,8 @@ pub returns-clause-ok : goal.returns-clause-ok
 returns-clause-ok c =
     let r = c.self.inside in
     let o = c.args.outcome.now in
-    let moved : c.push_from.new.self ≡ r.memories ++ o.memory ∷ [] =
-    c.in_ok-push_from.ensures.ok ∙ ap (λ (m : List ℕ). r.memories ++ m ∷ []) (ap (λ (l : TurnLists). l.memory) c.deref_mut-lists.ensures.value ∙ ap (λ (p : OutcomeParts). p.memory) c.outcome.view_is) in
+    let moved : c.move_to.new.memories ≡ r.memories ++ o.memory ∷ [] =
+    c.in_ok-move_to.ensures.ok ∙ ap (λ (m : List ℕ). r.memories ++ m ∷ []) (ap (λ (l : TurnLists). l.local.memory) c.deref_mut-lists.ensures.value ∙ ap (λ (p : OutcomeParts). p.memory) c.outcome.view_is) in
     rw (c.push_reserved.ensures.items, c.in_ok-reserve.ensures.items, moved, ← c.self.view_is)
     (outcomes-push r.ends.items r.memories r.lists.value c.put_turn.new.self _ o.memory o c.self.invariant.count
     (same_below c.deref_mut.result.now r.lists.value c.put_turn.new.self c.len.result (length r.ends.items) c.deref_mut.ensures.value (omega (arith, c.len.ensures, r.ends.ok)) c.put_turn.ensures.before)
@@ -56,7 +56,7 @@ invariant_of-outcome c =
     rw c.deref_mut-lists.ensures.value
     (record {
       halts = i.halts;
-      short_memory = omega (arith, short, c.push_from.ensures.few, ap (λ (l : TurnLists). length l.memory) c.deref_mut-lists.ensures.value);
+      short_memory = omega (arith, short, c.move_to.ensures.few, ap (λ (l : TurnLists). length l.local.memory) c.deref_mut-lists.ensures.value);
       few_requests = i.few_requests;
       sends = i.sends;
       tag = i.tag;

@@ -1,5 +1,5 @@
 use Rattle.std.proofs.Common.{◌≡◌, [], ℕ, List, length, refl, ap, ◌∙◌, arith}
-use Rattle.bsp_model.specs.declared.stores.range.Range.{Range}
+use Rattle.bsp_model.specs.declared.range.Range.{Range}
 use Rattle.bsp_model.specs.Stores.{words_stored}
 use Rattle.bsp_model.specs.Inside.Beside.{stores_beside, AreBeside}
 use Rattle.bsp_model.proofs.StoredWords.{have_words, beside, kept_some, stand_beside, put_beside}

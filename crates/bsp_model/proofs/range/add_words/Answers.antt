@@ -1,11 +1,11 @@
 use Rattle.std.proofs.Common.{◌≡◌, ◌+◌, ◌-◌, ◌∷◌, [], ◌++◌, ℕ, List, length, get_or, ap, ◌∙◌, refl, arith}
 use Rattle.std.specs.Prelude.{slice_set}
 use Rattle.std.proofs.lemmas.List.{nil_from_length, set-get_or}
-use Rattle.bsp_model.specs.declared.stores.range.Range.{Range}
+use Rattle.bsp_model.specs.declared.range.Range.{Range}
 use Rattle.bsp_model.specs.Inside.Ranges.{longer}
 use Rattle.bsp_model.proofs.Ranges.{last_len-is, longer-on, longer-apart}
-use Rattle.bsp_model.proofs.stores.range.add_words.Goals as goal
-use Rattle.bsp_model.proofs.stores.range.add_words.Goals.{then-count-gt0+else-start-last, else-start-last-via-then-start-last+else-start-last-2, else-start-last-via-else-start-last, else-count-gt0}
+use Rattle.bsp_model.proofs.range.add_words.Goals as goal
+use Rattle.bsp_model.proofs.range.add_words.Goals.{then-count-gt0+else-start-last, else-start-last-via-then-start-last+else-start-last-2, else-start-last-via-else-start-last, else-count-gt0}
 
 pub overflow_add-last : goal.overflow_add-last
 overflow_add-last c =

@@ -1,0 +1,206 @@
+//! The memory of a process while it computes.
+
+ghost use Rattle.std.specs.Prelude.{◌≡◌, ◌-◌, ◌^◌, ◌<◌, ◌≤◌, ◌++◌, ◌∷◌, [], ℕ, List, length, OnOk, OnErr};
+ghost use Rattle.std.specs.Bool.{OnTrue};
+ghost use Rattle.bsp_model.specs.Memory.{memory_written};
+ghost use Rattle.bsp_model.specs.Stores.{records};
+ghost use Rattle.bsp_model.specs.Inside.Beside.{words_beside};
+ghost use Rattle.bsp_model.specs.Inside.Ranges.{longer, AreRanges, GoOn};
+
+use crate::range::{Range, add_words};
+use crate::stores_ref::range_beside;
+use crate::{Memories, Memory, MemoryRef, OutOfMemory, StoresRef, TryCopy};
+use std::alloc::Global;
+use std::marker::Model;
+
+/// The memory of a process while it computes, and the stores that were made in it, in order. Stores of words one behind the other are kept as one
+/// range, with no address for each word. Where there is one range alone, its words are not kept either: they stand in the memory.
+#[derive(Drop)]
+pub struct LocalMemory {
+    memory: Memory,
+    /// The ranges, in order. None of them goes on where the one before it ended.
+    pub(crate) ranges: Vec<Range>,
+    /// The words that were stored, in order: those of the first range, then those of the second, and so on. One range may go without.
+    pub(crate) values: Vec<u64>,
+}
+
+impl Model for LocalMemory {
+    ghost use Rattle.bsp_model.specs.LocalParts.{LocalParts};
+    ghost use Rattle.bsp_model.specs.Inside.Beside.{words_beside};
+    ghost use Rattle.bsp_model.specs.Inside.Ranges.{stores_of, AreRanges};
+
+    ghost Value = { LocalParts };
+
+    ghost view = { λ l. record {
+      memory = l.memory;
+      stores = stores_of l.ranges.items (words_beside l.ranges.items l.values.items l.memory);
+    } };
+
+    ghost invariant = { λ l. AreRanges l.ranges.items (words_beside l.ranges.items l.values.items l.memory) };
+}
+
+/// Whether words that are stored from `start` on go on behind the one range without words of its own, or are the first.
+#[inline(always)]
+fn go_on(ranges: &[Range], values: &[u64], start: u64) -> bool
+    ensures { OnTrue result (GoOn ranges.now values.now start) }
+{
+    if !values.is_empty() {
+        return false;
+    }
+    match ranges {
+        [] => true,
+        [range] => start >= range.start && start - range.start == range.len as u64,
+        _ => false,
+    }
+}
+
+/// Keeps the words of one range that goes without: those that the memory has there. After `OutOfMemory` nothing has changed.
+fn keep_words(ranges: &[Range], values: &mut Vec<u64>, memory: &Memory) -> Result<(), OutOfMemory>
+    requires { AreRanges ranges.now (words_beside ranges.now values.old.items memory.now) }
+    ensures kept { OnOk result (values.new.items ≡ words_beside ranges.now values.old.items memory.now) }
+    ensures any { OnOk result ((other : List ℕ) → words_beside ranges.now values.new.items other ≡ values.new.items) }
+    ensures err { OnErr result (values.new.items ≡ values.old.items) }
+{
+    let Some(range) = range_beside(ranges, values.as_slice()) else {
+        return Ok(());
+    };
+    values.resize(range.len, 0)?;
+    memory.read(range.start, values.as_mut_slice());
+    Ok(())
+}
+
+/// Makes `words` those of a memory from `start` on, and keeps them as stores. After `OutOfMemory` the same stores and words are there.
+#[inline(never)]
+fn store_apart(
+    ranges: &mut Vec<Range>,
+    values: &mut Vec<u64>,
+    memory: &mut Memory,
+    start: u64,
+    words: &[u64],
+) -> Result<(), OutOfMemory>
+    requires ranges { AreRanges ranges.old.items (words_beside ranges.old.items values.old.items memory.old) }
+    requires some { 0 < length words.now }
+    requires inside { length words.now ≤ length memory.old - start }
+    ensures ranges { OnOk result (ranges.new.items ≡ longer ranges.old.items start (length words.now)) }
+    ensures values { OnOk result
+        (values.new.items ≡ words_beside ranges.old.items values.old.items memory.old ++ words.now) }
+    ensures memory { OnOk result (memory.new ≡ memory_written memory.old start words.now) }
+    ensures err_ranges { OnErr result (ranges.new.items ≡ ranges.old.items) }
+    ensures err_values { OnErr result (words_beside ranges.old.items values.new.items memory.old
+        ≡ words_beside ranges.old.items values.old.items memory.old) }
+    ensures err_memory { OnErr result (memory.new ≡ memory.old) }
+{
+    keep_words(ranges.as_slice(), values, memory)?;
+    ranges.reserve(1)?;
+    let before = values.len();
+    values.extend_from_slice(words)?;
+    if let Err(error) = memory.write(start, words) {
+        values.truncate(before);
+        return Err(error);
+    }
+    add_words(ranges, start, words.len());
+    Ok(())
+}
+
+impl LocalMemory {
+    /// No words and no stores, which take no memory.
+    pub fn new(alloc: Global) -> LocalMemory
+        ensures { result ≡ record { memory = []; stores = [] } }
+    {
+        LocalMemory {
+            memory: Memory::new(alloc),
+            ranges: Vec::new(alloc),
+            values: Vec::new(alloc),
+        }
+    }
+
+    /// Makes these words the memory, in which no store was made. After `OutOfMemory` it may have any words.
+    #[inline(always)]
+    pub fn begin(&mut self, memory: &MemoryRef<'_>) -> Result<(), OutOfMemory>
+        ensures { OnOk result (self.new ≡ record { memory = memory.now; stores = [] }) }
+    {
+        self.ranges.clear();
+        self.values.clear();
+        self.memory.load_from(memory)?;
+        Ok(())
+    }
+
+    /// The words of the memory.
+    #[inline(always)]
+    pub fn memory(&self) -> MemoryRef<'_>
+        ensures { result ≡ self.now.memory }
+    {
+        self.memory.as_ref()
+    }
+
+    /// The stores that were made.
+    #[inline(always)]
+    pub fn stores(&self) -> StoresRef<'_>
+        ensures { result ≡ self.now.stores }
+    {
+        let memory = self.memory.as_ref();
+        StoresRef {
+            ranges: self.ranges.as_slice(),
+            values: self.values.as_slice(),
+            memory: memory.again(),
+        }
+    }
+
+    /// Makes `words` the words from `start` on, or no words, and keeps these stores. After `OutOfMemory` nothing has changed.
+    #[inline]
+    pub fn store(&mut self, start: u64, words: &[u64]) -> Result<(), OutOfMemory>
+        requires inside { length words.now ≤ length self.old.memory - start }
+        requires short { length self.old.memory < 2 ^ 64 }
+        ensures ok { OnOk result (self.new ≡ record {
+          memory = memory_written self.old.memory start words.now;
+          stores = self.old.stores ++ records start words.now;
+        }) }
+        ensures err { OnErr result (self.new ≡ self.old) }
+    {
+        if words.is_empty() {
+            return Ok(());
+        }
+        if !go_on(self.ranges.as_slice(), self.values.as_slice(), start) {
+            store_apart(
+                &mut self.ranges,
+                &mut self.values,
+                &mut self.memory,
+                start,
+                words,
+            )?;
+            return Ok(());
+        }
+        self.ranges.reserve(1)?;
+        self.memory.write(start, words)?;
+        add_words(&mut self.ranges, start, words.len());
+        Ok(())
+    }
+
+    /// Adds the memory to those of other processes, and takes its words and the stores away. After `OutOfMemory` the others have not changed, and
+    /// the memory may have any words, but no more than before.
+    #[inline(always)]
+    pub fn move_to(&mut self, memories: &mut Memories) -> Result<(), OutOfMemory>
+        ensures ok { OnOk result (memories.new ≡ memories.old ++ self.old.memory ∷ []) }
+        ensures err { OnErr result (memories.new ≡ memories.old) }
+        ensures few { length self.new.memory ≤ length self.old.memory }
+    {
+        self.ranges.clear();
+        self.values.clear();
+        memories.push_from(&mut self.memory)
+    }
+}
+
+impl TryCopy for LocalMemory {
+    fn copy(&self) -> Result<LocalMemory, OutOfMemory> {
+        let alloc = *self.values.allocator();
+        let memory = self.memory.copy()?;
+        let mut ranges = Vec::new(alloc);
+        ranges.extend_from_slice(self.ranges.as_slice())?;
+        let values = self.values.as_slice().to_vec(alloc)?;
+        Ok(LocalMemory {
+            memory,
+            ranges,
+            values,
+        })
+    }
+}
