@@ -9,6 +9,7 @@ mod copying;
 mod cost;
 mod fault;
 mod input;
+mod lasts;
 pub mod limits;
 mod local_memory;
 mod memories;

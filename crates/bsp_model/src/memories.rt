@@ -4,9 +4,10 @@ ghost use Rattle.std.specs.Prelude.{◌≡◌, ◌<◌, ◌≤◌, ◌+◌, ◌+
 ghost use Rattle.bsp_model.specs.Columns.{row_at};
 ghost use Rattle.bsp_model.specs.Memory.{memory_written};
 
+use crate::lasts::Lasts;
 use crate::page::{Page, WORDS_OF_A_PAGE};
 use crate::paging::{cut_write, is_within, shared_pages, take_pages, write_row};
-use crate::{ByProcess, Memory, MemoryRef, OutOfMemory, Rows, Share, SharedColumn, TryCopy};
+use crate::{ByProcess, Memory, MemoryRef, OutOfMemory, Share, SharedColumn, TryCopy};
 use std::alloc::Global;
 use std::marker::Model;
 
@@ -16,7 +17,7 @@ pub struct Memories {
     /// The full pages of each memory. Where `lasts` has no row, they belong to no memory.
     pages: SharedColumn<Page>,
     /// The words behind them: of each memory fewer than a page has, or all where it lies in one piece.
-    lasts: Rows<u64>,
+    lasts: Lasts,
 }
 
 impl Model for Memories {
@@ -37,7 +38,7 @@ impl Memories {
     {
         Memories {
             pages: SharedColumn::new(alloc),
-            lasts: Rows::new(alloc),
+            lasts: Lasts::new(alloc),
         }
     }
 
@@ -109,8 +110,7 @@ impl Memories {
         memory.len = memory.last.len();
         let full = take_pages(&mut memory.pages)?;
         self.pages.put(self.lasts.len(), full)?;
-        self.lasts.push(memory.last.as_slice())?;
-        memory.last.clear();
+        self.lasts.push_from(&mut memory.last)?;
         memory.len = 0;
         Ok(())
     }
@@ -183,7 +183,7 @@ impl ByProcess for Memories {
         }
         self.pages
             .take_range(self.lasts.len(), &more.pages, from, to)?;
-        self.lasts.append_range(&more.lasts.as_ref(), from, to)?;
+        self.lasts.append_range(&more.lasts, from, to)?;
         Ok(())
     }
 }

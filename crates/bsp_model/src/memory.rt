@@ -1,6 +1,6 @@
 //! The memory of a process.
 
-ghost use Rattle.std.specs.Prelude.{◌≡◌, ◌+◌, ◌-◌, ◌/◌, [], length, IfOk, nat_lt, nat_le, slice_set, slice_get, take, drop, OnErr, OnOk};
+ghost use Rattle.std.specs.Prelude.{◌≡◌, ◌+◌, ◌-◌, ◌/◌, ◌++◌, [], length, IfOk, nat_lt, nat_le, slice_set, slice_get, take, drop, OnErr, OnOk};
 ghost use Rattle.std.specs.Bool.{OnTrue, OnFalse};
 ghost use Rattle.bsp_model.specs.Memory.{memory_written};
 
@@ -31,6 +31,35 @@ impl Model for Memory {
     ghost view = { λ m. words_of m.pages.items m.last.items m.len };
 
     ghost invariant = { λ m. HasPages m.pages.items m.last.items m.len };
+}
+
+/// How many words are copied at once. The C library copies more by a string instruction, which takes longer to begin.
+const WORDS_AT_ONCE: usize = 128;
+
+/// Puts words at the end of a list. After `OutOfMemory` some of them are put.
+#[inline(always)]
+fn append_words(words: &mut Vec<u64>, more: &[u64]) -> Result<(), OutOfMemory>
+    ensures { OnOk result (words.new.items ≡ words.old.items ++ more.now) }
+{
+    if more.len() <= WORDS_AT_ONCE {
+        return append_items(words, more);
+    }
+    append_in_parts(words, more)
+}
+
+/// Puts many words at the end of a list, part by part. After `OutOfMemory` some of them are put.
+#[inline(never)]
+fn append_in_parts(words: &mut Vec<u64>, more: &[u64]) -> Result<(), OutOfMemory>
+    ensures { OnOk result (words.new.items ≡ words.old.items ++ more.now) }
+{
+    words.reserve(more.len())?;
+    let mut rest = more;
+    while rest.len() > WORDS_AT_ONCE {
+        let (part, behind) = rest.split_at(WORDS_AT_ONCE);
+        words.extend_from_slice(part)?;
+        rest = behind;
+    }
+    words.extend_from_slice(rest)
 }
 
 impl Memory {
@@ -68,7 +97,10 @@ impl Memory {
         self.len = 0;
         load_pages(&mut self.pages, source.pages)?;
         self.len = WORDS_OF_A_PAGE * source.pages.len();
-        append_items(&mut self.last, source.last)?;
+        if let Err(error) = append_words(&mut self.last, source.last) {
+            self.last.clear();
+            return Err(error);
+        }
         self.len = source.len;
         Ok(())
     }

@@ -72,9 +72,10 @@ impl<T> Rows<T> {
     /// The number of rows.
     #[inline(always)]
     pub fn len(&self) -> usize
-        ensures { result ≡ length self.now }
+        ensures len { result ≡ length self.now }
+        ensures small { result < 2 ^ 63 }
     {
-        self.as_ref().len()
+        self.ends.len()
     }
 
     /// Whether there is no row.

@@ -5,6 +5,7 @@ ghost use Rattle.std.specs.Prelude.{◌≡◌, ◌≤◌, ◌+◌, ◌++◌, ◌
 use crate::{OutOfMemory, Same, SharedSeq, TryCopy};
 use std::alloc::Global;
 use std::marker::Model;
+use std::mem;
 
 /// A list of values. It keeps its own allocator.
 #[derive(Drop)]
@@ -118,6 +119,14 @@ impl<T: Drop> Seq<T> {
             self.items.clear();
         }
     }
+
+    /// Takes the items of a list, and hands it the former ones.
+    pub(crate) fn swap(&mut self, items: &mut Vec<T>)
+        ensures taken { self.new ≡ items.old.items }
+        ensures handed { items.new.items ≡ self.old }
+    {
+        mem::swap(&mut self.items, items);
+    }
 }
 
 impl<T: TryCopy> Seq<T> {
@@ -201,5 +210,13 @@ impl Seq<u64> {
         Ok(Seq {
             items: words.to_vec(alloc)?,
         })
+    }
+
+    /// Makes `words` those from `place` on.
+    pub(crate) fn replace(&mut self, place: usize, words: &[u64])
+        requires { place + length words.now ≤ length self.old }
+        ensures { self.new ≡ take place self.old ++ words.now ++ drop (place + length words.now) self.old }
+    {
+        replace_items(self.items.as_mut_slice(), place, words);
     }
 }

@@ -14,22 +14,22 @@ returns-in_err-put-clause-err c =
     MatchResult-from_err _ _ _ c.from_residual-in_err-put.ensures.0
     (λ _. memories_of-same c.self.inside.pages c.put.new.self c.self.inside.lasts c.args.self.now c.self.view_is (λ k within. c.in_err-put.ensures.err.before k (omega (arith, within, c.len.ensures))))
 
-pub returns-in_err-push-clause-err : goal.returns-in_err-push-clause-err
-returns-in_err-push-clause-err c =
-    MatchResult-from_err _ _ _ c.from_residual-in_err-push.ensures.0
-    (λ _. rw c.in_err-push.ensures.err
+pub returns-in_err-push_from-clause-err : goal.returns-in_err-push_from-clause-err
+returns-in_err-push_from-clause-err c =
+    MatchResult-from_err _ _ _ c.from_residual-in_err-push_from.ensures.0
+    (λ _. rw c.in_err-push_from.ensures.err
     (memories_of-same c.self.inside.pages c.put.new.self c.self.inside.lasts c.args.self.now c.self.view_is (λ k within. c.in_ok-put.ensures.ok.before k (omega (arith, within, c.len.ensures)))))
 
 pub invariant_of-self-2 : goal.invariant_of-self-2
 invariant_of-self-2 c =
     let put : IsPut [] (row_at c.self.inside.pages) (length c.self.inside.lasts) c.memory.inside.pages.items (row_at c.put.new.self) = rw (c.len.ensures, c.in_ok-full.ensures.taken) at c.in_ok-put.ensures.ok in
-    rw (c.in_ok-push.ensures.ok, c.as_slice.ensures.value)
+    rw c.in_ok-push_from.ensures.ok
     (ArePaged-push c.self.inside.pages c.put.new.self c.self.inside.lasts c.memory.inside.pages.items c.memory.inside.last.items c.memory.inside.len c.self.invariant put c.memory.invariant)
 
 pub returns-clause-ok : goal.returns-clause-ok
 returns-clause-ok c =
     let put : IsPut [] (row_at c.self.inside.pages) (length c.self.inside.lasts) c.memory.inside.pages.items (row_at c.put.new.self) = rw (c.len.ensures, c.in_ok-full.ensures.taken) at c.in_ok-put.ensures.ok in
-    rw (c.in_ok-push.ensures.ok, c.as_slice.ensures.value)
+    rw c.in_ok-push_from.ensures.ok
     (memories_of-push c.self.inside.pages c.put.new.self c.self.inside.lasts c.args.self.now c.memory.inside.pages.items c.memory.inside.last.items _ c.memory.inside.len c.self.view_is put c.memory.invariant c.memory.view_is)
 
 pub returns-clause-rest : goal.returns-clause-rest
@@ -46,8 +46,8 @@ returns-in_err-full-clause-few c = left c.take_pages.new.pages.items _ _ _ (omeg
 pub returns-in_err-put-clause-few : goal.returns-in_err-put-clause-few
 returns-in_err-put-clause-few c = left c.take_pages.new.pages.items _ _ _ (omega (arith, words_len _ _ _ _ c.memory.view_is, c.memory.invariant.count, c.len-memory-inside.ensures))
 
-pub returns-in_err-push-clause-few : goal.returns-in_err-push-clause-few
-returns-in_err-push-clause-few c = left c.take_pages.new.pages.items _ _ _ (omega (arith, words_len _ _ _ _ c.memory.view_is, c.memory.invariant.count, c.len-memory-inside.ensures))
+pub returns-in_err-push_from-clause-few : goal.returns-in_err-push_from-clause-few
+returns-in_err-push_from-clause-few c = left c.take_pages.new.pages.items _ _ _ (omega (arith, words_len _ _ _ _ c.memory.view_is, c.memory.invariant.count, c.len-memory-inside.ensures))
 
 pub returns-clause-few : goal.returns-clause-few
-returns-clause-few c = left c.take_pages.new.pages.items c.clear.new.self.items 0 _ (omega arith)
+returns-clause-few c = left c.take_pages.new.pages.items c.push_from.new.words.items 0 _ (omega arith)

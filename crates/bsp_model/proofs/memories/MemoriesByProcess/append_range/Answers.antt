@@ -6,7 +6,7 @@ use Rattle.bsp_model.proofs.memories.MemoriesByProcess.append_range.Goals as goa
 
 pub append_range-requires-clause-inside : goal.append_range-requires-clause-inside
 append_range-requires-clause-inside c =
-    omega (arith, c.requires.inside, length-memories_of c.more.inside.pages c.more.inside.lasts, ap length c.as_ref.ensures, ap length c.more.view_is)
+    omega (arith, c.requires.inside, length-memories_of c.more.inside.pages c.more.inside.lasts, ap length c.more.view_is)
 
 pub invariant_of-self : goal.invariant_of-self
 invariant_of-self c = ArePaged-same c.self.inside.pages c.take_range.new.self c.self.inside.lasts c.self.invariant (λ k within. c.take_range.ensures.before k (omega (arith, within, c.len.ensures)))
@@ -27,7 +27,7 @@ invariant_of-self-2 c =
     let within : c.args.to ≤ length c.more.inside.lasts = omega (arith, c.requires.inside, length-memories_of c.more.inside.pages c.more.inside.lasts, ap length c.more.view_is) in
     let taken : AreTaken [] (row_at c.self.inside.pages) (length c.self.inside.lasts) (row_at c.more.inside.pages) c.args.from c.args.to (row_at c.take_range.new.self) =
     rw c.len.ensures at c.in_ok-take_range.ensures.ok in
-    rw (c.in_ok-append_range.ensures.ok, c.as_ref.ensures)
+    rw c.in_ok-append_range.ensures.ok
     (ArePaged-more c.self.inside.pages c.more.inside.pages c.take_range.new.self c.self.inside.lasts c.more.inside.lasts c.args.from c.args.to within c.self.invariant c.more.invariant taken)
 
 pub returns-clause-ok : goal.returns-clause-ok
@@ -35,5 +35,5 @@ returns-clause-ok c =
     let within : c.args.to ≤ length c.more.inside.lasts = omega (arith, c.requires.inside, length-memories_of c.more.inside.pages c.more.inside.lasts, ap length c.more.view_is) in
     let taken : AreTaken [] (row_at c.self.inside.pages) (length c.self.inside.lasts) (row_at c.more.inside.pages) c.args.from c.args.to (row_at c.take_range.new.self) =
     rw c.len.ensures at c.in_ok-take_range.ensures.ok in
-    rw (c.in_ok-append_range.ensures.ok, c.as_ref.ensures)
+    rw c.in_ok-append_range.ensures.ok
     (memories_of-more c.self.inside.pages c.more.inside.pages c.take_range.new.self c.self.inside.lasts c.more.inside.lasts c.args.self.now c.args.more.now c.args.from c.args.to within c.self.view_is c.more.view_is taken)

@@ -1,0 +1,189 @@
+//! The words of memories behind their full pages.
+
+ghost use Rattle.std.specs.Prelude.{◌≡◌, ◌<◌, ◌≤◌, ◌+◌, ◌++◌, ◌∷◌, [], drop, length, slice_index_or, slice_range, slice_set, take, OnErr, OnOk};
+
+use crate::page::WORDS_OF_A_PAGE;
+use crate::seq::replace_items;
+use crate::{OutOfMemory, Rows, Seq, Share, Words};
+use std::alloc::Global;
+use std::marker::Model;
+use std::mem;
+
+/// For each process the words of its memory behind its full pages. Most lie one behind the other in one list. Those of memories in one piece may lie
+/// in lists of their own, which are handed on and not copied.
+#[derive(Drop)]
+pub(crate) struct Lasts {
+    /// Lists of the first processes, and behind them lists that serve again.
+    own: Vec<Words>,
+    /// How many processes have lists of their own.
+    count: usize,
+    /// The words of the processes behind those.
+    rows: Rows<u64>,
+}
+
+impl Model for Lasts {
+    ghost use Rattle.std.specs.Prelude.{List, ℕ, ◌≤◌, ◌++◌, length, take};
+
+    ghost Value = { List (List ℕ) };
+
+    ghost view = { λ l. take l.count l.own.items ++ l.rows };
+
+    ghost invariant = { λ l. l.count ≤ length l.own.items };
+}
+
+/// Puts the words that processes from `from` on, and before `to`, have at the end of rows. After `OutOfMemory` some of them are put.
+fn append_each(
+    rows: &mut Rows<u64>,
+    more: &Lasts,
+    from: usize,
+    to: usize,
+) -> Result<(), OutOfMemory>
+    requires order { from ≤ to }
+    requires inside { to ≤ length more.now }
+    ensures ok { OnOk result (rows.new ≡ rows.old ++ slice_range more.now from to) }
+    ensures kept { take (length rows.old) rows.new ≡ rows.old }
+{
+    for number in from..to {
+        rows.push(more.row(number))?;
+    }
+    Ok(())
+}
+
+/// Puts a list of words itself at a place among lists, and hands out the room of the one that stood there. After `OutOfMemory` nothing has changed.
+fn put_list(lists: &mut Vec<Words>, place: usize, words: &mut Vec<u64>) -> Result<(), OutOfMemory>
+    requires { place ≤ length lists.old.items }
+    ensures ok { OnOk result (take (place + 1) lists.new.items ≡ take place lists.old.items ++ words.old.items ∷ []) }
+    ensures count { OnOk result (place + 1 ≤ length lists.new.items) }
+    ensures rest { OnOk result (words.new.items ≡ []) }
+    ensures err { OnErr result (lists.new.items ≡ lists.old.items) }
+    ensures err_words { OnErr result (words.new.items ≡ words.old.items) }
+{
+    if place == lists.len() {
+        lists.reserve(1)?;
+        let none = Vec::new(*words.allocator());
+        lists.push_reserved(Seq::from_vec(mem::replace(words, none)));
+        return Ok(());
+    }
+    let list = &mut lists[place];
+    list.swap(words);
+    words.clear();
+    Ok(())
+}
+
+impl Lasts {
+    /// No words of any process, which take no memory.
+    pub fn new(alloc: Global) -> Lasts
+        ensures { result ≡ [] }
+    {
+        Lasts {
+            own: Vec::new(alloc),
+            count: 0,
+            rows: Rows::new(alloc),
+        }
+    }
+
+    /// Takes the words of all processes away. Their room stays.
+    pub fn clear(&mut self)
+        ensures { self.new ≡ [] }
+    {
+        self.count = 0;
+        self.rows.clear();
+    }
+
+    /// Makes room for so many processes more, with one word each.
+    pub fn reserve(&mut self, count: usize) -> Result<(), OutOfMemory>
+        ensures { self.new ≡ self.old }
+    {
+        self.rows.reserve(count)
+    }
+
+    /// Makes room for a share of the words that others have in one list.
+    pub fn reserve_like(&mut self, like: &Lasts, share: Share) -> Result<(), OutOfMemory>
+        ensures { self.new ≡ self.old }
+    {
+        self.rows.reserve_like(&like.rows, share)
+    }
+
+    /// The number of processes.
+    #[inline(always)]
+    pub fn len(&self) -> usize
+        ensures { result ≡ length self.now }
+    {
+        self.count + self.rows.len()
+    }
+
+    /// The words of a process.
+    #[inline(always)]
+    pub fn row(&self, number: usize) -> &[u64]
+        requires { number < length self.now }
+        ensures { result.now ≡ slice_index_or self.now number [] }
+    {
+        if number < self.count {
+            let words = &self.own[number];
+            return words.as_slice();
+        }
+        self.rows.row(number - self.count)
+    }
+
+    /// Adds copies of the words of one process more. After `OutOfMemory` nothing has changed.
+    #[inline(always)]
+    pub fn push(&mut self, words: &[u64]) -> Result<(), OutOfMemory>
+        ensures ok { OnOk result (self.new ≡ self.old ++ words.now ∷ []) }
+        ensures err { OnErr result (self.new ≡ self.old) }
+    {
+        self.rows.push(words)
+    }
+
+    /// Adds the words of one process more, and takes them out of their list: the list itself where they are as many as a page has, so that they are a
+    /// memory in one piece. After `OutOfMemory` nothing has changed.
+    #[inline(always)]
+    pub fn push_from(&mut self, words: &mut Vec<u64>) -> Result<(), OutOfMemory>
+        ensures ok { OnOk result (self.new ≡ self.old ++ words.old.items ∷ []) }
+        ensures rest { OnOk result (words.new.items ≡ []) }
+        ensures err { OnErr result (self.new ≡ self.old) }
+        ensures err_words { OnErr result (words.new.items ≡ words.old.items) }
+    {
+        if words.len() < WORDS_OF_A_PAGE || !self.rows.is_empty() {
+            self.rows.push(words.as_slice())?;
+            words.clear();
+            return Ok(());
+        }
+        put_list(&mut self.own, self.count, words)?;
+        self.count += 1;
+        Ok(())
+    }
+
+    /// Makes `items` the words of a process from `place` on.
+    #[inline(always)]
+    pub fn replace(&mut self, number: usize, place: usize, items: &[u64])
+        requires known { number < length self.old }
+        requires inside { place + length items.now ≤ length (slice_index_or self.old number []) }
+        ensures { let row = slice_index_or self.old number [] in
+            self.new ≡ slice_set self.old number (take place row ++ items.now ++ drop (place + length items.now) row) }
+    {
+        if number < self.count {
+            let words = &mut self.own[number];
+            words.replace(place, items);
+            return;
+        }
+        self.rows.replace(number - self.count, place, items);
+    }
+
+    /// Adds copies of the words that processes from `from` on, and before `to`, have. After `OutOfMemory` nothing has changed.
+    pub fn append_range(&mut self, more: &Lasts, from: usize, to: usize) -> Result<(), OutOfMemory>
+        requires order { from ≤ to }
+        requires inside { to ≤ length more.now }
+        ensures ok { OnOk result (self.new ≡ self.old ++ slice_range more.now from to) }
+        ensures err { OnErr result (self.new ≡ self.old) }
+    {
+        if more.count == 0 {
+            return self.rows.append_range(&more.rows.as_ref(), from, to);
+        }
+        let before = self.rows.len();
+        if let Err(error) = append_each(&mut self.rows, more, from, to) {
+            self.rows.truncate(before);
+            return Err(error);
+        }
+        Ok(())
+    }
+}
