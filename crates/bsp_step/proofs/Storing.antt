@@ -13,7 +13,7 @@ use Rattle.bsp_model.specs.Stores.{records}
 use Rattle.bsp_step.specs.Blocks.{stores, stored, with_stored}
 use Rattle.bsp_step.proofs.Performing.{perform_all-kept, perform_all-append}
 
-perform-store : (c : Context) (a value : ℕ) → c.fault ≡ None → a < length c.memory → perform c (store a value) ≡ done c (store a value)
+pub perform-store : (c : Context) (a value : ℕ) → c.fault ≡ None → a < length c.memory → perform c (store a value) ≡ done c (store a value)
 perform-store c a value none within = let test : nat_lt a (length c.memory) ≡ true = grind (arith, nat_tests) in rw (none, test) refl
 
 perform-store_past : (c : Context) (a value : ℕ) → c.fault ≡ None → length c.memory ≤ a → perform c (store a value) ≡ record c { fault = Some BadLocal }

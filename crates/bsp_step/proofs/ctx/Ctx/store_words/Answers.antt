@@ -24,7 +24,7 @@ returns-then-not-is_empty-clause-acted c =
     let inside = c.split_at.result.0.now in
     let none : now.fault ≡ None = grind arith in
     let some : 0 < length c.split_at.result.1.now = grind (arith, nat_tests) in
-    let few : c.min.result ≡ min (length c.args.words.now) (length now.memory - c.args.address) = omega (arith, ap (λ (l : TurnLists). length l.local.memory) c.deref.ensures, ap (λ (d : Context). length d.memory) c.self.view_is) in
+    let few : c.min.result ≡ min (length c.args.words.now) (length now.memory - c.args.address) = omega (arith, ap (λ (l : TurnLists). length l.local.memory) c.deref.ensures, ap length c.memory.ensures, ap (λ (d : Context). length d.memory) c.self.view_is) in
     let within : length inside ≤ length now.memory - c.args.address = omega (arith, few, c.split_at.ensures.front_len) in
     let all = kept (context_of c.self.inside) now c.deref_mut-lists.result.now c.args.address inside _ _ c.self.view_is c.deref_mut-lists.ensures.value within (ap (λ (p : LocalParts). p.memory) c.in_ok-store.ensures.ok) (ap (λ (p : LocalParts). p.stores) c.in_ok-store.ensures.ok) in
     let stopped = c.refuse.ensures.kept ∙ ap (λ (d : Context). record d { fault = Some BadLocal }) all in
@@ -37,7 +37,7 @@ all_stored c =
     let now = c.args.self.now in
     let inside = c.split_at.result.0.now in
     let all : length c.split_at.result.1.now ≡ 0 = grind (arith, nat_tests) in
-    let within : length inside ≤ length now.memory - c.args.address = omega (arith, ap (λ (l : TurnLists). length l.local.memory) c.deref.ensures, ap (λ (d : Context). length d.memory) c.self.view_is) in
+    let within : length inside ≤ length now.memory - c.args.address = omega (arith, ap (λ (l : TurnLists). length l.local.memory) c.deref.ensures, ap length c.memory.ensures, ap (λ (d : Context). length d.memory) c.self.view_is) in
     let made = kept (context_of c.self.inside) now c.deref_mut-lists.result.now c.args.address inside _ _ c.self.view_is c.deref_mut-lists.ensures.value within (ap (λ (p : LocalParts). p.memory) c.in_ok-store.ensures.ok) (ap (λ (p : LocalParts). p.stores) c.in_ok-store.ensures.ok) in
     stores_within now _ c.args.address c.min.result c.args.words.now inside c.split_at.result.1.now (grind arith) c.split_at.ensures.front c.split_at.ensures.back within all made
 
