@@ -16,3 +16,4 @@ mod Links
 pub mod ReadWords
 pub mod WrittenAt
 pub mod CellsOf
+pub mod MovedMemories

@@ -1,6 +1,6 @@
 //! What a superstep's end brings to several processes, in one pass over all requests.
 
-ghost use Rattle.std.specs.Prelude.{◌≡◌, ◌<◌, ℕ, All, IfOk, IfSome, OnOk, is_some, length, map, nat_eq};
+ghost use Rattle.std.specs.Prelude.{◌≡◌, ◌<◌, ℕ, All, IfOk, IfSome, OnOk, length, map};
 ghost use Rattle.bsp_model.specs.Columns.{row_at};
 ghost use Rattle.bsp_deliver.specs.Cost.{IsHRelation};
 ghost use Rattle.bsp_deliver.specs.Delivery.{delivery_parts, next_memory, next_queue};
@@ -23,7 +23,7 @@ pub struct Delivered {
 }
 
 /// Puts the queue of each of these processes after delivery in the place of the former ones. Where nobody sends a message none is looked for.
-fn queues_after(
+pub(crate) fn queues_after(
     alloc: Global,
     outcomes: &Outcomes,
     processes: &[usize],
@@ -49,7 +49,7 @@ fn queues_after(
 }
 
 /// Makes `cells` what `deliver` answers for each of these processes, and answers the h-relation where they are all processes.
-fn deliver_into(
+pub(crate) fn deliver_into(
     alloc: Global,
     outcomes: &Outcomes,
     processes: &[usize],
@@ -61,7 +61,6 @@ fn deliver_into(
     ensures cells { OnOk result (cells.new
         ≡ map (λ d. (next_memory (delivery_parts outcomes.now d), next_queue (delivery_parts outcomes.now d))) processes.now) }
     ensures h { IfOk result (λ h. IfSome h (IsHRelation outcomes.now)) }
-    ensures counted { IfOk result (λ h. is_some h ≡ nat_eq (length processes.now) (length outcomes.now)) }
 {
     let h = memories_after(alloc, outcomes, processes, &mut cells.memories)?;
     queues_after(alloc, outcomes, processes, &mut cells.queues)?;
@@ -83,7 +82,6 @@ pub fn deliver_some(
     ensures cells { IfOk result (λ r. r.cells
         ≡ map (λ d. (next_memory (delivery_parts outcomes.now d), next_queue (delivery_parts outcomes.now d))) processes.now) }
     ensures h { IfOk result (λ r. IfSome r.h (IsHRelation outcomes.now)) }
-    ensures counted { IfOk result (λ r. is_some r.h ≡ nat_eq (length processes.now) (length outcomes.now)) }
 {
     let mut cells = room;
     if processes.is_empty() {

@@ -1,6 +1,6 @@
 //! What the gets and the puts of a superstep leave in the memories of several processes.
 
-ghost use Rattle.std.specs.Prelude.{◌≡◌, ◌+◌, ◌<◌, ◌≤◌, ◌++◌, ◌∷◌, [], All, IfOk, IfSome, OnOk, is_some, length, map, fold, nat_eq, slice_index, slice_index_or, slice_set, true, false};
+ghost use Rattle.std.specs.Prelude.{◌≡◌, ◌+◌, ◌<◌, ◌≤◌, ◌++◌, ◌∷◌, [], All, IfOk, IfSome, OnOk, length, map, fold, slice_index, slice_index_or, slice_set, true, false};
 ghost use Rattle.std.specs.List.{range_with_len};
 ghost use Rattle.bsp_deliver.specs.Requests.{all_puts, each_below, words_read};
 ghost use Rattle.bsp_deliver.specs.Cost.{IsHRelation};
@@ -102,7 +102,7 @@ fn load_memories(
 
 /// Writes one sender's puts, in issue order, each to the memory at its target's place.
 #[inline(always)]
-fn write_puts(
+pub(crate) fn write_puts(
     memories: &mut Memories,
     places: &[usize],
     puts: &PutsRef<'_>,
@@ -236,7 +236,6 @@ pub(crate) fn memories_after(
     requires ascending { IsAscending processes.now }
     ensures memories { OnOk result (memories.new ≡ map (λ d. next_memory (delivery_parts outcomes.now d)) processes.now) }
     ensures h { IfOk result (λ h. IfSome h (IsHRelation outcomes.now)) }
-    ensures counted { IfOk result (λ h. is_some h ≡ nat_eq (length processes.now) (length outcomes.now)) }
 {
     load_memories(alloc, outcomes, processes, memories)?;
     if processes.len() == outcomes.len() {

@@ -15,6 +15,7 @@ use Rattle.bsp_step.specs.Act.{Act}
 use Rattle.bsp_step.specs.Turn.{turn_of}
 use Rattle.bsp_step.specs.ViewParts.{ViewParts}
 use Rattle.bsp_step.specs.OutcomeParts.{OutcomeParts, outcome_of}
+use Rattle.bsp_deliver.specs.Condition.{AreDeliverable}
 use Rattle.bsp_deliver.specs.Requests.{each_below}
 use Rattle.bsp_run.specs.declared.result.Status.{Status}
 use Rattle.bsp_run.specs.declared.result.Status.TheVariants.{Halted, Limit, Faulted, SyncFaulted}
@@ -34,7 +35,7 @@ use Rattle.bsp_run.specs.Inside.Printed.{lines_and, lines_in, AreLinesAnd}
 use Rattle.bsp_run.specs.Inside.Settings.{AreTurned}
 use Rattle.bsp_run.specs.Inside.IsUnrecorded.{AreKept, IsUnrecorded, IsUnrecordedIn, HaveTurns, HasEnded, AreTaken}
 use Rattle.bsp_run.proofs.Lists.{each_below-agree}
-use Rattle.bsp_run.proofs.Conditions.{length-views_of, count_of_outcomes}
+use Rattle.bsp_run.proofs.Conditions.{length-views_of, count_of_outcomes, AreDeliverable-from_turns}
 use Rattle.bsp_run.proofs.Laws.{supersteps-limit, outcomes-last, outcomes-ended}
 use Rattle.bsp_run.proofs.Opens.{start_is_run, state_seen-views_of}
 use Rattle.bsp_run.proofs.Phases.{turned_is_run, is_turned_run, next_is_run, count-next_state, end_of-limit}
@@ -302,3 +303,7 @@ limit_is_run turn input n vs kept u z none =
     let whole : r ≡ run turn input = sym (ap (λ k. times k (advance turn) r) z) ∙ u.rest in
     let limit : IsUnrecordedIn (Ended Limit) r vs kept r.outcomes = record { same = u.same; phase = u.phase ∙ ap (λ k. cond (k == 0) (Ended Limit) Open) z; outcomes = refl } in
     subst (λ (o : Option Status). HasEnded o (run turn input) vs kept) (sym none) (subst (λ (x : Run). IsUnrecordedIn (Ended Limit) x vs kept x.outcomes) whole limit)
+
+-- the outcomes of a run whose turns are taken can be delivered
+pub deliverable_turned : (r : Run) (vs : List ViewParts) (os : List OutcomeParts) → AreTurned r vs os → AreDeliverable os
+deliverable_turned r vs os t = subst AreDeliverable t.outcomes (AreDeliverable-from_turns r.args (length r.past) r.state r.outcomes t.run.state (is_turned_run r t.run t.phase).turns)

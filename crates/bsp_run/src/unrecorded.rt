@@ -4,7 +4,6 @@ ghost use Rattle.std.specs.Prelude.{◌≡◌, IfOk, None, OnOk, false, length, 
 ghost use Rattle.std.specs.List.{range_with_len};
 ghost use Rattle.bsp_model.specs.Input.{input_fault};
 ghost use Rattle.bsp_step.specs.Turn.{turn_of};
-ghost use Rattle.bsp_deliver.specs.Cost.{IsHRelation};
 ghost use Rattle.bsp_run.specs.Run.{Run, start, open_views, after_delivery, is_limit};
 ghost use Rattle.bsp_run.specs.Setting.{next_views};
 ghost use Rattle.bsp_run.specs.Result.{result_of};
@@ -15,7 +14,7 @@ use crate::history::{memories_of_outcomes, memories_of_views};
 use crate::tally::Tally;
 use crate::wide::{DEPTH_OF_SUPERSTEPS, turns_by_one};
 use crate::{Phase, RunResult, Status, TurnRows, Views};
-use bsp_deliver::{Delivered, deliver_some};
+use bsp_deliver::{deliver_moving, h_of};
 use bsp_model::{Input, OutOfMemory};
 use bsp_pool::Gate;
 use bsp_step::{Outcome, Outcomes, Program};
@@ -65,22 +64,21 @@ pub(crate) fn all_turns<P: Program, G: Gate>(
     Ok(())
 }
 
-/// The views of the next superstep, gathered in the room of the present ones, and the h-relation. Messages that nobody took are discarded here.
+/// The views of the next superstep, gathered in the room of the present ones, and outcomes whose room serves the next turns. Messages that nobody took
+/// are discarded here.
 fn next_views(
     alloc: Global,
     views: Views,
     processes: &[usize],
-    outcomes: &Outcomes,
-) -> Result<(Views, u64), OutOfMemory>
-    requires turned { (r : Run) × AreTurned r views outcomes.now }
-    requires processes { processes.now ≡ range_with_len 0 (length outcomes.now) }
-    ensures views { (r : Run) → AreTurned r views outcomes.now → IfOk result (λ next. next.0 ≡ next_views r) }
-    ensures h { IfOk result (λ next. IsHRelation outcomes.now next.1) }
+    outcomes: Outcomes,
+) -> Result<(Views, Outcomes), OutOfMemory>
+    requires turned { (r : Run) × AreTurned r views outcomes }
+    requires processes { processes.now ≡ range_with_len 0 (length outcomes) }
+    ensures { (r : Run) → AreTurned r views outcomes → IfOk result (λ next. next.0 ≡ next_views r) }
 {
-    let setting = views.next_setting(outcomes)?;
-    let Delivered { cells, h } = deliver_some(alloc, outcomes, processes, views.into_room(alloc))?;
-    let Some(h) = h else { unreachable!() };
-    Ok((Views::open(alloc, setting, cells)?, h))
+    let setting = views.next_setting(&outcomes)?;
+    let (cells, spent) = deliver_moving(alloc, outcomes, processes, views.into_room(alloc))?;
+    Ok((Views::open(alloc, setting, cells)?, spent))
 }
 
 impl Unrecorded {
@@ -109,9 +107,11 @@ impl Unrecorded {
             → IfOk result (λ next. IsUnrecorded (after_delivery r) next self.new) }
         ensures end { OnOk result (self.new.end ≡ self.old.end) }
     {
-        let outcomes = &self.taken.outcomes;
-        let (views, h) = next_views(alloc, views, self.processes.as_slice(), outcomes)?;
-        self.tally.add_delivery(alloc, outcomes, h)?;
+        let h = h_of(&self.taken.outcomes);
+        self.tally.add_delivery(alloc, &self.taken.outcomes, h)?;
+        let outcomes = mem::replace(&mut self.taken.outcomes, Outcomes::new());
+        let (views, spent) = next_views(alloc, views, self.processes.as_slice(), outcomes)?;
+        self.taken.outcomes = spent;
         Ok(views)
     }
 

@@ -19,7 +19,7 @@ pub use ctx::Ctx;
 pub use list_kind::ListKind;
 pub use outcome::{Ended, Outcome};
 pub use outcome_ref::OutcomeRef;
-pub use outcome_rows::OutcomeRows;
+pub use outcome_rows::{OutcomeRows, PutRows};
 pub use outcomes::Outcomes;
 pub use program::{Program, turn, turn_reusing};
 pub use stop::Stop;

@@ -8,11 +8,14 @@ ghost use Rattle.bsp_model.specs.Replaced.{replaced, IsAscending};
 ghost use Rattle.bsp_step.specs.OutcomeParts.{outcome_of};
 ghost use Rattle.bsp_step.specs.ListKind.{IsWithout};
 
+mod put_rows;
+
 use crate::lists::{Lists, TurnEnd};
 use crate::{ListKind, Outcome, OutcomeRef, Outcomes, TurnLists};
 use bsp_model::{
     ByProcess, LineColumn, Memories, Memory, OutOfMemory, ProcessSet, Share, add_replaced,
 };
+pub use put_rows::PutRows;
 use std::alloc::Global;
 use std::marker::Model;
 

@@ -4,6 +4,7 @@ use Rattle.std.specs.List.{range_with_len}
 use Rattle.bsp_model.specs.Columns.{row_at}
 use Rattle.bsp_model.specs.Inside.Beside.{stores_beside, AreBeside}
 use Rattle.bsp_model.specs.Inside.Columns.{pair_at}
+use Rattle.bsp_model.specs.declared.request.Put.{Put}
 use Rattle.bsp_step.specs.declared.outcome.Ended.TheVariants.{Halt}
 use Rattle.bsp_step.specs.declared.list_kind.ListKind.{ListKind}
 use Rattle.bsp_step.specs.declared.list_kind.ListKind.TheVariants.{Faults, Gets, Sends, Pops, Pushes, Tags, Lines}
@@ -45,6 +46,10 @@ outcome_at ends memories lists k = outcome_in (slice_index_or ends k no_end) (sl
 -- the outcomes of all processes
 abbrev pub outcomes_of : List TurnEnd → List (List ℕ) → Lists → List OutcomeParts
 outcomes_of ends memories lists = map (outcome_at ends memories lists) (range_with_len 0 (length ends))
+
+-- the puts of all processes
+abbrev pub puts_of : List TurnEnd → Lists → List (List Put)
+puts_of ends lists = map (row_at lists.puts) (range_with_len 0 (length ends))
 
 -- Each process has a memory, beside which its stores are kept, and its outcome keeps the limits.
 pub record AreOutcomes (ends : List TurnEnd) (memories : List (List ℕ)) (lists : Lists) : Type 0 where

@@ -1,11 +1,11 @@
 //! Room for the outcomes and the memories of another superstep, and copies of what all turns left.
 
-ghost use Rattle.std.specs.Prelude.{◌≡◌, ◌<◌, ◌++◌, ℕ, [], All, IfOk, IfSome, OnOk, length, map};
+ghost use Rattle.std.specs.Prelude.{◌≡◌, ◌<◌, ◌++◌, ℕ, [], All, IfErr, IfOk, IfSome, OnOk, length, map};
 ghost use Rattle.bsp_model.specs.Columns.{row_at};
 ghost use Rattle.bsp_model.specs.Replaced.{IsAscending};
 ghost use Rattle.bsp_step.specs.OutcomeParts.{outcome_of};
 
-use crate::{OutcomeRows, Outcomes};
+use crate::{OutcomeRows, Outcomes, PutRows};
 use bsp_model::{LineColumn, Memories, OutOfMemory, Share};
 use std::alloc::Global;
 
@@ -46,6 +46,25 @@ impl Outcomes {
                 Ok(rows)
             }
             Err(_) => OutcomeRows::with_capacity(alloc, count),
+        }
+    }
+
+    /// The memories and the puts of all processes, where no copy shares these outcomes and none lies apart; else the outcomes as they were.
+    pub fn into_memories(self) -> Result<(Memories, PutRows), Outcomes>
+        ensures memories { IfOk result (λ r. r.0 ≡ map (λ o. o.memory) self) }
+        ensures puts { IfOk result (λ r. r.1 ≡ map (λ o. o.puts) self) }
+        ensures shared { IfErr result (λ outcomes. outcomes ≡ self) }
+    {
+        let Outcomes { rows, others } = self;
+        match (rows, others) {
+            (Some(rows), None) => match rows.try_unwrap() {
+                Ok(rows) => Ok(rows.into_memories()),
+                Err(rows) => Err(Outcomes {
+                    rows: Some(rows),
+                    others: None,
+                }),
+            },
+            (rows, others) => Err(Outcomes { rows, others }),
         }
     }
 

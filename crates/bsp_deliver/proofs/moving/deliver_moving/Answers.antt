@@ -1,0 +1,12 @@
+use Rattle.std.proofs.Common.{ℕ, List}
+use Rattle.bsp_model.specs.declared.request.Message.{Message}
+use Rattle.bsp_deliver.specs.Delivery.{delivery_parts, next_memory, next_queue}
+use Rattle.bsp_deliver.proofs.CellsOf.{cells_of-maps}
+use Rattle.bsp_deliver.proofs.moving.deliver_moving.Goals as goal
+
+pub returns : goal.returns
+returns c =
+    let os = c.args.outcomes in
+    let N : ℕ → List ℕ = λ d. next_memory (delivery_parts os d) in
+    let Q : ℕ → List Message = λ d. next_queue (delivery_parts os d) in
+    cells_of-maps N Q c.args.processes.now c.move_memories.new.memories c.queues_after.new.queues c.in_ok-spent.ensures c.in_ok-queues_after.ensures
