@@ -1,6 +1,6 @@
 //! Deliveries in the memories that the turns left, where nobody needs these any more.
 
-ghost use Rattle.std.specs.Prelude.{◌≡◌, ◌<◌, ◌++◌, ◌∷◌, [], All, IfOk, OnOk, fold, length, map};
+ghost use Rattle.std.specs.Prelude.{◌≡◌, ◌<◌, ◌++◌, ◌∷◌, [], All, OnOk, fold, length, map};
 ghost use Rattle.std.specs.List.{range_with_len};
 ghost use Rattle.bsp_deliver.specs.Delivery.{delivery_parts, next_memory, next_queue};
 ghost use Rattle.bsp_deliver.specs.Condition.{AreDeliverable};
@@ -26,52 +26,51 @@ fn write_rows(memories: &mut Memories, places: &[usize], rows: &PutRows) -> Resu
     Ok(())
 }
 
-/// Makes `memories` those of all processes after delivery, where nobody gets a word, out of those that the turns left. It answers outcomes whose room
-/// serves again.
+/// Makes `memories` those of all processes after delivery, where nobody gets a word, out of those that the turns left.
 fn move_memories(
     alloc: Global,
-    outcomes: Outcomes,
+    outcomes: &mut Outcomes,
     processes: &[usize],
     memories: &mut Memories,
-) -> Result<Outcomes, OutOfMemory>
-    requires deliverable { AreDeliverable outcomes }
-    requires unread { All (λ o. o.gets ≡ []) outcomes }
-    requires processes { processes.now ≡ range_with_len 0 (length outcomes) }
-    ensures { OnOk result (memories.new ≡ map (λ d. next_memory (delivery_parts outcomes d)) processes.now) }
+) -> Result<(), OutOfMemory>
+    requires deliverable { AreDeliverable outcomes.old }
+    requires unread { All (λ o. o.gets ≡ []) outcomes.old }
+    requires processes { processes.now ≡ range_with_len 0 (length outcomes.old) }
+    ensures { OnOk result (memories.new ≡ map (λ d. next_memory (delivery_parts outcomes.old d)) processes.now) }
 {
-    match outcomes.into_memories() {
+    match mem::replace(outcomes, Outcomes::new()).into_memories() {
         Ok((handed, puts)) => {
             let room = mem::replace(memories, handed);
             write_rows(memories, processes, &puts)?;
-            Ok(puts.into_room(room).share()?)
+            *outcomes = puts.into_room(room).share()?;
+            Ok(())
         }
-        Err(outcomes) => {
-            let _ = memories_after(alloc, &outcomes, processes, memories)?;
-            Ok(outcomes)
+        Err(shared) => {
+            let _ = memories_after(alloc, &shared, processes, memories)?;
+            Ok(())
         }
     }
 }
 
-/// The next memory and queue of each process, where the outcomes are needed no more: the memories that the turns left are handed on, and the puts are
-/// written in them. They are copied where somebody gets a word, which a put may overwrite, and where copies share them. Everything is gathered in the
-/// room of cells that are no longer needed. Beside the cells it answers outcomes whose room serves again.
+/// Makes `cells` the next memory and queue of each process, where the outcomes are needed no more: the memories that the turns left are handed on, and
+/// the puts are written in them. They are copied where somebody gets a word, which a put may overwrite, and where copies share them. What is left of
+/// the outcomes serves as room for others.
 pub fn deliver_moving(
     alloc: Global,
-    outcomes: Outcomes,
+    outcomes: &mut Outcomes,
     processes: &[usize],
-    room: Cells,
-) -> Result<(Cells, Outcomes), OutOfMemory>
-    requires deliverable { AreDeliverable outcomes }
-    requires processes { processes.now ≡ range_with_len 0 (length outcomes) }
-    ensures { IfOk result (λ r. r.0
-        ≡ map (λ d. (next_memory (delivery_parts outcomes d), next_queue (delivery_parts outcomes d))) processes.now) }
+    cells: &mut Cells,
+) -> Result<(), OutOfMemory>
+    requires deliverable { AreDeliverable outcomes.old }
+    requires processes { processes.now ≡ range_with_len 0 (length outcomes.old) }
+    ensures { OnOk result (cells.new
+        ≡ map (λ d. (next_memory (delivery_parts outcomes.old d), next_queue (delivery_parts outcomes.old d))) processes.now) }
 {
-    let mut cells = room;
     if !outcomes.is_without(ListKind::Gets) {
-        let _ = deliver_into(alloc, &outcomes, processes, &mut cells)?;
-        return Ok((cells, outcomes));
+        let _ = deliver_into(alloc, outcomes, processes, cells)?;
+        return Ok(());
     }
-    queues_after(alloc, &outcomes, processes, &mut cells.queues)?;
-    let spent = move_memories(alloc, outcomes, processes, &mut cells.memories)?;
-    Ok((cells, spent))
+    queues_after(alloc, outcomes, processes, &mut cells.queues)?;
+    move_memories(alloc, outcomes, processes, &mut cells.memories)?;
+    Ok(())
 }

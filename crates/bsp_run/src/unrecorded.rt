@@ -64,21 +64,22 @@ pub(crate) fn all_turns<P: Program, G: Gate>(
     Ok(())
 }
 
-/// The views of the next superstep, gathered in the room of the present ones, and outcomes whose room serves the next turns. Messages that nobody took
-/// are discarded here.
+/// The views of the next superstep, gathered in the room of the present ones. What is left of the outcomes serves the next turns as room. Messages that
+/// nobody took are discarded here.
 fn next_views(
     alloc: Global,
     views: Views,
     processes: &[usize],
-    outcomes: Outcomes,
-) -> Result<(Views, Outcomes), OutOfMemory>
-    requires turned { (r : Run) × AreTurned r views outcomes }
-    requires processes { processes.now ≡ range_with_len 0 (length outcomes) }
-    ensures { (r : Run) → AreTurned r views outcomes → IfOk result (λ next. next.0 ≡ next_views r) }
+    outcomes: &mut Outcomes,
+) -> Result<Views, OutOfMemory>
+    requires turned { (r : Run) × AreTurned r views outcomes.old }
+    requires processes { processes.now ≡ range_with_len 0 (length outcomes.old) }
+    ensures { (r : Run) → AreTurned r views outcomes.old → IfOk result (λ next. next ≡ next_views r) }
 {
-    let setting = views.next_setting(&outcomes)?;
-    let (cells, spent) = deliver_moving(alloc, outcomes, processes, views.into_room(alloc))?;
-    Ok((Views::open(alloc, setting, cells)?, spent))
+    let setting = views.next_setting(outcomes)?;
+    let mut cells = views.into_room(alloc);
+    deliver_moving(alloc, outcomes, processes, &mut cells)?;
+    Views::open(alloc, setting, cells)
 }
 
 impl Unrecorded {
@@ -107,11 +108,10 @@ impl Unrecorded {
             → IfOk result (λ next. IsUnrecorded (after_delivery r) next self.new) }
         ensures end { OnOk result (self.new.end ≡ self.old.end) }
     {
-        let h = h_of(&self.taken.outcomes);
-        self.tally.add_delivery(alloc, &self.taken.outcomes, h)?;
-        let outcomes = mem::replace(&mut self.taken.outcomes, Outcomes::new());
-        let (views, spent) = next_views(alloc, views, self.processes.as_slice(), outcomes)?;
-        self.taken.outcomes = spent;
+        let taken = &mut self.taken.outcomes;
+        let h = h_of(taken);
+        self.tally.add_delivery(alloc, taken, h)?;
+        let views = next_views(alloc, views, self.processes.as_slice(), taken)?;
         Ok(views)
     }
 

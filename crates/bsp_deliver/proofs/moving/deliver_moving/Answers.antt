@@ -1,12 +1,23 @@
-use Rattle.std.proofs.Common.{ℕ, List}
+use Rattle.std.proofs.Common.{◌<◌, ℕ, List, All, length, sym, subst}
 use Rattle.bsp_model.specs.declared.request.Message.{Message}
 use Rattle.bsp_deliver.specs.Delivery.{delivery_parts, next_memory, next_queue}
+use Rattle.bsp_deliver.specs.Condition.{IsAscending}
+use Rattle.bsp_deliver.proofs.AllProcesses.{all_known, all_ascending}
 use Rattle.bsp_deliver.proofs.CellsOf.{cells_of-maps}
 use Rattle.bsp_deliver.proofs.moving.deliver_moving.Goals as goal
 
 pub returns : goal.returns
 returns c =
-    let os = c.args.outcomes in
+    let os = c.args.outcomes.now in
     let N : ℕ → List ℕ = λ d. next_memory (delivery_parts os d) in
     let Q : ℕ → List Message = λ d. next_queue (delivery_parts os d) in
-    cells_of-maps N Q c.args.processes.now c.move_memories.new.memories c.queues_after.new.queues c.in_ok-spent.ensures c.in_ok-queues_after.ensures
+    cells_of-maps N Q c.args.processes.now c.move_memories.new.memories c.queues_after.new.queues c.in_ok-move_memories.ensures c.in_ok-queues_after.ensures
+
+pub deliver_into-requires-clause-known : goal.deliver_into-requires-clause-known
+deliver_into-requires-clause-known c = let n = length c.args.outcomes.now in subst (All (λ d. d < n)) (sym c.requires.processes) (all_known n)
+
+pub deliver_into-requires-clause-ascending : goal.deliver_into-requires-clause-ascending
+deliver_into-requires-clause-ascending c = subst IsAscending (sym c.requires.processes) (all_ascending (length c.args.outcomes.now))
+
+pub queues_after-requires-clause-known : goal.queues_after-requires-clause-known
+queues_after-requires-clause-known c = let n = length c.args.outcomes.now in subst (All (λ d. d < n)) (sym c.requires.processes) (all_known n)

@@ -11,18 +11,18 @@ pub next_setting-requires : goal.next_setting-requires
 next_setting-requires c = record { turned = c.requires.turned }
 
 pub deliver_moving-requires-clause-deliverable : goal.deliver_moving-requires-clause-deliverable
-deliver_moving-requires-clause-deliverable c = deliverable_turned c.requires.turned.0 c.args.views c.args.outcomes c.requires.turned.1
+deliver_moving-requires-clause-deliverable c = deliverable_turned c.requires.turned.0 c.args.views c.args.outcomes.now c.requires.turned.1
 
 pub open-requires : goal.open-requires
 open-requires c =
     let r : Run = c.requires.turned.0 in
-    let t : AreTurned r c.args.views c.args.outcomes = c.requires.turned.1 in
+    let t : AreTurned r c.args.views c.args.outcomes.now = c.requires.turned.1 in
     let known = c.in_ok-setting.ensures r t in
-    let made = deliveries_made c.args.outcomes (length c.args.outcomes) c.args.processes.now c.in_ok-cells.field-0.0 refl c.requires.processes c.in_ok-cells.ensures ∙ ap deliveries_of (sym t.outcomes) in
-    opens_next r c.in_ok-setting.setting c.in_ok-cells.field-0.0 t.run t.phase known made
+    let made = deliveries_made c.args.outcomes.now (length c.args.outcomes.now) c.args.processes.now c.deliver_moving.new.cells refl c.requires.processes c.in_ok-deliver_moving.ensures ∙ ap deliveries_of (sym t.outcomes) in
+    opens_next r c.in_ok-setting.setting c.deliver_moving.new.cells t.run t.phase known made
 
 pub returns : goal.returns
 returns c = λ r t.
     let known = c.in_ok-setting.ensures r t in
-    let made = deliveries_made c.args.outcomes (length c.args.outcomes) c.args.processes.now c.in_ok-cells.field-0.0 refl c.requires.processes c.in_ok-cells.ensures ∙ ap deliveries_of (sym t.outcomes) in
-    c.in_ok-open.ensures ∙ views_next r c.in_ok-setting.setting c.in_ok-cells.field-0.0 known made
+    let made = deliveries_made c.args.outcomes.now (length c.args.outcomes.now) c.args.processes.now c.deliver_moving.new.cells refl c.requires.processes c.in_ok-deliver_moving.ensures ∙ ap deliveries_of (sym t.outcomes) in
+    c.in_ok-open.ensures ∙ views_next r c.in_ok-setting.setting c.deliver_moving.new.cells known made

@@ -1,10 +1,7 @@
-use Rattle.std.proofs.Common.{◌≡◌, ◌∙◌, List, length, refl, sym, ap, subst, arith}
-use Rattle.std.specs.List.{range_with_len}
-use Rattle.bsp_step.specs.OutcomeParts.{OutcomeParts}
+use Rattle.std.proofs.Common.{◌∙◌, refl, arith}
 use Rattle.bsp_run.specs.declared.phase.Phase.TheVariants.{Turned}
 use Rattle.bsp_run.specs.Run.{Run}
 use Rattle.bsp_run.specs.Inside.IsUnrecorded.{IsUnrecordedIn}
-use Rattle.bsp_run.specs.Inside.Settings.{AreTurned}
 use Rattle.bsp_run.proofs.UnrecordedRuns.{are_turned, as_many, deliverable_turned, unrecorded_delivered}
 use Rattle.bsp_run.proofs.unrecorded.Unrecorded.go_on.Goals as goal
 
@@ -17,19 +14,17 @@ pub next_views-requires-clause-turned : goal.next_views-requires-clause-turned
 next_views-requires-clause-turned c =
     let r : Run = c.requires.turned.0 in
     let os = c.args.self.now.taken.outcomes in
-    (r, subst (AreTurned r c.args.views) (sym c.replace-outcomes.ensures.value) (are_turned r c.args.views c.args.self.now os c.requires.turned.1))
+    (r, are_turned r c.args.views c.args.self.now os c.requires.turned.1)
 
 pub next_views-requires-clause-processes : goal.next_views-requires-clause-processes
 next_views-requires-clause-processes c =
     c.as_slice.ensures.value ∙ as_many c.requires.turned.0 c.args.views c.args.self.now c.args.self.now.taken.outcomes c.requires.turned.1
-    ∙ ap (λ (os : List OutcomeParts). range_with_len 0 (length os)) (sym c.replace-outcomes.ensures.value)
 
 pub returns-clause-views : goal.returns-clause-views
 returns-clause-views c = λ r t.
     let more = c.in_ok-add_delivery.ensures in
     let os = c.args.self.now.taken.outcomes in
-    let turned = subst (AreTurned r c.args.views) (sym c.replace-outcomes.ensures.value) (are_turned r c.args.views c.args.self.now os t) in
-    unrecorded_delivered r os c.args.self.now c.args.views _ _ _ t refl (c.in_ok-views.ensures r turned) more.g more.l more.lines more.costs
+    unrecorded_delivered r os c.args.self.now c.args.views _ _ _ t refl (c.in_ok-views.ensures r (are_turned r c.args.views c.args.self.now os t)) more.g more.l more.lines more.costs
 
 pub add_delivery-requires-clause-small_g : goal.add_delivery-requires-clause-small_g
 add_delivery-requires-clause-small_g c = let t : IsUnrecordedIn Turned c.requires.turned.0 c.args.views c.args.self.now c.args.self.now.taken.outcomes = c.requires.turned.1 in omega (arith, t.same.g, t.same.run.small_g)
