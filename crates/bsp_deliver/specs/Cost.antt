@@ -44,8 +44,3 @@ largest (n ∷ ns) = max n (largest ns)
 unfoldable pub h_relation : List OutcomeParts → ℕ
 h_relation os =
     max (largest (each_below (length os) (count_sent (transfers os)))) (largest (each_below (length os) (count_received (transfers os))))
-
--- It is that number, which is small.
-pub record IsHRelation (os : List OutcomeParts) (h : ℕ) : Type 0 where
-  pub value : h ≡ h_relation os
-  pub small : h < 2 ^ 29

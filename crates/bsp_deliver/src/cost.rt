@@ -13,7 +13,7 @@ use bsp_model::{Get, PutsRef, SendsRef};
 use bsp_step::{ListKind, Outcomes};
 
 /// Whether all requests are puts, pops and pushes.
-pub(crate) fn are_puts_alone(outcomes: &Outcomes) -> bool
+fn are_puts_alone(outcomes: &Outcomes) -> bool
     ensures { OnTrue result (All HasPutsAlone outcomes.now) }
 {
     outcomes.is_without(ListKind::Gets) && outcomes.is_without(ListKind::Sends)
@@ -21,7 +21,7 @@ pub(crate) fn are_puts_alone(outcomes: &Outcomes) -> bool
 
 /// The words that each process sends to and receives from others.
 #[derive(Clone, Copy)]
-pub(crate) struct Sums {
+struct Sums {
     sent: [u64; MOST_PROCESSES],
     received: [u64; MOST_PROCESSES],
 }
@@ -78,7 +78,7 @@ impl Sums {
     }
 
     /// No words.
-    pub(crate) fn none() -> Sums
+    fn none() -> Sums
         ensures { result ≡ no_words }
     {
         Sums {
@@ -89,7 +89,7 @@ impl Sums {
 
     /// Counts all requests of a process. Where all issue puts alone, no others are looked for.
     #[inline(always)]
-    pub(crate) fn count_requests(&mut self, outcomes: &Outcomes, p: usize, puts_alone: bool)
+    fn count_requests(&mut self, outcomes: &Outcomes, p: usize, puts_alone: bool)
         requires known { p < length outcomes.now }
         requires alone { OnTrue puts_alone (All HasPutsAlone outcomes.now) }
         requires deliverable { AreDeliverable outcomes.now }
@@ -133,7 +133,7 @@ fn largest(numbers: &[u64]) -> u64
 }
 
 /// The h-relation, from the sums over all requests.
-pub(crate) fn h_from(sums: &Sums, outcomes: &Outcomes) -> u64
+fn h_from(sums: &Sums, outcomes: &Outcomes) -> u64
     requires few { length outcomes.now ≤ MOST_PROCESSES }
     requires sums { sums.now ≡ fold counted no_words (transfers_from 0 outcomes.now) }
     requires room { HasRoom sums.now 0 }

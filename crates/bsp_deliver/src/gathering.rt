@@ -1,8 +1,7 @@
 //! What a superstep's end brings to several processes, in one pass over all requests.
 
-ghost use Rattle.std.specs.Prelude.{◌≡◌, ◌<◌, ℕ, All, IfOk, IfSome, OnOk, length, map};
+ghost use Rattle.std.specs.Prelude.{◌≡◌, ◌<◌, ℕ, All, IfOk, OnOk, length, map};
 ghost use Rattle.bsp_model.specs.Columns.{row_at};
-ghost use Rattle.bsp_deliver.specs.Cost.{IsHRelation};
 ghost use Rattle.bsp_deliver.specs.Delivery.{delivery_parts, next_memory, next_queue};
 ghost use Rattle.bsp_deliver.specs.Condition.{AreDeliverable, IsAscending};
 
@@ -12,15 +11,6 @@ use crate::writing::memories_after;
 use bsp_model::{MessageColumn, OutOfMemory, Send};
 use bsp_step::{ListKind, Outcomes, Queue};
 use std::alloc::Global;
-
-/// What the deliveries of a superstep to several processes give.
-#[derive(Drop)]
-pub struct Delivered {
-    /// The next memory and the next queue of each, in the order of their list.
-    pub cells: Cells,
-    /// The h-relation, where it was counted with them: where they were made to all processes in one pass over the requests.
-    pub h: Option<u64>,
-}
 
 /// Puts the queue of each of these processes after delivery in the place of the former ones. Where nobody sends a message none is looked for.
 pub(crate) fn queues_after(
@@ -48,46 +38,43 @@ pub(crate) fn queues_after(
     Ok(())
 }
 
-/// Makes `cells` what `deliver` answers for each of these processes, and answers the h-relation where they are all processes.
+/// Makes `cells` what `deliver` answers for each of these processes.
 pub(crate) fn deliver_into(
     alloc: Global,
     outcomes: &Outcomes,
     processes: &[usize],
     cells: &mut Cells,
-) -> Result<Option<u64>, OutOfMemory>
+) -> Result<(), OutOfMemory>
     requires deliverable { AreDeliverable outcomes.now }
     requires known { All (λ d. d < length outcomes.now) processes.now }
     requires ascending { IsAscending processes.now }
-    ensures cells { OnOk result (cells.new
+    ensures { OnOk result (cells.new
         ≡ map (λ d. (next_memory (delivery_parts outcomes.now d), next_queue (delivery_parts outcomes.now d))) processes.now) }
-    ensures h { IfOk result (λ h. IfSome h (IsHRelation outcomes.now)) }
 {
-    let h = memories_after(alloc, outcomes, processes, &mut cells.memories)?;
+    memories_after(alloc, outcomes, processes, &mut cells.memories)?;
     queues_after(alloc, outcomes, processes, &mut cells.queues)?;
-    Ok(h)
+    Ok(())
 }
 
 /// What `deliver` answers for each of these processes, in the order of the list. The list is ascending. For no process it takes no memory, and else
-/// the requests are gone over once; where the list has all processes, they are counted too. What the processes get is gathered in the room of
-/// cells that are no longer needed.
+/// the requests are gone over once. What the processes get is gathered in the room of cells that are no longer needed.
 pub fn deliver_some(
     alloc: Global,
     outcomes: &Outcomes,
     processes: &[usize],
     room: Cells,
-) -> Result<Delivered, OutOfMemory>
+) -> Result<Cells, OutOfMemory>
     requires deliverable { AreDeliverable outcomes.now }
     requires known { All (λ d. d < length outcomes.now) processes.now }
     requires ascending { IsAscending processes.now }
-    ensures cells { IfOk result (λ r. r.cells
+    ensures { IfOk result (λ cells. cells
         ≡ map (λ d. (next_memory (delivery_parts outcomes.now d), next_queue (delivery_parts outcomes.now d))) processes.now) }
-    ensures h { IfOk result (λ r. IfSome r.h (IsHRelation outcomes.now)) }
 {
     let mut cells = room;
     if processes.is_empty() {
         cells.clear();
-        return Ok(Delivered { cells, h: None });
+        return Ok(cells);
     }
-    let h = deliver_into(alloc, outcomes, processes, &mut cells)?;
-    Ok(Delivered { cells, h })
+    deliver_into(alloc, outcomes, processes, &mut cells)?;
+    Ok(cells)
 }

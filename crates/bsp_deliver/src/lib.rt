@@ -21,7 +21,7 @@ pub use cells::Cells;
 pub use cost::h_of;
 pub use delivery::{deliver, deliver_inbox};
 pub use faults::{has_sync, next_tag_size, sync_fault};
-pub use gathering::{Delivered, deliver_some};
+pub use gathering::deliver_some;
 pub use inboxes::Inbox;
 pub use moving::deliver_moving;
 pub use same::{answers_same, parcel_same};

@@ -46,7 +46,7 @@ fn move_memories(
             Ok(())
         }
         Err(shared) => {
-            let _ = memories_after(alloc, &shared, processes, memories)?;
+            memories_after(alloc, &shared, processes, memories)?;
             Ok(())
         }
     }
@@ -67,7 +67,7 @@ pub fn deliver_moving(
         ≡ map (λ d. (next_memory (delivery_parts outcomes.old d), next_queue (delivery_parts outcomes.old d))) processes.now) }
 {
     if !outcomes.is_without(ListKind::Gets) {
-        let _ = deliver_into(alloc, outcomes, processes, cells)?;
+        deliver_into(alloc, outcomes, processes, cells)?;
         return Ok(());
     }
     queues_after(alloc, outcomes, processes, &mut cells.queues)?;

@@ -1,15 +1,11 @@
 //! What the gets and the puts of a superstep leave in the memories of several processes.
 
-ghost use Rattle.std.specs.Prelude.{◌≡◌, ◌+◌, ◌<◌, ◌≤◌, ◌++◌, ◌∷◌, [], All, IfOk, IfSome, OnOk, length, map, fold, slice_index, slice_index_or, slice_set, true, false};
-ghost use Rattle.std.specs.List.{range_with_len};
+ghost use Rattle.std.specs.Prelude.{◌≡◌, ◌+◌, ◌<◌, ◌≤◌, ◌++◌, ◌∷◌, [], All, IfOk, OnOk, length, map, fold, slice_index, slice_index_or, slice_set, true, false};
 ghost use Rattle.bsp_deliver.specs.Requests.{all_puts, each_below, words_read};
-ghost use Rattle.bsp_deliver.specs.Cost.{IsHRelation};
 ghost use Rattle.bsp_deliver.specs.Delivery.{get_write, delivery_parts, next_memory};
-ghost use Rattle.bsp_deliver.specs.Inside.Sums.{counted, no_words, transfers_from, HasRoom};
 ghost use Rattle.bsp_deliver.specs.Inside.Gathering.{overlay, put_at, ArePlaces, AreTargets};
 ghost use Rattle.bsp_deliver.specs.Condition.{AreDeliverable, AreRequestsInside, IsAscending, IsGetInside, sizes_of};
 
-use crate::cost::{Sums, are_puts_alone, h_from};
 use crate::delivery::{piece_at, words_at};
 use bsp_model::limits::{MOST_MEMORY_WORDS, MOST_PROCESSES};
 use bsp_model::{Get, Memories, OutOfMemory, ProcessSet, PutsRef};
@@ -142,41 +138,21 @@ fn write_puts_to(
     Ok(())
 }
 
-/// Writes all puts, by sender, then by issue, each to the memory at its target's place, and counts the words of all requests.
-fn write_and_count(
+/// Writes the puts to all processes, by sender, then by issue, each to the memory of its target.
+fn write_all(
     memories: &mut Memories,
     places: &[usize],
     outcomes: &Outcomes,
-) -> Result<Sums, OutOfMemory>
+) -> Result<(), OutOfMemory>
     requires deliverable { AreDeliverable outcomes.now }
     requires count { length places.now ≡ length outcomes.now }
-    ensures memories { OnOk result (memories.new ≡ fold (λ ms s. put_at places.now ms s.1) memories.old (all_puts outcomes.now)) }
-    ensures sums { IfOk result (λ sums. sums ≡ fold counted no_words (transfers_from 0 outcomes.now)) }
-    ensures room { IfOk result (λ sums. HasRoom sums 0) }
+    ensures { OnOk result (memories.new ≡ fold (λ ms s. put_at places.now ms s.1) memories.old (all_puts outcomes.now)) }
 {
-    let mut sums = Sums::none();
-    let puts_alone = are_puts_alone(outcomes);
     for sender in 0..outcomes.len() {
-        sums.count_requests(outcomes, sender, puts_alone);
         let own = outcomes.puts(sender);
         write_puts(memories, places, &own)?;
     }
-    Ok(sums)
-}
-
-/// Writes the puts to all processes, each to the memory of its target, and answers the h-relation.
-fn write_all(
-    memories: &mut Memories,
-    processes: &[usize],
-    outcomes: &Outcomes,
-) -> Result<u64, OutOfMemory>
-    requires deliverable { AreDeliverable outcomes.now }
-    requires processes { processes.now ≡ range_with_len 0 (length outcomes.now) }
-    ensures memories { OnOk result (memories.new ≡ fold (λ ms s. put_at processes.now ms s.1) memories.old (all_puts outcomes.now)) }
-    ensures h { IfOk result (IsHRelation outcomes.now) }
-{
-    let sums = write_and_count(memories, processes, outcomes)?;
-    Ok(h_from(&sums, outcomes))
+    Ok(())
 }
 
 /// The set of these processes, of so many.
@@ -224,24 +200,23 @@ fn write_some(
     write_puts_to(memories, places.as_slice(), &targets, outcomes)
 }
 
-/// Makes `memories` those of these processes after delivery. Where they are all processes, the requests are counted too, and the h-relation is answered.
+/// Makes `memories` those of these processes after delivery.
 pub(crate) fn memories_after(
     alloc: Global,
     outcomes: &Outcomes,
     processes: &[usize],
     memories: &mut Memories,
-) -> Result<Option<u64>, OutOfMemory>
+) -> Result<(), OutOfMemory>
     requires deliverable { AreDeliverable outcomes.now }
     requires known { All (λ d. d < length outcomes.now) processes.now }
     requires ascending { IsAscending processes.now }
-    ensures memories { OnOk result (memories.new ≡ map (λ d. next_memory (delivery_parts outcomes.now d)) processes.now) }
-    ensures h { IfOk result (λ h. IfSome h (IsHRelation outcomes.now)) }
+    ensures { OnOk result (memories.new ≡ map (λ d. next_memory (delivery_parts outcomes.now d)) processes.now) }
 {
     load_memories(alloc, outcomes, processes, memories)?;
     if processes.len() == outcomes.len() {
-        let h = write_all(memories, processes, outcomes)?;
-        return Ok(Some(h));
+        write_all(memories, processes, outcomes)?;
+        return Ok(());
     }
     write_some(alloc, memories, processes, outcomes)?;
-    Ok(None)
+    Ok(())
 }

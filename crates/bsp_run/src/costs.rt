@@ -2,7 +2,6 @@
 
 ghost use Rattle.std.specs.Prelude.{◌≡◌, ◌+◌, ◌*◌, ◌<◌, ◌≤◌, ◌^◌, ◌++◌, All, IfOk, length, map, option_map, option_to_list};
 ghost use Rattle.bsp_deliver.specs.Condition.{AreDeliverable};
-ghost use Rattle.bsp_deliver.specs.Cost.{IsHRelation};
 ghost use Rattle.bsp_run.specs.Result.{largest_work, cost_of_delivery, cost_of_end, total_of, IsSmall};
 
 use bsp_deliver::h_of;
@@ -47,18 +46,7 @@ pub fn cost_of_delivery(g: u64, l: u64, outcomes: &Outcomes) -> CostRow
     ensures value { result ≡ cost_of_delivery g l outcomes.now }
     ensures small { IsSmall result }
 {
-    cost_with_h(g, l, outcomes, h_of(outcomes))
-}
-
-/// The same, where the h-relation is known.
-pub fn cost_with_h(g: u64, l: u64, outcomes: &Outcomes, h: u64) -> CostRow
-    requires h { IsHRelation outcomes.now h }
-    requires small_g { g ≤ HIGHEST_PRICE }
-    requires small_l { l ≤ HIGHEST_PRICE }
-    ensures value { result ≡ cost_of_delivery g l outcomes.now }
-    ensures small { IsSmall result }
-{
-    cost_row(g, l, largest_work(outcomes), h)
+    cost_row(g, l, largest_work(outcomes), h_of(outcomes))
 }
 
 /// The cost at these prices of a superstep that had another cost at others.

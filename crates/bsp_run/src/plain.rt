@@ -51,8 +51,8 @@ fn plain_delivery(alloc: Global, tape: &mut Tape, processes: &[usize]) -> Result
     requires processes { processes.now ≡ range_with_len 0 (length tape.old.outcomes) }
     ensures { OnOk result (tape.new ≡ after_delivery tape.old) }
 {
-    let made = deliver_some(alloc, tape.outcomes(), processes, Cells::new(alloc))?;
-    tape.delivered(made)
+    let cells = deliver_some(alloc, tape.outcomes(), processes, Cells::new(alloc))?;
+    tape.delivered(cells)
 }
 
 /// One superstep more of a run that has not ended.

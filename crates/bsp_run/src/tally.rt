@@ -1,12 +1,12 @@
 //! What is added up while a run goes on whose record is not kept.
 
 ghost use Rattle.std.specs.Prelude.{◌≡◌, ◌<◌, ◌≤◌, ◌^◌, ◌++◌, ◌∷◌, [], All, IfOk, OnOk, length};
-ghost use Rattle.bsp_deliver.specs.Cost.{IsHRelation};
+ghost use Rattle.bsp_deliver.specs.Condition.{AreDeliverable};
 ghost use Rattle.bsp_deliver.specs.Requests.{each_below};
 ghost use Rattle.bsp_run.specs.Result.{cost_of_delivery, cost_of_end, total_of};
 ghost use Rattle.bsp_run.specs.Inside.Printed.{lines_in, AreLinesAnd};
 
-use crate::costs::{cost_of_end, cost_with_h, total_of};
+use crate::costs::{cost_of_delivery, cost_of_end, total_of};
 use crate::printed::{add_printed, lines_printed};
 use crate::{RunResult, Status};
 use bsp_model::limits::{HIGHEST_PRICE, MOST_SUPERSTEPS};
@@ -56,22 +56,17 @@ impl Tally {
     }
 
     /// Adds the lines and the cost of a superstep that ended by delivery, whose h-relation is known.
-    pub fn add_delivery(
-        &mut self,
-        alloc: Global,
-        outcomes: &Outcomes,
-        h: u64,
-    ) -> Result<(), OutOfMemory>
+    pub fn add_delivery(&mut self, alloc: Global, outcomes: &Outcomes) -> Result<(), OutOfMemory>
         requires small_g { self.old.g ≤ HIGHEST_PRICE }
         requires small_l { self.old.l ≤ HIGHEST_PRICE }
-        requires h { IsHRelation outcomes.now h }
+        requires deliverable { AreDeliverable outcomes.now }
         ensures g { OnOk result (self.new.g ≡ self.old.g) }
         ensures l { OnOk result (self.new.l ≡ self.old.l) }
         ensures lines { OnOk result (AreLinesAnd self.old.lines.items outcomes.now self.new.lines.items) }
         ensures costs { OnOk result (self.new.costs
             ≡ self.old.costs ++ cost_of_delivery self.old.g self.old.l outcomes.now ∷ []) }
     {
-        let row = cost_with_h(self.g, self.l, outcomes, h);
+        let row = cost_of_delivery(self.g, self.l, outcomes);
         self.add(alloc, outcomes, row)
     }
 

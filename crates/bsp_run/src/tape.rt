@@ -1,10 +1,9 @@
 //! A run while it is recorded.
 
-ghost use Rattle.std.specs.Prelude.{◌≡◌, ◌<◌, ◌+◌, ◌-◌, ◌++◌, ◌∷◌, [], IfOk, IfErr, IfSome, OnOk, OnErr, None, Some, length, map, slice_index_or, true, All};
+ghost use Rattle.std.specs.Prelude.{◌≡◌, ◌<◌, ◌+◌, ◌-◌, ◌++◌, ◌∷◌, [], IfOk, IfErr, OnOk, OnErr, None, Some, length, map, slice_index_or, true, All};
 ghost use Rattle.bsp_model.specs.Input.{input_fault};
 ghost use Rattle.bsp_step.specs.ViewParts.{IsView};
 ghost use Rattle.bsp_deliver.specs.Condition.{AreDeliverable};
-ghost use Rattle.bsp_deliver.specs.Cost.{IsHRelation};
 ghost use Rattle.bsp_run.specs.Run.{start, after_turns, after_delivery, open_views};
 ghost use Rattle.bsp_run.specs.Supersteps.{superstep_at, superstep_shown};
 ghost use Rattle.bsp_model.specs.Replaced.{replaced, IsAscending};
@@ -14,11 +13,11 @@ ghost use Rattle.bsp_run.specs.Condition.{AreOutcomesOf, deliveries_of, is_turne
 ghost use Rattle.bsp_run.specs.RunErrors.{input_fault_of};
 ghost use Rattle.bsp_run.specs.Result.{cost_of_delivery, IsSmall};
 
-use crate::costs::{cost_of_delivery, cost_with_h};
+use crate::costs::cost_of_delivery;
 use crate::keeping::{keep_superstep, phase_after, phase_at};
 use crate::opening::{Recording, first_cells_of, first_views};
 use crate::{Arguments, Phase, RunError, Setting, Status, Superstep, Views, ViewsRef};
-use bsp_deliver::Delivered;
+use bsp_deliver::Cells;
 use bsp_model::{CostRow, Input, OutOfMemory, Shared, SharedSeq, TryCopy};
 use bsp_step::{Outcomes, View};
 use std::alloc::Global;
@@ -184,33 +183,28 @@ impl Tape {
         Ok(goes_on)
     }
 
-    /// Takes the next memory and queue of each process, and the h-relation where it is known. The messages that nobody took are discarded with the
+    /// Takes the next memory and queue of each process. The messages that nobody took are discarded with the
     /// former queues. Where the limit is reached, the run has ended. After `OutOfMemory` nothing has changed.
-    pub fn delivered(&mut self, made: Delivered) -> Result<(), OutOfMemory>
+    pub fn delivered(&mut self, cells: Cells) -> Result<(), OutOfMemory>
         requires turned { self.old.phase ≡ Phase.Turned }
-        requires cells { made.cells ≡ deliveries_of self.old.outcomes }
-        requires h { IfSome made.h (IsHRelation self.old.outcomes) }
+        requires cells { cells ≡ deliveries_of self.old.outcomes }
         ensures ok { OnOk result (self.new ≡ after_delivery self.old) }
         ensures err { OnErr result (self.new ≡ self.old) }
     {
         let alloc = *self.past.allocator();
         let setting = self.next_setting()?;
-        let views = Views::open(alloc, setting, made.cells)?;
-        let row = self.cost(made.h);
+        let views = Views::open(alloc, setting, cells)?;
+        let row = self.cost();
         self.delivered_as(views, row)
     }
 
-    /// The cost of the superstep whose turns are taken, whose h-relation may be known.
-    pub fn cost(&self, h: Option<u64>) -> CostRow
-        requires turned { self.now.phase ≡ Phase.Turned }
-        requires h { IfSome h (IsHRelation self.now.outcomes) }
+    /// The cost of the superstep whose turns are taken.
+    pub fn cost(&self) -> CostRow
+        requires { self.now.phase ≡ Phase.Turned }
         ensures value { result ≡ cost_of_delivery self.now.g self.now.l self.now.outcomes }
         ensures small { IsSmall result }
     {
-        match h {
-            Some(h) => cost_with_h(self.g, self.l, &self.outcomes, h),
-            None => cost_of_delivery(self.g, self.l, &self.outcomes),
-        }
+        cost_of_delivery(self.g, self.l, &self.outcomes)
     }
 
     /// Takes the views of the next superstep, and the cost of this one. Where the limit is reached, the run has ended. After `OutOfMemory` nothing has

@@ -14,7 +14,7 @@ use crate::history::{memories_of_outcomes, memories_of_views};
 use crate::tally::Tally;
 use crate::wide::{DEPTH_OF_SUPERSTEPS, turns_by_one};
 use crate::{Phase, RunResult, Status, TurnRows, Views};
-use bsp_deliver::{deliver_moving, h_of};
+use bsp_deliver::deliver_moving;
 use bsp_model::{Input, OutOfMemory};
 use bsp_pool::Gate;
 use bsp_step::{Outcome, Outcomes, Program};
@@ -109,8 +109,7 @@ impl Unrecorded {
         ensures end { OnOk result (self.new.end ≡ self.old.end) }
     {
         let taken = &mut self.taken.outcomes;
-        let h = h_of(taken);
-        self.tally.add_delivery(alloc, taken, h)?;
+        self.tally.add_delivery(alloc, taken)?;
         let views = next_views(alloc, views, self.processes.as_slice(), taken)?;
         Ok(views)
     }

@@ -1,10 +1,9 @@
 //! A run by a pool of workers, and its parts.
 
-ghost use Rattle.std.specs.Prelude.{◌≡◌, ◌<◌, ◌≤◌, [], All, None, IfOk, IfErr, IfSome, OnOk, length, map, true};
+ghost use Rattle.std.specs.Prelude.{◌≡◌, ◌<◌, ◌≤◌, [], All, None, IfOk, IfErr, OnOk, length, map, true};
 ghost use Rattle.bsp_model.specs.Input.{input_fault};
 ghost use Rattle.bsp_step.specs.Turn.{turn_of};
 ghost use Rattle.bsp_deliver.specs.Condition.{AreDeliverable, IsAscending};
-ghost use Rattle.bsp_deliver.specs.Cost.{IsHRelation};
 ghost use Rattle.bsp_run.specs.Shares.{turns_of, deliveries_to};
 ghost use Rattle.std.specs.List.{range_with_len};
 ghost use Rattle.bsp_run.specs.Run.{advance, after_delivery, open_views, run};
@@ -20,7 +19,7 @@ use crate::tape::checked;
 use crate::turn_rows::spare_of;
 use crate::works::{Deliveries, Turns};
 use crate::{History, Phase, RunError, Tape, TurnRows, Views};
-use bsp_deliver::{Cells, Delivered, deliver_some, sort_requests};
+use bsp_deliver::{Cells, deliver_some, sort_requests};
 use bsp_model::{Input, OutOfMemory};
 use bsp_pool::{Gate, gather};
 use bsp_step::{Outcomes, Program, turn_reusing};
@@ -147,8 +146,7 @@ fn sorted_deliveries<G: Gate, R: Threads + Sync>(
 /// `outcomes`, which are those of all processes, in ascending order. Whoever drew the place k of the list, counted from 0, passes the
 /// gate with k before that delivery.
 ///
-/// The requests are gone over once: one worker passes the gate with every place, and then makes the deliveries together, where they are to all processes
-/// with the h-relation; several sort the requests first. Where the gate tells the time and the requests are few, the calling thread is the one worker.
+/// The requests are gone over once: one worker passes the gate with every place, and then makes the deliveries together; several sort the requests first. Where the gate tells the time and the requests are few, the calling thread is the one worker.
 ///
 /// # Errors
 /// `OutOfMemory` where the calling thread is refused memory for the list, to sort the requests, or for a delivery that no worker handed
@@ -160,13 +158,12 @@ pub fn wide_deliveries<G: Gate, R: Threads + Sync>(
     processes: &[usize],
     workers: usize,
     gate: &G,
-) -> Result<Delivered, OutOfMemory>
+) -> Result<Cells, OutOfMemory>
     requires deliverable { AreDeliverable outcomes.now }
     requires processes { All (λ d. d < length outcomes.now) processes.now }
     requires ascending { IsAscending processes.now }
     requires workers { (0 < workers) × (workers ≤ 16) }
-    ensures cells { IfOk result (λ made. made.cells ≡ deliveries_to outcomes.now processes.now) }
-    ensures h { IfOk result (λ made. IfSome made.h (IsHRelation outcomes.now)) }
+    ensures { IfOk result (λ cells. cells ≡ deliveries_to outcomes.now processes.now) }
 {
     if workers.min(processes.len()) < 2 || gate.now().is_some() && is_light(outcomes) {
         pass_all(gate, processes.len());
@@ -174,7 +171,7 @@ pub fn wide_deliveries<G: Gate, R: Threads + Sync>(
     }
     let mut cells = Cells::with_capacity(alloc, processes.len())?;
     sorted_deliveries(rt, alloc, &mut cells, outcomes, processes, workers, gate)?;
-    Ok(Delivered { cells, h: None })
+    Ok(cells)
 }
 
 /// The outcomes of the open superstep of a run, by the workers.
@@ -216,8 +213,8 @@ fn wide_delivery<G: Gate, R: Threads + Sync>(
     requires workers { (0 < workers) × (workers ≤ 16) }
     ensures { OnOk result (tape.new ≡ after_delivery tape.old) }
 {
-    let made = wide_deliveries(rt, alloc, tape.outcomes(), processes, workers, gate)?;
-    tape.delivered(made)
+    let cells = wide_deliveries(rt, alloc, tape.outcomes(), processes, workers, gate)?;
+    tape.delivered(cells)
 }
 
 /// One superstep more of a run that has not ended, by the workers.

@@ -11,7 +11,7 @@ ghost use Rattle.bsp_incr.specs.Inside.Marks.{AreComparable, OutcomesDifferAtMos
 
 use crate::compare::delivered_outcomes;
 use crate::rerun::Given;
-use bsp_deliver::{Delivered, touched_by_changes};
+use bsp_deliver::{Cells, touched_by_changes};
 use bsp_model::ProcessSet;
 use bsp_model::limits::MOST_PROCESSES;
 use bsp_run::{Phase, Tape};
@@ -22,8 +22,8 @@ use bsp_step::{Outcomes, Program};
 pub struct Deliveries {
     /// To whom, in order.
     pub processes: Vec<usize>,
-    /// What each of them got.
-    pub made: Delivered,
+    /// The next memory and queue of each of them.
+    pub cells: Cells,
 }
 
 /// To whom deliveries have to be made, where the run before made them too.

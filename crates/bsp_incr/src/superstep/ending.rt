@@ -1,8 +1,7 @@
 //! How a superstep of a run that is made again ends: its deliveries, and the opening of the next.
 
-ghost use Rattle.std.specs.Prelude.{◌≡◌, ◌≤◌, ◌<◌, ◌++◌, IfOk, IfSome, OnOk, length, option_map};
+ghost use Rattle.std.specs.Prelude.{◌≡◌, ◌≤◌, ◌<◌, ◌++◌, IfOk, OnOk, length, option_map};
 ghost use Rattle.bsp_model.specs.ProcessSet.{processes_in, union};
-ghost use Rattle.bsp_deliver.specs.Cost.{IsHRelation};
 ghost use Rattle.bsp_deliver.specs.Requests.{each_below};
 ghost use Rattle.bsp_run.specs.Run.{after_delivery, open_views};
 ghost use Rattle.bsp_run.specs.Setting.{next_setting, next_views};
@@ -26,32 +25,27 @@ use bsp_run::{Phase, Setting, Tape, Views, wide_deliveries};
 use bsp_step::Program;
 use std::thread::Threads;
 
-/// The cost of the superstep whose turns are taken, whose h-relation may be known: where it is not, that of the run before, at the prices in force, if
-/// no turn that may be another one charged other work or moved other numbers of words.
+/// The cost of the superstep whose turns are taken: that of the run before, at the prices in force, if no turn that may be another one charged other work
+/// or moved other numbers of words.
 fn cost<P: Program, G: Gate, R: Threads + Sync>(
     given: &Given<'_, P, R, G>,
     tape: &Tape,
     doubtful: &ProcessSet,
-    h: Option<u64>,
 ) -> CostRow
-    requires h { IfSome h (IsHRelation tape.now.outcomes) }
     requires turned { tape.now.phase ≡ Phase.Turned }
     requires many { length tape.now.outcomes ≡ length given.now.input.mems }
     requires doubtful { OutcomesDifferAtMost (delivered_beside given.now tape.now) tape.now.outcomes doubtful.now }
     ensures value { result ≡ cost_of_delivery tape.now.g tape.now.l tape.now.outcomes }
     ensures small { IsSmall result }
 {
-    if h.is_some() {
-        return tape.cost(h);
-    }
     let Some(history) = given.old else {
-        return tape.cost(None);
+        return tape.cost();
     };
     let Some(old) = delivered_outcomes(given.old, tape.step()) else {
-        return tape.cost(None);
+        return tape.cost();
     };
     if !all_cost_alike(old, tape.outcomes(), doubtful) {
-        return tape.cost(None);
+        return tape.cost();
     }
     tape.cost_like(history)
 }
@@ -97,7 +91,7 @@ fn next_views_like<P: Program, G: Gate, R: Threads + Sync>(
     requires next { old_next.now ≡ views_after given.now.before (length tape.now.past) }
     requires processes { deliveries.processes.items ≡ processes_where (length tape.now.outcomes)
         (is_touched (delivered_beside given.now tape.now) tape.now.outcomes) }
-    requires cells { deliveries.made.cells ≡ deliveries_to tape.now.outcomes deliveries.processes.items }
+    requires cells { deliveries.cells ≡ deliveries_to tape.now.outcomes deliveries.processes.items }
     requires known { KnowsNextTable given.now.before tape.now known.old }
     ensures views { IfOk result (λ views. views ≡ next_views tape.now) }
     ensures known { OnOk result (KnowsNextTable given.now.before tape.now known.new) }
@@ -105,12 +99,7 @@ fn next_views_like<P: Program, G: Gate, R: Threads + Sync>(
     // What stands of the run before is known where it is read.
     let _before = given.old;
     let setting = next_setting(tape, old_next, known)?;
-    tape.next_views_like(
-        old_next,
-        setting,
-        deliveries.processes,
-        deliveries.made.cells,
-    )
+    tape.next_views_like(old_next, setting, deliveries.processes, deliveries.cells)
 }
 
 /// Opens the next superstep with such views. `known` is what is known of the table there.
@@ -128,14 +117,13 @@ fn open_next_like<P: Program, G: Gate, R: Threads + Sync>(
     requires next { old_next.now ≡ views_after given.now.before (length tape.old.past) }
     requires processes { deliveries.processes.items ≡ processes_where (length tape.old.outcomes)
         (is_touched (delivered_beside given.now tape.old) tape.old.outcomes) }
-    requires cells { deliveries.made.cells ≡ deliveries_to tape.old.outcomes deliveries.processes.items }
-    requires h { IfSome deliveries.made.h (IsHRelation tape.old.outcomes) }
+    requires cells { deliveries.cells ≡ deliveries_to tape.old.outcomes deliveries.processes.items }
     requires doubtful { OutcomesDifferAtMost (delivered_beside given.now tape.old) tape.old.outcomes doubtful.now }
     requires known { KnowsNextTable given.now.before tape.old known.old }
     ensures tape { OnOk result (tape.new ≡ after_delivery tape.old) }
     ensures known { OnOk result (KnowsNextTable given.now.before tape.old known.new) }
 {
-    let row = cost(given, tape, doubtful, deliveries.made.h);
+    let row = cost(given, tape, doubtful);
     let views = next_views_like(given, tape, old_next, deliveries, known)?;
     tape.delivered_as(views, row)
 }
@@ -152,8 +140,7 @@ fn open_next<P: Program, G: Gate, R: Threads + Sync>(
     requires many { length tape.old.outcomes ≡ length given.now.input.mems }
     requires processes { deliveries.processes.items ≡ processes_where (length tape.old.outcomes)
         (is_touched (delivered_beside given.now tape.old) tape.old.outcomes) }
-    requires cells { deliveries.made.cells ≡ deliveries_to tape.old.outcomes deliveries.processes.items }
-    requires h { IfSome deliveries.made.h (IsHRelation tape.old.outcomes) }
+    requires cells { deliveries.cells ≡ deliveries_to tape.old.outcomes deliveries.processes.items }
     requires doubtful { OutcomesDifferAtMost (delivered_beside given.now tape.old) tape.old.outcomes doubtful.now }
     requires known { KnowsNextTable given.now.before tape.old known.old }
     ensures tape { OnOk result (tape.new ≡ after_delivery tape.old) }
@@ -163,7 +150,7 @@ fn open_next<P: Program, G: Gate, R: Threads + Sync>(
         Some(old_next) => open_next_like(given, tape, old_next, doubtful, deliveries, known),
         None => {
             *known = KnownTable::Unknown;
-            tape.delivered(deliveries.made)
+            tape.delivered(deliveries.cells)
         }
     }
 }
@@ -178,15 +165,14 @@ fn deliveries_among<P: Program, G: Gate, R: Threads + Sync>(
     requires turned { tape.now.phase ≡ Phase.Turned }
     requires many { length touched.now ≡ length tape.now.outcomes }
     ensures processes { IfOk result (λ all. all.processes.items ≡ processes_in touched.now) }
-    ensures cells { IfOk result (λ all. all.made.cells ≡ deliveries_to tape.now.outcomes all.processes.items) }
-    ensures h { IfOk result (λ all. IfSome all.made.h (IsHRelation tape.now.outcomes)) }
+    ensures cells { IfOk result (λ all. all.cells ≡ deliveries_to tape.now.outcomes all.processes.items) }
     ensures places { OnOk result (redelivered.new
         ≡ redelivered.old ++ places_of (length tape.now.past) (processes_in touched.now)) }
 {
     let workers = &given.workers;
     let processes = touched.members(workers.alloc)?;
     add_places(redelivered, tape.step() as u64, processes.as_slice())?;
-    let made = wide_deliveries(
+    let cells = wide_deliveries(
         workers.rt,
         workers.alloc,
         tape.outcomes(),
@@ -194,7 +180,7 @@ fn deliveries_among<P: Program, G: Gate, R: Threads + Sync>(
         workers.count,
         workers.gate,
     )?;
-    Ok(Deliveries { processes, made })
+    Ok(Deliveries { processes, cells })
 }
 
 /// The deliveries of the superstep whose turns are taken, and the marks of the next.

@@ -4,9 +4,9 @@ use Rattle.bsp_deliver.specs.Delivery.{delivery_parts, next_memory, next_queue}
 use Rattle.bsp_deliver.proofs.CellsOf.{cells_of-maps}
 use Rattle.bsp_deliver.proofs.gathering.deliver_into.Goals as goal
 
-pub returns-clause-cells : goal.returns-clause-cells
-returns-clause-cells c =
+pub returns : goal.returns
+returns c =
     let os = c.args.outcomes.now in
     let N : ℕ → List ℕ = λ d. next_memory (delivery_parts os d) in
     let Q : ℕ → List Message = λ d. next_queue (delivery_parts os d) in
-    cells_of-maps N Q c.args.processes.now c.memories_after.new.memories c.queues_after.new.queues c.in_ok-h.ensures.memories c.in_ok-queues_after.ensures
+    cells_of-maps N Q c.args.processes.now c.memories_after.new.memories c.queues_after.new.queues c.in_ok-memories_after.ensures c.in_ok-queues_after.ensures

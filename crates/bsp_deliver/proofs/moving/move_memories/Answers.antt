@@ -29,5 +29,5 @@ returns-in_ok-outcomes-in-Ok c =
 
 pub returns-in_ok-memories_after-in-Err : goal.returns-in_ok-memories_after-in-Err
 returns-in_ok-memories_after-in-Err c =
-    c.in_ok-memories_after-in-Err.ensures.memories
+    c.in_ok-memories_after-in-Err.ensures
     ∙ ap (λ (os : List OutcomeParts). map (λ d. next_memory (delivery_parts os d)) c.args.processes.now) (c.in-Err.ensures.shared ∙ c.replace.ensures.value)

@@ -18,10 +18,6 @@ all_numbers n ps known ascending count =
     ext_get_or 0 ps (range_with_len 0 n) (count ∙ sym (length-range_with_len 0 n))
     (λ k inside. omega (arith, all_places ps k (subst (λ m. All (λ d. d < m) ps) (sym count) known) ascending inside, get_or-range_with_len 0 n k 0 (omega (arith, inside, count))))
 
-pub write_all-requires-clause-processes : goal.write_all-requires-clause-processes
-write_all-requires-clause-processes c =
-    all_numbers (length c.args.outcomes.now) c.args.processes.now c.requires.known c.requires.ascending (c.if-processes-len.true ∙ c.len.ensures)
-
 -- what the processes have after computing, with the words that their gets read
 abbrev computed : List OutcomeParts → ℕ → List ℕ
 computed os d = overlay (delivery_parts os d).memory (map get_write (delivery_parts os d).gets)
@@ -29,19 +25,19 @@ computed os d = overlay (delivery_parts os d).memory (map get_write (delivery_pa
 pub write_some-requires-clause-count : goal.write_some-requires-clause-count
 write_some-requires-clause-count c = ap length c.in_ok-load_memories.ensures ∙ length-map c.args.processes.now (computed c.args.outcomes.now)
 
-pub returns-then-processes-len-clause-memories : goal.returns-then-processes-len-clause-memories
-returns-then-processes-len-clause-memories c =
+pub returns-then-processes-len : goal.returns-then-processes-len
+returns-then-processes-len c =
     let os = c.args.outcomes.now in
     let n = length os in
     let ps = c.args.processes.now in
     let all = all_numbers n ps c.requires.known c.requires.ascending (c.if-processes-len.true ∙ c.len.ensures) in
     let at : ArePlaces n ps ps = subst (λ (l : List ℕ). ArePlaces n l l) (sym all) (at_own_place n) in
-    c.in_ok-h.ensures.memories
+    c.in_ok-write_all.ensures
     ∙ ap (λ (ms : List (List ℕ)). fold (λ xs s. put_at ps xs s.1) ms (all_puts os)) c.in_ok-load_memories.ensures
     ∙ memories_gathered os ps ps (map (computed os) ps) c.requires.deliverable c.requires.known at refl
 
-pub returns-clause-memories : goal.returns-clause-memories
-returns-clause-memories c =
+pub returns : goal.returns
+returns c =
     let os = c.args.outcomes.now in
     let ps = c.args.processes.now in
     let places = c.in_ok-write_some.ensures.0 in

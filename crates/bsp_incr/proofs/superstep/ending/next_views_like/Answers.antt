@@ -40,7 +40,7 @@ next_views_like-requires-clause-cells g c =
     let next : AreDelivered os views = subst (AreDelivered os) (sym c.requires.next) (delivered_before_is (turn_by g.P.Program c.args.given.now.program) c.args.given.now.input old (length r.past) known.before) in
     let some : 0 < length views = c.requires.some in
     let long = count_beside (turn_by g.P.Program c.args.given.now.program) c.args.given.now.input old (length r.past) r.outcomes known.before c.requires.many (omega (arith, some, next.count)) in
-    cells_in_place os r.outcomes views c.args.deliveries.processes.items c.args.deliveries.made.cells next long c.requires.processes c.requires.cells
+    cells_in_place os r.outcomes views c.args.deliveries.processes.items c.args.deliveries.cells next long c.requires.processes c.requires.cells
 
 pub next_setting-requires-clause-some : goal.next_setting-requires-clause-some
 next_setting-requires-clause-some g c =

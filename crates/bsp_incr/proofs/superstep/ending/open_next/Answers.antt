@@ -21,4 +21,4 @@ delivered-requires-clause-cells g c =
     let next = delivered_before_is (turn_by g.P.Program c.args.given.now.program) c.args.given.now.input old (length r.past) known.before in
     let none = ap (λ (m : Making _). views_after m.before c.step.result) (sym c.given.view_is) ∙ c.in-None.ensures.none in
     let seen : length (views_after old (length r.past)) ≡ 0 = ap (λ n. length (views_after old n)) (sym c.step.ensures) ∙ ap (λ (vs : List ViewParts). length vs) none in
-    cells_of_none (delivered_outcomes old (length r.past)) r.outcomes c.args.deliveries.processes.items c.args.deliveries.made.cells (sym next.count ∙ seen) c.requires.processes c.requires.cells
+    cells_of_none (delivered_outcomes old (length r.past)) r.outcomes c.args.deliveries.processes.items c.args.deliveries.cells (sym next.count ∙ seen) c.requires.processes c.requires.cells

@@ -9,15 +9,10 @@ use Rattle.bsp_run.proofs.tape.Tape.cost.Goals as goal
 pub cost_of_delivery-requires-clause-deliverable : goal.cost_of_delivery-requires-clause-deliverable
 cost_of_delivery-requires-clause-deliverable c =
     let r : Run = run_of c.self.inside in
-    let turned = is_turned_run r c.self.invariant.run (ap (λ (x : Run). x.phase) c.self.view_is ∙ c.requires.turned) in
+    let turned = is_turned_run r c.self.invariant.run (ap (λ (x : Run). x.phase) c.self.view_is ∙ c.requires) in
     AreDeliverable-from_turns r.args (length r.past) r.state r.outcomes c.self.invariant.run.state turned.turns
 
-pub returns-in-Some-clause-value : goal.returns-in-Some-clause-value
-returns-in-Some-clause-value c =
-    let r : Run = run_of c.self.inside in
-    c.cost_with_h.ensures.value ∙ ap (λ (x : Run). cost_of_delivery x.g x.l x.outcomes) c.self.view_is
-
-pub returns-in-None-clause-value : goal.returns-in-None-clause-value
-returns-in-None-clause-value c =
+pub returns-clause-value : goal.returns-clause-value
+returns-clause-value c =
     let r : Run = run_of c.self.inside in
     c.cost_of_delivery.ensures.value ∙ ap (λ (x : Run). cost_of_delivery x.g x.l x.outcomes) c.self.view_is

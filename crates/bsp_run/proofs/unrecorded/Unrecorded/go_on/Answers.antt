@@ -5,8 +5,8 @@ use Rattle.bsp_run.specs.Inside.IsUnrecorded.{IsUnrecordedIn}
 use Rattle.bsp_run.proofs.UnrecordedRuns.{are_turned, as_many, deliverable_turned, unrecorded_delivered}
 use Rattle.bsp_run.proofs.unrecorded.Unrecorded.go_on.Goals as goal
 
-pub h_of-requires : goal.h_of-requires
-h_of-requires c =
+pub add_delivery-requires-clause-deliverable : goal.add_delivery-requires-clause-deliverable
+add_delivery-requires-clause-deliverable c =
     let os = c.args.self.now.taken.outcomes in
     deliverable_turned c.requires.turned.0 c.args.views os (are_turned c.requires.turned.0 c.args.views c.args.self.now os c.requires.turned.1)
 
