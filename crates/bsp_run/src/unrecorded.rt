@@ -79,7 +79,7 @@ fn next_views(
     let setting = views.next_setting(outcomes)?;
     let mut cells = views.into_room(alloc);
     deliver_moving(alloc, outcomes, processes, &mut cells)?;
-    Views::open(alloc, setting, cells)
+    Ok(Views::open(alloc, setting, cells)?)
 }
 
 impl Unrecorded {
