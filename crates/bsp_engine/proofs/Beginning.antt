@@ -127,10 +127,6 @@ module _ {P : Type 0} (acts : P → ViewParts → List Act) (ending : P → View
       document_next a.own.items a.places (a.last + 1) a.live l text d t later
       ∙ (λ k. text ++ blocks acts ending (live_replying acts ending looks) (own k) (places k) (last k + 1) (live k) later)
 
-  pub due_at-none : (a : Attendant P) → due_at acts ending looks a [] ≡ []
-  unfolding due_at blocks
-  due_at-none a = refl
-
   pub first_text_is : (detail : Detail) (job : Job P) (zero text : List ℕ) → zero ≡ [] → text ≡ zero ++ text_of detail (replies_of acts ending looks false job) ++ codes "ready\n" → text ≡ first_text (live_replying acts ending looks) detail job
   unfolding first_text
   first_text_is detail job zero text none is = is ∙ ap (λ t. t ++ text_of detail (replies_of acts ending looks false job) ++ codes "ready\n") none

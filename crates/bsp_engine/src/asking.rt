@@ -6,9 +6,9 @@ ghost use Rattle.bsp_engine.specs.Asked.{asked_at, asked_of, begins_with_word, d
 ghost use Rattle.bsp_engine.specs.Tree.{tree_of};
 
 use crate::errors::JobError;
-use crate::jobs::{Described, has_negative_edit, is_batch};
+use crate::jobs::{ArrayOf, EditForm, fits, has_negative_edit, read_each};
 use crate::limits::MOST_DOCUMENT_BYTES;
-use crate::tree::{read_tree, value_at};
+use crate::tree::{elements, read_tree, value_at};
 use bsp_incr::Batch;
 use bsp_model::OutOfMemory;
 use std::alloc::{AllocError, Global};
@@ -111,13 +111,13 @@ fn asked_at(alloc: Global, table: &Table) -> Result<Asked, OutOfMemory>
     let Some(value) = value_at(table, "batch") else {
         return Ok(Asked::Nothing(Unread::WrongType));
     };
-    if !is_batch(value) {
+    if !fits::<ArrayOf<EditForm>>(value) {
         return Ok(Asked::Nothing(Unread::WrongType));
     }
     if has_negative_edit(value) {
         return Ok(Asked::Nothing(Unread::BadWord));
     }
-    Ok(Asked::Batch(Batch::read(alloc, value)?))
+    Ok(Asked::Batch(read_each::<EditForm>(alloc, elements(value))?))
 }
 
 /// What the bytes of such a document ask.

@@ -25,6 +25,29 @@ use bsp_step::Program;
 use std::alloc::AllocError;
 use std::thread::Threads;
 
+/// Whoever answers the lines of a conversation, one after the other.
+pub trait Respond {
+    ghost use Rattle.std.specs.Prelude.{[]};
+    ghost use Rattle.bsp_engine.specs.Talk.{Due};
+
+    // What is due for the lines to come, behind what is to be said next.
+    ghost due: { Self → Due };
+
+    // What is to be said next.
+    ghost next: { Self → List ℕ };
+
+    /// What is to be said next.
+    fn text(&self) -> &[u8]
+        ensures { result.now ≡ next self.now };
+
+    /// Makes the answer to a line, which has no LF, what is to be said next.
+    fn respond(&mut self, line: &[u8]) -> Result<(), OutOfMemory>
+        ensures { OnOk result ((later : List (List ℕ)) → due self.old (line.now ∷ later) ≡ next self.new ++ due self.new later) };
+
+    // Where no line comes nothing is due.
+    ghost ends: { (s : Self) → due s [] ≡ [] };
+}
+
 /// Who answers the lines of a live session.
 #[derive(Drop)]
 pub struct Attendant<P: Program> {
@@ -106,7 +129,7 @@ fn write_next_block<P: Program + Drop, R: Threads + Sync, G: Gate>(
 }
 
 /// Writes the answer to a line, which has no LF.
-pub fn respond<P: Program + Drop, R: Threads + Sync, G: Gate>(
+fn answer<P: Program + Drop, R: Threads + Sync, G: Gate>(
     crew: &Crew<'_, R, G>,
     attendant: &mut Attendant<P>,
     line: &[u8],
@@ -120,4 +143,31 @@ pub fn respond<P: Program + Drop, R: Threads + Sync, G: Gate>(
     let own = attendant.own.as_slice();
     let input = attendant.live.input();
     put_document(&mut attendant.text, own, input)
+}
+
+/// An attendant with those who share the work.
+#[derive(Drop)]
+pub struct Attending<'a, P: Program, R, G> {
+    pub crew: &'a Crew<'a, R, G>,
+    pub attendant: Attendant<P>,
+}
+
+impl<'a, P: Program + Drop, R: Threads + Sync, G: Gate> Respond for Attending<'a, P, R, G> {
+    ghost use Rattle.bsp_engine.specs.Inside.DueAt.{due_at, due_at-none};
+
+    ghost due = { λ a. due_at P.acts P.ending P.looks a.attendant };
+
+    ghost next = { λ a. a.attendant.text.items };
+
+    ghost ends = { λ a. due_at-none P.acts P.ending P.looks a.attendant };
+
+    fn text(&self) -> &[u8] {
+        self.attendant.text.as_slice()
+    }
+
+    fn respond(&mut self, line: &[u8]) -> Result<(), OutOfMemory> {
+        let answered = answer(self.crew, &mut self.attendant, line);
+        self.crew.gate.leave();
+        answered
+    }
 }

@@ -5,7 +5,7 @@ ghost use Rattle.bsp_engine.specs.Followed.{Follows};
 ghost use Rattle.bsp_engine.specs.Limits.{most_document_bytes};
 ghost use Rattle.bsp_engine.specs.Talk.{HasFailed, HasNotWritten};
 
-use crate::attending::attendant_of;
+use crate::attending::{Attending, attendant_of};
 use crate::catalogue::Catalogue;
 use crate::crew::Crew;
 use crate::errors::{EngineError, JobFault};
@@ -31,9 +31,11 @@ fn follow_document<C: Catalogue, R: Threads + Sync, T: Terminal, G: Gate>(
     ensures read { result ≡ Err EngineError.Read → HasFailed (T.log terminal.new) }
     ensures write { result ≡ Err EngineError.Write → HasNotWritten (T.log terminal.new) }
 {
-    let mut attendant = attendant_of::<C, _, _>(crew, detail, bytes)?;
-    let talked = talk(crew, &mut attendant, terminal);
-    drop(attendant);
+    let attendant = attendant_of::<C, _, _>(crew, detail, bytes)?;
+    crew.gate.leave();
+    let mut attending = Attending { crew, attendant };
+    let talked = talk(crew.alloc, &mut attending, terminal);
+    drop(attending);
     talked
 }
 

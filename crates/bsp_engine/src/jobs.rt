@@ -30,15 +30,14 @@ use bsp_model::{Input, Seq};
 use inputs::read_input;
 use keys::check_keys;
 use own::own_text;
-pub use shapes::is_batch;
+pub use shapes::{ArrayOf, EditForm, Each, Integer, Shape, all_fit, fits};
 use signs::check_signs;
-pub use signs::has_negative_edit;
+pub use signs::{NotNegative, has_negative_edit};
 use sizes::check_sizes;
 pub use sizes::count_of_args;
 use std::alloc::Global;
 use toml::Table;
-pub use values::Described;
-use values::read_all;
+pub use values::{Described, read_each};
 pub use wrong::{Path, Wrong};
 
 /// A program, its input, over which a run may start, and batches of edits.
@@ -75,7 +74,7 @@ fn job_in<C: Catalogue>(alloc: Global, table: &Table) -> Result<Job<C::Program>,
     Ok(Job {
         program: C::program(alloc, table)?,
         input: read_input(alloc, table)?,
-        batches: read_all(alloc, elements_at(table, "batches"))?,
+        batches: read_each::<ArrayOf<EditForm>>(alloc, elements_at(table, "batches"))?,
     })
 }
 

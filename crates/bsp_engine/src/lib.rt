@@ -48,7 +48,7 @@ pub use documents::engine;
 pub use errors::{EngineError, JobError, JobFault};
 pub use flow::{Failed, Sink, Source};
 pub use following::follow;
-pub use jobs::{Job, read_job};
+pub use jobs::{ArrayOf, Described, Each, Job, NotNegative, Path, Shape, all_fit, fits, read_each, read_job};
 pub use naming::{ByName, Named};
 pub use options::{Detail, Options, Tool, VERSION, read_options, words_status};
 pub use progress::Watched;

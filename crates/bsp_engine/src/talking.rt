@@ -1,19 +1,15 @@
 //! Conversations: the lines that are heard at a terminal, and their answers.
 
-ghost use Rattle.std.specs.Prelude.{◌≡◌, [], Ok, false, true, IfErr, OnOk, OnErr};
-ghost use Rattle.bsp_engine.specs.Inside.DueAt.{due_at, due_from};
+ghost use Rattle.std.specs.Prelude.{◌≡◌, ◌++◌, [], Ok, false, true, IfErr, OnOk, OnErr};
 ghost use Rattle.bsp_engine.specs.Inside.Talk.{kept, Answered, Attended, BreaksOff, Ends, GoesOn, Says, SaysPart, Stopped, TalksOn, Unattended};
 ghost use Rattle.bsp_engine.specs.Talk.{TalksUntil};
 
-use crate::attending::{Attendant, respond};
-use crate::crew::Crew;
+use crate::attending::Respond;
 use crate::errors::EngineError;
 use crate::limits::MOST_DOCUMENT_BYTES;
 use crate::terminal::Terminal;
 use bsp_model::OutOfMemory;
-use bsp_pool::Gate;
-use bsp_step::Program;
-use std::thread::Threads;
+use std::alloc::Global;
 
 const CHUNK: usize = 4096;
 
@@ -37,19 +33,16 @@ fn say_all<T: Terminal>(terminal: &mut T, text: &[u8]) -> Result<(), EngineError
 }
 
 /// Answers a line.
-fn answer<P: Program + Drop, R: Threads + Sync, G: Gate, T: Terminal>(
-    crew: &Crew<'_, R, G>,
-    attendant: &mut Attendant<P>,
+fn answer<A: Respond, T: Terminal>(
+    attendant: &mut A,
     terminal: &mut T,
     line: &[u8],
 ) -> Result<(), EngineError>
-    ensures ok { OnOk result (Answered (due_at P.acts P.ending P.looks attendant.old) (due_at P.acts P.ending P.looks attendant.new) line.now (T.log terminal.old) (T.log terminal.new)) }
-    ensures err { IfErr result (λ e. Stopped (due_at P.acts P.ending P.looks attendant.old) line.now (T.log terminal.old) (T.log terminal.new) e) }
+    ensures ok { OnOk result (Answered (A.due attendant.old) (A.due attendant.new) line.now (T.log terminal.old) (T.log terminal.new)) }
+    ensures err { IfErr result (λ e. Stopped (A.due attendant.old) line.now (T.log terminal.old) (T.log terminal.new) e) }
 {
-    let answered = respond(crew, attendant, line);
-    crew.gate.leave();
-    match answered {
-        Ok(()) => say_all(terminal, attendant.text.as_slice()),
+    match attendant.respond(line) {
+        Ok(()) => say_all(terminal, attendant.text()),
         Err(_) => Err(EngineError::OutOfMemory),
     }
 }
@@ -66,18 +59,17 @@ fn keep(begun: &mut Vec<u8>, byte: u8) -> Result<(), OutOfMemory>
 }
 
 /// Takes one more byte: an LF is the end of a line, which is answered.
-fn attend<P: Program + Drop, R: Threads + Sync, G: Gate, T: Terminal>(
-    crew: &Crew<'_, R, G>,
-    attendant: &mut Attendant<P>,
+fn attend<A: Respond, T: Terminal>(
+    attendant: &mut A,
     terminal: &mut T,
     begun: &mut Vec<u8>,
     byte: u8,
 ) -> Result<(), EngineError>
-    ensures ok { OnOk result (Attended (due_at P.acts P.ending P.looks attendant.old) (due_at P.acts P.ending P.looks attendant.new) begun.old.items byte begun.new.items (T.log terminal.old) (T.log terminal.new)) }
-    ensures err { IfErr result (λ e. Unattended (due_at P.acts P.ending P.looks attendant.old) begun.old.items byte (T.log terminal.old) (T.log terminal.new) e) }
+    ensures ok { OnOk result (Attended (A.due attendant.old) (A.due attendant.new) begun.old.items byte begun.new.items (T.log terminal.old) (T.log terminal.new)) }
+    ensures err { IfErr result (λ e. Unattended (A.due attendant.old) begun.old.items byte (T.log terminal.old) (T.log terminal.new) e) }
 {
     if byte == b'\n' {
-        answer(crew, attendant, terminal, begun.as_slice())?;
+        answer(attendant, terminal, begun.as_slice())?;
         begun.clear();
         return Ok(());
     }
@@ -88,48 +80,45 @@ fn attend<P: Program + Drop, R: Threads + Sync, G: Gate, T: Terminal>(
 }
 
 /// Takes the bytes that were heard, one after the other.
-fn attend_all<P: Program + Drop, R: Threads + Sync, G: Gate, T: Terminal>(
-    crew: &Crew<'_, R, G>,
-    attendant: &mut Attendant<P>,
+fn attend_all<A: Respond, T: Terminal>(
+    attendant: &mut A,
     terminal: &mut T,
     begun: &mut Vec<u8>,
     bytes: &[u8],
 ) -> Result<(), EngineError>
-    ensures ok { OnOk result (GoesOn (due_at P.acts P.ending P.looks attendant.old) (due_at P.acts P.ending P.looks attendant.new) begun.old.items bytes.now begun.new.items (T.log terminal.old) (T.log terminal.new)) }
-    ensures err { IfErr result (λ e. BreaksOff (due_at P.acts P.ending P.looks attendant.old) begun.old.items bytes.now (T.log terminal.old) (T.log terminal.new) e) }
+    ensures ok { OnOk result (GoesOn (A.due attendant.old) (A.due attendant.new) begun.old.items bytes.now begun.new.items (T.log terminal.old) (T.log terminal.new)) }
+    ensures err { IfErr result (λ e. BreaksOff (A.due attendant.old) begun.old.items bytes.now (T.log terminal.old) (T.log terminal.new) e) }
 {
     for byte in bytes {
-        attend(crew, attendant, terminal, begun, *byte)?;
+        attend(attendant, terminal, begun, *byte)?;
     }
     Ok(())
 }
 
 /// Answers the line that was begun when the end was heard, if one was.
-fn attend_rest<P: Program + Drop, R: Threads + Sync, G: Gate, T: Terminal>(
-    crew: &Crew<'_, R, G>,
-    attendant: &mut Attendant<P>,
+fn attend_rest<A: Respond, T: Terminal>(
+    attendant: &mut A,
     terminal: &mut T,
     begun: &[u8],
 ) -> Result<(), EngineError>
-    ensures ok { OnOk result (Ends (due_at P.acts P.ending P.looks attendant.old) begun.now (T.log terminal.old) (T.log terminal.new)) }
-    ensures err { IfErr result (λ e. BreaksOff (due_at P.acts P.ending P.looks attendant.old) begun.now [] (T.log terminal.old) (T.log terminal.new) e) }
+    ensures ok { OnOk result (Ends (A.due attendant.old) begun.now (T.log terminal.old) (T.log terminal.new)) }
+    ensures err { IfErr result (λ e. BreaksOff (A.due attendant.old) begun.now [] (T.log terminal.old) (T.log terminal.new) e) }
 {
     if begun.is_empty() {
         return Ok(());
     }
-    answer(crew, attendant, terminal, begun)
+    answer(attendant, terminal, begun)
 }
 
 /// Waits for bytes, and answers the lines that end in them. Whether there were bytes: at the end the line that was begun is answered.
-fn attend_more<P: Program + Drop, R: Threads + Sync, G: Gate, T: Terminal>(
-    crew: &Crew<'_, R, G>,
-    attendant: &mut Attendant<P>,
+fn attend_more<A: Respond, T: Terminal>(
+    attendant: &mut A,
     terminal: &mut T,
     begun: &mut Vec<u8>,
 ) -> Result<bool, EngineError>
-    ensures more { result ≡ Ok true → GoesOn (due_at P.acts P.ending P.looks attendant.old) (due_at P.acts P.ending P.looks attendant.new) begun.old.items [] begun.new.items (T.log terminal.old) (T.log terminal.new) }
-    ensures end { result ≡ Ok false → TalksOn (due_at P.acts P.ending P.looks attendant.old) begun.old.items (T.log terminal.old) (T.log terminal.new) }
-    ensures err { IfErr result (λ e. BreaksOff (due_at P.acts P.ending P.looks attendant.old) begun.old.items [] (T.log terminal.old) (T.log terminal.new) e) }
+    ensures more { result ≡ Ok true → GoesOn (A.due attendant.old) (A.due attendant.new) begun.old.items [] begun.new.items (T.log terminal.old) (T.log terminal.new) }
+    ensures end { result ≡ Ok false → TalksOn (A.due attendant.old) begun.old.items (T.log terminal.old) (T.log terminal.new) }
+    ensures err { IfErr result (λ e. BreaksOff (A.due attendant.old) begun.old.items [] (T.log terminal.old) (T.log terminal.new) e) }
 {
     let mut chunk = [0u8; CHUNK];
     let n = match terminal.hear(&mut chunk) {
@@ -137,25 +126,24 @@ fn attend_more<P: Program + Drop, R: Threads + Sync, G: Gate, T: Terminal>(
         Err(_) => return Err(EngineError::Read),
     };
     if n == 0 {
-        attend_rest(crew, attendant, terminal, begun.as_slice())?;
+        attend_rest(attendant, terminal, begun.as_slice())?;
         return Ok(false);
     }
-    attend_all(crew, attendant, terminal, begun, &chunk[..n])?;
+    attend_all(attendant, terminal, begun, &chunk[..n])?;
     Ok(true)
 }
 
 /// Answers each line that is heard before it waits for more, up to the end. `begun` is kept of a line that has no end yet.
-fn listen<P: Program + Drop, R: Threads + Sync, G: Gate, T: Terminal>(
-    crew: &Crew<'_, R, G>,
-    attendant: &mut Attendant<P>,
+fn listen<A: Respond, T: Terminal>(
+    attendant: &mut A,
     terminal: &mut T,
     begun: &mut Vec<u8>,
 ) -> Result<(), EngineError>
-    ensures ok { OnOk result (TalksOn (due_at P.acts P.ending P.looks attendant.old) begun.old.items (T.log terminal.old) (T.log terminal.new)) }
-    ensures err { IfErr result (λ e. BreaksOff (due_at P.acts P.ending P.looks attendant.old) begun.old.items [] (T.log terminal.old) (T.log terminal.new) e) }
+    ensures ok { OnOk result (TalksOn (A.due attendant.old) begun.old.items (T.log terminal.old) (T.log terminal.new)) }
+    ensures err { IfErr result (λ e. BreaksOff (A.due attendant.old) begun.old.items [] (T.log terminal.old) (T.log terminal.new) e) }
 {
     for _ in 0..u64::MAX {
-        let more = attend_more(crew, attendant, terminal, begun)?;
+        let more = attend_more(attendant, terminal, begun)?;
         if !more {
             return Ok(());
         }
@@ -165,15 +153,14 @@ fn listen<P: Program + Drop, R: Threads + Sync, G: Gate, T: Terminal>(
 }
 
 /// Says what is to be said next, and then answers each line that is heard before it waits for more, up to the end.
-pub fn talk<P: Program + Drop, R: Threads + Sync, G: Gate, T: Terminal>(
-    crew: &Crew<'_, R, G>,
-    attendant: &mut Attendant<P>,
+pub fn talk<A: Respond, T: Terminal>(
+    alloc: Global,
+    attendant: &mut A,
     terminal: &mut T,
 ) -> Result<(), EngineError>
-    ensures { TalksUntil (due_from P.acts P.ending P.looks attendant.old) (T.log terminal.old) (T.log terminal.new) result }
+    ensures { TalksUntil (λ lines. A.next attendant.old ++ A.due attendant.old lines) (T.log terminal.old) (T.log terminal.new) result }
 {
-    crew.gate.leave();
-    say_all(terminal, attendant.text.as_slice())?;
-    let mut begun = Vec::new(crew.alloc);
-    listen(crew, attendant, terminal, &mut begun)
+    say_all(terminal, attendant.text())?;
+    let mut begun = Vec::new(alloc);
+    listen(attendant, terminal, &mut begun)
 }

@@ -1,2 +1,3 @@
 pub mod KindLists
 pub mod Numerals
+pub mod Signs

@@ -5,7 +5,8 @@ ghost use Rattle.toml.specs.Data.{get_member};
 ghost use Rattle.toml.specs.View.{table_view};
 ghost use Rattle.bsp_engine.specs.Values.{args_of, input_of};
 
-use super::values::read_all;
+use super::shapes::{ArrayOf, Integer};
+use super::values::{Row, read_each};
 use crate::tree::{elements, elements_at, integer_at, natural_of, value_at};
 use bsp_model::{Input, Memory, OutOfMemory, Seq, Words};
 use std::alloc::Global;
@@ -29,7 +30,7 @@ fn arguments_at(
     ensures { IfOk result (λ a. a ≡ args_of (get_member (codes "args") (table_view table.now)) memories.now) }
 {
     match value_at(table, "args") {
-        Some(value) => read_all(alloc, elements(value)),
+        Some(value) => read_each::<ArrayOf<Integer>>(alloc, elements(value)),
         None => no_arguments(alloc, memories),
     }
 }
@@ -38,7 +39,7 @@ fn arguments_at(
 pub fn read_input(alloc: Global, table: &Table) -> Result<Input, OutOfMemory>
     ensures { IfOk result (λ i. i ≡ input_of (table_view table.now)) }
 {
-    let mems = read_all(alloc, elements_at(table, "memory"))?;
+    let mems = read_each::<Row>(alloc, elements_at(table, "memory"))?;
     let args = arguments_at(alloc, table, mems.as_slice())?;
     Ok(Input {
         mems,

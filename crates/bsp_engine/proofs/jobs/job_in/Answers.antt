@@ -3,7 +3,7 @@ use Rattle.std.proofs.lemmas.Grind.{common_steps}
 use Rattle.toml.specs.Data.{Data}
 use Rattle.toml.specs.View.{table_view}
 use Rattle.bsp_engine.specs.Values.{batch_of, batches_of}
-use Rattle.bsp_engine.proofs.Described.{lawful_described}
+use Rattle.bsp_engine.proofs.LawfulInputs.{lawful_described}
 use Rattle.bsp_engine.proofs.jobs.job_in.Goals as goal
 
 pub returns-clause-ok : goal.returns-clause-ok

@@ -3,7 +3,7 @@ use Rattle.std.proofs.lemmas.Grind.{common_steps}
 use Rattle.toml.specs.View.{view}
 use Rattle.toml.specs.declared.value.Value.{Value}
 use Rattle.bsp_engine.proofs.Trees.{map_viewed}
-use Rattle.bsp_engine.proofs.jobs.values.read_all.Goals as goal
+use Rattle.bsp_engine.proofs.jobs.values.read_each.Goals as goal
 
 pub returns : goal.returns
 returns g c =

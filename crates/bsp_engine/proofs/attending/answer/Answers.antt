@@ -3,7 +3,7 @@ use Rattle.bsp_model.specs.declared.input.Input.{Input}
 use Rattle.bsp_engine.specs.Document.{document_block}
 use Rattle.bsp_engine.proofs.Beginning.{attendant_tells}
 use Rattle.bsp_engine.proofs.Handing.{told}
-use Rattle.bsp_engine.proofs.attending.respond.Goals as goal
+use Rattle.bsp_engine.proofs.attending.answer.Goals as goal
 
 pub returns : goal.returns
 returns g c =
