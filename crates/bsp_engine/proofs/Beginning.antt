@@ -22,7 +22,7 @@ use Rattle.bsp_engine.specs.declared.jobs.Job.{Job}
 use Rattle.bsp_engine.specs.declared.options.Detail.{Detail}
 use Rattle.bsp_engine.specs.Asked.{asked_of, is_document}
 use Rattle.bsp_engine.specs.Document.{document_block}
-use Rattle.bsp_engine.specs.declared.attending.Attendant.{Attendant}
+use Rattle.bsp_engine.specs.declared.attendant.Attendant.{Attendant}
 use Rattle.bsp_engine.specs.Inside.DueAt.{due_at, due_from}
 use Rattle.bsp_engine.specs.Live.{LiveParts, after, after_batch, after_batches, opened, last_result, answer_to, answer_block, blocks, first_text, due_of}
 use Rattle.bsp_engine.specs.Inside.LiveReplies.{live_reply, live_replies, live_replying, opening_block}
@@ -126,6 +126,10 @@ module _ {P : Type 0} (acts : P → ViewParts → List Act) (ending : P → View
   attendant_tells a b l text d t own places last live later =
       document_next a.own.items a.places (a.last + 1) a.live l text d t later
       ∙ (λ k. text ++ blocks acts ending (live_replying acts ending looks) (own k) (places k) (last k + 1) (live k) later)
+
+  pub due_at-none : (a : Attendant P) → due_at acts ending looks a [] ≡ []
+  unfolding due_at blocks
+  due_at-none a = refl
 
   pub first_text_is : (detail : Detail) (job : Job P) (zero text : List ℕ) → zero ≡ [] → text ≡ zero ++ text_of detail (replies_of acts ending looks false job) ++ codes "ready\n" → text ≡ first_text (live_replying acts ending looks) detail job
   unfolding first_text

@@ -5,14 +5,14 @@ ghost use Rattle.bsp_engine.specs.Followed.{Follows};
 ghost use Rattle.bsp_engine.specs.Limits.{most_document_bytes};
 ghost use Rattle.bsp_engine.specs.Talk.{HasFailed, HasNotWritten};
 
-use crate::attending::{Attending, attendant_of};
+use crate::attendant::attendant_of;
 use crate::catalogue::Catalogue;
+use crate::conversation::talk;
 use crate::crew::Crew;
 use crate::errors::{EngineError, JobFault};
 use crate::flow::Source;
 use crate::options::{Detail, Options};
 use crate::reading::read_all;
-use crate::talking::talk;
 use crate::terminal::Terminal;
 use bsp_pool::Gate;
 use std::alloc::Global;
@@ -31,11 +31,9 @@ fn follow_document<C: Catalogue, R: Threads + Sync, T: Terminal, G: Gate>(
     ensures read { result ≡ Err EngineError.Read → HasFailed (T.log terminal.new) }
     ensures write { result ≡ Err EngineError.Write → HasNotWritten (T.log terminal.new) }
 {
-    let attendant = attendant_of::<C, _, _>(crew, detail, bytes)?;
-    crew.gate.leave();
-    let mut attending = Attending { crew, attendant };
-    let talked = talk(crew.alloc, &mut attending, terminal);
-    drop(attending);
+    let mut attendant = attendant_of::<C, _, _>(crew, detail, bytes)?;
+    let talked = talk(crew, &mut attendant, terminal);
+    drop(attendant);
     talked
 }
 

@@ -114,9 +114,7 @@ pub fn all_fit<T: Shape>(values: &[Value]) -> bool
 fn is_form(values: &[Value], word: &str, count: usize) -> bool
     ensures { result ≡ is_form word.now count (map view values.now) }
 {
-    begins_with(values, word)
-        && values.len() == count
-        && all_fit::<Integer>(&values[1..])
+    begins_with(values, word) && values.len() == count && all_fit::<Integer>(&values[1..])
 }
 
 /// Refuses the value at a key with this fault, if there is one and it has another shape.

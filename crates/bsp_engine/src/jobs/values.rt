@@ -107,10 +107,7 @@ fn edit_in(values: &[Value]) -> Edit
 }
 
 /// Reads what each of the values describes.
-pub fn read_each<T: Described>(
-    alloc: Global,
-    values: &[Value],
-) -> Result<Seq<T::Item>, OutOfMemory>
+pub fn read_each<T: Described>(alloc: Global, values: &[Value]) -> Result<Seq<T::Item>, OutOfMemory>
     ensures { IfOk result (λ all. all ≡ map T.described (map view values.now)) }
 {
     let mut all = Vec::new(alloc);

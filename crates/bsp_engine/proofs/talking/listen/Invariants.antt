@@ -1,9 +1,0 @@
-use Rattle.std.proofs.Common.{[], List, Option}
-use Rattle.bsp_engine.specs.Inside.Talk.{IsGoing}
-use Rattle.bsp_engine.specs.Talk.{Due, Event}
-use Rattle.bsp_engine.proofs.talking.listen.Given as goal
-
-abbrev pub invariant-loop : goal.invariant-loop
-invariant-loop g l =
-    (due : Due) (start : Option (List Event)) → IsGoing due (g.A.Respond.due l.fn.attendant) start (g.T.Terminal.log l.fn.terminal) l.fn.begun.items []
-    → IsGoing due (g.A.Respond.due l.attendant) start (g.T.Terminal.log l.terminal) l.begun.items []
