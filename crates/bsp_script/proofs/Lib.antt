@@ -1,3 +1,3 @@
 pub mod KindLists
+pub mod NoSigns
 pub mod Numerals
-pub mod Signs

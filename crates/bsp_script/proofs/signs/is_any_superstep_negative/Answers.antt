@@ -1,7 +1,7 @@
 use Rattle.std.proofs.Common.{map, ap, sym, ◌∙◌}
 use Rattle.std.specs.Prelude.{not}
 use Rattle.toml.specs.View.{view}
-use Rattle.bsp_script.proofs.Signs.{script_signs}
+use Rattle.bsp_script.proofs.NoSigns.{script_signs}
 use Rattle.bsp_script.proofs.signs.is_any_superstep_negative.Goals as goal
 
 pub returns : goal.returns
