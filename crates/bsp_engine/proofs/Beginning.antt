@@ -22,7 +22,7 @@ use Rattle.bsp_engine.specs.declared.jobs.Job.{Job}
 use Rattle.bsp_engine.specs.declared.options.Detail.{Detail}
 use Rattle.bsp_engine.specs.Asked.{asked_of, is_document}
 use Rattle.bsp_engine.specs.Document.{document_block}
-use Rattle.bsp_engine.specs.declared.attending.Attendant.{Attendant}
+use Rattle.bsp_engine.specs.declared.attendant.Attendant.{Attendant}
 use Rattle.bsp_engine.specs.Inside.DueAt.{due_at, due_from}
 use Rattle.bsp_engine.specs.Live.{LiveParts, after, after_batch, after_batches, opened, last_result, answer_to, answer_block, blocks, first_text, due_of}
 use Rattle.bsp_engine.specs.Inside.LiveReplies.{live_reply, live_replies, live_replying, opening_block}

@@ -27,7 +27,7 @@ use Rattle.bsp_engine.specs.Values.{input_of, batches_of}
 use Rattle.bsp_engine.specs.Reported.{AreRepliesTo, IsJobReport, IsReportUnless, is_too_long, IsReport, IsAnswered}
 use Rattle.bsp_engine.specs.Inside.Replies.{replies_of}
 use Rattle.bsp_engine.specs.Inside.Report.{job_report, report_of}
-use Rattle.bsp_engine.proofs.Described.{lawful_described}
+use Rattle.bsp_engine.proofs.LawfulInputs.{lawful_described}
 
 pub law_of_replies_to : {P : Type 0} (acts : P → ViewParts → List Act) (ending : P → ViewParts → End) (looks : P → ViewParts → ℕ → Bool) (scratch : Bool) (job : Job P) → input_fault job.input ≡ None → AreRepliesTo acts ending looks scratch job (replies_of acts ending looks scratch job)
 unfolding replies_of

@@ -3,7 +3,7 @@ pub mod Beginning
 pub mod Beside
 pub mod Changed
 pub mod Conversations
-pub mod Described
+pub mod LawfulInputs
 pub mod Endings
 pub mod Flagging
 pub mod Flowing

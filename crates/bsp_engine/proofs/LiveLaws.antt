@@ -17,8 +17,8 @@ use Rattle.bsp_incr.specs.Inside.Replies.{done, reply_to}
 use Rattle.bsp_incr.proofs.Replying.{law_of_replies, law_of_reply, lawful_after, replies_fixed}
 use Rattle.bsp_incr.proofs.TakingBack.{undone}
 use Rattle.bsp_engine.proofs.LawOfReports.{law_of_replies_to}
-use Rattle.bsp_engine.specs.declared.asking.Asked.{Asked}
-use Rattle.bsp_engine.specs.declared.asking.Asked.TheVariants.{Batch, Undo}
+use Rattle.bsp_engine.specs.declared.asked.Asked.{Asked}
+use Rattle.bsp_engine.specs.declared.asked.Asked.TheVariants.{Batch, Undo}
 use Rattle.std.specs.List.{list_any}
 use Rattle.std.proofs.lemmas.Bool.{or_parts}
 use Rattle.bsp_engine.specs.declared.jobs.Job.{Job}

@@ -23,7 +23,7 @@ use Rattle.bsp_engine.specs.declared.options.Detail.{Detail}
 use Rattle.bsp_engine.specs.Lines.{line}
 use Rattle.bsp_engine.specs.Blocks.{reply_lines, blocks_after}
 use Rattle.bsp_engine.specs.Text.{refusal_line}
-use Rattle.bsp_engine.specs.declared.asking.Asked.TheVariants.{Undo}
+use Rattle.bsp_engine.specs.declared.asked.Asked.TheVariants.{Undo}
 use Rattle.bsp_engine.specs.Live.{LiveParts, after_batch, answer_lines, answer_to, answer_to_undo, last_result, undos_after}
 use Rattle.bsp_engine.specs.Untouched.{AreRunsAround}
 use Rattle.bsp_engine.specs.Inside.LiveReplies.{live_reply, live_replies, live_replying}

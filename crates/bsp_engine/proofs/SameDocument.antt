@@ -30,7 +30,7 @@ use Rattle.bsp_engine.specs.Lines.{field, fields, line, numbered}
 use Rattle.bsp_engine.specs.ReadsBack.{DocumentsReadBack, can_be_written}
 use Rattle.bsp_engine.specs.Tree.{tree_of}
 use Rattle.bsp_engine.proofs.Beside.{AllOwn, IsBeside, keeps_fill}
-use Rattle.bsp_engine.proofs.Described.{last_two}
+use Rattle.bsp_engine.proofs.LawfulInputs.{last_two}
 use Rattle.bsp_engine.proofs.ReadAgain.{array_printed, document_printed, five_joined, five_lines, items_dated, items_shallow, own_run, pair_line, read_both}
 use Rattle.bsp_engine.proofs.LookUps.{apart_keys, get-close, get-own, own_keys}
 use Rattle.bsp_engine.proofs.SameJob.{HasInput, accepted, known_from, rows_data, same_job, unknown_none, word_data, words_data}

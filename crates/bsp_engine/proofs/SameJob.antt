@@ -23,7 +23,7 @@ use Rattle.bsp_engine.specs.Sizes.{is_short, described_fault}
 use Rattle.bsp_engine.specs.Tree.{elements, is_negative}
 use Rattle.bsp_engine.specs.Values.{word_of, row_of, input_of, batches_of}
 use Rattle.bsp_engine.proofs.Beside.{text_of}
-use Rattle.bsp_engine.proofs.Described.{faultless}
+use Rattle.bsp_engine.proofs.LawfulInputs.{faultless}
 use Rattle.bsp_engine.proofs.Trees.{list_of-items_of}
 use Rattle.bsp_engine.proofs.LookUps.{get-cons}
 

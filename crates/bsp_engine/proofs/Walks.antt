@@ -55,7 +55,7 @@ not_not : (a : Bool) → a ≡ not (not a)
 not_not true = refl
 not_not false = refl
 
-some_other : (p q : Data → Bool) → ((d : Data) → p d ≡ not (q d)) → (ds : List Data) → list_any p ds ≡ not (list_all q ds)
+pub some_other : (p q : Data → Bool) → ((d : Data) → p d ≡ not (q d)) → (ds : List Data) → list_any p ds ≡ not (list_all q ds)
 some_other p q e [] = refl
 some_other p q e (d ∷ ds) =
     ap (λ b. b || list_any p ds) (e d) ∙ (ap (λ b. not (q d) || b) (some_other p q e ds) ∙ not_both (q d) (list_all q ds))

@@ -7,7 +7,7 @@ use Rattle.bsp_step.specs.ViewParts.{ViewParts}
 use Rattle.bsp_step.specs.Act.{Act}
 use Rattle.bsp_incr.specs.declared.edit.Edit.{Edit}
 use Rattle.bsp_incr.specs.Edits.{refusal_of}
-use Rattle.bsp_engine.specs.declared.asking.Asked.TheVariants.{Batch, Undo}
+use Rattle.bsp_engine.specs.declared.asked.Asked.TheVariants.{Batch, Undo}
 use Rattle.bsp_engine.specs.declared.jobs.Job.{Job}
 use Rattle.bsp_engine.specs.declared.options.Detail.{Detail}
 use Rattle.bsp_engine.specs.Asked.{asked_of, is_document}

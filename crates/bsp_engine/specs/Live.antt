@@ -15,10 +15,10 @@ use Rattle.bsp_incr.specs.declared.reply.Reply.{Reply}
 use Rattle.bsp_incr.specs.Edits.{refusal_of}
 use Rattle.bsp_incr.specs.Undo.{undo_of}
 use Rattle.bsp_incr.specs.Replies.{input_after, IsReply}
-use Rattle.bsp_engine.specs.declared.asking.Asked.{Asked}
-use Rattle.bsp_engine.specs.declared.asking.Asked.TheVariants.{Batch, Undo, Nothing}
-use Rattle.bsp_engine.specs.declared.asking.Unread.{Unread}
-use Rattle.bsp_engine.specs.declared.asking.Unread.TheVariants.{NotToml, WrongType, BadWord, TooLong, NothingToUndo}
+use Rattle.bsp_engine.specs.declared.asked.Asked.{Asked}
+use Rattle.bsp_engine.specs.declared.asked.Asked.TheVariants.{Batch, Undo, Nothing}
+use Rattle.bsp_engine.specs.declared.asked.Unread.{Unread}
+use Rattle.bsp_engine.specs.declared.asked.Unread.TheVariants.{NotToml, WrongType, BadWord, TooLong, NothingToUndo}
 use Rattle.bsp_engine.specs.declared.jobs.Job.{Job}
 use Rattle.bsp_engine.specs.declared.options.Detail.{Detail}
 use Rattle.bsp_engine.specs.Asked.{asked_of, is_document}

@@ -11,9 +11,9 @@ ghost use Rattle.bsp_engine.specs.Inside.Given.{IsResultIn};
 ghost use Rattle.bsp_engine.specs.Inside.Touched.{IsResultBefore};
 ghost use Rattle.bsp_engine.specs.Untouched.{AreRunsAround};
 
+use crate::block_lines::push_update;
 use crate::crew::Crew;
 use crate::last::Last;
-use crate::reporting::push_update;
 use crate::whole_run::push_run;
 use bsp_incr::{Edit, EditError, Session, Update};
 use bsp_model::OutOfMemory;

@@ -4,18 +4,15 @@ ghost use Rattle.std.specs.Prelude.{◌≡◌, ◌++◌, IfOk, OnOk, option_map}
 ghost use Rattle.bsp_engine.specs.Blocks.{lines_after, reply_block, reply_lines, result_before, text_of};
 ghost use Rattle.bsp_engine.specs.Text.{update_lines};
 
+use crate::block_lines::{push_refusal, push_update};
 use crate::change_lines::push_changes;
 use crate::lines::push_line;
 use crate::options::Detail;
-use crate::reporting::{push_refusal, push_update};
 use crate::whole_run::push_result;
 use bsp_incr::{Reply, Update};
 use bsp_model::OutOfMemory;
 use bsp_run::RunResult;
 use std::alloc::Global;
-
-/// A report begins with so much room, in bytes: that of a block for some tens of processes.
-pub const ROOM_OF_A_BLOCK: usize = 4096;
 
 /// Appends all of a result, or what of it is another than in a result before.
 fn push_result_after(
@@ -96,16 +93,24 @@ fn result_before<'a>(
     }
 }
 
+/// Appends the text of a report.
+pub fn push_report(text: &mut Vec<u8>, replies: &[Reply], detail: Detail) -> Result<(), OutOfMemory>
+    ensures { OnOk result (text.new.items ≡ text.old.items ++ text_of detail replies.now) }
+{
+    let mut before = None;
+    for (number, reply) in replies.iter().enumerate() {
+        push_block(text, detail.places, number as u64, before, reply)?;
+        before = result_before(detail.changes, before, reply);
+    }
+    Ok(())
+}
+
 /// The text of a report: for each reply a block of lines, which ends with LF. With places each update tells its turns and its deliveries, and with
 /// changes each block after the first only what is another than in the last one before it that has a status.
 pub fn report(alloc: Global, replies: &[Reply], detail: Detail) -> Result<Vec<u8>, OutOfMemory>
     ensures { IfOk result (λ text. text.items ≡ text_of detail replies.now) }
 {
-    let mut text = Vec::with_capacity(alloc, ROOM_OF_A_BLOCK)?;
-    let mut before = None;
-    for (number, reply) in replies.iter().enumerate() {
-        push_block(&mut text, detail.places, number as u64, before, reply)?;
-        before = result_before(detail.changes, before, reply);
-    }
-    Ok(text)
+    let mut text = Vec::new(alloc);
+    let pushed = push_report(&mut text, replies, detail);
+    pushed.and(Ok(text))
 }

@@ -5,8 +5,8 @@ ghost use Rattle.bsp_engine.specs.Changes.{changes_lines, changes_of, count_line
 ghost use Rattle.bsp_engine.specs.Lines.{numbered};
 ghost use Rattle.bsp_engine.specs.Text.{cost_line, memory_line};
 
+use crate::block_lines::{push_cost, push_lines, push_status};
 use crate::lines::{push_line, push_words_line};
-use crate::reporting::{push_cost, push_lines, push_status};
 use bsp_model::{CostRow, Memories, MemoryRef, OutOfMemory, Same};
 use bsp_run::{Lines, RunResult};
 
@@ -108,16 +108,6 @@ fn push_all_other_lines(
     Ok(())
 }
 
-/// The cost of a superstep, unless it is the same as before.
-fn other_row(old: Option<&CostRow>, new: &CostRow) -> Option<CostRow>
-    ensures { result ≡ other same_row (option_map (λ r. r.now) old.entry) new.now }
-{
-    match old {
-        Some(old) if old.work == new.work && old.h == new.h && old.cost == new.cost => None,
-        _ => Some(*new),
-    }
-}
-
 /// Appends the cost of a superstep, unless it is the same as before.
 fn push_other_cost(
     text: &mut Vec<u8>,
@@ -128,9 +118,9 @@ fn push_other_cost(
     ensures { OnOk result (text.new.items ≡ text.old.items ++
         piece_if cost_line step (other same_row (option_map (λ r. r.now) old.entry) new.now)) }
 {
-    match other_row(old, new) {
-        Some(row) => push_cost(text, step, &row),
-        None => Ok(()),
+    match old {
+        Some(old) if old.work == new.work && old.h == new.h && old.cost == new.cost => Ok(()),
+        _ => push_cost(text, step, new),
     }
 }
 

@@ -12,7 +12,7 @@ use crate::catalogue::Catalogue;
 use crate::crew::Crew;
 use crate::errors::{EngineError, JobError, JobFault};
 use crate::flow::{Sink, Source};
-use crate::job_report::report_for;
+use crate::job_report::put_report;
 use crate::jobs::read_job;
 use crate::options::Options;
 use crate::reading::read_all;
@@ -21,27 +21,31 @@ use bsp_pool::Gate;
 use std::alloc::Global;
 use std::thread::Threads;
 
-/// The text of the report of a document, or why it has none.
-fn answer<C: Catalogue, R: Threads + Sync, G: Gate>(
+/// Leaves nothing in a text but the report of a document, or answers why it has none.
+fn put_report_of<C: Catalogue, R: Threads + Sync, G: Gate>(
     crew: &Crew<'_, R, G>,
     bytes: &[u8],
     options: Options,
-) -> Result<Vec<u8>, JobError>
+    text: &mut Vec<u8>,
+) -> Result<(), JobError>
     requires short { length bytes.now ≤ most_document_bytes }
-    ensures ok { IfOk result (λ text. report_of C.meaning C.Program.acts C.Program.ending C.Program.looks options.scratch options.detail bytes.now ≡ Ok text.items) }
+    ensures ok { OnOk result (report_of C.meaning C.Program.acts C.Program.ending C.Program.looks options.scratch options.detail bytes.now ≡ Ok text.new.items) }
     ensures fault { IfErr result (λ e. IfFault e (λ f. report_of C.meaning C.Program.acts C.Program.ending C.Program.looks options.scratch options.detail bytes.now ≡ Err (EngineError.Job f))) }
 {
     let job = read_job::<C>(crew.alloc, bytes)?;
-    Ok(report_for(crew, options.scratch, options.detail, job)?)
+    Ok(put_report(crew, options.scratch, options.detail, job, text)?)
 }
 
 /// Writes the report of a document: all of it is made before the first write.
 fn write_report<C: Catalogue, R: Threads + Sync, K: Sink, G: Gate>(
-    crew: &Crew<'_, R, G>,
+    rt: &R,
+    alloc: Global,
     options: Options,
     bytes: &[u8],
     writer: &mut K,
+    gate: &G,
 ) -> Result<(), EngineError>
+    requires workers { (0 < options.workers) × (options.workers ≤ 16) }
     requires short { length bytes.now ≤ most_document_bytes }
     requires sink { K.failures writer.old < 2 ^ 64 - 1 }
     ensures answer { IsAnswered C.meaning C.Program.acts C.Program.ending C.Program.looks options.scratch options.detail bytes.now (K.contents writer.old) (K.contents writer.new) result }
@@ -50,8 +54,15 @@ fn write_report<C: Catalogue, R: Threads + Sync, K: Sink, G: Gate>(
     ensures write_failed { result ≡ Err EngineError.Write → K.failures writer.new ≡ K.failures writer.old + 1 }
     ensures write_calm { result ≢ Err EngineError.Write → K.failures writer.new ≡ K.failures writer.old }
 {
-    let text = answer::<C, _, _>(crew, bytes, options)?;
-    crew.gate.leave();
+    let crew = Crew {
+        rt,
+        alloc,
+        workers: options.workers,
+        gate,
+    };
+    let mut text = Vec::new(alloc);
+    put_report_of::<C, _, _>(&crew, bytes, options, &mut text)?;
+    gate.leave();
     match write_text(writer, text.as_slice()) {
         Ok(()) => Ok(()),
         Err(_) => Err(EngineError::Write),
@@ -97,11 +108,5 @@ pub fn engine<C: Catalogue, R: Threads + Sync, S: Source, K: Sink, G: Gate>(
     ensures write_calm { result ≢ Err EngineError.Write → K.failures writer.new ≡ K.failures writer.old }
 {
     read_all(reader, document)?;
-    let crew = Crew {
-        rt,
-        alloc,
-        workers: options.workers,
-        gate,
-    };
-    write_report::<C, _, _, _>(&crew, options, document.as_slice(), writer)
+    write_report::<C, _, _, _>(rt, alloc, options, document.as_slice(), writer, gate)
 }

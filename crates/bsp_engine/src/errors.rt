@@ -6,10 +6,9 @@ ghost use Rattle.bsp_engine.specs.Faults.{fault_line, exit_status};
 ghost use Rattle.bsp_engine.specs.Inside.Refusal.{job_error_of};
 
 use bsp_model::{InputFault, OutOfMemory};
-use thiserror::Error;
 
 /// Why a document is not a job: the first that holds, in this order (this profile).
-#[derive(Clone, Copy, Debug, PartialEq, Eq)]
+#[derive(Clone, Copy, PartialEq, Eq)]
 pub enum JobFault {
     /// J1: the bytes are not a TOML document.
     NotToml,
@@ -28,8 +27,7 @@ pub enum JobFault {
 }
 
 /// Why a document was not read as a job.
-#[derive(Clone, Copy, Debug, Error)]
-#[error("{}", EngineError::from(*self).line())]
+#[derive(Clone, Copy)]
 pub enum JobError {
     /// It is none.
     Fault(JobFault),
@@ -46,8 +44,7 @@ impl From<OutOfMemory> for JobError {
 }
 
 /// Why no report was written, or not all of it.
-#[derive(Clone, Copy, Debug, PartialEq, Eq, Error)]
-#[error("{}", self.line())]
+#[derive(Clone, Copy, PartialEq, Eq)]
 pub enum EngineError {
     /// A read failed; nothing was written.
     Read,

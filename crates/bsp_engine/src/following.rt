@@ -5,14 +5,14 @@ ghost use Rattle.bsp_engine.specs.Followed.{Follows};
 ghost use Rattle.bsp_engine.specs.Limits.{most_document_bytes};
 ghost use Rattle.bsp_engine.specs.Talk.{HasFailed, HasNotWritten};
 
-use crate::attending::attendant_of;
+use crate::attendant::attendant_of;
 use crate::catalogue::Catalogue;
+use crate::conversation::talk;
 use crate::crew::Crew;
 use crate::errors::{EngineError, JobFault};
 use crate::flow::Source;
 use crate::options::{Detail, Options};
 use crate::reading::read_all;
-use crate::talking::talk;
 use crate::terminal::Terminal;
 use bsp_pool::Gate;
 use std::alloc::Global;

@@ -1,11 +1,11 @@
 //! The report of a job.
 
-ghost use Rattle.std.specs.Prelude.{◌≡◌, IfOk, None, false, true};
+ghost use Rattle.std.specs.Prelude.{◌≡◌, IfOk, OnOk, None, false, true};
 ghost use Rattle.bsp_model.specs.Input.{input_fault};
 ghost use Rattle.bsp_engine.specs.Blocks.{text_of};
 ghost use Rattle.bsp_engine.specs.Inside.Replies.{replies_of};
 
-use crate::blocks::{ROOM_OF_A_BLOCK, report};
+use crate::blocks::push_report;
 use crate::crew::Crew;
 use crate::jobs::Job;
 use crate::live::begin;
@@ -32,58 +32,67 @@ fn scratch_replies<P: Program + Drop, R, G: Gate>(
         input,
         batches,
     } = job;
-    match scratch_run_behind(crew.alloc, &program, input, batches.as_slice(), crew.gate) {
+    let replies = scratch_run_behind(crew.alloc, &program, input, batches.as_slice(), crew.gate);
+    drop(program);
+    drop(batches);
+    match replies {
         Ok(replies) => Ok(replies),
         Err(RunError::Input(_)) => unreachable!(),
         Err(RunError::OutOfMemory) => Err(AllocError),
     }
 }
 
-/// The report of a job from scratch, which has no updates: the calling thread makes each run alone.
-fn scratch_report<P: Program + Drop, R, G: Gate>(
+/// Leaves nothing in a text but the report of a job from scratch, which has no updates: the calling thread makes each run alone.
+fn put_scratch_report<P: Program + Drop, R, G: Gate>(
     crew: &Crew<'_, R, G>,
     detail: Detail,
     job: Job<P>,
-) -> Result<Vec<u8>, OutOfMemory>
+    text: &mut Vec<u8>,
+) -> Result<(), OutOfMemory>
     requires lawful { input_fault job.input ≡ None }
-    ensures { IfOk result (λ text. text.items ≡ text_of detail (replies_of P.acts P.ending P.looks true job)) }
+    ensures { OnOk result (text.new.items ≡ text_of detail (replies_of P.acts P.ending P.looks true job)) }
 {
     let replies = scratch_replies(crew, job)?;
-    report(crew.alloc, replies.as_slice(), detail)
+    text.clear();
+    let pushed = push_report(text, replies.as_slice(), detail);
+    drop(replies);
+    pushed
 }
 
-/// The report of a job, as that of a session, which is let go.
-fn session_report<P: Program + Drop, R: Threads + Sync, G: Gate>(
+/// Leaves nothing in a text but the report of a job, as that of a session, which is let go.
+fn put_session_report<P: Program + Drop, R: Threads + Sync, G: Gate>(
     crew: &Crew<'_, R, G>,
     detail: Detail,
     job: Job<P>,
-) -> Result<Vec<u8>, OutOfMemory>
+    text: &mut Vec<u8>,
+) -> Result<(), OutOfMemory>
     requires lawful { input_fault job.input ≡ None }
-    ensures { IfOk result (λ text. text.items ≡ text_of detail (replies_of P.acts P.ending P.looks false job)) }
+    ensures { OnOk result (text.new.items ≡ text_of detail (replies_of P.acts P.ending P.looks false job)) }
 {
-    let mut text = Vec::with_capacity(crew.alloc, ROOM_OF_A_BLOCK)?;
-    match begin(crew, detail, job, &mut text, b"") {
+    text.clear();
+    match begin(crew, detail, job, text, b"") {
         Ok(live) => {
             drop(live);
-            Ok(text)
+            Ok(())
         }
         Err(error) => Err(error),
     }
 }
 
-/// The report of a job, by a session or from scratch.
-pub fn report_for<P: Program + Drop, R: Threads + Sync, G: Gate>(
+/// Leaves nothing in a text but the report of a job, by a session or from scratch.
+pub fn put_report<P: Program + Drop, R: Threads + Sync, G: Gate>(
     crew: &Crew<'_, R, G>,
     scratch: bool,
     detail: Detail,
     job: Job<P>,
-) -> Result<Vec<u8>, OutOfMemory>
+    text: &mut Vec<u8>,
+) -> Result<(), OutOfMemory>
     requires lawful { input_fault job.input ≡ None }
-    ensures { IfOk result (λ text. text.items ≡ text_of detail (replies_of P.acts P.ending P.looks scratch job)) }
+    ensures { OnOk result (text.new.items ≡ text_of detail (replies_of P.acts P.ending P.looks scratch job)) }
 {
     if scratch {
-        scratch_report(crew, detail, job)
+        put_scratch_report(crew, detail, job, text)
     } else {
-        session_report(crew, detail, job)
+        put_session_report(crew, detail, job, text)
     }
 }

@@ -21,24 +21,24 @@ ghost use Rattle.bsp_engine.specs.Refusal.{IfFault};
 ghost use Rattle.bsp_engine.specs.JobOf.{job_of_tree, job_of};
 ghost use Rattle.bsp_engine.specs.Inside.Faultless.{IsFaultless};
 ghost use Rattle.bsp_engine.specs.Tree.{tree_of};
+ghost use Rattle.bsp_engine.specs.Values.{batches_of, input_of};
 
 use crate::catalogue::Catalogue;
 use crate::errors::{JobError, JobFault};
 use crate::tree::{elements_at, read_tree};
 use bsp_incr::Batch;
-use bsp_model::{Input, Seq};
+use bsp_model::{Input, OutOfMemory, Seq};
 use inputs::read_input;
 use keys::check_keys;
 use own::own_text;
-pub use shapes::is_batch;
+pub use shapes::{ArrayOf, Each, EditForm, Integer, Shape, all_fit, fits};
 use signs::check_signs;
-pub use signs::has_negative_edit;
+pub use signs::{NotNegative, has_negative_edit};
 use sizes::check_sizes;
 pub use sizes::count_of_args;
 use std::alloc::Global;
 use toml::Table;
-pub use values::Described;
-use values::read_all;
+pub use values::{Described, read_each};
 pub use wrong::{Path, Wrong};
 
 /// A program, its input, over which a run may start, and batches of edits.
@@ -66,17 +66,39 @@ pub fn check<C: Catalogue>(table: &Table) -> Result<(), Wrong<'_>>
     check_signs::<C>(table)
 }
 
+/// The values that a document describes beside its program. They are of use only where it has no fault.
+fn read_values(alloc: Global, table: &Table) -> Result<(Input, Seq<Batch>), OutOfMemory>
+    ensures input { IfOk result (λ r. r.0 ≡ input_of (table_view table.now)) }
+    ensures batches { IfOk result (λ r. r.1 ≡ batches_of (table_view table.now)) }
+{
+    let batches = read_each::<ArrayOf<EditForm>>(alloc, elements_at(table, "batches"))?;
+    match read_input(alloc, table) {
+        Ok(input) => Ok((input, batches)),
+        Err(error) => {
+            drop(batches);
+            Err(error)
+        }
+    }
+}
+
 fn job_in<C: Catalogue>(alloc: Global, table: &Table) -> Result<Job<C::Program>, JobError>
     ensures ok { IfOk result (λ j. job_of_tree C.meaning (Some (table_view table.now)) ≡ Ok j) }
     ensures lawful { IfOk result (λ j. input_fault j.input ≡ None) }
     ensures fault { IfErr result (λ e. IfFault e (λ f. job_of_tree C.meaning (Some (table_view table.now)) ≡ Err f)) }
 {
     check::<C>(table)?;
-    Ok(Job {
-        program: C::program(alloc, table)?,
-        input: read_input(alloc, table)?,
-        batches: read_all(alloc, elements_at(table, "batches"))?,
-    })
+    let program = C::program(alloc, table)?;
+    match read_values(alloc, table) {
+        Ok((input, batches)) => Ok(Job {
+            program,
+            input,
+            batches,
+        }),
+        Err(_) => {
+            drop(program);
+            Err(JobError::OutOfMemory)
+        }
+    }
 }
 
 /// The job of a document, or the first of J1 to J7 that it has.
@@ -86,7 +108,9 @@ pub fn read_job<C: Catalogue>(alloc: Global, bytes: &[u8]) -> Result<Job<C::Prog
     ensures fault { IfErr result (λ e. IfFault e (λ f. job_of C.meaning bytes.now ≡ Err f)) }
 {
     let table = read_tree(alloc, bytes)?;
-    job_in::<C>(alloc, &table)
+    let job = job_in::<C>(alloc, &table);
+    drop(table);
+    job
 }
 
 /// The same, and the text of the keys that are the catalogue's own.

@@ -8,12 +8,12 @@ ghost use Rattle.bsp_engine.specs.Text.{memory_line};
 ghost use Rattle.bsp_engine.specs.Inside.Touched.{AreSameUnflagged, IsResultBefore, cost_changes, flags_of, piece_there, process_changes, put_there};
 ghost use Rattle.bsp_engine.specs.Untouched.{at_limit, end_alike};
 
+use crate::block_lines::push_status;
 use crate::change_lines::{
     item_at, push_other_costs, push_other_count, push_other_lines, push_other_memory,
 };
 use crate::flags::flag_touched;
 use crate::lines::push_line;
-use crate::reporting::push_status;
 use bsp_incr::{Edit, Update};
 use bsp_model::{CostRow, Memories, Memory, MemoryRef, OutOfMemory, Seq, TryCopy};
 use bsp_run::{History, Lines, RunResult, Status};
@@ -38,26 +38,14 @@ impl Model for Last {
     ghost view = { λ l. record { status = l.status; memories = l.memories; lines = l.lines; costs = l.costs; total = l.total } };
 }
 
-/// These memories, each in a list of its own.
-fn own_memories(alloc: Global, memories: &Memories) -> Result<Seq<Memory>, OutOfMemory>
-    ensures { IfOk result (λ all. all ≡ memories.now) }
+/// Appends these memories, each in a list of its own.
+fn add_memories(all: &mut Seq<Memory>, memories: &Memories) -> Result<(), OutOfMemory>
+    ensures { OnOk result (all.new ≡ all.old ++ memories.now) }
 {
-    let mut all = Seq::with_capacity(alloc, memories.len())?;
     for pid in 0..memories.len() {
         all.push(memories.get(pid).to_memory()?)?;
     }
-    Ok(all)
-}
-
-/// These lines of each process, in a list of its own.
-fn own_lines(alloc: Global, shared: &[Lines]) -> Result<Seq<Lines>, OutOfMemory>
-    ensures { IfOk result (λ all. all ≡ shared.now) }
-{
-    let mut all = Seq::with_capacity(alloc, shared.len())?;
-    for lines in shared {
-        all.push(lines.copy()?)?;
-    }
-    Ok(all)
+    Ok(())
 }
 
 fn is_at_limit(status: &Status) -> bool
@@ -166,16 +154,28 @@ impl Last {
     pub fn copy_of(alloc: Global, given: &RunResult) -> Result<Last, OutOfMemory>
         ensures { IfOk result (λ last. last ≡ given.now) }
     {
-        let memories = own_memories(alloc, &given.memories)?;
-        let lines = own_lines(alloc, given.lines.as_slice())?;
-        let costs = Vec::from_slice(alloc, given.costs.as_slice())?;
-        Ok(Last {
+        let mut last = Last {
             status: given.status.copy()?,
-            memories,
-            lines,
-            costs: Seq::from_vec(costs),
+            memories: Seq::new(alloc),
+            lines: Seq::new(alloc),
+            costs: Seq::new(alloc),
             total: given.total,
-        })
+        };
+        let added = last.add(given);
+        added.and(Ok(last))
+    }
+
+    /// Appends the memories, the lines and the costs of a result.
+    fn add(&mut self, given: &RunResult) -> Result<(), OutOfMemory>
+        ensures { OnOk result (self.new ≡ record self.old {
+          memories = self.old.memories ++ given.now.memories;
+          lines = self.old.lines ++ given.now.lines;
+          costs = self.old.costs ++ given.now.costs;
+        }) }
+    {
+        add_memories(&mut self.memories, &given.memories)?;
+        self.lines.append(given.lines.as_slice())?;
+        self.costs.append(given.costs.as_slice())
     }
 
     /// Whether a run ended so, in as many supersteps.
@@ -231,9 +231,9 @@ impl Last {
         push_other_costs(text, self.costs.as_slice(), costs)?;
         push_other_count(text, self.costs.len(), costs.len())?;
         push_line(text, "total", &[history.total()])?;
-        self.costs = Seq::from_vec(Vec::from_slice(*text.allocator(), costs)?);
         self.total = history.total();
-        Ok(())
+        self.costs.clear();
+        self.costs.append(costs)
     }
 
     /// Appends the lines of what of the run after a batch is another than in this result, which then is what that run gives. Only the processes that the

@@ -2,16 +2,15 @@
 #![tactic(auto)]
 
 mod accepted;
-mod answers;
-mod asking;
-mod attending;
+mod asked;
+mod attendant;
+mod block_lines;
 mod blocks;
 mod catalogue;
 mod change_lines;
-mod changes;
-mod counting;
+mod conversation;
+mod counted;
 mod crew;
-mod document;
 mod documents;
 mod errors;
 mod explain;
@@ -21,17 +20,16 @@ mod following;
 mod job_report;
 mod jobs;
 mod last;
+mod laws;
 pub mod limits;
 mod lines;
 mod live;
-mod naming;
+mod named;
 mod options;
 mod places;
 mod progress;
 mod reading;
-mod reporting;
-mod rereading;
-mod talking;
+mod session_document;
 mod terminal;
 mod tool;
 pub mod tree;
@@ -39,19 +37,22 @@ mod unread;
 mod whole_run;
 mod writing;
 
-pub use answers::{lines_are_batches, undo_takes_back};
 pub use blocks::report;
 pub use catalogue::Catalogue;
-pub use changes::{changes_tell_the_rest, untouched_processes_stay};
-pub use counting::Counted;
+pub use counted::Counted;
 pub use documents::engine;
 pub use errors::{EngineError, JobError, JobFault};
 pub use flow::{Failed, Sink, Source};
 pub use following::follow;
-pub use jobs::{Job, read_job};
-pub use naming::{ByName, Named};
+pub use jobs::{
+    ArrayOf, Described, Each, Job, NotNegative, Path, Shape, all_fit, fits, read_each, read_job,
+};
+pub use laws::{
+    changes_tell_the_rest, documents_read_back, lines_are_batches, undo_takes_back,
+    untouched_processes_stay,
+};
+pub use named::{ByName, Named};
 pub use options::{Detail, Options, Tool, VERSION, read_options, words_status};
 pub use progress::Watched;
-pub use rereading::documents_read_back;
 pub use terminal::{Console, Terminal};
 pub use tool::run_tool;

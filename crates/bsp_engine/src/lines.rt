@@ -185,10 +185,6 @@ pub fn push_words_line(
 ) -> Result<(), OutOfMemory>
     ensures { OnOk result (text.new.items ≡ text.old.items ++ line word.now (number ∷ memory.now)) }
 {
-    let words = memory.words_from(0);
-    if words.len() == memory.len() {
-        return push_long_line(text, word, number, words);
-    }
     text.extend_from_slice(word.as_bytes())?;
     push_field(text, number)?;
     push_memory(text, memory)?;

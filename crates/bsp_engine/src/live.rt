@@ -12,13 +12,13 @@ ghost use Rattle.bsp_engine.specs.Inside.Replies.{replies_of};
 ghost use Rattle.bsp_engine.specs.Live.{after, after_batch, after_batches, answer_lines, answer_to, last_result, opened, undos_after};
 
 use crate::accepted::{apply, push_accepted};
-use crate::asking::{Asked, Unread};
+use crate::asked::{Asked, Unread};
+use crate::block_lines::{push_refusal, push_update};
 use crate::crew::Crew;
 use crate::jobs::Job;
 use crate::last::Last;
 use crate::lines::push_line;
 use crate::options::Detail;
-use crate::reporting::{push_refusal, push_update};
 use crate::unread::push_unread;
 use crate::whole_run::push_run;
 use bsp_incr::{Batch, Edit, EditError, Session, Update};
@@ -102,8 +102,7 @@ fn tell_opening<P: Program + Drop>(
     let history = live.session.history();
     push_line(text, "run", &[0])?;
     live.last = push_run(text, detail.changes, history)?;
-    push_update(text, detail.places, update)?;
-    Ok(())
+    push_update(text, detail.places, update)
 }
 
 /// Keeps what takes a batch back, unless the batch is refused.
@@ -135,7 +134,9 @@ fn advance<P: Program + Drop, R: Threads + Sync, G: Gate>(
     match apply(crew, &mut live.session, batch) {
         Ok(update) => {
             let history = live.session.history();
-            push_accepted(text, places, &mut live.last, history, batch, &update)
+            let pushed = push_accepted(text, places, &mut live.last, history, batch, &update);
+            drop(update);
+            pushed
         }
         Err(EditError::Refused(refusal)) => push_refusal(text, refusal),
         Err(EditError::OutOfMemory) => Err(AllocError),
@@ -224,6 +225,8 @@ pub fn begin<P: Program + Drop, R: Threads + Sync, G: Gate>(
         text,
         end,
     );
+    drop(update);
+    drop(batches);
     told.and(Ok(live))
 }
 
@@ -238,7 +241,11 @@ fn undo<P: Program + Drop, R: Threads + Sync, G: Gate>(
     ensures text { OnOk result (text.new.items ≡ text.old.items ++ answer_lines places (last_result P.acts P.ending live.old) (answer_to (live_replying P.acts P.ending P.looks) live.old Asked.Undo)) }
 {
     match live.undos.pop_front() {
-        Some(undo) => advance(crew, places, live, text, undo.as_slice()),
+        Some(undo) => {
+            let advanced = advance(crew, places, live, text, undo.as_slice());
+            drop(undo);
+            advanced
+        }
         None => push_unread(text, Unread::NothingToUndo),
     }
 }
@@ -255,7 +262,11 @@ pub fn push_answer<P: Program + Drop, R: Threads + Sync, G: Gate>(
     ensures text { OnOk result (text.new.items ≡ text.old.items ++ answer_lines places (last_result P.acts P.ending live.old) (answer_to (live_replying P.acts P.ending P.looks) live.old asked)) }
 {
     match asked {
-        Asked::Batch(batch) => make(crew, places, live, text, batch.as_slice()),
+        Asked::Batch(batch) => {
+            let made = make(crew, places, live, text, batch.as_slice());
+            drop(batch);
+            made
+        }
         Asked::Undo => undo(crew, places, live, text),
         Asked::Nothing(unread) => push_unread(text, unread),
     }

@@ -226,7 +226,10 @@ pub fn read_options<'a>(
     ensures kinds { FailsBy (fault_of (tool_app tool.now.name.now) (map (λ w. w.now) words.entry.now)) result }
 {
     let matches = read_matches(alloc, tool, words)?;
-    Ok((options_in(&matches), follow_in(&matches)))
+    let options = options_in(&matches);
+    let path = follow_in(&matches);
+    drop(matches);
+    Ok((options, path))
 }
 
 /// The exit status where the words were refused: 0 where that is the help or the version, 1 where memory was refused, else 2. It takes no memory.

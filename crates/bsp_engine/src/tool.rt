@@ -6,10 +6,10 @@
 ghost use Rattle.std.specs.Prelude.{◌<◌, ◌≤◌};
 
 use crate::catalogue::Catalogue;
-use crate::counting::Counted;
+use crate::counted::Counted;
 use crate::documents::engine;
 use crate::errors::EngineError;
-use crate::explain::explanation;
+use crate::explain::explain;
 use crate::following::follow;
 use crate::options::{Options, Tool, read_options, words_status};
 use crate::progress::{Progress, Watched};
@@ -45,7 +45,7 @@ fn failed<R: Eprint>(rt: &R, error: EngineError) -> ExitCode {
 }
 
 /// Says why no words could be read: memory was refused, or one of them is not UTF-8.
-fn unread<R: Eprint>(rt: &R, error: io::Error) -> ExitCode {
+fn unread<R: Eprint>(rt: &R, error: &io::Error) -> ExitCode {
     if error.kind() == io::ErrorKind::OutOfMemory {
         return failed(rt, EngineError::OutOfMemory);
     }
@@ -54,8 +54,8 @@ fn unread<R: Eprint>(rt: &R, error: io::Error) -> ExitCode {
 }
 
 /// Says why the words were refused, or what the help or the version says. Help that can't be written is a failed write, as of a report.
-fn refused<R: Print + Eprint>(rt: &R, error: clap::Error) -> ExitCode {
-    let status = words_status(&error);
+fn refused<R: Print + Eprint>(rt: &R, error: &clap::Error) -> ExitCode {
+    let status = words_status(error);
     if status == 1 {
         return failed(rt, EngineError::OutOfMemory);
     }
@@ -79,55 +79,73 @@ fn ended<C: Catalogue, R: Alloc<A = Global> + Eprint>(
     if !matches!(error, EngineError::Job(_)) {
         return status;
     }
-    if let Ok(Some(line)) = explanation::<C>(rt.alloc(), document) {
+    let mut line = String::new(rt.alloc());
+    if explain::<C>(rt.alloc(), document, &mut line).is_ok() && !line.is_empty() {
         let _ = eprintln!(rt; "{line}");
     }
     status
 }
 
 /// Runs the job of the document on standard input.
-fn run_input<
-    C: Catalogue,
-    R: Alloc<A = Global> + Input + Print + Eprint + Watched + Threads + Clock + Sync,
->(rt: &R, options: Options) -> ExitCode
+fn run_input<C: Catalogue, R: Alloc<A = Global> + Input + Print + Eprint + Threads + Clock + Sync>(
+    rt: &R,
+    options: Options,
+    document: &mut Vec<u8>,
+    progress: &Progress<'_, R>,
+) -> Result<(), EngineError>
     requires workers { (0 < options.workers) × (options.workers ≤ 16) }
 {
-    let progress = Progress::new(rt, !options.quiet && rt.is_watched());
-    let mut document = Vec::new(rt.alloc());
-    let outcome = engine::<C, R, _, _, _>(
+    engine::<C, R, _, _, _>(
         rt,
         rt.alloc(),
         options,
         &mut Counted::new(rt.reader()),
         &mut Counted::new(io::writer(rt)),
-        &mut document,
-        &progress,
-    );
-    progress.leave();
-    ended::<C, R>(rt, outcome, document.as_slice())
+        document,
+        progress,
+    )
 }
 
 /// Runs the job of the document in a file, and then answers each line of standard input.
 fn follow_file<
     C: Catalogue,
-    R: Alloc<A = Global> + Files + Input + Print + Eprint + Watched + Threads + Clock + Sync,
->(rt: &R, options: Options, path: &str) -> ExitCode
+    R: Alloc<A = Global> + Files + Input + Print + Eprint + Threads + Clock + Sync,
+>(
+    rt: &R,
+    options: Options,
+    path: &str,
+    document: &mut Vec<u8>,
+    progress: &Progress<'_, R>,
+) -> Result<(), EngineError>
     requires workers { (0 < options.workers) × (options.workers ≤ 16) }
 {
     let Ok(file) = fs::open(rt, path) else {
-        return failed(rt, EngineError::Read);
+        return Err(EngineError::Read);
     };
-    let progress = Progress::new(rt, !options.quiet && rt.is_watched());
-    let mut document = Vec::new(rt.alloc());
-    let outcome = follow::<C, R, _, _, _>(
+    follow::<C, R, _, _, _>(
         rt,
         rt.alloc(),
         options,
         &mut Counted::new(file),
         &mut Console::new(rt.reader(), io::writer(rt)),
-        &mut document,
-        &progress,
-    );
+        document,
+        progress,
+    )
+}
+
+/// Runs a job, shows its progress, and says why there is no report where that is so.
+fn run_shown<
+    C: Catalogue,
+    R: Alloc<A = Global> + Files + Input + Print + Eprint + Watched + Threads + Clock + Sync,
+>(rt: &R, options: Options, path: Option<&str>) -> ExitCode
+    requires workers { (0 < options.workers) × (options.workers ≤ 16) }
+{
+    let progress = Progress::new(rt, !options.quiet && rt.is_watched());
+    let mut document = Vec::new(rt.alloc());
+    let outcome = match path {
+        None => run_input::<C, R>(rt, options, &mut document, &progress),
+        Some(path) => follow_file::<C, R>(rt, options, path, &mut document, &progress),
+    };
     progress.leave();
     ended::<C, R>(rt, outcome, document.as_slice())
 }
@@ -144,10 +162,24 @@ fn run_words<
             );
             ExitCode::from(2)
         }
-        Ok((options, Some(path))) => follow_file::<C, R>(rt, options, path),
-        Ok((options, None)) => run_input::<C, R>(rt, options),
-        Err(error) => refused(rt, error),
+        Ok((options, path)) => run_shown::<C, R>(rt, options, path),
+        Err(error) => {
+            let status = refused(rt, &error);
+            drop(error);
+            status
+        }
     }
+}
+
+/// The same of the words of the command line.
+fn run_given<
+    C: Catalogue,
+    R: Alloc<A = Global> + Files + Input + Print + Eprint + Watched + Threads + Clock + Sync,
+>(rt: &R, tool: &Tool, words: &[String]) -> ExitCode {
+    let Ok(texts) = texts_of(rt.alloc(), words) else {
+        return failed(rt, EngineError::OutOfMemory);
+    };
+    run_words::<C, R>(rt, tool, texts.as_slice())
 }
 
 /// All that a tool does: it reads the words of its command line, and then runs the job of the document on standard input, of which the report
@@ -157,12 +189,16 @@ pub fn run_tool<
     C: Catalogue,
     R: Env + Alloc<A = Global> + Files + Input + Print + Eprint + Watched + Threads + Clock + Sync,
 >(rt: &R, tool: &Tool) -> ExitCode {
-    let words = match given_words(rt) {
-        Ok(words) => words,
-        Err(error) => return unread(rt, error),
-    };
-    let Ok(texts) = texts_of(rt.alloc(), words.as_slice()) else {
-        return failed(rt, EngineError::OutOfMemory);
-    };
-    run_words::<C, R>(rt, tool, texts.as_slice())
+    match given_words(rt) {
+        Ok(words) => {
+            let status = run_given::<C, R>(rt, tool, words.as_slice());
+            drop(words);
+            status
+        }
+        Err(error) => {
+            let status = unread(rt, &error);
+            drop(error);
+            status
+        }
+    }
 }

@@ -1,21 +1,21 @@
 //! Why a line was not read, as a report says it.
 
-ghost use Rattle.std.specs.Prelude.{◌≡◌, ◌++◌, OnOk};
+ghost use Rattle.std.specs.Prelude.{◌≡◌, ◌++◌, OnOk, codes};
 ghost use Rattle.bsp_engine.specs.Live.{unread_line, unread_word};
 
-use crate::asking::Unread;
+use crate::asked::Unread;
 use crate::lines::push_line;
 use bsp_model::OutOfMemory;
 
-fn unread_word(unread: Unread) -> &'static str
-    ensures { result.now ≡ unread_word unread }
+fn unread_words(unread: Unread) -> &'static str
+    ensures { result.now ≡ codes "unread " ++ unread_word unread }
 {
     match unread {
-        Unread::NotToml => "J1",
-        Unread::WrongType => "J3",
-        Unread::BadWord => "J7",
-        Unread::TooLong => "long",
-        Unread::NothingToUndo => "undo",
+        Unread::NotToml => "unread J1",
+        Unread::WrongType => "unread J3",
+        Unread::BadWord => "unread J7",
+        Unread::TooLong => "unread long",
+        Unread::NothingToUndo => "unread undo",
     }
 }
 
@@ -23,6 +23,5 @@ fn unread_word(unread: Unread) -> &'static str
 pub fn push_unread(text: &mut Vec<u8>, unread: Unread) -> Result<(), OutOfMemory>
     ensures { OnOk result (text.new.items ≡ text.old.items ++ unread_line unread) }
 {
-    text.extend_from_slice(b"unread ")?;
-    push_line(text, unread_word(unread), &[])
+    push_line(text, unread_words(unread), &[])
 }

@@ -5,10 +5,10 @@ ghost use Rattle.bsp_run.specs.Result.{result_of};
 ghost use Rattle.bsp_engine.specs.Text.{result_lines};
 ghost use Rattle.bsp_engine.specs.Inside.Given.{IsResultIn};
 
+use crate::block_lines::{push_all_lines, push_status};
 use crate::change_lines::{push_other_costs, push_other_memories};
 use crate::last::Last;
 use crate::lines::push_line;
-use crate::reporting::{push_all_lines, push_status};
 use bsp_model::OutOfMemory;
 use bsp_run::{History, RunResult};
 

@@ -1,2 +1,3 @@
 pub mod KindLists
+pub mod NoSigns
 pub mod Numerals

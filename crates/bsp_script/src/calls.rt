@@ -2,11 +2,13 @@
 
 ghost use Rattle.std.specs.Prelude.{◌≡◌, IfOk, map, drop};
 ghost use Rattle.toml.specs.View.{view};
-ghost use Rattle.bsp_script.specs.Calls.{operand_of, operand_at, operands_at, call_with, call_of, turn_of, turns_of};
+ghost use Rattle.bsp_script.specs.Calls.{operand_of, operand_at, operands_at, call_with};
 
 use crate::names::{Name, name_in};
 use crate::references::reference_in;
+use crate::shapes::{CallForm, OperandForm};
 use bsp_engine::tree::{elements, natural_of, number_at};
+use bsp_engine::{Described, read_each};
 use bsp_model::{OutOfMemory, Seq};
 use bsp_scripts::{Call, Operand, Turn};
 use std::alloc::Global;
@@ -31,21 +33,11 @@ fn operand_at(values: &[Value], place: usize) -> Operand
     }
 }
 
-fn operands_of(alloc: Global, values: &[Value]) -> Result<Seq<Operand>, OutOfMemory>
-    ensures { IfOk result (λ operands. operands ≡ map operand_of (map view values.now)) }
-{
-    let mut operands = Seq::new(alloc);
-    for value in values {
-        operands.push(operand_of(value))?;
-    }
-    Ok(operands)
-}
-
 fn operands_at(alloc: Global, values: &[Value], place: usize) -> Result<Seq<Operand>, OutOfMemory>
     ensures { IfOk result (λ operands. operands ≡ operands_at place (map view values.now)) }
 {
     match values.get(place) {
-        Some(value) => operands_of(alloc, elements(value)),
+        Some(value) => read_each::<OperandForm>(alloc, elements(value)),
         None => Ok(Seq::new(alloc)),
     }
 }
@@ -55,7 +47,7 @@ fn all_operands(alloc: Global, values: &[Value]) -> Result<Seq<Operand>, OutOfMe
     ensures { IfOk result (λ operands. operands ≡ map operand_of (drop 1 (map view values.now))) }
 {
     match values.split_first() {
-        Some((_name, operands)) => operands_of(alloc, operands),
+        Some((_name, operands)) => read_each::<OperandForm>(alloc, operands),
         None => Ok(Seq::new(alloc)),
     }
 }
@@ -92,43 +84,47 @@ fn call_with(alloc: Global, name: Name, values: &[Value]) -> Result<Call, OutOfM
     })
 }
 
-fn call_in(alloc: Global, value: &Value) -> Result<Call, OutOfMemory>
-    ensures { IfOk result (λ call. call ≡ call_of (view value.now)) }
-{
-    let values = elements(value);
-    match name_in(values) {
-        Some(name) => call_with(alloc, name, values),
-        None => Ok(Call::Halt),
+impl Described for OperandForm {
+    ghost use Rattle.bsp_script.specs.Calls.{operand_of};
+
+    type Item = Operand;
+
+    ghost described = { operand_of };
+
+    fn read(_alloc: Global, value: &Value) -> Result<Operand, OutOfMemory> {
+        Ok(operand_of(value))
     }
 }
 
-fn turn_in(alloc: Global, value: &Value) -> Result<Turn, OutOfMemory>
-    ensures { IfOk result (λ turn. turn ≡ turn_of (view value.now)) }
-{
-    let mut calls = Seq::new(alloc);
-    for call in elements(value) {
-        calls.push(call_in(alloc, call)?)?;
+impl Described for CallForm {
+    ghost use Rattle.bsp_script.specs.Calls.{call_of};
+
+    type Item = Call;
+
+    ghost described = { call_of };
+
+    fn read(alloc: Global, value: &Value) -> Result<Call, OutOfMemory> {
+        let values = elements(value);
+        match name_in(values) {
+            Some(name) => call_with(alloc, name, values),
+            None => Ok(Call::Halt),
+        }
     }
-    Ok(Turn { calls })
 }
 
-fn turns_in(alloc: Global, value: &Value) -> Result<Seq<Turn>, OutOfMemory>
-    ensures { IfOk result (λ turns. turns ≡ turns_of (view value.now)) }
-{
-    let mut turns = Seq::new(alloc);
-    for turn in elements(value) {
-        turns.push(turn_in(alloc, turn)?)?;
-    }
-    Ok(turns)
-}
+/// An array of calls.
+pub struct TurnForm;
 
-/// The turns, by superstep and then by process.
-pub fn supersteps_in(alloc: Global, values: &[Value]) -> Result<Seq<Seq<Turn>>, OutOfMemory>
-    ensures { IfOk result (λ supersteps. supersteps ≡ map turns_of (map view values.now)) }
-{
-    let mut supersteps = Seq::new(alloc);
-    for superstep in values {
-        supersteps.push(turns_in(alloc, superstep)?)?;
+impl Described for TurnForm {
+    ghost use Rattle.bsp_script.specs.Calls.{turn_of};
+
+    type Item = Turn;
+
+    ghost described = { turn_of };
+
+    fn read(alloc: Global, value: &Value) -> Result<Turn, OutOfMemory> {
+        Ok(Turn {
+            calls: read_each::<CallForm>(alloc, elements(value))?,
+        })
     }
-    Ok(supersteps)
 }

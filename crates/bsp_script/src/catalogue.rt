@@ -2,11 +2,11 @@
 
 ghost use Rattle.std.specs.Prelude.{◌≡◌};
 
-use crate::calls::supersteps_in;
-use crate::shapes::is_script;
+use crate::calls::TurnForm;
+use crate::shapes::ScriptForm;
 use crate::signs::is_any_superstep_negative;
-use bsp_engine::Catalogue;
 use bsp_engine::tree::{elements_at, has, value_at};
+use bsp_engine::{ArrayOf, Catalogue, fits, read_each};
 use bsp_model::OutOfMemory;
 use bsp_scripts::Script;
 use std::alloc::Global;
@@ -40,7 +40,7 @@ impl Catalogue for Scripts {
 
     fn has_right_shapes(document: &Table) -> bool {
         match value_at(document, "script") {
-            Some(value) => is_script(value),
+            Some(value) => fits::<ScriptForm>(value),
             None => true,
         }
     }
@@ -54,7 +54,8 @@ impl Catalogue for Scripts {
     }
 
     fn program(alloc: Global, document: &Table) -> Result<Script, OutOfMemory> {
-        let supersteps = supersteps_in(alloc, elements_at(document, "script"))?;
-        Ok(Script { supersteps })
+        Ok(Script {
+            supersteps: read_each::<ArrayOf<TurnForm>>(alloc, elements_at(document, "script"))?,
+        })
     }
 }

@@ -1,35 +1,50 @@
 //! Whether a value is a script (J3).
 
-ghost use Rattle.std.specs.Prelude.{◌≡◌, map, drop};
-ghost use Rattle.std.specs.List.{list_all};
+ghost use Rattle.std.specs.Prelude.{◌≡◌, map};
 ghost use Rattle.toml.specs.View.{view};
-ghost use Rattle.bsp_engine.specs.Keys.{is_array_of};
-ghost use Rattle.bsp_script.specs.Shapes.{is_operand, is_of_kind, are_of_kinds, has_operands, is_call, is_turn, is_superstep, is_script};
+ghost use Rattle.bsp_script.specs.Shapes.{is_of_kind, are_of_kinds, has_operands, is_call};
 
 use crate::names::{Kind, Name, name_in};
 use crate::references::reference_in;
 use bsp_engine::tree::elements;
+use bsp_engine::{ArrayOf, Path, Shape, all_fit, fits};
 use toml::Value;
 
-/// Whether the value is an integer, or a reference to an own word or argument.
-fn is_operand(value: &Value) -> bool
-    ensures { result ≡ is_operand (view value.now) }
-{
-    value.is_integer() || reference_in(value).is_some()
+/// An integer, or a reference to an own word or argument.
+pub struct OperandForm;
+
+/// An array of a call's name and its operands.
+pub struct CallForm;
+
+/// A script: an array of supersteps, a superstep an array of turns, and a turn an array of calls.
+pub type ScriptForm = ArrayOf<ArrayOf<ArrayOf<CallForm>>>;
+
+impl Shape for OperandForm {
+    ghost use Rattle.bsp_script.specs.Shapes.{is_operand};
+
+    ghost fits = { is_operand };
+
+    fn misfit(value: &Value) -> Option<Path> {
+        Path::whole_unless(value.is_integer() || reference_in(value).is_some())
+    }
 }
 
-fn are_operands(values: &[Value]) -> bool
-    ensures { result ≡ list_all is_operand (map view values.now) }
-{
-    values.iter().all(|value| is_operand(value))
+impl Shape for CallForm {
+    ghost use Rattle.bsp_script.specs.Shapes.{is_call};
+
+    ghost fits = { is_call };
+
+    fn misfit(value: &Value) -> Option<Path> {
+        Path::whole_unless(is_call(value))
+    }
 }
 
 fn is_of_kind(kind: Kind, value: &Value) -> bool
     ensures { result ≡ is_of_kind kind (view value.now) }
 {
     match kind {
-        Kind::One => is_operand(value),
-        Kind::Many => value.is_array() && are_operands(elements(value)),
+        Kind::One => fits::<OperandForm>(value),
+        Kind::Many => fits::<ArrayOf<OperandForm>>(value),
         Kind::Plain => value.is_integer(),
     }
 }
@@ -53,12 +68,11 @@ fn has_operands(name: Name, values: &[Value]) -> bool
     ensures { result ≡ has_operands name (map view values.now) }
 {
     match name {
-        Name::Print => are_operands(values),
+        Name::Print => all_fit::<OperandForm>(values),
         _ => are_of_kinds(name.kinds(), values),
     }
 }
 
-/// Whether the value is an array of a call's name and its operands.
 fn is_call(value: &Value) -> bool
     ensures { result ≡ is_call (view value.now) }
 {
@@ -70,23 +84,4 @@ fn is_call(value: &Value) -> bool
         Some(name) => has_operands(name, operands),
         None => false,
     }
-}
-
-fn is_turn(value: &Value) -> bool
-    ensures { result ≡ is_turn (view value.now) }
-{
-    value.is_array() && elements(value).iter().all(|element| is_call(element))
-}
-
-fn is_superstep(value: &Value) -> bool
-    ensures { result ≡ is_superstep (view value.now) }
-{
-    value.is_array() && elements(value).iter().all(|element| is_turn(element))
-}
-
-/// Whether the value is an array of supersteps, a superstep an array of turns, and a turn an array of calls.
-pub fn is_script(value: &Value) -> bool
-    ensures { result ≡ is_script (view value.now) }
-{
-    value.is_array() && elements(value).iter().all(|element| is_superstep(element))
 }

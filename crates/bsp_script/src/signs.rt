@@ -3,50 +3,30 @@
 ghost use Rattle.std.specs.Prelude.{◌≡◌, map};
 ghost use Rattle.std.specs.List.{list_any};
 ghost use Rattle.toml.specs.View.{view};
-ghost use Rattle.bsp_engine.specs.Tree.{is_negative};
-ghost use Rattle.bsp_script.specs.Signs.{has_negative, has_negative_operand, has_negative_call, has_negative_turn};
+ghost use Rattle.bsp_script.specs.Signs.{has_negative_turn};
 
-use bsp_engine::tree::{elements, is_negative};
+use bsp_engine::tree::is_negative;
+use bsp_engine::{Each, NotNegative, Path, Shape, all_fit, fits};
 use toml::Value;
 
-fn is_any_negative(values: &[Value]) -> bool
-    ensures { result ≡ list_any is_negative (map view values.now) }
-{
-    values.iter().any(|value| is_negative(value))
-}
+/// An operand, or a list of operands, of which none is negative.
+struct NoSign;
 
-/// Whether an operand, or one of a list of operands, is negative.
-fn has_negative(value: &Value) -> bool
-    ensures { result ≡ has_negative (view value.now) }
-{
-    is_negative(value) || is_any_negative(elements(value))
-}
+impl Shape for NoSign {
+    ghost use Rattle.std.specs.Prelude.{◌&&◌, not};
+    ghost use Rattle.std.specs.List.{list_all};
+    ghost use Rattle.bsp_engine.specs.Tree.{elements, is_negative};
 
-fn has_negative_operand(call: &Value) -> bool
-    ensures { result ≡ has_negative_operand (view call.now) }
-{
-    elements(call).iter().any(|element| has_negative(element))
-}
+    ghost fits = { λ d. not (is_negative d) && list_all (λ w. not (is_negative w)) (elements d) };
 
-fn has_negative_call(turn: &Value) -> bool
-    ensures { result ≡ has_negative_call (view turn.now) }
-{
-    elements(turn)
-        .iter()
-        .any(|element| has_negative_operand(element))
-}
-
-fn has_negative_turn(superstep: &Value) -> bool
-    ensures { result ≡ has_negative_turn (view superstep.now) }
-{
-    elements(superstep)
-        .iter()
-        .any(|element| has_negative_call(element))
+    fn misfit(value: &Value) -> Option<Path> {
+        Path::whole_unless(!is_negative(value) && fits::<Each<NotNegative>>(value))
+    }
 }
 
 /// Whether a number in one of the supersteps is negative.
 pub fn is_any_superstep_negative(supersteps: &[Value]) -> bool
     ensures { result ≡ list_any has_negative_turn (map view supersteps.now) }
 {
-    supersteps.iter().any(|element| has_negative_turn(element))
+    !all_fit::<Each<Each<Each<NoSign>>>>(supersteps)
 }

@@ -2,6 +2,7 @@
 
 ghost use Rattle.std.specs.Prelude.{◌≡◌};
 ghost use Rattle.bsp_scripts.specs.Calls.{call_plan, call_looks};
+ghost use Rattle.bsp_scripts.specs.declared.call.Call.TheVariants.{Abort};
 ghost use Rattle.bsp_scripts.specs.Inside.Making.{Makes};
 
 mod local;
@@ -55,35 +56,59 @@ pub enum Call {
     Abort(Operand),
 }
 
+/// Room for the words that a call reads. What an earlier call left there is of no account.
+#[derive(Drop)]
+pub(crate) struct Room {
+    tag: Vec<u64>,
+    words: Vec<u64>,
+}
+
+impl Room {
+    pub(crate) fn new(alloc: Global) -> Room {
+        Room {
+            tag: Vec::new(alloc),
+            words: Vec::new(alloc),
+        }
+    }
+}
+
+/// Ends the turn and the whole computation, with a code that is read first.
+fn abort(ctx: &Ctx<'_>, code: &Operand) -> Result<(), Exit>
+    ensures { Makes ctx.now (call_plan ctx.now (Abort code.now)) ctx.now result }
+{
+    let code = code.read(ctx)?;
+    Err(Exit::Ended(End::Abort(code)))
+}
+
 impl Call {
     /// Makes the call.
-    pub(crate) fn make(&self, alloc: Global, ctx: &mut Ctx<'_>) -> Result<(), Exit>
+    pub(crate) fn make(&self, ctx: &mut Ctx<'_>, room: &mut Room) -> Result<(), Exit>
         ensures { Makes ctx.old (call_plan ctx.old self.now) ctx.new result }
     {
         match self {
-            Call::Store(address, value) => local::store(ctx, *address, *value),
-            Call::Charge(amount) => local::charge(ctx, *amount),
+            Call::Store(address, value) => local::store(ctx, address, value),
+            Call::Charge(amount) => local::charge(ctx, amount),
             Call::Put(pid, words, area, offset) => {
-                remote::put(alloc, ctx, *pid, words.as_slice(), *area, *offset)
+                remote::put(ctx, pid, words, area, offset, &mut room.words)
             }
             Call::Get(pid, area, offset, into, len) => {
-                remote::get(ctx, *pid, *area, *offset, *into, *len)
+                remote::get(ctx, pid, area, offset, into, len)
             }
-            Call::Send(pid, tag, words) => {
-                messages::send(alloc, ctx, *pid, tag.as_slice(), words.as_slice())
+            Call::Send(pid, tag, words) => messages::send(ctx, pid, tag, words, room),
+            Call::PushReg(start, len) => registration::push_reg(ctx, start, len),
+            Call::PopReg(start) => registration::pop_reg(ctx, start),
+            Call::SetTagsize(size) => messages::set_tagsize(ctx, size),
+            Call::Print(words) => local::print(ctx, words, &mut room.words),
+            Call::Add(address, value) => local::add(ctx, *address, value),
+            Call::MoveInto(count, into) => {
+                messages::move_into(*room.words.allocator(), ctx, *count, *into)
             }
-            Call::PushReg(start, len) => registration::push_reg(ctx, *start, *len),
-            Call::PopReg(start) => registration::pop_reg(ctx, *start),
-            Call::SetTagsize(size) => messages::set_tagsize(ctx, *size),
-            Call::Print(words) => local::print(alloc, ctx, words.as_slice()),
-            Call::Add(address, value) => local::add(ctx, *address, *value),
-            Call::MoveInto(room, into) => messages::move_into(alloc, ctx, *room, *into),
             Call::PrintQsize => messages::print_qsize(ctx),
-            Call::PrintGetTag => messages::print_get_tag(alloc, ctx),
+            Call::PrintGetTag => messages::print_get_tag(ctx, &mut room.words),
             Call::PrintTagSize => messages::print_tag_size(ctx),
             Call::Sync => Err(Exit::Ended(End::Sync)),
             Call::Halt => Err(Exit::Ended(End::Halt)),
-            Call::Abort(code) => Err(Exit::Ended(End::Abort(code.read(ctx)?))),
+            Call::Abort(code) => abort(ctx, code),
         }
     }
 

@@ -8,6 +8,7 @@ ghost use Rattle.bsp_scripts.specs.Inside.Making.{Makes};
 ghost use Rattle.bsp_scripts.specs.Scripts.{turn_at, turn_looks};
 
 use crate::Call;
+use crate::call::Room;
 use crate::exit::Exit;
 use bsp_model::{End, OutOfMemory, Seq};
 use bsp_step::{Ctx, Program, Stop, View, settle};
@@ -25,8 +26,9 @@ impl Turn {
     fn make_calls(&self, alloc: Global, ctx: &mut Ctx<'_>) -> Result<(), Exit>
         ensures { Makes ctx.old (calls_plan ctx.old self.now.calls) ctx.new result }
     {
+        let mut room = Room::new(alloc);
         for call in self.calls.as_slice() {
-            call.make(alloc, ctx)?;
+            call.make(ctx, &mut room)?;
         }
         Ok(())
     }
@@ -46,10 +48,12 @@ impl Turn {
     fn looks_at(&self, address: u64) -> bool
         ensures { result ≡ turn_looks (Some self.now) address }
     {
-        self.calls
-            .as_slice()
-            .iter()
-            .any(|call| call.looks_at(address))
+        for call in self.calls.as_slice() {
+            if call.looks_at(address) {
+                return true;
+            }
+        }
+        false
     }
 }
 

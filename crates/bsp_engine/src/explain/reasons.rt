@@ -1,6 +1,6 @@
 //! What is wrong with a document that is TOML, in words.
 
-use super::escaped;
+use super::push_escaped;
 use crate::errors::JobFault;
 use crate::jobs::{Wrong, count_of_args};
 use crate::tree::{elements, elements_at, integer_at};
@@ -8,22 +8,36 @@ use bsp_model::limits::{
     HIGHEST_PRICE, MOST_ARGUMENTS, MOST_MEMORY_WORDS, MOST_PROCESSES, MOST_SUPERSTEPS,
 };
 use bsp_model::{InputFault, OutOfMemory};
-use std::alloc::Global;
 use toml::Table;
 
-/// The key, and where in its value the fault is. Batches count from 1, as their blocks do.
-fn place_of(alloc: Global, wrong: &Wrong<'_>) -> Result<String, OutOfMemory> {
-    let key = wrong.key;
+/// Which fault of the input J6 stands for.
+fn number_of(fault: JobFault) -> &'static str {
+    match fault {
+        JobFault::Input(InputFault::NoProcess) => "I1, ",
+        JobFault::Input(InputFault::TooMany) => "I2, ",
+        JobFault::Input(InputFault::LengthsDiffer) => "I3, ",
+        JobFault::Input(InputFault::MemoryTooLong) => "I4, ",
+        JobFault::Input(InputFault::ArgsTooLong) => "I5, ",
+        JobFault::Input(InputFault::BadLimit) => "I6, ",
+        JobFault::Input(InputFault::BadPrice) => "I7, ",
+        _ => "",
+    }
+}
+
+/// Appends the key, and where in its value the fault is. Batches count from 1, as their blocks do.
+fn push_place(line: &mut String, wrong: &Wrong<'_>) -> Result<(), OutOfMemory> {
+    push_escaped(line, wrong.key)?;
     let Some(outer) = wrong.path.outer else {
-        return escaped(alloc, key);
+        return Ok(());
     };
-    if key != "batches" {
-        return format!(in alloc; "{key}, process {outer}");
+    if wrong.key != "batches" {
+        return write!(line, ", process {outer}");
     }
     let batch = outer.saturating_add(1);
+    write!(line, ", batch {batch}")?;
     match wrong.path.inner {
-        Some(edit) => format!(in alloc; "batches, batch {batch}, edit {edit}"),
-        None => format!(in alloc; "batches, batch {batch}"),
+        Some(edit) => write!(line, ", edit {edit}"),
+        None => Ok(()),
     }
 }
 
@@ -41,65 +55,64 @@ fn shape_reason(wrong: &Wrong<'_>) -> &'static str {
     }
 }
 
-/// How many words the row of a process has.
-fn words_of(table: &Table, wrong: &Wrong<'_>) -> usize {
-    match elements_at(table, wrong.key).get(wrong.path.outer.unwrap_or(0)) {
-        Some(row) => elements(row).len(),
-        None => 0,
-    }
-}
-
-/// Which number of the described input is past its limits.
-fn number_line(
-    alloc: Global,
+/// Appends how many words the row of a process has, and how many it may have.
+fn push_words(
+    line: &mut String,
     table: &Table,
     wrong: &Wrong<'_>,
-    place: &str,
-) -> Result<String, OutOfMemory> {
-    let number = integer_at(table, wrong.key).unwrap_or(0);
-    let (name, least, most) = match wrong.key {
-        "limit" => ("I6", 1, MOST_SUPERSTEPS),
-        _ => ("I7", 0, HIGHEST_PRICE),
+    most: usize,
+) -> Result<(), OutOfMemory> {
+    let words = match elements_at(table, wrong.key).get(wrong.path.outer.unwrap_or(0)) {
+        Some(row) => elements(row).len(),
+        None => 0,
     };
-    format!(in alloc; "{name}, {place}: {number}, not {least} to {most}")
+    write!(line, "{words} words, at most {most}")
 }
 
-/// Which size of the described input is past its limit.
-fn size_line(
-    alloc: Global,
+/// Appends a number that is past its limits.
+fn push_number(
+    line: &mut String,
+    table: &Table,
+    wrong: &Wrong<'_>,
+    least: u64,
+    most: u64,
+) -> Result<(), OutOfMemory> {
+    let number = integer_at(table, wrong.key).unwrap_or(0);
+    write!(line, "{number}, not {least} to {most}")
+}
+
+/// Appends which size or number of the described input is past its limit.
+fn push_size(
+    line: &mut String,
     table: &Table,
     wrong: &Wrong<'_>,
     fault: InputFault,
-    place: &str,
-) -> Result<String, OutOfMemory> {
+) -> Result<(), OutOfMemory> {
     let processes = elements_at(table, "memory").len();
     let lists = count_of_args(table, processes);
-    let words = words_of(table, wrong);
-    let (name, count, what, limit, end) = match fault {
-        InputFault::NoProcess => ("I1", 0, "processes, at least", 1, ""),
-        InputFault::TooMany => ("I2", processes, "processes, at most", MOST_PROCESSES, ""),
-        InputFault::LengthsDiffer => ("I3", lists, "lists for", processes, " processes"),
-        InputFault::MemoryTooLong => ("I4", words, "words, at most", MOST_MEMORY_WORDS, ""),
-        InputFault::ArgsTooLong => ("I5", words, "words, at most", MOST_ARGUMENTS, ""),
-        InputFault::BadLimit | InputFault::BadPrice => {
-            return number_line(alloc, table, wrong, place);
-        }
-    };
-    format!(in alloc; "{name}, {place}: {count} {what} {limit}{end}")
+    match fault {
+        InputFault::NoProcess => line.push_str("0 processes, at least 1"),
+        InputFault::TooMany => write!(line, "{processes} processes, at most {MOST_PROCESSES}"),
+        InputFault::LengthsDiffer => write!(line, "{lists} lists for {processes} processes"),
+        InputFault::MemoryTooLong => push_words(line, table, wrong, MOST_MEMORY_WORDS),
+        InputFault::ArgsTooLong => push_words(line, table, wrong, MOST_ARGUMENTS),
+        InputFault::BadLimit => push_number(line, table, wrong, 1, MOST_SUPERSTEPS),
+        InputFault::BadPrice => push_number(line, table, wrong, 0, HIGHEST_PRICE),
+    }
 }
 
-/// The line of what is wrong: the place, and the reason.
-pub fn line_of(alloc: Global, table: &Table, wrong: &Wrong<'_>) -> Result<String, OutOfMemory> {
-    let place = place_of(alloc, wrong)?;
-    let place = place.as_str();
-    let reason = match wrong.fault {
-        JobFault::Input(fault) => return size_line(alloc, table, wrong, fault, place),
-        JobFault::MissingKey => "this key is missing",
-        JobFault::WrongType => shape_reason(wrong),
-        JobFault::UnknownKey => "there is no such key",
-        JobFault::UnknownProgram => "there is no such program",
-        JobFault::BadWord => "a negative number",
-        JobFault::NotToml => "not TOML",
-    };
-    format!(in alloc; "{place}: {reason}")
+/// Appends the place of what is wrong, and the reason.
+pub fn push_fault(line: &mut String, table: &Table, wrong: &Wrong<'_>) -> Result<(), OutOfMemory> {
+    line.push_str(number_of(wrong.fault))?;
+    push_place(line, wrong)?;
+    line.push_str(": ")?;
+    match wrong.fault {
+        JobFault::Input(fault) => push_size(line, table, wrong, fault),
+        JobFault::MissingKey => line.push_str("this key is missing"),
+        JobFault::WrongType => line.push_str(shape_reason(wrong)),
+        JobFault::UnknownKey => line.push_str("there is no such key"),
+        JobFault::UnknownProgram => line.push_str("there is no such program"),
+        JobFault::BadWord => line.push_str("a negative number"),
+        JobFault::NotToml => line.push_str("not TOML"),
+    }
 }

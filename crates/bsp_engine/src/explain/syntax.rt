@@ -1,8 +1,8 @@
 //! Where a text is no TOML.
 
-use super::escaped;
+use super::push_escaped;
 use bsp_model::OutOfMemory;
-use std::alloc::{AllocError, Global};
+use std::alloc::AllocError;
 
 /// The line and the column, both from 1, of the place after these bytes of a text. A column counts characters.
 fn position_after(before: &[u8]) -> (usize, usize) {
@@ -19,20 +19,20 @@ fn position_after(before: &[u8]) -> (usize, usize) {
     (line, column)
 }
 
-/// Where a text is no TOML document, and the first line of the reason, unless memory was refused.
-pub fn syntax_line(
-    alloc: Global,
+/// Appends where a text is no TOML document, and the first line of the reason, unless memory was refused.
+pub fn push_syntax_error(
+    line: &mut String,
     text: &str,
     error: &toml::de::Error,
-) -> Result<String, OutOfMemory> {
+) -> Result<(), OutOfMemory> {
     let Some(span) = error.span() else {
         return Err(AllocError);
     };
     let bytes = text.as_bytes();
-    let (line, column) = position_after(&bytes[..span.start.min(bytes.len())]);
-    let reason = match error.message().split_once("\n") {
-        Some((first, _)) => escaped(alloc, first)?,
-        None => escaped(alloc, error.message())?,
-    };
-    format!(in alloc; "line {line}, column {column}: {reason}")
+    let (row, column) = position_after(&bytes[..span.start.min(bytes.len())]);
+    write!(line, "line {row}, column {column}: ")?;
+    match error.message().split_once("\n") {
+        Some((first, _)) => push_escaped(line, first),
+        None => push_escaped(line, error.message()),
+    }
 }

@@ -32,7 +32,9 @@ pub fn own_text(alloc: Global, mut table: Table) -> Result<Vec<u8>, OutOfMemory>
     ensures { IfOk result (λ own. IsPrinted (own_members (table_view table)) own.items) }
 {
     take_common_out(&mut table);
-    match toml::table_to_string(alloc, &table) {
+    let text = toml::table_to_string(alloc, &table);
+    drop(table);
+    match text {
         Ok(text) => Ok(text.into_bytes()),
         // What was read has no date that can't be printed: memory was refused.
         Err(_) => Err(AllocError),

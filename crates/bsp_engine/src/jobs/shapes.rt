@@ -4,9 +4,9 @@ ghost use Rattle.std.specs.Prelude.{◌≡◌, IfErr, OnOk, false, is_some, map,
 ghost use Rattle.std.specs.List.{list_all};
 ghost use Rattle.toml.specs.Data.{get_member};
 ghost use Rattle.toml.specs.View.{view, table_view};
-ghost use Rattle.bsp_engine.specs.Keys.{is_batch, is_form, passes};
+ghost use Rattle.bsp_engine.specs.Keys.{is_form, passes};
 
-use super::wrong::{Path, WHOLE, Wrong};
+use super::wrong::{Path, Wrong};
 use crate::errors::JobFault;
 use crate::tree::{begins_with, elements, value_at};
 use std::marker::PhantomData;
@@ -44,11 +44,7 @@ impl Shape for Integer {
     ghost fits = { is_integer };
 
     fn misfit(value: &Value) -> Option<Path> {
-        if value.is_integer() {
-            None
-        } else {
-            Some(WHOLE)
-        }
+        Path::whole_unless(value.is_integer())
     }
 }
 
@@ -59,14 +55,12 @@ impl Shape for EditForm {
 
     fn misfit(value: &Value) -> Option<Path> {
         let values = elements(value);
-        if is_form(values, "word", 4)
-            || is_form(values, "arg", 4)
-            || is_form(values, "limit", 2)
-            || is_form(values, "prices", 3)
-        {
-            return None;
-        }
-        Some(WHOLE)
+        Path::whole_unless(
+            is_form(values, "word", 4)
+                || is_form(values, "arg", 4)
+                || is_form(values, "limit", 2)
+                || is_form(values, "prices", 3),
+        )
     }
 }
 
@@ -77,7 +71,7 @@ impl<T: Shape> Shape for ArrayOf<T> {
 
     fn misfit(value: &Value) -> Option<Path> {
         if !value.is_array() {
-            return Some(WHOLE);
+            return Path::whole_unless(false);
         }
         first_misfit::<T>(elements(value))
     }
@@ -109,13 +103,18 @@ fn first_misfit<T: Shape>(values: &[Value]) -> Option<Path>
     None
 }
 
+/// Whether each of the values has the shape.
+pub fn all_fit<T: Shape>(values: &[Value]) -> bool
+    ensures { result ≡ list_all T.fits (map view values.now) }
+{
+    first_misfit::<T>(values).is_none()
+}
+
 /// Whether the values are so many: a word, and then integers.
 fn is_form(values: &[Value], word: &str, count: usize) -> bool
     ensures { result ≡ is_form word.now count (map view values.now) }
 {
-    begins_with(values, word)
-        && values.len() == count
-        && first_misfit::<Integer>(&values[1..]).is_none()
+    begins_with(values, word) && values.len() == count && all_fit::<Integer>(&values[1..])
 }
 
 /// Refuses the value at a key with this fault, if there is one and it has another shape.
@@ -136,9 +135,9 @@ pub fn check_shape<'a, T: Shape>(
     }
 }
 
-/// Whether the value is an array of edits.
-pub fn is_batch(value: &Value) -> bool
-    ensures { result ≡ is_batch (view value.now) }
+/// Whether the value has the shape.
+pub fn fits<T: Shape>(value: &Value) -> bool
+    ensures { result ≡ T.fits (view value.now) }
 {
-    <ArrayOf<EditForm> as Shape>::misfit(value).is_none()
+    T::misfit(value).is_none()
 }

@@ -5,8 +5,8 @@ ghost use Rattle.toml.specs.View.{view, table_view};
 ghost use Rattle.bsp_engine.specs.Signs.{has_negative_edit, has_negative_word};
 ghost use Rattle.bsp_engine.specs.Inside.Signs.{has_no_sign};
 
-use super::shapes::{Each, Shape, check_shape};
-use super::wrong::{Path, WHOLE, Wrong};
+use super::shapes::{Each, Shape, check_shape, fits};
+use super::wrong::{Path, Wrong};
 use crate::catalogue::Catalogue;
 use crate::errors::JobFault;
 use crate::tree::is_negative;
@@ -22,11 +22,7 @@ impl Shape for NotNegative {
     ghost fits = { λ d. not (is_negative d) };
 
     fn misfit(value: &Value) -> Option<Path> {
-        if is_negative(value) {
-            Some(WHOLE)
-        } else {
-            None
-        }
+        Path::whole_unless(!is_negative(value))
     }
 }
 
@@ -34,7 +30,7 @@ impl Shape for NotNegative {
 pub fn has_negative_edit(value: &Value) -> bool
     ensures { result ≡ has_negative_edit (view value.now) }
 {
-    <Each<Each<NotNegative>> as Shape>::misfit(value).is_some()
+    !fits::<Each<Each<NotNegative>>>(value)
 }
 
 /// Refuses the first negative number at the keys that every document may have.

@@ -8,7 +8,7 @@ ghost use Rattle.bsp_engine.specs.Sizes.{count_of_args, described_fault, is_betw
 ghost use Rattle.bsp_engine.specs.Tree.{integer_at};
 
 use super::shapes::{Each, Shape, check_shape};
-use super::wrong::{Path, WHOLE, Wrong};
+use super::wrong::{Path, Wrong};
 use crate::errors::JobFault;
 use crate::tree::{elements, elements_at, integer_at, value_at};
 use bsp_model::InputFault;
@@ -26,11 +26,7 @@ impl<const MOST: usize> Shape for Short<MOST> {
     ghost fits = { is_short MOST };
 
     fn misfit(value: &Value) -> Option<Path> {
-        if elements(value).len() <= MOST {
-            None
-        } else {
-            Some(WHOLE)
-        }
+        Path::whole_unless(elements(value).len() <= MOST)
     }
 }
 

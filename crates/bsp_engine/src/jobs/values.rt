@@ -4,26 +4,35 @@ ghost use Rattle.std.specs.Prelude.{◌≡◌, IfOk, map};
 ghost use Rattle.toml.specs.View.{view};
 ghost use Rattle.bsp_engine.specs.Values.{edit_of};
 
+use super::shapes::{ArrayOf, EditForm, Integer};
 use crate::tree::{begins_with, elements, natural_of, number_at};
 use bsp_incr::Edit;
 use bsp_model::{Memory, OutOfMemory, Seq};
 use std::alloc::Global;
 use toml::Value;
 
-/// A value that a document describes.
-pub trait Described: Drop {
+/// How values of a document are read, each for what it describes.
+pub trait Described {
     ghost use Rattle.toml.specs.Data.{Data};
 
-    // The value that a part of a document describes.
-    ghost described: { Data → Self };
+    /// What is read.
+    type Item: Drop;
 
-    /// Reads the value that a part of a document describes.
-    fn read(alloc: Global, value: &Value) -> Result<Self, OutOfMemory>
+    // What a value describes.
+    ghost described: { Data → Self.Item };
+
+    /// Reads what a value describes.
+    fn read(alloc: Global, value: &Value) -> Result<Self::Item, OutOfMemory>
         ensures { IfOk result (λ x. x ≡ described (view value.now)) };
 }
 
-impl Described for u64 {
+/// The words of a memory.
+pub struct Row;
+
+impl Described for Integer {
     ghost use Rattle.bsp_engine.specs.Values.{word_of};
+
+    type Item = u64;
 
     ghost described = { word_of };
 
@@ -32,20 +41,24 @@ impl Described for u64 {
     }
 }
 
-impl Described for Memory {
+impl Described for Row {
     ghost use Rattle.bsp_engine.specs.Values.{row_of};
+
+    type Item = Memory;
 
     ghost described = { row_of };
 
     fn read(alloc: Global, value: &Value) -> Result<Memory, OutOfMemory> {
-        let words = read_all::<u64>(alloc, elements(value))?;
+        let words = read_each::<Integer>(alloc, elements(value))?;
         Memory::from_words(alloc, words.as_slice())
     }
 }
 
-impl Described for Edit {
+impl Described for EditForm {
     ghost use Rattle.bsp_engine.specs.Tree.{elements};
     ghost use Rattle.bsp_engine.specs.Values.{edit_of};
+
+    type Item = Edit;
 
     ghost described = { λ d. edit_of (elements d) };
 
@@ -54,14 +67,16 @@ impl Described for Edit {
     }
 }
 
-impl<T: Described> Described for Seq<T> {
+impl<T: Described> Described for ArrayOf<T> {
     ghost use Rattle.std.specs.Prelude.{map};
     ghost use Rattle.bsp_engine.specs.Tree.{elements};
 
+    type Item = Seq<T::Item>;
+
     ghost described = { λ d. map T.described (elements d) };
 
-    fn read(alloc: Global, value: &Value) -> Result<Seq<T>, OutOfMemory> {
-        read_all(alloc, elements(value))
+    fn read(alloc: Global, value: &Value) -> Result<Seq<T::Item>, OutOfMemory> {
+        read_each::<T>(alloc, elements(value))
     }
 }
 
@@ -91,8 +106,8 @@ fn edit_in(values: &[Value]) -> Edit
     }
 }
 
-/// Reads the value that each part of a document describes.
-pub fn read_all<T: Described>(alloc: Global, values: &[Value]) -> Result<Seq<T>, OutOfMemory>
+/// Reads what each of the values describes.
+pub fn read_each<T: Described>(alloc: Global, values: &[Value]) -> Result<Seq<T::Item>, OutOfMemory>
     ensures { IfOk result (λ all. all ≡ map T.described (map view values.now)) }
 {
     let mut all = Vec::new(alloc);

@@ -1,6 +1,6 @@
 //! Where in a document a fault is.
 
-ghost use Rattle.std.specs.Prelude.{◌≡◌};
+ghost use Rattle.std.specs.Prelude.{◌≡◌, is_some, not};
 ghost use Rattle.bsp_engine.specs.declared.errors.JobError.TheVariants.{Fault};
 
 use crate::errors::{JobError, JobFault};
@@ -8,15 +8,24 @@ use crate::errors::{JobError, JobFault};
 /// A place in a value: at which element of the array, and at which element of that.
 #[derive(Clone, Copy)]
 pub struct Path {
-    pub outer: Option<usize>,
-    pub inner: Option<usize>,
+    pub(crate) outer: Option<usize>,
+    pub(crate) inner: Option<usize>,
 }
 
 /// The place that is the whole value.
-pub const WHOLE: Path = Path {
+const WHOLE: Path = Path {
     outer: None,
     inner: None,
 };
+
+impl Path {
+    /// The whole value, unless it fits.
+    pub fn whole_unless(fits: bool) -> Option<Path>
+        ensures { is_some result ≡ not fits }
+    {
+        if fits { None } else { Some(WHOLE) }
+    }
+}
 
 /// The first fault of a document, and where it is: in the value at a key, or at the key itself.
 #[derive(Clone, Copy)]

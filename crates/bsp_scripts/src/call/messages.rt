@@ -1,41 +1,40 @@
 //! The calls on messages and their tags.
 
-ghost use Rattle.std.specs.Prelude.{◌≡◌, IfOk};
+ghost use Rattle.std.specs.Prelude.{◌≡◌, OnOk};
 ghost use Rattle.bsp_step.specs.Queue.{first_message, heading};
 ghost use Rattle.bsp_scripts.specs.declared.call.Call.TheVariants.{Send, SetTagsize, MoveInto, PrintQsize, PrintGetTag, PrintTagSize};
 ghost use Rattle.bsp_scripts.specs.Calls.{call_plan, makes, stores, heading_line};
 ghost use Rattle.bsp_scripts.specs.Inside.Making.{Makes};
 
+use super::Room;
 use crate::Operand;
-use crate::exit::Exit;
+use crate::exit::{Exit, made};
 use crate::operand::read_all;
 use bsp_model::limits::MOST_PAYLOAD_WORDS;
-use bsp_model::{OutOfMemory, Words};
+use bsp_model::{OutOfMemory, Seq};
 use bsp_step::Ctx;
 use std::alloc::Global;
 
 pub(super) fn send(
-    alloc: Global,
     ctx: &mut Ctx<'_>,
-    pid: Operand,
-    tag: &[Operand],
-    words: &[Operand],
+    pid: &Operand,
+    tag: &Seq<Operand>,
+    words: &Seq<Operand>,
+    room: &mut Room,
 ) -> Result<(), Exit>
-    ensures { Makes ctx.old (call_plan ctx.old (Send pid tag.now words.now)) ctx.new result }
+    ensures { Makes ctx.old (call_plan ctx.old (Send pid.now tag.now words.now)) ctx.new result }
 {
     let pid = pid.read(ctx)?;
-    let tag = read_all(alloc, ctx, tag)?;
-    let words = read_all(alloc, ctx, words)?;
-    ctx.send(pid, tag.as_slice(), words.as_slice())?;
-    Ok(())
+    read_all(ctx, tag, &mut room.tag)?;
+    read_all(ctx, words, &mut room.words)?;
+    made(ctx.send(pid, room.tag.as_slice(), room.words.as_slice()))
 }
 
-pub(super) fn set_tagsize(ctx: &mut Ctx<'_>, size: Operand) -> Result<(), Exit>
-    ensures { Makes ctx.old (call_plan ctx.old (SetTagsize size)) ctx.new result }
+pub(super) fn set_tagsize(ctx: &mut Ctx<'_>, size: &Operand) -> Result<(), Exit>
+    ensures { Makes ctx.old (call_plan ctx.old (SetTagsize size.now)) ctx.new result }
 {
     let size = size.read(ctx)?;
-    ctx.set_tagsize(size)?;
-    Ok(())
+    made(ctx.set_tagsize(size))
 }
 
 /// Moves the first message into a buffer of `room` words, at most 4,096, and stores what was copied.
@@ -63,36 +62,30 @@ pub(super) fn print_qsize(ctx: &mut Ctx<'_>) -> Result<(), Exit>
     ensures { Makes ctx.old (call_plan ctx.old PrintQsize) ctx.new result }
 {
     let (messages, words) = ctx.qsize();
-    ctx.print(&[messages as u64, words as u64])?;
-    Ok(())
+    made(ctx.print(&[messages as u64, words as u64]))
 }
 
-pub(super) fn print_get_tag(alloc: Global, ctx: &mut Ctx<'_>) -> Result<(), Exit>
+pub(super) fn print_get_tag(ctx: &mut Ctx<'_>, line: &mut Vec<u64>) -> Result<(), Exit>
     ensures { Makes ctx.old (call_plan ctx.old PrintGetTag) ctx.new result }
 {
-    let line = heading_line(alloc, ctx)?;
-    ctx.print(line.as_slice())?;
-    Ok(())
+    read_heading(ctx, line)?;
+    made(ctx.print(line.as_slice()))
 }
 
-/// The length of the first message's payload and the words of its tag; no words where no message is left.
-fn heading_line(alloc: Global, ctx: &Ctx<'_>) -> Result<Words, OutOfMemory>
-    ensures { IfOk result (λ line. line ≡ heading_line (heading (first_message ctx.now.left))) }
+/// Leaves nothing in `line` but the length of the first message's payload and the words of its tag; no words where no message is left.
+fn read_heading(ctx: &Ctx<'_>, line: &mut Vec<u64>) -> Result<(), OutOfMemory>
+    ensures { OnOk result (line.new.items ≡ heading_line (heading (first_message ctx.now.left))) }
 {
-    let mut line = Words::new(alloc);
+    line.clear();
     let Some((len, tag)) = ctx.get_tag() else {
-        return Ok(line);
+        return Ok(());
     };
     line.push(len as u64)?;
-    for word in tag {
-        line.push(*word)?;
-    }
-    Ok(line)
+    line.extend_from_slice(tag)
 }
 
 pub(super) fn print_tag_size(ctx: &mut Ctx<'_>) -> Result<(), Exit>
     ensures { Makes ctx.old (call_plan ctx.old PrintTagSize) ctx.new result }
 {
-    ctx.print(&[ctx.tag_size()])?;
-    Ok(())
+    made(ctx.print(&[ctx.tag_size()]))
 }

@@ -5,44 +5,42 @@ ghost use Rattle.bsp_scripts.specs.Calls.{call_plan};
 ghost use Rattle.bsp_scripts.specs.Inside.Making.{Makes};
 
 use crate::Operand;
-use crate::exit::Exit;
+use crate::exit::{Exit, made};
 use crate::operand::read_all;
+use bsp_model::Seq;
 use bsp_step::Ctx;
-use std::alloc::Global;
 
 pub(super) fn put(
-    alloc: Global,
     ctx: &mut Ctx<'_>,
-    pid: Operand,
-    words: &[Operand],
-    area: Operand,
-    offset: Operand,
+    pid: &Operand,
+    words: &Seq<Operand>,
+    area: &Operand,
+    offset: &Operand,
+    read: &mut Vec<u64>,
 ) -> Result<(), Exit>
-    ensures { Makes ctx.old (call_plan ctx.old (Put pid words.now area offset)) ctx.new result }
+    ensures { Makes ctx.old (call_plan ctx.old (Put pid.now words.now area.now offset.now)) ctx.new result }
 {
     let pid = pid.read(ctx)?;
-    let words = read_all(alloc, ctx, words)?;
+    read_all(ctx, words, read)?;
     let area = area.read(ctx)?;
     let offset = offset.read(ctx)?;
-    ctx.put(pid, words.as_slice(), area, offset)?;
-    Ok(())
+    made(ctx.put(pid, read.as_slice(), area, offset))
 }
 
 pub(super) fn get(
     ctx: &mut Ctx<'_>,
-    pid: Operand,
-    area: Operand,
-    offset: Operand,
-    into: Operand,
-    len: Operand,
+    pid: &Operand,
+    area: &Operand,
+    offset: &Operand,
+    into: &Operand,
+    len: &Operand,
 ) -> Result<(), Exit>
-    ensures { Makes ctx.old (call_plan ctx.old (Get pid area offset into len)) ctx.new result }
+    ensures { Makes ctx.old (call_plan ctx.old (Get pid.now area.now offset.now into.now len.now)) ctx.new result }
 {
     let pid = pid.read(ctx)?;
     let area = area.read(ctx)?;
     let offset = offset.read(ctx)?;
     let into = into.read(ctx)?;
     let len = len.read(ctx)?;
-    ctx.get(pid, area, offset, into, len)?;
-    Ok(())
+    made(ctx.get(pid, area, offset, into, len))
 }

@@ -8,8 +8,8 @@ use Rattle.bsp_engine.proofs.Made.{accepted_text, refused_text}
 use Rattle.bsp_engine.proofs.Telling.{kept_before}
 use Rattle.bsp_engine.proofs.live.advance.Goals as goal
 
-pub push_accepted-requires : goal.push_accepted-requires
-push_accepted-requires g c =
+pub push_accepted-pushed-requires : goal.push_accepted-pushed-requires
+push_accepted-pushed-requires g c =
     let session = c.live.inside.session in
     let batch = c.args.batch.now in
     subst (λ (h : Run). IfSome c.live.inside.last (λ r. IsResultBefore r batch c.in-Ok.update h)) (sym c.history-history.ensures.history)
@@ -18,8 +18,8 @@ push_accepted-requires g c =
 
 pub returns-in-Ok-clause-text : goal.returns-in-Ok-clause-text
 returns-in-Ok-clause-text g c =
-    accepted_text g.P.Program.acts g.P.Program.ending g.P.Program.looks c.args.places _ c.args.live.now c.args.batch.now c.live.inside.last c.in-Ok.update c.live.inside.session.history c.apply.new.session.history c.history-history.result.now c.push_accepted.result _ _
-    c.live.view_is refl c.live.invariant c.in-Ok.ensures.runs c.history-history.ensures.history c.push_accepted.ensures.text
+    accepted_text g.P.Program.acts g.P.Program.ending g.P.Program.looks c.args.places _ c.args.live.now c.args.batch.now c.live.inside.last c.in-Ok.update c.live.inside.session.history c.apply.new.session.history c.history-history.result.now c.push_accepted-pushed.result _ _
+    c.live.view_is refl c.live.invariant c.in-Ok.ensures.runs c.history-history.ensures.history c.push_accepted-pushed.ensures.text
 
 pub returns-in-Err-Refused-clause-text : goal.returns-in-Err-Refused-clause-text
 returns-in-Err-Refused-clause-text g c =

@@ -5,4 +5,4 @@ use Rattle.bsp_scripts.proofs.operand.read_all.Given as goal
 
 -- the words that were read, followed by those that are left to read, are all words
 abbrev pub invariant-loop-operand : goal.invariant-loop-operand
-invariant-loop-operand l = words_of l.ctx l.operands ≡ words_before l.words (words_of l.ctx (drop l.operand-index l.operands))
+invariant-loop-operand l = words_of l.ctx l.operands ≡ words_before l.words.items (words_of l.ctx (drop l.operand-index l.operands))

@@ -1,5 +1,0 @@
-use Rattle.bsp_engine.proofs.LiveLaws.{undo-batch}
-use Rattle.bsp_engine.proofs.answers.undo_takes_back.Goals as goal
-
-pub returns : goal.returns
-returns g c = undo-batch

@@ -1,5 +1,0 @@
-use Rattle.bsp_engine.proofs.Untouched.{untouched_stay}
-use Rattle.bsp_engine.proofs.changes.untouched_processes_stay.Goals as goal
-
-pub returns : goal.returns
-returns c = untouched_stay

@@ -1,7 +1,0 @@
-use Rattle.std.proofs.Common.{◌≡◌, ◌++◌, take}
-use Rattle.bsp_engine.specs.Lines.{numbered}
-use Rattle.bsp_engine.specs.Text.{print_lines}
-use Rattle.bsp_engine.proofs.reporting.push_all_lines.Given as goal
-
-abbrev pub invariant-loop-pid : goal.invariant-loop-pid
-invariant-loop-pid l = l.text.items ≡ l.initial.text.items ++ numbered print_lines 0 (take l.pid l.lines)

@@ -1,0 +1,123 @@
+//! Who answers the lines of a live session, one after the other.
+
+ghost use Rattle.std.specs.Prelude.{◌≡◌, ◌∷◌, ◌++◌, List, ℕ, IfErr, IfOk, IsOkAnd, OnOk, Err, false};
+ghost use Rattle.bsp_engine.specs.Asked.{asked_of, is_document};
+ghost use Rattle.bsp_engine.specs.Document.{WithOwnText};
+ghost use Rattle.bsp_engine.specs.JobOf.{job_of};
+ghost use Rattle.bsp_engine.specs.Refusal.{IfFault};
+ghost use Rattle.bsp_engine.specs.Inside.DueAt.{due_at, due_from};
+ghost use Rattle.bsp_engine.specs.Inside.LiveReplies.{live_replying};
+ghost use Rattle.bsp_engine.specs.Live.{after, answer_block, answer_to, due_of, last_result};
+
+use crate::asked::{asked_of, is_document};
+use crate::catalogue::Catalogue;
+use crate::crew::Crew;
+use crate::errors::JobError;
+use crate::jobs::read_job_and_keys;
+use crate::lines::push_line;
+use crate::live::{Live, begin, push_answer};
+use crate::options::Detail;
+use crate::session_document::put_document;
+use bsp_model::OutOfMemory;
+use bsp_pool::Gate;
+use bsp_run::DEPTH_OF_RUNS;
+use bsp_step::Program;
+use std::alloc::AllocError;
+use std::thread::Threads;
+
+/// Who answers the lines of a live session.
+#[derive(Drop)]
+pub struct Attendant<P: Program> {
+    pub places: bool,
+    pub live: Live<P>,
+    /// The number of the last block.
+    pub last: u64,
+    /// The text of the keys of the document that are the catalogue's own.
+    pub own: Vec<u8>,
+    /// What is to be said next.
+    pub text: Vec<u8>,
+}
+
+/// Who answers the lines of a document's session. The first text is to be said next.
+pub fn attendant_of<C: Catalogue, R: Threads + Sync, G: Gate>(
+    crew: &Crew<'_, R, G>,
+    detail: Detail,
+    bytes: &[u8],
+) -> Result<Attendant<C::Program>, JobError>
+    ensures ok { IfOk result (λ attendant. IsOkAnd (job_of C.meaning bytes.now) (λ job. WithOwnText bytes.now (λ own.
+        due_from C.Program.acts C.Program.ending C.Program.looks attendant
+        ≡ due_of C.Program.acts C.Program.ending (live_replying C.Program.acts C.Program.ending C.Program.looks) detail own job))) }
+    ensures fault { IfErr result (λ e. IfFault e (λ f. job_of C.meaning bytes.now ≡ Err f)) }
+{
+    let (job, own) = read_job_and_keys::<C>(crew.alloc, bytes)?;
+    let last = job.batches.len() as u64;
+    let mut text = Vec::new(crew.alloc);
+    let live = begin(crew, detail, job, &mut text, b"ready\n")?;
+    Ok(Attendant {
+        places: detail.places,
+        live,
+        last,
+        own,
+        text,
+    })
+}
+
+/// Does what a line asks, and writes its block with the number of the last block.
+fn write_block<P: Program + Drop, R: Threads + Sync, G: Gate>(
+    crew: &Crew<'_, R, G>,
+    attendant: &mut Attendant<P>,
+    line: &[u8],
+) -> Result<(), OutOfMemory>
+    ensures rest { OnOk result (attendant.new ≡ record attendant.old { live = after attendant.old.live (asked_of line.now); text = attendant.new.text }) }
+    ensures text { OnOk result (attendant.new.text.items ≡ answer_block attendant.old.places attendant.old.last (last_result P.acts P.ending attendant.old.live)
+        (answer_to (live_replying P.acts P.ending P.looks) attendant.old.live (asked_of line.now))) }
+{
+    attendant.text.clear();
+    let number = attendant.last;
+    crew.gate.enter(DEPTH_OF_RUNS, number);
+    push_line(&mut attendant.text, "run", &[number])?;
+    let asked = asked_of(crew.alloc, line)?;
+    let places = attendant.places;
+    push_answer(
+        crew,
+        places,
+        &mut attendant.live,
+        &mut attendant.text,
+        asked,
+    )
+}
+
+/// Writes the answer to a line that asks for no document, as the block with the next number.
+fn write_next_block<P: Program + Drop, R: Threads + Sync, G: Gate>(
+    crew: &Crew<'_, R, G>,
+    attendant: &mut Attendant<P>,
+    line: &[u8],
+) -> Result<(), OutOfMemory>
+    requires { is_document line.now ≡ false }
+    ensures { OnOk result ((later : List (List ℕ)) →
+        due_at P.acts P.ending P.looks attendant.old (line.now ∷ later) ≡ due_from P.acts P.ending P.looks attendant.new later) }
+{
+    // Where the numbers run out there is no room for a block either.
+    let Some(number) = attendant.last.checked_add(1) else {
+        return Err(AllocError);
+    };
+    attendant.last = number;
+    write_block(crew, attendant, line)
+}
+
+/// Writes the answer to a line, which has no LF.
+pub fn respond<P: Program + Drop, R: Threads + Sync, G: Gate>(
+    crew: &Crew<'_, R, G>,
+    attendant: &mut Attendant<P>,
+    line: &[u8],
+) -> Result<(), OutOfMemory>
+    ensures { OnOk result ((later : List (List ℕ)) →
+        due_at P.acts P.ending P.looks attendant.old (line.now ∷ later) ≡ due_from P.acts P.ending P.looks attendant.new later) }
+{
+    if !is_document(line) {
+        return write_next_block(crew, attendant, line);
+    }
+    let own = attendant.own.as_slice();
+    let input = attendant.live.input();
+    put_document(&mut attendant.text, own, input)
+}
