@@ -1,0 +1,3 @@
+pub mod SampleSort
+pub mod SampleSortFootprint
+pub mod Programs
