@@ -189,3 +189,13 @@ h_relation-of_messages half view os count all sent received =
     received-is half view os all d
     ∙ ap sum (map-agree (λ p. between (brought half view) p d) (λ p. between count p d) n 0 (λ p l h. ap (λ x. cond (p == d) 0 x) (received p d (omega arith) (omega arith))))) in
     λ i. max (largest (from i)) (largest (to i))
+
+-- the same words move
+pub most_moved-agree : (n : ℕ) (count other : ℕ → ℕ → ℕ) → ((p d : ℕ) → p < n → d < n → count p d ≡ other p d) → most_moved n count ≡ most_moved n other
+most_moved-agree n count other same =
+    let pair : (p d : ℕ) → p < n → d < n → between count p d ≡ between other p d = λ p d l m. ap (λ x. cond (p == d) 0 x) (same p d l m) in
+    let from : each_below n (λ p. sum (each_below n (λ d. between count p d))) ≡ each_below n (λ p. sum (each_below n (λ d. between other p d))) =
+    map-agree (λ p. sum (each_below n (λ d. between count p d))) (λ p. sum (each_below n (λ d. between other p d))) n 0 (λ p _ l. ap sum (map-agree (λ d. between count p d) (λ d. between other p d) n 0 (λ d _ m. pair p d (omega arith) (omega arith)))) in
+    let to : each_below n (λ d. sum (each_below n (λ p. between count p d))) ≡ each_below n (λ d. sum (each_below n (λ p. between other p d))) =
+    map-agree (λ d. sum (each_below n (λ p. between count p d))) (λ d. sum (each_below n (λ p. between other p d))) n 0 (λ d _ m. ap sum (map-agree (λ p. between count p d) (λ p. between other p d) n 0 (λ p _ l. pair p d (omega arith) (omega arith)))) in
+    λ i. max (largest (from i)) (largest (to i))
