@@ -51,7 +51,7 @@ block-split words size k =
     ∙ sym (drop_split words (k * size) ((k + 1) * size) (omega arith))
 
 -- n blocks and what lies past them
-blocks-split : (words : List ℕ) (size k n : ℕ) → flat_map (block words size) (range_with_len k n) ++ drop ((k + n) * size) words ≡ drop (k * size) words
+pub blocks-split : (words : List ℕ) (size k n : ℕ) → flat_map (block words size) (range_with_len k n) ++ drop ((k + n) * size) words ≡ drop (k * size) words
 blocks-split words size k zero = ap (λ j. drop (j * size) words) (omega arith)
 blocks-split words size k (suc n) =
     let later = flat_map (block words size) (range_with_len (k + 1) n) in

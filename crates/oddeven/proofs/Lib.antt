@@ -1,3 +1,6 @@
 pub mod Rounds
 pub mod Reaching
 pub mod Blocks
+pub mod Turns
+pub mod Supersteps
+pub mod OrderRun
