@@ -30,10 +30,12 @@ def bytes_of(path):
         return file.read()
 
 
-def examples():
-    """The documents of examples/ with their reports."""
+def examples(crate):
+    """The documents of examples/ for the program of a crate, with their reports: one with the name of a crate is for that one's, and each other is for
+    that of bsp_tool."""
     folder = f"{ROOT}/examples"
     names = sorted(name[: -len(".toml")] for name in os.listdir(folder) if name.endswith(".toml"))
+    names = [name for name in names if crate == (name if os.path.isdir(f"{ROOT}/crates/{name}") else EXAMPLES_OF)]
     return [Case(f"examples/{name}", f"{folder}/{name}.toml", bytes_of(f"{folder}/{name}.txt")) for name in names]
 
 

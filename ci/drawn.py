@@ -62,6 +62,19 @@ def draw_oddeven(draw):
     return "oddeven", memories, [[rounds + draw.happens(0.02)] for _ in range(nprocs)]
 
 
+def draw_samplesort(draw):
+    """Blocks of any lengths, of few or of many different words, with room behind them or without. Now and then all words are equal, or there are many."""
+    nprocs, most = draw.randint(1, 7), draw.choice((3, 8, 20, 100 if draw.happens(0.2) else 20))
+    highest = draw.choice((1, 5, 1000, LARGEST))
+    lengths = [0 if draw.happens(0.15) else draw.randrange(most + 1) for _ in range(nprocs)]
+    memories = [[draw.randrange(highest) for _ in range(length)] for length in lengths]
+    has_room = draw.happens(0.5)
+    args = [[len(memory) + draw.happens(0.03)] if has_room or draw.happens(0.03) else [] for memory in memories]
+    if has_room:
+        memories = [memory + [0] * draw.randrange(2 * most) for memory in memories]
+    return "samplesort", memories, args
+
+
 def draw_collective(draw):
     """A collective call, and memories that mostly have room for what arrives."""
     program = draw.choice(("broadcast", "broadcast_in_two", "scatter", "gather", "all_gather", "exchange", "reduce", "all_reduce", "scan"))
@@ -99,7 +112,7 @@ def draw_batch(draw, memories, args):
     return [draw_edit(draw, memories, args) for _ in range(draw.choice((0, 1, 1, 1, 2, 3)))]
 
 
-DRAWN = {"bsp_tool": draw_bundled, "heat": draw_heat, "oddeven": draw_oddeven, "collectives": draw_collective, "bsp_script": draw_script}
+DRAWN = {"bsp_tool": draw_bundled, "heat": draw_heat, "oddeven": draw_oddeven, "samplesort": draw_samplesort, "collectives": draw_collective, "bsp_script": draw_script}
 
 
 def draw_values(draw, tool):

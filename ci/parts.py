@@ -11,16 +11,16 @@ class Part:
 
 
 def live(count):
-    """So many talks with each of five programs; of each also one with long lines, and the starts that fail."""
-    return Part(("ci/live", str(count), "--changes"), 5 * (count + 2))
+    """So many talks with each of six programs; of each also one with long lines, and the starts that fail."""
+    return Part(("ci/live", str(count), "--changes"), 6 * (count + 2))
 
 
-DOCUMENTS = Part(("ci/documents",), 6_600)
+DOCUMENTS = Part(("ci/documents",), 6_800)
 FIRST = (Part(("ci/test_gate",), 84), Part(("ci/statement",), 2), Part(("ci/python",), 58))  # before anything is proved
-PROOFS = Part(("rt", "ci"), 102)  # 22 crates and 80 must-fail edits
+PROOFS = Part(("rt", "ci"), 103)  # 23 crates and 80 must-fail edits
 LAST = (
     DOCUMENTS,
-    Part(("ci/random", "300"), 1_500),
+    Part(("ci/random", "300"), 1_800),
     live(40),
     Part(("ci/sessions",), 6),
     Part(("ci/progress",), 3),

@@ -11,6 +11,7 @@ from modelled.runs import Input
 from modelled.scripts import Script, is_script
 from modelled.sessions import HIGHEST_PRICE, MOST_SUPERSTEPS, Edit
 from modelled.shapes import is_array_of, is_integer, is_string
+from modelled.sorts import SampleSort
 from modelled.turns import Program
 
 MOST_PROCESSES = 64
@@ -100,6 +101,7 @@ TOOLS = {
     "bsp_tool": Catalogue("program", is_string, BUNDLED),
     "heat": Catalogue("program", is_string, {"heat": Heat()}),
     "oddeven": Catalogue("program", is_string, {"oddeven": OddEven()}),
+    "samplesort": Catalogue("program", is_string, {"samplesort": SampleSort()}),
     "collectives": Catalogue("program", is_string, COLLECTIVES),
     "bsp_script": Catalogue("script", is_script),
 }

@@ -35,11 +35,17 @@ def report_of(rows: list[tuple[int, int, int]], kind: str = "halted", **more: ob
     return Report(0, Status(kind), {}, {0: (1,), 1: ()}, {0: (), 1: ()}, costs, total, **more)  # type: ignore[arg-type]
 
 
+def tool_of(path: str) -> str:
+    """The tool of a stored report: its folder has its name, but for an example, which is of the tool of its own name or else of bsp_tool."""
+    folder, name = os.path.basename(os.path.dirname(path)), os.path.basename(path).removesuffix(".txt")
+    return folder if folder != "examples" else name if name in TOOLS else "bsp_tool"
+
+
 class Bars(unittest.TestCase):
     def test_stored_reports(self) -> None:
         """The parts are those of the prices, and the bars as high as the costs."""
         for path, text, document in stored():
-            tool = os.path.basename(os.path.dirname(path)).replace("examples", "bsp_tool")
+            tool = tool_of(path)
             given = job_of(TOOLS[tool], document.encode()).input
             first = read_report(text)[0]
             with self.subTest(path.removeprefix(ROOT)):

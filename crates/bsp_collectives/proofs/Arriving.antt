@@ -4,18 +4,20 @@ use Rattle.std.specs.List.{flat_map, range_with_len}
 use Rattle.std.proofs.lemmas.Bool.{cases_lt}
 use Rattle.std.proofs.lemmas.Bool.Decides.{nat_tests}
 use Rattle.std.proofs.lemmas.List.Concat.{flat_map_single}
+use Rattle.bsp_model.specs.declared.request.Message.{Message}
 use Rattle.bsp_model.specs.declared.request.Send.{Send}
 use Rattle.bsp_step.specs.Act.{Act}
 use Rattle.bsp_step.specs.OutcomeParts.{OutcomeParts}
 use Rattle.bsp_step.specs.ViewParts.{ViewParts}
+use Rattle.bsp_deliver.specs.Delivery.{delivery_parts, next_queue}
 use Rattle.bsp_collectives.specs.declared.operation.Operation.{Operation as Operations}
 use Rattle.bsp_collectives.specs.Messages.{joined, moves}
 use Rattle.bsp_collectives.specs.Operation.{combined}
-use Rattle.bsp_collectives.specs.Halves.{all_gather, all_reduce, block, block_size, broadcast, exchange, forward, gather, reduce, scan, scatter, spread}
-use Rattle.bsp_collectives.specs.Arrivals.{AllMake, arrived, sends_made}
+use Rattle.bsp_collectives.specs.Halves.{all_gather, all_reduce, block, block_size, broadcast, exchange, exchange_parts, forward, gather, part, reduce, scan, scatter, spread}
+use Rattle.bsp_collectives.specs.Arrivals.{AllMake, arrived, arrived_apart, sends_made}
 use Rattle.bsp_collectives.proofs.Joining.{blocks-joined, flat_map-agree, flat_map-first, flat_map-none, flat_map-one}
-use Rattle.bsp_collectives.proofs.MessagesSent.{sends_made-append, sends_made-moves, words_to, words_to-one, words_to-other}
-use Rattle.bsp_collectives.proofs.MessagesArrived.{arrived-is}
+use Rattle.bsp_collectives.proofs.MessagesSent.{sends_made-append, sends_made-moves, read_to, read_to-one, words_to, words_to-one, words_to-other}
+use Rattle.bsp_collectives.proofs.MessagesArrived.{arrived-read}
 
 -- The words that the half of process p sends to process d.
 abbrev sent : (ℕ → ViewParts → List Act) → (ℕ → ViewParts) → ℕ → ℕ → List ℕ
@@ -25,7 +27,7 @@ sent half view d p = words_to d (sends_made (half p (view p)))
 pub arrived-sent : (half : ℕ → ViewParts → List Act) (view : ℕ → ViewParts) (os : List OutcomeParts) (d : ℕ) → AllMake half view os
     → arrived os d ≡ flat_map (sent half view d) (range_with_len 0 (length os))
 arrived-sent half view os d all =
-    arrived-is os d ∙ flat_map-agree _ (sent half view d) 0 (length os) (λ p low high. ap (λ (ms : List Send). words_to d ms) (all.sent p (omega arith)))
+    arrived-read (λ (m : Message). m.words) os d ∙ flat_map-agree _ (sent half view d) 0 (length os) (λ p low high. ap (λ (ms : List Send). words_to d ms) (all.sent p (omega arith)))
 
 -- where all send to d
 from_all : (half : ℕ → ViewParts → List Act) (view : ℕ → ViewParts) (os : List OutcomeParts) (d : ℕ) (words : ℕ → List ℕ) → AllMake half view os
@@ -50,6 +52,12 @@ pub exchange-arrives : (words : ℕ → List ℕ) (size : ℕ → ℕ) (view : �
     → arrived os d ≡ flat_map (λ p. block (words p) (size p) d) (range_with_len 0 (length os))
 exchange-arrives words size view os d all known =
     from_all _ view os d _ all (λ p l. words_to-one (view p) (block (words p) (size p)) d 0 (view p).nprocs (omega arith) (omega (arith, all.nprocs p l)))
+
+-- Parts of any lengths: the part d of all processes, in the order of their numbers.
+pub exchange_parts-arrives : (words lengths : ℕ → List ℕ) (view : ℕ → ViewParts) (os : List OutcomeParts) (d : ℕ) → AllMake (λ p v. exchange_parts v (words p) (lengths p)) view os → d < length os
+    → arrived os d ≡ flat_map (λ p. part (words p) (lengths p) d) (range_with_len 0 (length os))
+exchange_parts-arrives words lengths view os d all known =
+    from_all _ view os d _ all (λ p l. words_to-one (view p) (part (words p) (lengths p)) d 0 (view p).nprocs (omega arith) (omega (arith, all.nprocs p l)))
 
 -- Gather: the words of all processes at the root, in the order of their numbers,
 pub gather-arrives : (root : ℕ) (words : ℕ → List ℕ) (view : ℕ → ViewParts) (os : List OutcomeParts) → AllMake (λ p v. gather v root (words p)) view os
@@ -136,3 +144,31 @@ scan-arrives operation word view os d all known =
     let l : p < n = omega arith in
     words_to-one (view p) (λ _. word p ∷ []) d (view p).pid _ (omega (arith, all.pid p l)) (omega (arith, all.pid p l, all.nprocs p l))) in
     ap (combined operation) (arrived-sent half view os d all ∙ later ∙ upto ∙ flat_map_single word (range_with_len 0 (d + 1)))
+
+-- The words of each message, where each process sends d one.
+apart_from_all : (half : ℕ → ViewParts → List Act) (view : ℕ → ViewParts) (os : List OutcomeParts) (d : ℕ) (words : ℕ → List ℕ) → AllMake half view os
+    → ((p : ℕ) → p < length os → read_to (λ (m : Message). m.words ∷ []) d (sends_made (half p (view p))) ≡ words p ∷ []) → arrived_apart os d ≡ map words (range_with_len 0 (length os))
+apart_from_all half view os d words all each =
+    let read : Message → List (List ℕ) = λ m. m.words ∷ [] in
+    sym (flat_map_single (λ (m : Message). m.words) (next_queue (delivery_parts os d)))
+    ∙ arrived-read read os d
+    ∙ flat_map-agree _ (λ p. words p ∷ []) 0 (length os) (λ p low high. ap (read_to read d) (all.sent p (omega arith)) ∙ each p (omega arith))
+    ∙ flat_map_single words (range_with_len 0 (length os))
+
+-- Gather: those of all processes, at the root.
+pub gather-arrives_apart : (root : ℕ) (words : ℕ → List ℕ) (view : ℕ → ViewParts) (os : List OutcomeParts) → AllMake (λ p v. gather v root (words p)) view os
+    → arrived_apart os root ≡ map words (range_with_len 0 (length os))
+gather-arrives_apart root words view os all =
+    apart_from_all _ view os root words all (λ p l. read_to-one (λ (m : Message). m.words ∷ []) (view p) (λ _. words p) root root 1 (omega arith) (omega arith))
+
+-- All-gather: the same at each process.
+pub all_gather-arrives_apart : (words : ℕ → List ℕ) (view : ℕ → ViewParts) (os : List OutcomeParts) (d : ℕ) → AllMake (λ p v. all_gather v (words p)) view os → d < length os
+    → arrived_apart os d ≡ map words (range_with_len 0 (length os))
+all_gather-arrives_apart words view os d all known =
+    apart_from_all _ view os d words all (λ p l. read_to-one (λ (m : Message). m.words ∷ []) (view p) (λ _. words p) d 0 (view p).nprocs (omega arith) (omega (arith, all.nprocs p l)))
+
+-- Parts of any lengths: the part d of all.
+pub exchange_parts-arrives_apart : (words lengths : ℕ → List ℕ) (view : ℕ → ViewParts) (os : List OutcomeParts) (d : ℕ) → AllMake (λ p v. exchange_parts v (words p) (lengths p)) view os → d < length os
+    → arrived_apart os d ≡ map (λ p. part (words p) (lengths p) d) (range_with_len 0 (length os))
+exchange_parts-arrives_apart words lengths view os d all known =
+    apart_from_all _ view os d (λ p. part (words p) (lengths p) d) all (λ p l. read_to-one (λ (m : Message). m.words ∷ []) (view p) (part (words p) (lengths p)) d 0 (view p).nprocs (omega arith) (omega (arith, all.nprocs p l)))

@@ -1,11 +1,13 @@
 -- Lists joined over numbers in order.
-use Rattle.std.proofs.Common.{◌≡◌, ◌≤◌, ◌<◌, ◌+◌, ◌-◌, ◌*◌, ◌∙◌, ◌++◌, ℕ, zero, suc, List, [], length, take, drop, ap, sym, refl, append_assoc, arith, inl, inr}
+use Rattle.std.proofs.Common.{◌≡◌, ◌≤◌, ◌<◌, ◌+◌, ◌-◌, ◌*◌, ◌∙◌, ◌++◌, ℕ, zero, suc, List, [], length, map, min, take, drop, All, ap, sym, refl, append_assoc, arith, inl, inr}
 use Rattle.std.proofs.Math.Nat.{div-add-mod, mod-lt}
 use Rattle.std.specs.List.{flat_map, range_with_len}
 use Rattle.std.proofs.lemmas.Bool.{cases_lt}
-use Rattle.std.proofs.lemmas.List.{append-nil, drop_all}
-use Rattle.std.proofs.lemmas.List.Folds.{drop_split}
-use Rattle.bsp_collectives.specs.Halves.{block, block_size}
+use Rattle.std.proofs.lemmas.List.{append-nil, drop_all, length-take}
+use Rattle.std.proofs.lemmas.List.FromFn.{get_or-map-range_with_len, length-map-range_with_len}
+use Rattle.std.proofs.lemmas.List.Folds.{drop_split, flat_map-map}
+use Rattle.bsp_model.specs.Limits.{most_line_words}
+use Rattle.bsp_collectives.specs.Halves.{block, block_size, lines}
 
 -- two functions that agree on the numbers
 pub flat_map-agree : {X : Type 0} (f g : ℕ → List X) (k n : ℕ) → ((p : ℕ) → k ≤ p → p < k + n → f p ≡ g p) → flat_map f (range_with_len k n) ≡ flat_map g (range_with_len k n)
@@ -49,7 +51,7 @@ block-split words size k =
     ∙ sym (drop_split words (k * size) ((k + 1) * size) (omega arith))
 
 -- n blocks and what lies past them
-blocks-split : (words : List ℕ) (size k n : ℕ) → flat_map (block words size) (range_with_len k n) ++ drop ((k + n) * size) words ≡ drop (k * size) words
+pub blocks-split : (words : List ℕ) (size k n : ℕ) → flat_map (block words size) (range_with_len k n) ++ drop ((k + n) * size) words ≡ drop (k * size) words
 blocks-split words size k zero = ap (λ j. drop (j * size) words) (omega arith)
 blocks-split words size k (suc n) =
     let later = flat_map (block words size) (range_with_len (k + 1) n) in
@@ -71,3 +73,29 @@ blocks-joined words n some =
     let start : 0 * size ≡ 0 = omega arith in
     sym (append-nil all) ∙ ap (λ xs. all ++ xs) (sym (drop_all ((0 + n) * size) words fits))
     ∙ blocks-split words size 0 n ∙ ap (λ j. drop j words) start
+
+-- The words of the lines, one line after the other, are the words.
+pub lines-joined : (words : List ℕ) → flat_map (λ line. line) (lines words) ≡ words
+lines-joined words =
+    let size : ℕ = most_line_words in
+    let number : ℕ = block_size (length words) size in
+    let all : List ℕ = flat_map (block words size) (range_with_len 0 number) in
+    let fits : length words ≤ (0 + number) * size = omega (arith, enough (length words) size (omega arith)) in
+    let start : 0 * size ≡ 0 = omega arith in
+    flat_map-map (λ (line : List ℕ). line) (block words size) (range_with_len 0 number)
+    ∙ sym (append-nil all) ∙ ap (λ xs. all ++ xs) (sym (drop_all ((0 + number) * size) words fits))
+    ∙ blocks-split words size 0 number ∙ ap (λ j. drop j words) start
+
+-- There are not too many, where the words fit,
+pub lines-few : (words : List ℕ) → length words ≤ 64 * most_line_words → length (lines words) ≤ 64
+lines-few words fits =
+    let count : length (lines words) ≡ block_size (length words) most_line_words = length-map-range_with_len (block words most_line_words) 0 (block_size (length words) most_line_words) in
+    omega (arith, count, div-add-mod (length words + (most_line_words - 1)) most_line_words)
+
+-- and none is too long.
+pub lines-short : (words : List ℕ) → All (λ line. length line ≤ most_line_words) (lines words)
+lines-short words k d l =
+    let number : ℕ = block_size (length words) most_line_words in
+    let known : k < number = omega (arith, length-map-range_with_len (block words most_line_words) 0 number) in
+    let is = get_or-map-range_with_len (block words most_line_words) 0 number k k d known (omega arith) in
+    rw is (omega (arith, length-take most_line_words (drop (k * most_line_words) words)))

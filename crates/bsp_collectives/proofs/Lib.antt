@@ -2,3 +2,6 @@ pub mod Joining
 pub mod MessagesSent
 pub mod MessagesArrived
 pub mod Arriving
+pub mod Parts
+pub mod MessageCosts
+pub mod HalfCosts

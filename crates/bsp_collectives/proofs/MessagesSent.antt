@@ -14,7 +14,8 @@ use Rattle.bsp_step.specs.Perform.{done, first_fault, perform, perform_all, perf
 use Rattle.bsp_step.specs.Turn.{abort_of, turn_of}
 use Rattle.bsp_step.specs.ViewParts.{ViewParts}
 use Rattle.bsp_step.proofs.Performing.{perform_all-kept}
-use Rattle.bsp_collectives.specs.Messages.{moves, sends}
+use Rattle.bsp_deliver.specs.Delivery.{message_of}
+use Rattle.bsp_collectives.specs.Messages.{blank_tag, moves, sends}
 use Rattle.bsp_collectives.specs.Arrivals.{sends_made}
 
 performed-done : (f r : Option Fault) (c d : Context) → c.fault ≡ f → (performed f r c d).fault ≡ None → performed f r c d ≡ d
@@ -79,32 +80,47 @@ none-first (Some f) g none = none
 pub turn-sends_made : (acts : ViewParts → List Act) (ending : ViewParts → End) (v : ViewParts) → (turn_of acts ending v).fault ≡ None → (turn_of acts ending v).sends ≡ sends_made (acts v)
 turn-sends_made acts ending v faultless = perform_all-sends_made (fresh v) (acts v) (none-first (perform_all (fresh v) (acts v)).fault (abort_of (ending v)) faultless)
 
--- the words of the messages to process d, one message after the other
+-- what is read of the messages to process d, one message after the other
+abbrev pub read_to : {Y : Type 0} → (Message → List Y) → ℕ → List Send → List Y
+read_to read d ms = flat_map (λ (m : Send). read (message_of m)) (filter (λ (m : Send). m.target == d) ms)
+
+-- their words
 abbrev pub words_to : ℕ → List Send → List ℕ
-words_to d ms = flat_map (λ (m : Send). m.words) (filter (λ (m : Send). m.target == d) ms)
+words_to d ms = read_to (λ (m : Message). m.words) d ms
 
-first-other : (d : ℕ) (m : Send) (ms : List Send) → (m.target == d) ≡ false → words_to d (m ∷ ms) ≡ words_to d ms
-first-other d m ms other = ap (λ b. flat_map (λ (x : Send). x.words) (cond b (m ∷ filter (λ (x : Send). x.target == d) ms) (filter (λ (x : Send). x.target == d) ms))) other
+pub first-other : {Y : Type 0} (read : Message → List Y) (d : ℕ) (m : Send) (ms : List Send) → (m.target == d) ≡ false → read_to read d (m ∷ ms) ≡ read_to read d ms
+first-other read d m ms other =
+    ap (λ b. flat_map (λ (x : Send). read (message_of x)) (cond b (m ∷ filter (λ (x : Send). x.target == d) ms) (filter (λ (x : Send). x.target == d) ms))) other
 
-first-own : (d : ℕ) (m : Send) (ms : List Send) → (m.target == d) ≡ true → words_to d (m ∷ ms) ≡ m.words ++ words_to d ms
-first-own d m ms own = ap (λ b. flat_map (λ (x : Send). x.words) (cond b (m ∷ filter (λ (x : Send). x.target == d) ms) (filter (λ (x : Send). x.target == d) ms))) own
+pub first-own : {Y : Type 0} (read : Message → List Y) (d : ℕ) (m : Send) (ms : List Send) → (m.target == d) ≡ true → read_to read d (m ∷ ms) ≡ read (message_of m) ++ read_to read d ms
+first-own read d m ms own =
+    ap (λ b. flat_map (λ (x : Send). read (message_of x)) (cond b (m ∷ filter (λ (x : Send). x.target == d) ms) (filter (λ (x : Send). x.target == d) ms))) own
 
 -- Of messages to n processes, from k on, none goes to another process,
-pub words_to-other : (v : ViewParts) (words : ℕ → List ℕ) (d k n : ℕ) → (d < k) ⊎ (k + n ≤ d) → words_to d (sends_made (sends v words (range_with_len k n))) ≡ []
-words_to-other v words d k zero outside = refl
-words_to-other v words d k (suc n) outside =
-    first-other d _ (sends_made (sends v words (range_with_len (k + 1) n))) (grind (arith, nat_tests))
-    ∙ words_to-other v words d (k + 1) n (grind arith)
+pub read_to-other : {Y : Type 0} (read : Message → List Y) (v : ViewParts) (words : ℕ → List ℕ) (d k n : ℕ) → (d < k) ⊎ (k + n ≤ d) → read_to read d (sends_made (sends v words (range_with_len k n))) ≡ []
+read_to-other read v words d k zero outside = refl
+read_to-other read v words d k (suc n) outside =
+    first-other read d _ (sends_made (sends v words (range_with_len (k + 1) n))) (grind (arith, nat_tests))
+    ∙ read_to-other read v words d (k + 1) n (grind arith)
 
 -- and one to each of these.
-pub words_to-one : (v : ViewParts) (words : ℕ → List ℕ) (d k n : ℕ) → k ≤ d → d < k + n → words_to d (sends_made (sends v words (range_with_len k n))) ≡ words d
-words_to-one v words d k zero low high = absurd (omega arith)
-words_to-one v words d k (suc n) low high =
+pub read_to-one : {Y : Type 0} (read : Message → List Y) (v : ViewParts) (words : ℕ → List ℕ) (d k n : ℕ) → k ≤ d → d < k + n
+    → read_to read d (sends_made (sends v words (range_with_len k n))) ≡ read (record { tag = blank_tag v; words = words d })
+read_to-one read v words d k zero low high = absurd (omega arith)
+read_to-one read v words d k (suc n) low high =
     elim (cases_lt k d) [
-      | inl below ↦ first-other d _ (sends_made (sends v words (range_with_len (k + 1) n))) (grind (arith, nat_tests)) ∙ words_to-one v words d (k + 1) n (omega arith) (omega arith)
+      | inl below ↦
+          first-other read d _ (sends_made (sends v words (range_with_len (k + 1) n))) (grind (arith, nat_tests))
+          ∙ read_to-one read v words d (k + 1) n (omega arith) (omega arith)
       | inr past ↦
           let here : k ≡ d = omega arith in
-          first-own d _ (sends_made (sends v words (range_with_len (k + 1) n))) (grind (arith, nat_tests))
-          ∙ ap (λ xs. words k ++ xs) (words_to-other v words d (k + 1) n (inl (omega arith)))
-          ∙ append-nil (words k) ∙ ap words here
+          first-own read d _ (sends_made (sends v words (range_with_len (k + 1) n))) (grind (arith, nat_tests))
+          ∙ ap (λ xs. read (record { tag = blank_tag v; words = words k }) ++ xs) (read_to-other read v words d (k + 1) n (inl (omega arith)))
+          ∙ append-nil (read (record { tag = blank_tag v; words = words k })) ∙ ap (λ j. read (record { tag = blank_tag v; words = words j })) here
     ]
+
+pub words_to-other : (v : ViewParts) (words : ℕ → List ℕ) (d k n : ℕ) → (d < k) ⊎ (k + n ≤ d) → words_to d (sends_made (sends v words (range_with_len k n))) ≡ []
+words_to-other v words d k n outside = read_to-other (λ (m : Message). m.words) v words d k n outside
+
+pub words_to-one : (v : ViewParts) (words : ℕ → List ℕ) (d k n : ℕ) → k ≤ d → d < k + n → words_to d (sends_made (sends v words (range_with_len k n))) ≡ words d
+words_to-one v words d k n low high = read_to-one (λ (m : Message). m.words) v words d k n low high

@@ -5,7 +5,7 @@ use Rattle.bsp_step.specs.Act.{Act, store, charge, put, get, send, move_into, pu
 use Rattle.bsp_step.specs.ViewParts.{ViewParts}
 use Rattle.bsp_step.specs.OutcomeParts.{OutcomeParts, outcome_of}
 use Rattle.bsp_deliver.specs.Delivery.{delivery_parts, next_queue}
-use Rattle.bsp_collectives.specs.Messages.{joined}
+use Rattle.bsp_collectives.specs.Messages.{apart, joined}
 
 -- the messages that acts send, where none of them faults
 abbrev pub sends_made : List Act → List Send
@@ -30,3 +30,7 @@ pub record AllMake (half : ℕ → ViewParts → List Act) (view : ℕ → ViewP
 -- The words that arrive at process d: those of all messages in its next queue.
 abbrev pub arrived : List OutcomeParts → ℕ → List ℕ
 arrived os d = joined (next_queue (delivery_parts os d))
+
+-- The words of each of these messages.
+abbrev pub arrived_apart : List OutcomeParts → ℕ → List (List ℕ)
+arrived_apart os d = apart (next_queue (delivery_parts os d))

@@ -1,7 +1,8 @@
 -- Collective calls (BSP collectives after Valiant 1990; by messages: this profile). Each first half is the acts of a process in one superstep; what came is
 -- taken in the next.
-use Rattle.std.specs.Prelude.{ℕ, List, [], ◌∷◌, ◌++◌, ◌+◌, ◌-◌, ◌*◌, ◌/◌, ◌==◌, if◌then◌else◌, take, drop, length}
+use Rattle.std.specs.Prelude.{ℕ, List, [], ◌∷◌, ◌++◌, ◌+◌, ◌-◌, ◌*◌, ◌/◌, ◌==◌, if◌then◌else◌, take, drop, length, map, slice_index, sum}
 use Rattle.std.specs.List.{range_with_len}
+use Rattle.bsp_model.specs.Limits.{most_line_words}
 use Rattle.bsp_step.specs.ViewParts.{ViewParts}
 use Rattle.bsp_step.specs.Act.{Act}
 use Rattle.bsp_model.specs.declared.request.Message.{Message}
@@ -19,6 +20,15 @@ block words size k = take size (drop (k * size) words)
 abbrev pub block_size : ℕ → ℕ → ℕ
 block_size count nprocs = (count + (nprocs - 1)) / nprocs
 
+-- the words in lines, as many in each as a line has room for
+abbrev pub lines : List ℕ → List (List ℕ)
+lines words = map (block words most_line_words) (range_with_len 0 (block_size (length words) most_line_words))
+
+-- The words in parts of these lengths, one after the other: those of part k. Where the words end, the last parts are shorter, or empty, and a part without
+-- a length is empty.
+abbrev pub part : List ℕ → List ℕ → ℕ → List ℕ
+part words lengths k = take (slice_index lengths k) (drop (sum (take k lengths)) words)
+
 -- All-gather: each process sends its words to all.
 abbrev pub all_gather : ViewParts → List ℕ → List Act
 all_gather v words = sends v (λ _. words) (everyone v)
@@ -26,6 +36,10 @@ all_gather v words = sends v (λ _. words) (everyone v)
 -- Total exchange: each process sends block d of its words to process d.
 abbrev pub exchange : ViewParts → List ℕ → ℕ → List Act
 exchange v words size = sends v (block words size) (everyone v)
+
+-- Total exchange of parts of any lengths: each process sends part d of its words to process d (MPI_Alltoallv of MPI 1.1).
+abbrev pub exchange_parts : ViewParts → List ℕ → List ℕ → List Act
+exchange_parts v words lengths = sends v (part words lengths) (everyone v)
 
 -- Gather: each process sends its words to the root.
 abbrev pub gather : ViewParts → ℕ → List ℕ → List Act

@@ -3,3 +3,4 @@ pub mod Operation
 pub mod Halves
 pub mod Arrivals
 pub mod WhatArrives
+pub mod Costs

@@ -21,6 +21,10 @@ moves queue = map (λ (m : Message). move_into (length m.words)) queue
 abbrev pub joined : List Message → List ℕ
 joined queue = flat_map (λ (m : Message). m.words) queue
 
+-- the words of each message
+abbrev pub apart : List Message → List (List ℕ)
+apart queue = map (λ (m : Message). m.words) queue
+
 -- the context with no message left, and otherwise as it is
 abbrev pub emptied : Context → Context
 emptied c = record c { left = [] }

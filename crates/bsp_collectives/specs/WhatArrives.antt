@@ -10,8 +10,8 @@ use Rattle.bsp_step.specs.OutcomeParts.{OutcomeParts}
 use Rattle.bsp_collectives.specs.declared.operation.Operation.{Operation as Operations}
 use Rattle.bsp_collectives.specs.Messages.{joined}
 use Rattle.bsp_collectives.specs.Operation.{combined}
-use Rattle.bsp_collectives.specs.Halves.{all_gather, all_reduce, block, block_size, broadcast, exchange, forward, gather, reduce, scan, scatter, spread}
-use Rattle.bsp_collectives.specs.Arrivals.{AllMake, arrived, sends_made}
+use Rattle.bsp_collectives.specs.Halves.{all_gather, all_reduce, block, block_size, broadcast, exchange, exchange_parts, forward, gather, part, reduce, scan, scatter, spread}
+use Rattle.bsp_collectives.specs.Arrivals.{AllMake, arrived, arrived_apart, sends_made}
 
 -- A turn without a fault sends the messages of its acts, and no others.
 abbrev pub TurnsSendTheirActs : Type 0
@@ -67,6 +67,30 @@ abbrev pub ExchangeArrives : Type 0
 ExchangeArrives =
     (words : ℕ → List ℕ) (size : ℕ → ℕ) (view : ℕ → ViewParts) (os : List OutcomeParts) (d : ℕ) → AllMake (λ p v. exchange v (words p) (size p)) view os → d < length os
     → arrived os d ≡ flat_map (λ p. block (words p) (size p) d) (range_with_len 0 (length os))
+
+-- Total exchange of parts of any lengths: part d of the words of all processes arrives at process d, that of process 0 first.
+abbrev pub ExchangePartsArrive : Type 0
+ExchangePartsArrive =
+    (words lengths : ℕ → List ℕ) (view : ℕ → ViewParts) (os : List OutcomeParts) (d : ℕ) → AllMake (λ p v. exchange_parts v (words p) (lengths p)) view os → d < length os
+    → arrived os d ≡ flat_map (λ p. part (words p) (lengths p) d) (range_with_len 0 (length os))
+
+-- Where the words of each message are read: in a gather those of all processes at the root,
+abbrev pub GatherArrivesApart : Type 0
+GatherArrivesApart =
+    (root : ℕ) (words : ℕ → List ℕ) (view : ℕ → ViewParts) (os : List OutcomeParts) → AllMake (λ p v. gather v root (words p)) view os
+    → arrived_apart os root ≡ map words (range_with_len 0 (length os))
+
+-- in an all-gather the same at each process,
+abbrev pub AllGatherArrivesApart : Type 0
+AllGatherArrivesApart =
+    (words : ℕ → List ℕ) (view : ℕ → ViewParts) (os : List OutcomeParts) (d : ℕ) → AllMake (λ p v. all_gather v (words p)) view os → d < length os
+    → arrived_apart os d ≡ map words (range_with_len 0 (length os))
+
+-- and in an exchange of parts the part d of all.
+abbrev pub ExchangePartsArriveApart : Type 0
+ExchangePartsArriveApart =
+    (words lengths : ℕ → List ℕ) (view : ℕ → ViewParts) (os : List OutcomeParts) (d : ℕ) → AllMake (λ p v. exchange_parts v (words p) (lengths p)) view os → d < length os
+    → arrived_apart os d ≡ map (λ p. part (words p) (lengths p) d) (range_with_len 0 (length os))
 
 -- Reduce: what the operation makes of what arrives at the root is what it makes of the words of all processes.
 abbrev pub ReduceArrives : Type 0

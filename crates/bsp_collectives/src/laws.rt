@@ -1,7 +1,8 @@
-//! What arrives, as laws: where every process of a superstep makes the first half of a collective call, the words that its second half reads are those
+//! What arrives and what it costs, as laws: where every process of a superstep makes the first half of a collective call, the words that its second half reads are those
 //! that the name says.
 
-ghost use Rattle.bsp_collectives.specs.WhatArrives.{AllGatherArrives, AllReduceArrives, BroadcastArrives, ExchangeArrives, ForwardArrives, GatherArrives, GatherArrivesAtTheRootAlone, ReduceArrives, ScanArrives, ScatterArrives, SpreadArrives, TurnsSendTheirActs};
+ghost use Rattle.bsp_collectives.specs.Costs.{AllGatherCosts, ExchangeCosts, ExchangePartsCosts, GatherCosts};
+ghost use Rattle.bsp_collectives.specs.WhatArrives.{AllGatherArrives, AllGatherArrivesApart, AllReduceArrives, BroadcastArrives, ExchangeArrives, ExchangePartsArrive, ExchangePartsArriveApart, ForwardArrives, GatherArrives, GatherArrivesApart, GatherArrivesAtTheRootAlone, ReduceArrives, ScanArrives, ScatterArrives, SpreadArrives, TurnsSendTheirActs};
 
 /// A turn without a fault sends the messages of its acts, and no others: so the outcomes of turns that make a half are those of which the laws below speak.
 pub fn turns_send_their_acts()
@@ -46,6 +47,46 @@ pub fn all_gather_arrives()
 /// Total exchange: block d of the words of all processes arrives at process d, that of process 0 first.
 pub fn exchange_arrives()
     ensures { ExchangeArrives }
+{}
+
+/// Total exchange of parts of any lengths: part d of the words of all processes arrives at process d, that of process 0 first.
+pub fn exchange_parts_arrive()
+    ensures { ExchangePartsArrive }
+{}
+
+/// Gather: each message that arrives at the root has the words of one process, that of process 0 first.
+pub fn gather_arrives_apart()
+    ensures { GatherArrivesApart }
+{}
+
+/// All-gather: the same at each process.
+pub fn all_gather_arrives_apart()
+    ensures { AllGatherArrivesApart }
+{}
+
+/// Parts of any lengths: each message that arrives at process d has part d of the words of one process.
+pub fn exchange_parts_arrive_apart()
+    ensures { ExchangePartsArriveApart }
+{}
+
+/// The h-relation of a gather: the root receives the words and tags of all other processes, and each of these sends its own.
+pub fn gather_costs()
+    ensures { GatherCosts }
+{}
+
+/// The h-relation of an all-gather: each process sends its words and a tag to each other process.
+pub fn all_gather_costs()
+    ensures { AllGatherCosts }
+{}
+
+/// The h-relation of a total exchange: each process sends block d of its words and a tag to each other process d.
+pub fn exchange_costs()
+    ensures { ExchangeCosts }
+{}
+
+/// The h-relation of an exchange of parts of any lengths: the same of part d.
+pub fn exchange_parts_costs()
+    ensures { ExchangePartsCosts }
 {}
 
 /// Reduce: what the operation makes of what arrives at the root is what it makes of the words of all processes.

@@ -2,17 +2,22 @@
 #![tactic(auto, using(bsp_step::proofs::Laws::running))]
 
 mod laws;
+mod local;
 mod operation;
 mod receiving;
 mod sending;
 
 pub use laws::{
-    all_gather_arrives, all_reduce_arrives, broadcast_arrives, exchange_arrives, forward_arrives,
-    gather_arrives, gather_arrives_at_the_root_alone, reduce_arrives, scan_arrives,
-    scatter_arrives, spread_arrives, turns_send_their_acts,
+    all_gather_arrives, all_gather_arrives_apart, all_gather_costs, all_reduce_arrives,
+    broadcast_arrives, exchange_arrives, exchange_costs, exchange_parts_arrive,
+    exchange_parts_arrive_apart, exchange_parts_costs, forward_arrives, gather_arrives,
+    gather_arrives_apart, gather_arrives_at_the_root_alone, gather_costs, reduce_arrives,
+    scan_arrives, scatter_arrives, spread_arrives, turns_send_their_acts,
 };
+pub use local::{block, in_order, print_lines};
 pub use operation::Operation;
-pub use receiving::{combine, forward, receive};
+pub use receiving::{combine, forward, receive, receive_parts};
 pub use sending::{
-    all_gather, all_reduce, block_size, broadcast, exchange, gather, reduce, scan, scatter, spread,
+    all_gather, all_reduce, block_size, broadcast, exchange, exchange_parts, gather, reduce, scan,
+    scatter, send, spread,
 };

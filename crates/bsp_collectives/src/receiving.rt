@@ -5,12 +5,12 @@ ghost use Rattle.bsp_model.specs.declared.request.Message.{Message};
 ghost use Rattle.bsp_step.specs.Act as act;
 ghost use Rattle.bsp_step.specs.Calls.{Runs};
 ghost use Rattle.bsp_step.specs.Queue.{first_message, first_words};
-ghost use Rattle.bsp_collectives.specs.Messages.{emptied, joined, moves};
+ghost use Rattle.bsp_collectives.specs.Messages.{apart, emptied, joined, moves};
 ghost use Rattle.bsp_collectives.specs.Halves.{forward};
 ghost use Rattle.bsp_collectives.specs.Operation.{combined};
 
 use crate::{Operation, all_gather};
-use bsp_model::Words;
+use bsp_model::{Blocks, Words};
 use bsp_step::{Ctx, Stop};
 use std::alloc::Global;
 
@@ -24,6 +24,19 @@ pub fn receive(alloc: Global, ctx: &mut Ctx<'_>) -> Result<Words, Stop>
         take_message(alloc, ctx, len, &mut words)?;
     }
     Ok(Words::from_vec(words))
+}
+
+/// Takes all messages that are left, and answers the words of each, in the order of the processes that sent them. So the number of words of each process is
+/// known too.
+pub fn receive_parts(alloc: Global, ctx: &mut Ctx<'_>) -> Result<Blocks<Words>, Stop>
+    ensures ran { Runs ctx.old (moves ctx.old.left) (apart ctx.old.left) ctx.new result }
+    ensures taken { OnOk result (ctx.new ≡ emptied ctx.old) }
+{
+    let mut parts = Blocks::new(alloc);
+    while let Some(len) = first_len(ctx) {
+        take_part(alloc, ctx, len, &mut parts)?;
+    }
+    Ok(parts)
 }
 
 /// Takes all messages that are left, and answers what the operation makes of their words.
@@ -66,5 +79,23 @@ fn take_message(
     let mut part = vec![in alloc; 0; len]?;
     ctx.move_into(&mut part)?;
     words.extend_from_slice(&part)?;
+    Ok(())
+}
+
+/// Takes the first message, which has so many words, and adds them to the parts.
+fn take_part(
+    alloc: Global,
+    ctx: &mut Ctx<'_>,
+    len: usize,
+    parts: &mut Blocks<Words>,
+) -> Result<(), Stop>
+    requires { len ≡ length (first_words ctx.old.left) }
+    ensures ran { Runs ctx.old (act.move_into len ∷ []) tt ctx.new result }
+    ensures parts { OnOk result (parts.new ≡ parts.old ++ first_words ctx.old.left ∷ []) }
+    ensures left { OnOk result (ctx.new ≡ record ctx.old { left = drop 1 ctx.old.left }) }
+{
+    let mut part = vec![in alloc; 0; len]?;
+    ctx.move_into(&mut part)?;
+    parts.push(&part)?;
     Ok(())
 }

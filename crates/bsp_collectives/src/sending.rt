@@ -1,12 +1,13 @@
 //! The first halves: what is sent.
 
-ghost use Rattle.std.specs.Prelude.{◌≡◌, ◌≤◌, ◌<◌, ◌-◌, ◌∷◌, []};
+ghost use Rattle.std.specs.Prelude.{◌≡◌, ◌≤◌, ◌<◌, ◌-◌, ◌∷◌, [], length, drop, slice_index, sum, take};
 ghost use Rattle.std.specs.List.{range_with_len};
 ghost use Rattle.bsp_step.specs.Act as act;
 ghost use Rattle.bsp_step.specs.Calls.{Performs, Runs};
 ghost use Rattle.bsp_collectives.specs.Messages.{blank_tag, sends};
-ghost use Rattle.bsp_collectives.specs.Halves.{all_gather, all_reduce, block, block_size, broadcast, everyone, exchange, gather, reduce, scan, scatter, spread};
+ghost use Rattle.bsp_collectives.specs.Halves.{all_gather, all_reduce, block, block_size, broadcast, everyone, exchange, exchange_parts, gather, part, reduce, scan, scatter, spread};
 
+use crate::block;
 use bsp_model::limits::MOST_TAG_WORDS;
 use bsp_step::{Ctx, Stop};
 
@@ -34,6 +35,31 @@ pub fn exchange(ctx: &mut Ctx<'_>, words: &[u64], size: usize) -> Result<(), Sto
         send(ctx, pid, block(words, size, pid as usize))?;
     }
     Ok(())
+}
+
+/// Total exchange of parts of any lengths: sends part d of the words to process d, for all d. Part 0 begins with the first word, and each other part
+/// where the part before it ends; part d has `lengths[d]` words. Where the words end, the last parts are shorter, or empty, and a part without a length
+/// is empty. In the next superstep `receive` answers the parts that all processes sent here, that of process 0 first, and `receive_parts` each of them.
+#[tactic(auto, using(bsp_step::proofs::Laws::running, crate::proofs::Parts::parts_left))]
+pub fn exchange_parts(ctx: &mut Ctx<'_>, words: &[u64], lengths: &[usize]) -> Result<(), Stop>
+    ensures { Runs ctx.old (exchange_parts ctx.old.view words.now lengths.now) tt ctx.new result }
+{
+    let mut left = words;
+    for pid in 0..ctx.nprocs() {
+        let (part, later) = split_part(left, lengths, pid as usize);
+        send(ctx, pid, part)?;
+        left = later;
+    }
+    Ok(())
+}
+
+/// The first words, as many as the length at this place says, and those after them. Without a length there is no first word.
+fn split_part<'a>(words: &'a [u64], lengths: &[usize], place: usize) -> (&'a [u64], &'a [u64])
+    ensures part { result.0.now ≡ take (slice_index lengths.now place) words.now }
+    ensures later { result.1.now ≡ drop (slice_index lengths.now place) words.now }
+{
+    let len = lengths.get(place).copied().unwrap_or(0);
+    words.split_at(len.min(words.len()))
 }
 
 /// Gather: sends the words to the root. In the next superstep `receive` answers the words of all there, those of process 0 first, and none elsewhere.
@@ -104,18 +130,12 @@ fn send_from(ctx: &mut Ctx<'_>, first: u64, words: &[u64]) -> Result<(), Stop>
     Ok(())
 }
 
-/// Sends a message whose tag says nothing.
-fn send(ctx: &mut Ctx<'_>, pid: u64, words: &[u64]) -> Result<(), Stop>
+/// Sends the words to a process, in a message whose tag says nothing: zeros, as many as the tag size in force.
+///
+/// Faults: those of `Ctx::send`, but for F6.
+pub fn send(ctx: &mut Ctx<'_>, pid: u64, words: &[u64]) -> Result<(), Stop>
     ensures { Performs ctx.old (act.send pid (blank_tag ctx.old.view) words.now) ctx.new result }
 {
     let tag = [0; MOST_TAG_WORDS as usize];
     ctx.send(pid, &tag[..ctx.tag_size() as usize], words)
-}
-
-/// The words of a block, in blocks of `size` words.
-fn block(words: &[u64], size: usize, place: usize) -> &[u64]
-    ensures { result.now ≡ block words.now size place }
-{
-    let (_, later) = words.split_at(place.saturating_mul(size).min(words.len()));
-    &later[..size.min(later.len())]
 }

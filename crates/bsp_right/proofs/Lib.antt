@@ -43,3 +43,4 @@ pub mod OneWordPuts
 pub mod WordsMoved
 pub mod RowPuts
 pub mod EndedRuns
+pub mod ActsInRow

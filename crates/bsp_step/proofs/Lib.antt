@@ -11,4 +11,6 @@ pub mod Storing
 pub mod Laws
 pub mod OutcomeColumns
 pub mod Sorting
+pub mod Rising
+pub mod Stepping
 pub mod Others

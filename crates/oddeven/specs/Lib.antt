@@ -1,3 +1,4 @@
 pub mod OddEven
 pub mod OddEvenFootprint
 pub mod Programs
+pub mod Ordered

@@ -2,6 +2,7 @@
 #![tactic(auto)]
 
 mod kernel;
+mod ordering;
 
 use bsp_engine::{ByName, Named, Tool, after_help, run_tool};
 use kernel::OddEven;

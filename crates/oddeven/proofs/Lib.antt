@@ -1,0 +1,7 @@
+pub mod Rounds
+pub mod Reaching
+pub mod Blocks
+pub mod Turns
+pub mod Memories
+pub mod Supersteps
+pub mod OrderRun

@@ -1,0 +1,5 @@
+pub mod Sampling
+pub mod Shares
+pub mod Turns
+pub mod Arrivals
+pub mod SortRun

@@ -1,0 +1,4 @@
+pub mod SampleSort
+pub mod SampleSortFootprint
+pub mod Programs
+pub mod Sorts
