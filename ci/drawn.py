@@ -75,11 +75,21 @@ def draw_samplesort(draw):
     return "samplesort", memories, args
 
 
+def draw_parts(draw, nprocs):
+    """An exchange of parts, whose lengths mostly are no more than the own words together."""
+    memories = [draw.words(draw.randrange(12)) for _ in range(nprocs)]
+    args = [[max(0, len(memory) - draw.randrange(3)) + draw.happens(0.03)] for memory in memories]
+    lengths = [[draw.randrange(5) for _ in range(nprocs + draw.choice((0, 0, -1, 1)))] for _ in range(nprocs)]
+    return "exchange_parts", memories, [own + parts for own, parts in zip(args, lengths)]
+
+
 def draw_collective(draw):
     """A collective call, and memories that mostly have room for what arrives."""
     program = draw.choice(("broadcast", "broadcast_in_two", "scatter", "gather", "all_gather", "exchange", "reduce", "all_reduce", "scan"))
     nprocs = draw.choice((1, 2, 3, 3, 4, 5, 7))
     combines = program in ("reduce", "all_reduce", "scan")
+    if draw.happens(0.15):
+        return draw_parts(draw, nprocs)
     count, root = draw.randrange(5), draw.randrange(nprocs)
     firsts = [draw.randrange(5)] * nprocs if combines else [count] * nprocs
     if draw.happens(0.3):

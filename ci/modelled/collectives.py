@@ -165,6 +165,42 @@ class Combining(Program):
             check_printed(made, [[OPERATIONS[args[pid][0]](of_pid)] for pid, of_pid in enumerate(told)])
 
 
+def parts_of(words, args, nprocs: int) -> list[list[int]]:
+    """The words in parts, one after the other, whose lengths are the arguments after the first, or 0 where there are none."""
+    parts, left = [], list(words)
+    for pid in range(nprocs):
+        length = args[pid + 1] if pid + 1 < len(args) else 0
+        parts.append(left[:length])
+        left = left[length:]
+    return parts
+
+
+class Parting(Program):
+    """Argument 0 is the number of own words, which are the first of the memory; they are dealt in parts of the lengths that the arguments after it name.
+    Each part that arrives is printed."""
+
+    def step(self, ctx: Context) -> bool:
+        count = ctx.argument(0)
+        if ctx.view.step > 0:
+            for words in [ctx.move_into(len(message.words)) for message in list(ctx.left)]:
+                ctx.print(words)
+            return HALT
+        words = [ctx.load(address) for address in range(min(count, len(ctx.memory) + 1))]
+        for pid, part in enumerate(parts_of(words, ctx.view.args, ctx.view.nprocs)):
+            send(ctx, pid, part)
+        return SYNC
+
+    def looks(self, view: View, address: int) -> bool:
+        return view.step == 0 and bool(view.args) and address < view.args[0]
+
+    def check(self, made: Run) -> None:
+        """Where nothing faults, all own words that the lengths reach are printed once."""
+        if made.status == ["status halted"]:
+            reached = [memory[: min(args[0], sum(args[1 : len(made.memories) + 1]))] for memory, args in zip(made.input.memories, made.input.args)]
+            printed = [word for o in made.supersteps[-1].outcomes for line in o.lines for word in line]
+            assert sorted(printed) == sorted(word for words in reached for word in words), "other words are printed"
+
+
 def check_printed(made: Run, wanted: list[list[int]]) -> None:
     printed = [[list(line) for line in o.lines] for o in made.supersteps[-1].outcomes]
     assert printed == [[line] for line in wanted], f"{printed} in place of {wanted}"
@@ -172,4 +208,4 @@ def check_printed(made: Run, wanted: list[list[int]]) -> None:
 
 MOVING = ("broadcast", "broadcast_in_two", "scatter", "gather", "all_gather", "exchange")
 COMBINING = ("reduce", "all_reduce", "scan")
-COLLECTIVES = {**{call: Moving(call) for call in MOVING}, **{call: Combining(call) for call in COMBINING}}
+COLLECTIVES = {**{call: Moving(call) for call in MOVING}, **{call: Combining(call) for call in COMBINING}, "exchange_parts": Parting()}

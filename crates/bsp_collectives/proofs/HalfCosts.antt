@@ -1,5 +1,5 @@
 -- The h-relation of the first halves in which all processes send.
-use Rattle.std.proofs.Common.{◌≡◌, ◌≤◌, ◌<◌, ◌+◌, ◌==◌, ◌∙◌, ◌++◌, ℕ, zero, suc, Bool, true, false, cond, not, List, [], ◌∷◌, filter, map, length, replicate, ap, sym, refl, arith, inl, inr}
+use Rattle.std.proofs.Common.{◌≡◌, ◌<◌, ◌+◌, ◌==◌, ◌∙◌, ◌++◌, ℕ, zero, suc, Bool, true, false, cond, not, List, [], ◌∷◌, filter, map, length, ap, sym, refl, arith, inl, inr}
 use Rattle.std.specs.List.{range_with_len, sum, sum_by}
 use Rattle.std.proofs.lemmas.Bool.{cases_lt, eq-eqb, ne_eqb}
 use Rattle.std.proofs.lemmas.Bool.Decides.{nat_tests}
@@ -9,7 +9,6 @@ use Rattle.bsp_model.specs.declared.request.Send.{Send}
 use Rattle.bsp_step.specs.OutcomeParts.{OutcomeParts}
 use Rattle.bsp_step.specs.ViewParts.{ViewParts}
 use Rattle.bsp_deliver.specs.Cost.{h_relation}
-use Rattle.bsp_deliver.specs.Requests.{each_below}
 use Rattle.bsp_collectives.specs.Arrivals.{sends_made}
 use Rattle.bsp_collectives.specs.Costs.{AllMakeAlone, between, message_size, most_moved}
 use Rattle.bsp_collectives.specs.Halves.{all_gather, block, everyone, exchange, exchange_parts, gather, part}

@@ -1,5 +1,5 @@
 -- The turns of a product before it is computed.
-use Rattle.std.proofs.Common.{◌*◌, ◌+◌, ◌-◌, ◌==◌, Bool, List, Some, [], ap, arith, cond, drop, false, get_or, inl, inr, length, map, refl, suc, sym, take, true, zero, ℕ, ◌∙◌, ◌∷◌, ◌≡◌, ◌≢◌, ◌≤◌}
+use Rattle.std.proofs.Common.{◌*◌, ◌+◌, ◌-◌, ◌==◌, Bool, List, Some, [], ap, arith, cond, drop, false, get_or, inl, inr, length, map, refl, sym, take, true, ℕ, ◌∙◌, ◌∷◌, ◌≡◌, ◌≢◌, ◌≤◌}
 use Rattle.std.proofs.lemmas.Bool.{cases_lt, eqb-false, le-ltb}
 use Rattle.std.proofs.lemmas.Nat.{mul-le}
 use Rattle.std.proofs.lemmas.Option.{slice_get-get_or}
@@ -7,7 +7,6 @@ use Rattle.std.proofs.lemmas.List.FromFn.{length-map-range_with_len, get_or-map-
 use Rattle.std.proofs.lemmas.Bool.Decides.{nat_tests}
 use Rattle.std.proofs.lemmas.Grind.{common_steps, same_number_lists}
 use Rattle.std.specs.List.{range_with_len}
-use Rattle.std.specs.Option.{option_map, option_and_then}
 use Rattle.std.specs.Prelude.{nat_le, nat_lt, slice_get}
 use Rattle.bsp_model.specs.declared.fault.End.TheVariants.{Abort, Sync}
 use Rattle.bsp_step.specs.Act.{set_tagsize}

@@ -3,5 +3,7 @@ pub mod Moving
 pub mod MovingFootprint
 pub mod Combining
 pub mod CombiningFootprint
+pub mod Parting
+pub mod PartingFootprint
 pub mod Catalogue
 pub mod CatalogueFootprint

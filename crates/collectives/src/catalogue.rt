@@ -4,6 +4,7 @@ ghost use Rattle.std.specs.Prelude.{◌≡◌};
 
 use crate::combining::Combining;
 use crate::moving::Moving;
+use crate::parting::Parting;
 use bsp_model::{End, OutOfMemory};
 use bsp_step::{Ctx, Program, View};
 use std::alloc::Global;
@@ -15,6 +16,8 @@ pub enum Collective {
     Moving(Moving),
     /// One that combines them.
     Combining(Combining),
+    /// One that moves parts of any lengths.
+    Parting(Parting),
 }
 
 impl Collective {
@@ -34,6 +37,7 @@ impl Collective {
             "reduce" => Some(Collective::Combining(Combining::Reduce)),
             "all_reduce" => Some(Collective::Combining(Combining::AllReduce)),
             "scan" => Some(Collective::Combining(Combining::Scan)),
+            "exchange_parts" => Some(Collective::Parting(Parting)),
             _ => None,
         }
     }
@@ -55,6 +59,7 @@ impl Program for Collective {
         match self {
             Collective::Moving(program) => program.looks(view, address),
             Collective::Combining(program) => program.looks(view, address),
+            Collective::Parting(program) => program.looks(view, address),
         }
     }
 
@@ -62,6 +67,7 @@ impl Program for Collective {
         match self {
             Collective::Moving(program) => program.step(alloc, ctx),
             Collective::Combining(program) => program.step(alloc, ctx),
+            Collective::Parting(program) => program.step(alloc, ctx),
         }
     }
 }

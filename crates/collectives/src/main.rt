@@ -4,6 +4,7 @@
 mod catalogue;
 mod combining;
 mod moving;
+mod parting;
 
 use bsp_engine::{ByName, Named, Tool, after_help, run_tool};
 use catalogue::Collective;
@@ -25,12 +26,13 @@ impl ByName for Programs {
 }
 
 const AFTER_HELP: &str = after_help!(
-    "  program      broadcast, broadcast_in_two, scatter, gather, all_gather, exchange, reduce, all_reduce or scan",
+    "  program      broadcast, broadcast_in_two, scatter, gather, all_gather, exchange, reduce, all_reduce, scan or exchange_parts",
     "
 Of the first six argument 0 is the number of own words, which are the first of the memory; what arrives is
 stored after them. Of the others argument 0 is the operation: 0 sum, 1 least, 2 greatest, 3 or, 4 and; word 0
 is the own word, and what is made of the words that arrive is stored as word 1. Argument 1 is the root, or
-process 0 where it is missing.
+process 0 where it is missing. Of exchange_parts argument 0 is the number of own words, and argument d + 1 the
+length of the part for process d; each part that arrives is printed as a line.
 ",
     "  program = \"scan\"
   limit = 16
