@@ -137,11 +137,11 @@ fn attend_more<P: Program + Drop, R: Threads + Sync, G: Gate, T: Terminal>(
         return Err(EngineError::Read);
     };
     if n == 0 {
-        attend_rest(crew, attendant, terminal, begun)?;
-        return Ok(false);
+        let ended = attend_rest(crew, attendant, terminal, begun);
+        return ended.and(Ok(false));
     }
-    attend_all(crew, attendant, terminal, begun, &chunk[..n])?;
-    Ok(true)
+    let attended = attend_all(crew, attendant, terminal, begun, &chunk[..n]);
+    attended.and(Ok(true))
 }
 
 /// Answers each line that is heard before it waits for more, up to the end. `begun` is kept of a line that has no end yet.

@@ -12,7 +12,12 @@ use toml::Value;
 fn are_digits(bytes: &[u8]) -> bool
     ensures { result ≡ list_all is_ascii_digit bytes.now }
 {
-    bytes.iter().all(|byte| byte.is_ascii_digit())
+    for byte in bytes {
+        if !byte.is_ascii_digit() {
+            return false;
+        }
+    }
+    true
 }
 
 /// Whether the text is of decimal digits, of which the first is not 0 where there is more than one.

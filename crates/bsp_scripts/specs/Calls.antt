@@ -1,5 +1,5 @@
 -- What the calls of a script do.
-use Rattle.std.specs.Prelude.{ℕ, Bool, List, [], ◌∷◌, ◌++◌, ◌+◌, ◌-◌, ◌%◌, ◌^◌, Option, None, Some, Result, Ok, Err, length, take, min, sum_by}
+use Rattle.std.specs.Prelude.{ℕ, Bool, List, [], ◌∷◌, ◌++◌, ◌+◌, ◌%◌, ◌^◌, Option, None, Some, Result, Ok, Err, length, take, min, sum_by}
 use Rattle.std.specs.List.{list_any}
 use Rattle.bsp_model.specs.Limits.{most_payload_words}
 use Rattle.bsp_model.specs.declared.fault.End.{End}
@@ -7,6 +7,7 @@ use Rattle.bsp_model.specs.declared.fault.End.TheVariants.{Sync as Synced, Halt 
 use Rattle.bsp_step.specs.Context.{Context}
 use Rattle.bsp_step.specs.Queue.{first_words, first_message, heading}
 use Rattle.bsp_step.specs.Act as act
+use Rattle.bsp_step.specs.Blocks.{stores}
 use Rattle.bsp_step.specs.Act.{Act}
 use Rattle.bsp_step.specs.Perform.{perform_all}
 use Rattle.bsp_scripts.specs.declared.operand.Operand.{Operand}
@@ -30,15 +31,6 @@ ends how = record { acts = []; ending = Some how }
 abbrev pub given : {A : Type 0} → Result A End → (A → Plan) → Plan
 given (Err how) plan = ends how
 given (Ok x) plan = plan x
-
--- the next address; the largest has none and stays
-abbrev pub address_after : ℕ → ℕ
-address_after address = min (address + 1) (2 ^ 64 - 1)
-
--- stores of the words from an address on
-abbrev pub stores : ℕ → List ℕ → List Act
-stores address [] = []
-stores address (word ∷ words) = act.store address word ∷ stores (address_after address) words
 
 -- the payload's length and the tag's words, or nothing where no message is left
 abbrev pub heading_line : Option (ℕ × List ℕ) → List ℕ

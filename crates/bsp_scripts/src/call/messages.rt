@@ -3,7 +3,7 @@
 ghost use Rattle.std.specs.Prelude.{◌≡◌, OnOk};
 ghost use Rattle.bsp_step.specs.Queue.{first_message, heading};
 ghost use Rattle.bsp_scripts.specs.declared.call.Call.TheVariants.{Send, SetTagsize, MoveInto, PrintQsize, PrintGetTag, PrintTagSize};
-ghost use Rattle.bsp_scripts.specs.Calls.{call_plan, makes, stores, heading_line};
+ghost use Rattle.bsp_scripts.specs.Calls.{call_plan, heading_line};
 ghost use Rattle.bsp_scripts.specs.Inside.Making.{Makes};
 
 use super::Room;
@@ -43,19 +43,7 @@ pub(super) fn move_into(alloc: Global, ctx: &mut Ctx<'_>, room: u64, into: u64) 
 {
     let mut buffer = vec![in alloc; 0; room.min(MOST_PAYLOAD_WORDS as u64) as usize]?;
     let count = ctx.move_into(buffer.as_mut_slice())?;
-    store_all(ctx, into, &buffer[..count])
-}
-
-/// Stores the words from `start` on, in ascending order. Past the largest address it stays there.
-fn store_all(ctx: &mut Ctx<'_>, start: u64, words: &[u64]) -> Result<(), Exit>
-    ensures { Makes ctx.old (makes (stores start words.now)) ctx.new result }
-{
-    let mut address = start;
-    for word in words {
-        ctx.store(address, *word)?;
-        address = address.saturating_add(1);
-    }
-    Ok(())
+    made(ctx.store_words(into, &buffer[..count]))
 }
 
 pub(super) fn print_qsize(ctx: &mut Ctx<'_>) -> Result<(), Exit>

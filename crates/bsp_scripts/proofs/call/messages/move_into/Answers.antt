@@ -1,9 +1,9 @@
 use Rattle.std.proofs.Common.{◌≡◌, ◌∷◌, length, take, min, arith}
 use Rattle.std.proofs.lemmas.Result.{err_from_is_err_and}
 use Rattle.bsp_step.specs.Act.{move_into}
+use Rattle.bsp_step.specs.Blocks.{stores}
 use Rattle.bsp_step.specs.Queue.{first_words}
 use Rattle.bsp_step.proofs.Running.{HasLeft-all, RunStops-left, Stops-by_fault}
-use Rattle.bsp_scripts.specs.Calls.{stores}
 use Rattle.bsp_scripts.proofs.call.messages.move_into.Goals as goal
 
 pub returns-in_err-count : goal.returns-in_err-count
