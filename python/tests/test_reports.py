@@ -2,8 +2,11 @@
 
 from __future__ import annotations
 
+import copy
 import os
+import pickle
 import unittest
+from dataclasses import replace
 
 from stored import ROOT, stored
 
@@ -98,6 +101,18 @@ class Blocks(unittest.TestCase):
         )
         self.assertEqual(read_report(BLOCK), [wanted])
         self.assertEqual(write_report([wanted]), BLOCK)
+
+    def test_copies(self) -> None:
+        (report,) = read_report(BLOCK)
+        for copied in (pickle.loads(pickle.dumps(report)), copy.deepcopy(report), replace(report)):
+            self.assertEqual(copied, report)
+        self.assertEqual(repr(report), repr(read_report(BLOCK)[0]))
+        self.assertEqual(repr(report.costs), repr({0: Cost(3, 2, 15), 1: Cost(4, 0, 4)}))
+        self.assertEqual(hash(report.redelivered), hash((Place(0, 0),)))
+        self.assertEqual((report.executed[1:3], report.executed[-1]), ((Place(0, 1), Place(1, 0)), Place(1, 1)))
+        self.assertNotEqual(report.executed, report.redelivered)
+        self.assertIn(1, report.memories)
+        self.assertNotIn(2, report.memories)
 
     def test_other_blocks(self) -> None:
         text = f"{BLOCK}run 1\nrefused E5 at 3\nrun 2\nunread J3\nrun 3\nunread undo\n"
