@@ -1,11 +1,12 @@
-"""Times edits by a Session, and by a bare pipe to the same tool, with and without --changes.
+"""Times edits by a Session, and over a bare pipe to the same tool, with and without --changes.
 
 usage: python3 python/bench/edits.py [TOOL]
 
-TOOL is the program of crates/bsp_tool; where it is not given it is crates/bsp_tool/out/bsp_tool, which ./build makes.
-Memories of 16,000 words in all are edited word by word: a word of one process, whose own memory alone changes, and
-the word that is broadcast, with which each memory changes. It prints the milliseconds from an edit to the end of its
-answer, or of the reading of it: the median of many edits, each of which changes something. The times want idle cores.
+TOOL is the program of crates/bsp_tool, and crates/bsp_tool/out/bsp_tool where it is not given; ./build makes that.
+64 memories of 250 words each are edited: a word of process 5, with which its memory alone changes, and the word that
+process 0 broadcasts, with which each memory changes. An edit is timed to the end of its answer, and where memories
+are read to the end of that. The table has the medians of 200 edits, each of which changes something, in milliseconds.
+The times want idle cores; on a busy machine `chrt --fifo 50` before the command puts it before all other processes.
 """
 
 from __future__ import annotations
@@ -29,7 +30,7 @@ EDITS = 200
 PLACES = {"one memory": (5, 3), "every memory": (0, 0)}  # of the edited words, by what changes with them
 
 Edit = Callable[[int, int, int], object]
-"""Gives a word of a process a value."""
+"""Gives a process's word, by its offset, a value."""
 
 
 def document() -> bytes:
@@ -48,18 +49,22 @@ def piped(tool: str, *options: str) -> Iterator[Edit]:
 
 @contextmanager
 def in_session(tool: str, look: Callable[[Report], object]) -> Iterator[Edit]:
-    """Edits by a session, after each of which its report is looked at."""
+    """Edits by a session, of which each report is looked at."""
     with Session(tool, document()) as session:
         yield lambda *numbers: look(session.apply([Word(*numbers)]))
 
 
-def read_memories(report: Report) -> int:
+def look_away(report: Report) -> None:
+    """Reads nothing."""
+
+
+def read_memories(report: Report) -> list[tuple[int, ...]]:
     """Reads each word."""
-    return sum(map(sum, report.memories.values()))
+    return list(report.memories.values())
 
 
 def milliseconds(edit: Edit, place: tuple[int, int]) -> float:
-    """The median of many edits of a place, each to a new value."""
+    """The median time of the edits of a place, each to a new value."""
     times = []
     for value in range(EDITS):
         begun = time.perf_counter()
@@ -77,14 +82,14 @@ def main(words: list[str]) -> int:
     ways = {
         "a bare pipe": lambda: piped(tool, "--places"),
         "a bare pipe with --changes": lambda: piped(tool, "--places", "--changes"),
-        "a session whose report nobody reads": lambda: in_session(tool, lambda report: None),
+        "a session whose report nobody reads": lambda: in_session(tool, look_away),
         "a session whose memories are all read": lambda: in_session(tool, read_memories),
     }
-    print(f"{'milliseconds of an edit':40}{''.join(f'{name:>16}' for name in PLACES)}")
+    print(f"{'an edit changes':40}{''.join(f'{name:>16}' for name in PLACES)}")
     for name, way in ways.items():
         with way() as edit:
             times = [milliseconds(edit, place) for place in PLACES.values()]
-        print(f"{name:40}{''.join(f'{each:16.2f}' for each in times)}")
+        print(f"{name:40}{''.join(f'{each:13.2f} ms' for each in times)}")
     return 0
 
 

@@ -69,10 +69,6 @@ class Line(NamedTuple):
             raise self.wrong(f"{count} numbers")
         return numbers
 
-    def alone(self) -> Line:
-        """The same line, which does not keep the text in which it stands."""
-        return Line(self.number, memoryview(bytes(self.view)))
-
     def match(self, pattern: re.Pattern[str], wanted: str) -> re.Match[str]:
         """What follows its first word."""
         found = pattern.fullmatch(self.rest)
@@ -124,6 +120,11 @@ class Lines:
         self._start, self._number = end + 1, self._number + 1
         return line
 
+    def key_if(self, word: bytes) -> int | None:
+        """The first number of the first line that is left, if it begins with a word. It stays."""
+        end = self._end_if(word)
+        return None if end < 0 else Line(self._number, self._view[self._start : end]).key()
+
     def next(self, word: bytes) -> Line:
         """The first line that is left, which has to begin with a word."""
         line = self.next_if(word)
@@ -144,6 +145,13 @@ class Lines:
         part._end = self._start
         self._number += part.count(b"\n")
         return part
+
+    def all_as(self, pattern: re.Pattern[bytes], wanted: str) -> list[tuple[bytes, ...]]:
+        """The groups of each line that is left: the pattern is that of a whole line with its end."""
+        found = pattern.findall(self._text, self._start, self._end)
+        if len(found) < self.count(b"\n"):
+            raise next(line for line in self if not pattern.fullmatch(bytes(line.view) + b"\n")).wrong(wanted)
+        return found
 
     def count(self, byte: bytes) -> int:
         """How often a byte stands in the lines that are left."""

@@ -16,6 +16,7 @@ _STATUS = re.compile(f"(halted|limit)|(faulted) {_NUMBER}|(syncfault) {_NUMBER} 
 _FAULT = re.compile(f"{_NUMBER} (F[123] {_NUMBER}|F[4-9]|F1[0-2])")
 _REFUSED = re.compile(f"(E[1-5]) at {_NUMBER}")
 _COUNTS = re.compile(f"{_NUMBER} redelivered {_NUMBER}")
+_COST = re.compile(f"^cost {_NUMBER} {_NUMBER} {_NUMBER} {_NUMBER}\n".encode(), re.MULTILINE)
 
 
 def _status(line: Line) -> Status:
@@ -40,29 +41,27 @@ def _memories(lines: Lines) -> Rows[tuple[int, ...]]:
     return Rows({line.key(): Later(_words, line) for line in lines.all_of(b"memory")})
 
 
-def _printed(lines: list[Line]) -> tuple[tuple[int, ...], ...]:
+def _printed(lines: Lines) -> tuple[tuple[int, ...], ...]:
     return tuple(map(_words, lines))
 
 
 def _prints(lines: Lines) -> Rows[tuple[tuple[int, ...], ...]]:
     """The lines of each process that has some, and none of each that is told to be silent."""
-    printed: dict[int, list[Line]] = {}
+    printed: dict[int, Later[tuple[tuple[int, ...], ...]] | tuple[()]] = {}
     while True:
-        for line in lines.all_of(b"print"):
-            printed.setdefault(line.key(), []).append(line.alone())
+        while (process := lines.key_if(b"print")) is not None:
+            if process in printed:
+                raise lines.wrong("the lines of a process in one place")
+            printed[process] = Later(_printed, lines.part_of(b"print %d" % process))
         silent = lines.next_if(b"silent")
         if silent is None:
-            return Rows({process: Later(_printed, told) if told else () for process, told in printed.items()})
-        printed[silent.only(1)[0]] = []
+            return Rows(printed)
+        printed[silent.only(1)[0]] = ()
 
 
-def _cost(line: Line) -> Cost:
-    _, work, h, cost = line.only(4)
-    return Cost(work, h, cost)
-
-
-def _costs(lines: Lines) -> Rows[Cost]:
-    return Rows({line.key(): Later(_cost, line.alone()) for line in lines.all_of(b"cost")})
+def _costs(lines: Lines) -> dict[int, Cost]:
+    rows = lines.part_of(b"cost").all_as(_COST, "a superstep and its cost")
+    return {int(superstep): Cost(int(work), int(h), int(cost)) for superstep, work, h, cost in rows}
 
 
 def _count(lines: Lines) -> int:
@@ -121,8 +120,8 @@ def _block(lines: Lines) -> Block:
 def blocks_in(text: bytes | bytearray) -> list[Block]:
     """The blocks of a text. Each report has what its block has, and counts as not whole.
 
-    `MalformedReport` where the lines are not those of blocks. Memories, printed lines, cost rows and places are read
-    where they are asked for, and the fault comes there.
+    `MalformedReport` where the lines are not those of blocks. The words of memories and of printed lines, and places,
+    are read where they are asked for, and the fault comes there.
     """
     lines = Lines(text)
     blocks: list[Block] = []

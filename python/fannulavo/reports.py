@@ -85,7 +85,7 @@ class Report:
             return self
         if not before.is_whole:
             raise ValueError("what the changes are against is not whole")
-        costs = {**unread(before.costs), **unread(self.costs)}
+        costs = {**before.costs, **self.costs}
         count = len(before.costs) if self.supersteps is None else self.supersteps
         if len(costs) != count:
             costs = {superstep: costs[superstep] for superstep in range(count)}
@@ -93,7 +93,7 @@ class Report:
             self,
             memories=Rows({**unread(before.memories), **unread(self.memories)}),
             lines=Rows({**unread(before.lines), **unread(self.lines)}),
-            costs=Rows(costs),
+            costs=costs,
             is_whole=True,
             supersteps=None,
         )
@@ -101,10 +101,8 @@ class Report:
     def read(self) -> None:
         """Reads all that is told, so that nothing is left to be read later. `MalformedReport` where a line does not
         fit."""
-        for told in (self.memories.values(), self.lines.values(), self.costs.values()):
+        for told in (self.memories.values(), self.lines.values(), self.executed or (), self.redelivered or ()):
             deque(told, 0)
-        for places in (self.executed, self.redelivered):
-            deque(places or (), 0)
 
 
 @dataclass(frozen=True)
