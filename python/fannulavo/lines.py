@@ -5,7 +5,6 @@ from __future__ import annotations
 import json
 import re
 from collections.abc import Iterator
-from copy import copy
 from typing import NamedTuple
 
 from fannulavo.errors import MalformedReport
@@ -78,14 +77,22 @@ class Line(NamedTuple):
 
 
 class Lines:
-    """The lines of a text, or of a part of it, of which the first that is left can be looked at."""
+    """The lines of a text between two places, of which the first that is left can be looked at."""
 
-    def __init__(self, text: bytes | bytearray):
+    __slots__ = ("_text", "_view", "_start", "_end", "_number")
+
+    def __init__(self, text: bytes | bytearray, start: int, end: int, number: int):
+        """`number` is that of the line that begins at `start`. A line ends at `end`, if there is one."""
         self._text, self._view = text, memoryview(text)
-        self._start, self._end, self._number = 0, len(text), 1
-        if text and not text.endswith(b"\n"):
-            last = text[text.rfind(b"\n") + 1 :]
-            raise MalformedReport(text.count(b"\n") + 1, last.decode(errors="replace"), "a line with its end")
+        self._start, self._end, self._number = start, end, number
+
+    @classmethod
+    def of(cls, text: bytes | bytearray) -> Lines:
+        """All lines of a text. `MalformedReport` where the last one has no end."""
+        end = text.rfind(b"\n") + 1
+        if end < len(text):
+            raise MalformedReport(text.count(b"\n") + 1, text[end:].decode(errors="replace"), "a line with its end")
+        return cls(text, 0, end, 1)
 
     def is_over(self) -> bool:
         """Whether no line is left."""
@@ -94,7 +101,7 @@ class Lines:
     def wrong(self, wanted: str) -> MalformedReport:
         """What is wrong with the first line that is left, or with that there is none."""
         end = self._end if self.is_over() else self._text.index(b"\n", self._start)
-        return Line(self._number, self._view[self._start : end]).wrong(wanted)
+        return self._first(end).wrong(wanted)
 
     def __iter__(self) -> Iterator[Line]:
         """The lines that are left, which they stay."""
@@ -103,6 +110,10 @@ class Lines:
             end = self._text.index(b"\n", start)
             yield Line(number, self._view[start:end])
             number, start = number + 1, end + 1
+
+    def _first(self, end: int) -> Line:
+        """The first line that is left, which ends there."""
+        return Line(self._number, self._view[self._start : end])
 
     def _end_if(self, word: bytes) -> int:
         """The end of the first line that is left, if it begins with a word; else -1."""
@@ -116,14 +127,14 @@ class Lines:
         end = self._end_if(word)
         if end < 0:
             return None
-        line = Line(self._number, self._view[self._start : end])
+        line = self._first(end)
         self._start, self._number = end + 1, self._number + 1
         return line
 
     def key_if(self, word: bytes) -> int | None:
         """The first number of the first line that is left, if it begins with a word. It stays."""
         end = self._end_if(word)
-        return None if end < 0 else Line(self._number, self._view[self._start : end]).key()
+        return None if end < 0 else self._first(end).key()
 
     def next(self, word: bytes) -> Line:
         """The first line that is left, which has to begin with a word."""
@@ -139,12 +150,10 @@ class Lines:
 
     def part_of(self, word: bytes) -> Lines:
         """The following lines that begin with a word, as a part of their own. None of them is read."""
-        part = copy(self)
+        start, number = self._start, self._number
         while (end := self._end_if(word)) >= 0:
-            self._start = end + 1
-        part._end = self._start
-        self._number += part.count(b"\n")
-        return part
+            self._start, self._number = end + 1, self._number + 1
+        return Lines(self._text, start, self._start, number)
 
     def all_as(self, pattern: re.Pattern[bytes], wanted: str) -> list[tuple[bytes, ...]]:
         """The groups of each line that is left: the pattern is that of a whole line with its end."""

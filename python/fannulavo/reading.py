@@ -123,7 +123,7 @@ def blocks_in(text: bytes | bytearray) -> list[Block]:
     `MalformedReport` where the lines are not those of blocks. The words of memories and of printed lines, and places,
     are read where they are asked for, and the fault comes there.
     """
-    lines = Lines(text)
+    lines = Lines.of(text)
     blocks: list[Block] = []
     while not lines.is_over():
         blocks.append(_block(lines))
