@@ -42,7 +42,7 @@ from fannulavo import (
     write_report,
 )
 from model import answer
-from talking import drawn_asks, drawn_job
+from talking import WORKERS, drawn_asks, drawn_job
 from talks import Ask
 
 KINDS = {"word": Word, "arg": Argument, "limit": Limit, "prices": Prices}
@@ -122,7 +122,8 @@ class Batches(unittest.TestCase):
         document = drawn_job(name, draw)
         asks = [ask for ask in drawn_asks(draw, name, document, RATES) if ask.line.isascii()]
         pairs: list[tuple[Sequence[Block], bytes]] = []
-        with Session(self.tool(name), document) as session, Pipe(self.tool(name), document, "--places") as pipe:
+        tool, workers = self.tool(name), WORKERS[seed % 3]
+        with Session(tool, document, workers) as session, Pipe(tool, document, "--places") as pipe:
             pairs.append((session.opening, pipe.opening.removesuffix(b"ready\n")))
             number = len(session.opening)
             for ask in asks:
