@@ -2,9 +2,12 @@
 
 from __future__ import annotations
 
-from collections.abc import Mapping
+from collections import deque
+from collections.abc import Mapping, Sequence
 from dataclasses import dataclass, replace
 from typing import NamedTuple
+
+from fannulavo.later import Rows, unread
 
 
 class Place(NamedTuple):
@@ -63,9 +66,9 @@ class Report:
     """How many turns were taken; None with `--scratch`."""
     redelivered_count: int | None = None
     """How many deliveries were made; None with `--scratch`."""
-    executed: tuple[Place, ...] | None = None
+    executed: Sequence[Place] | None = None
     """Which turns were taken, ascending; None where that is not told."""
-    redelivered: tuple[Place, ...] | None = None
+    redelivered: Sequence[Place] | None = None
     """Which deliveries were made, ascending; None where that is not told."""
     is_whole: bool = True
     supersteps: int | None = None
@@ -82,16 +85,24 @@ class Report:
             return self
         if not before.is_whole:
             raise ValueError("what the changes are against is not whole")
-        count = len(before.costs) if self.supersteps is None else self.supersteps
         costs = {**before.costs, **self.costs}
+        count = len(before.costs) if self.supersteps is None else self.supersteps
+        if len(costs) != count:
+            costs = {superstep: costs[superstep] for superstep in range(count)}
         return replace(
             self,
-            memories={**before.memories, **self.memories},
-            lines={**before.lines, **self.lines},
-            costs={superstep: costs[superstep] for superstep in range(count)},
+            memories=Rows({**unread(before.memories), **unread(self.memories)}),
+            lines=Rows({**unread(before.lines), **unread(self.lines)}),
+            costs=costs,
             is_whole=True,
             supersteps=None,
         )
+
+    def read(self) -> None:
+        """Reads all that is told, so that nothing is left to be read later. `MalformedReport` where a line does not
+        fit."""
+        for told in (self.memories.values(), self.lines.values(), self.executed or (), self.redelivered or ()):
+            deque(told, 0)
 
 
 @dataclass(frozen=True)

@@ -3,47 +3,54 @@
 from __future__ import annotations
 
 import os
+import re
 import tempfile
 import weakref
 from collections.abc import Callable, Iterable, Sequence
 from pathlib import Path
 from types import TracebackType
+from typing import TypeVar
 
 from fannulavo.edits import Edit, batch_text
-from fannulavo.errors import MalformedReport, NothingToUndo, NotRead, Refused, SessionClosed
-from fannulavo.reading import read_report
+from fannulavo.errors import Error, MalformedReport, NothingToUndo, NotRead, Refused, SessionClosed
+from fannulavo.reading import blocks_in, whole
 from fannulavo.reports import Block, Refusal, Report, Unread
 from fannulavo.tools import Tool, stop
 
 Command = str | os.PathLike[str] | Sequence[str | os.PathLike[str]]
 """A program, or its words."""
 
-_ENDS = ("executed ", "refused ", "unread ")  # how the last line of a block begins
+# The last line of an answer, behind the end of the line before.
+_READY = re.compile(rb"\nready\n")
+_BLOCK = re.compile(rb"\n(?:executed|refused|unread) [^\n]*\n")
+_DOCUMENT = re.compile(rb"\nend\n|" + _BLOCK.pattern)
 
-
-def _is_opening(lines: list[str]) -> bool:
-    return lines[-1] == "ready"
-
-
-def _is_block(lines: list[str]) -> bool:
-    return lines[-1].startswith(_ENDS)
-
-
-def _is_document(lines: list[str]) -> bool:
-    """Whether this is a document between its two lines, or a block, which stands there where the tool says none."""
-    return lines[-1] == "end" if lines[0] == "document" else _is_block(lines)
+_BEFORE, _AFTER = b"document\n", b"end\n"  # the lines around a document
+T = TypeVar("T")
 
 
 def _words(command: Command, path: str, workers: int) -> list[str]:
     if not 1 <= workers <= 16:
         raise ValueError(f"{workers} workers, and not 1 to 16")
     program = [command] if isinstance(command, (str, os.PathLike)) else command
-    return [*(os.fspath(word) for word in program), "--follow", path, "--places", "--workers", str(workers)]
+    options = ["--follow", path, "--places", "--changes", "--workers", str(workers)]
+    return [*(os.fspath(word) for word in program), *options]
+
+
+def _fault_of(block: Refusal | Unread) -> Error:
+    """What a block tells that has no report."""
+    if isinstance(block, Refusal):
+        return Refused(block.place, block.fault)
+    return NothingToUndo(block.reason) if block.reason == "undo" else NotRead(block.reason)
+
+
+def _first_line(answer: bytearray) -> str:
+    return answer.partition(b"\n")[0].decode(errors="replace")
 
 
 class Session:
-    """A tool that was started on a document with `--follow` and `--places`, and answers each batch of edits as it
-    comes.
+    """A tool that was started on a document with `--follow`, `--places` and `--changes`, and answers each batch of
+    edits as it comes. Its reports are whole: the tool tells what changed, and the rest is that of the report before.
 
     It is a context manager, and has ended when its block is left. Whatever goes wrong in an exchange (`ToolEnded`,
     `Interrupted`, `MalformedReport`) ends the tool and the session. It is for one thread.
@@ -67,41 +74,47 @@ class Session:
     def _open(self, words: list[str]) -> None:
         self._tool = Tool(words)
         self._finalizer = weakref.finalize(self, stop, self._tool.process)
-        *lines, _ = self._tool.exchange("", _is_opening)
-        self._blocks = tuple(self._read(lines))
-        reports = [block for block in self._blocks if isinstance(block, Report)]
-        if not reports:
-            self._tool.ended("the tool answers otherwise")
-            raise MalformedReport(1, "ready", "a report")
-        self._report = reports[-1]
+        self._blocks = self._tool.exchange("", _READY, self._opening_in)
 
-    def _read(self, lines: list[str]) -> list[Block]:
-        try:
-            return read_report("".join(f"{line}\n" for line in lines), changes=False)
-        except MalformedReport:
-            self._tool.ended("the tool answers otherwise")
-            raise
+    def _opening_in(self, answer: bytearray) -> tuple[Block, ...]:
+        """The blocks of the document, of which the first alone is whole as it is written."""
+        first, *batches = blocks_in(answer.removesuffix(b"ready\n")) or [None]
+        if not isinstance(first, Report):
+            raise MalformedReport(1, _first_line(answer), "a report")
+        self._report = whole(first)
+        return (self._report, *map(self._completed, batches))
 
-    def _exchange(self, line: str, is_all: Callable[[list[str]], bool]) -> list[str]:
-        if self._tool.has_ended:
-            raise SessionClosed("the session is over")
-        return self._tool.exchange(f"{line}\n", is_all)
-
-    def _report_in(self, lines: list[str]) -> Report:
-        """The report that a block has, or what is said there in its place."""
-        block, *more = self._read(lines)
-        if more:
-            self._tool.ended("the tool answers otherwise")
-            raise MalformedReport(1, lines[0], "one block")
-        if isinstance(block, Refusal):
-            raise Refused(block.place, block.fault)
-        if isinstance(block, Unread):
-            raise NothingToUndo(block.reason) if block.reason == "undo" else NotRead(block.reason)
+    def _completed(self, block: Block) -> Block:
+        """A block whose report, if it has one, is whole, and the last from then on."""
+        if isinstance(block, Report):
+            self._report = block = block.after(self._report)
         return block
 
+    def _block_in(self, answer: bytearray) -> Block:
+        block, *more = blocks_in(answer)
+        if more:
+            raise MalformedReport(1, _first_line(answer), "one block")
+        return self._completed(block)
+
+    def _document_in(self, answer: bytearray) -> str | Refusal | Unread:
+        """A document, or the block that stands in its place where the tool says none."""
+        if answer.startswith(_BEFORE):
+            return answer[len(_BEFORE) : -len(_AFTER)].decode()
+        block = self._block_in(answer)
+        if isinstance(block, Report):
+            raise MalformedReport(1, _first_line(answer), "the line 'document'")
+        return block
+
+    def _exchange(self, line: str, last: re.Pattern[bytes], read: Callable[[bytearray], T]) -> T:
+        if self._tool.has_ended:
+            raise SessionClosed("the session is over")
+        return self._tool.exchange(f"{line}\n", last, read)
+
     def _ask(self, line: str) -> Report:
-        self._report = self._report_in(self._exchange(line, _is_block))
-        return self._report
+        block = self._exchange(line, _BLOCK, self._block_in)
+        if not isinstance(block, Report):
+            raise _fault_of(block)
+        return block
 
     @property
     def opening(self) -> tuple[Block, ...]:
@@ -133,12 +146,10 @@ class Session:
     def document(self) -> str:
         """The input as it is now, as the text of a document without batches, of which `Session` opens another session.
         Nothing changes. `NotRead` where the tool knows no line `document`."""
-        lines = self._exchange("document", _is_document)
-        if lines[0] != "document":
-            self._report_in(lines)
-            self._tool.ended("the tool answers otherwise")
-            raise MalformedReport(1, lines[0], "the line 'document'")
-        return "".join(f"{line}\n" for line in lines[1:-1])
+        said = self._exchange("document", _DOCUMENT, self._document_in)
+        if not isinstance(said, str):
+            raise _fault_of(said)
+        return said
 
     def close(self) -> None:
         """Ends the session and its tool. `ToolEnded` where that ended with another status than 0. Closing once more

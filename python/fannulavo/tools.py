@@ -3,19 +3,22 @@
 from __future__ import annotations
 
 import os
+import re
 import subprocess
 import tempfile
-from collections import deque
 from collections.abc import Callable, Sequence
+from typing import TypeVar
 
 from fannulavo.errors import Interrupted, ToolEnded
+
+T = TypeVar("T")
 
 _GRACE = 2.0  # seconds that a tool has to end itself when it is told to
 _LAST = 10.0  # seconds that it has to end after the end of its input
 _CHUNK = 1 << 16  # bytes that are read at once
 
 
-def _text(said: bytes) -> str:
+def _text(said: bytes | bytearray) -> str:
     return said.decode("utf-8", "replace")
 
 
@@ -54,7 +57,7 @@ class Tool:
 
     def __init__(self, words: Sequence[str]):
         self._errors = tempfile.TemporaryFile()
-        self._said: list[bytes] = []  # of the exchange that goes on, or of the last
+        self._said = bytearray(b"\n")  # behind the end of a line, what the tool said and was not taken yet
         # In a process group of its own an interrupt from a terminal does not reach it.
         # Its input is not buffered: else closing it could wait for a tool that takes nothing.
         try:
@@ -71,20 +74,18 @@ class Tool:
             raise
         assert self.process.stdin and self.process.stdout
         self._in, self._out = self.process.stdin, self.process.stdout
-        self._lines: deque[bytes] = deque()  # that were read ahead
-        self._begun = b""  # the line after them, as far as it was read
 
     @property
     def has_ended(self) -> bool:
         """Whether the tool was ended, and what it said was read."""
         return self._errors.closed
 
-    def exchange(self, line: str, is_all: Callable[[list[str]], bool]) -> list[str]:
-        """Writes a line, or none where it is empty, and waits for the lines of the answer, until that is all."""
-        self._said = []
+    def exchange(self, line: str, last: re.Pattern[bytes], read: Callable[[bytearray], T]) -> T:
+        """Writes a line, or none where it is empty, waits for the answer, and reads it. `last` is what its last line
+        is, with the end of the line before."""
         try:
             self._write(line)
-            return self._read(is_all)
+            return read(self._answer(last))
         except KeyboardInterrupt:
             raise Interrupted(*self._end()) from None
         except BaseException:
@@ -100,44 +101,34 @@ class Tool:
         except OSError as error:
             raise self.ended("the tool takes nothing more") from error
 
-    def _read(self, is_all: Callable[[list[str]], bool]) -> list[str]:
-        lines: list[str] = []
-        while not lines or not is_all(lines):
-            said = self._line()
-            self._said.append(said)
-            lines.append(_text(said).removesuffix("\n"))
-        return lines
-
-    def _line(self) -> bytes:
-        """The next line that the tool says."""
-        while not self._lines:
+    def _answer(self, last: re.Pattern[bytes]) -> bytearray:
+        begun = 0  # where a last line can begin that was not seen yet
+        while not (found := last.search(self._said, begun)):
+            begun = self._said.rfind(b"\n")
             some = os.read(self._out.fileno(), _CHUNK)
             if not some:
                 raise self.ended("the tool has ended")
-            *lines, self._begun = (self._begun + some).split(b"\n")
-            self._lines.extend(line + b"\n" for line in lines)
-        return self._lines.popleft()
+            self._said += some
+        answer, self._said = self._said, self._said[found.end() - 1 :]
+        del answer[found.end() :], answer[:1]
+        return answer
 
-    def _unread(self) -> bytes:
-        """What the tool wrote that was not taken as a line of an answer. It waits for no more."""
-        said = [*self._lines, self._begun]
-        self._lines.clear()
-        self._begun = b""
+    def _read_on(self) -> None:
+        """Reads what the tool wrote and nobody waits for. It waits for no more."""
         try:
             os.set_blocking(self._out.fileno(), False)
             while some := os.read(self._out.fileno(), _CHUNK):
-                said.append(some)
+                self._said += some
         except (OSError, ValueError):
             pass  # no more has come yet, or the pipe is closed
-        return b"".join(said)
 
     def ended(self, what: str) -> ToolEnded:
         """Ends the tool, and tells what it said."""
         return ToolEnded(what, *self._end(wait=_GRACE))
 
     def _end(self, wait: float = 0.0) -> tuple[str, str, int | None]:
-        """Ends the input of the tool, and then the tool, which has so many seconds to end itself. What it said in
-        the last exchange and after it, what on standard error, and its exit status."""
+        """Ends the input of the tool, and then the tool, which has so many seconds to end itself. What it said that
+        was not taken, what on standard error, and its exit status."""
         _close(self._in)
         try:
             if wait:
@@ -147,19 +138,18 @@ class Tool:
         finally:
             try:
                 _kill(self.process)
-                self._said.append(self._unread())
+                self._read_on()
             finally:
                 stop(self.process)
         self._errors.seek(0)
         errors = _text(self._errors.read())
         self._errors.close()
-        return _text(b"".join(self._said)), errors, self.process.returncode
+        return _text(self._said[1:]), errors, self.process.returncode
 
     def close(self) -> None:
         """Ends the input of the tool, and waits until it has ended. `ToolEnded` where that was not with status 0."""
         if self.has_ended:
             return
-        self._said = []
         try:
             said, errors, status = self._end(wait=_LAST)
         except KeyboardInterrupt:

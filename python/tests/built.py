@@ -24,7 +24,9 @@ class Built(test_sessions.Batches):
             raise RuntimeError("heat was not built")
         cls.program = program
 
-    def tool(self) -> list[str]:
+    names = ("heat",)
+
+    def tool(self, name: str = "heat") -> list[str]:
         return [self.program]
 
     def whole(self, document: bytes) -> str:

@@ -2,8 +2,11 @@
 
 from __future__ import annotations
 
+import copy
 import os
+import pickle
 import unittest
+from dataclasses import replace
 
 from stored import ROOT, stored
 
@@ -99,6 +102,18 @@ class Blocks(unittest.TestCase):
         self.assertEqual(read_report(BLOCK), [wanted])
         self.assertEqual(write_report([wanted]), BLOCK)
 
+    def test_copies(self) -> None:
+        (report,) = read_report(BLOCK)
+        for copied in (pickle.loads(pickle.dumps(report)), copy.deepcopy(report), replace(report)):
+            self.assertEqual(copied, report)
+        self.assertEqual(repr(report), repr(read_report(BLOCK)[0]))
+        self.assertEqual(repr(report.memories), "{0: (1, 2), 1: ()}")
+        self.assertEqual(hash(report.redelivered), hash((Place(0, 0),)))
+        self.assertEqual((report.executed[1:3], report.executed[-1]), ((Place(0, 1), Place(1, 0)), Place(1, 1)))
+        self.assertNotEqual(report.executed, report.redelivered)
+        self.assertIn(1, report.memories)
+        self.assertNotIn(2, report.memories)
+
     def test_other_blocks(self) -> None:
         text = f"{BLOCK}run 1\nrefused E5 at 3\nrun 2\nunread J3\nrun 3\nunread undo\n"
         self.assertEqual(read_report(text)[1:], [Refusal(1, 3, "E5"), Unread(2, "J3"), Unread(3, "undo")])
@@ -137,7 +152,9 @@ class Blocks(unittest.TestCase):
             2: ["status", "status ended", "status faulted", "refused E6 at 0", "refused E1 at", ""],
             3: ["fault 0 F13", "fault 0 F1", "fault 0 F4 1", "fault 00 F4"],
             5: ["memory", "memory 0 01", "memory 0  1", "memory 0 -1", "memory 0 "],
-            9: ["cost 0 3 2", "cost 0 3 2 x"],
+            8: ["print", "print 00", "print 0 05", "print 0 -5"],
+            9: ["cost 0 3 2", "cost 0 3 2 x", "cost 0 3 2 15 9", "cost"],
+            10: ["cost 00 4 0 4", "cost 1 4 0"],
             11: ["totals 19", "total", "total 19 "],
             12: ["turns 0", "turns"],
             15: [
@@ -157,6 +174,12 @@ class Blocks(unittest.TestCase):
                     with self.assertRaises(MalformedReport) as raised:
                         read_report("".join(f"{each}\n" for each in text))
                     self.assertEqual(raised.exception.line, number)
+
+    def test_lines_of_a_process_in_two_places(self) -> None:
+        text = BLOCK.replace("print 0 5 6\n", "print 1\nprint 0 5 6\n")
+        with self.assertRaises(MalformedReport) as raised:
+            read_report(text)
+        self.assertEqual((raised.exception.line, raised.exception.text), (9, "print 0 5 6"))
 
     def test_no_end_of_a_line(self) -> None:
         self.assertRaises(MalformedReport, read_report, BLOCK[:-1])

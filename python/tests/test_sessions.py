@@ -13,9 +13,10 @@ import threading
 import time
 import tomllib
 import unittest
-from collections.abc import Iterator
+from collections.abc import Callable, Iterator, Sequence
 from unittest.mock import patch
 
+from pipes import Pipe
 from stored import FAKE, HEAT, fake
 
 from drawn import Draw, draw_batch, draw_heat
@@ -35,26 +36,47 @@ from fannulavo import (
     Session,
     SessionClosed,
     ToolEnded,
+    Unread,
     Word,
     read_report,
     write_report,
 )
 from model import answer
+from talking import WORKERS, drawn_asks, drawn_job
+from talks import Ask
 
 KINDS = {"word": Word, "arg": Argument, "limit": Limit, "prices": Prices}
 EDIT = [Word(0, 1, 5)]
+RATES = {"undo": 0.25, "document": 0.08}  # of the lines of a talk
 
 
 def edits_of(rows: list[list]) -> list[Edit]:
     return [KINDS[name](*numbers) for name, *numbers in rows]
 
 
-def answer_to(session: Session, number: int, batch: list[Edit]) -> Block:
-    """The block of a batch."""
+def said_of(call: Callable[[], Report], number: int) -> Block:
+    """The block of the line that a call says."""
     try:
-        return session.apply(batch)
+        return call()
     except Refused as refused:
         return Refusal(number, refused.place, refused.fault)
+    except NotRead as unread:
+        return Unread(number, unread.reason)
+
+
+def answer_to(session: Session, number: int, batch: list[Edit]) -> Block:
+    """The block of a batch."""
+    return said_of(lambda: session.apply(batch), number)
+
+
+def said_to(session: Session, ask: Ask, number: int) -> Block:
+    """The block of a line, which may be none that the package says by itself."""
+    if ask.is_undo:
+        return said_of(session.undo, number)
+    if ask.unread or not ask.batch:
+        with patch("fannulavo.session.batch_text", lambda _: ask.line.decode()):
+            return answer_to(session, number, [])
+    return answer_to(session, number, edits_of(ask.batch))
 
 
 def results(report: Block) -> tuple:
@@ -66,8 +88,10 @@ def results(report: Block) -> tuple:
 class Batches(unittest.TestCase):
     """Sessions of random batches, with the tool that answers by the model; built.py has the same with a built one."""
 
-    def tool(self) -> list[str]:
-        return fake("heat")
+    names = ("bsp_tool", "heat", "oddeven", "collectives", "bsp_script")
+
+    def tool(self, name: str = "heat") -> list[str]:
+        return fake(name)
 
     def whole(self, document: bytes) -> str:
         """The report of a whole document, with its places."""
@@ -90,6 +114,36 @@ class Batches(unittest.TestCase):
                     *(answer_to(session, n, edits_of(batch)) for n, batch in enumerate(batches, 1)),
                 ]
             self.assertEqual(write_report(blocks), self.whole(self.document(memories, args, batches=batches)))
+
+    def same_as_whole(self, name: str, seed: int) -> None:
+        """Sees that the reports of a session are those of the whole blocks that the same tool writes to the same
+        lines. Every other session is over before they are read in full."""
+        draw = Draw(f"whole {name} {seed}")
+        document = drawn_job(name, draw)
+        asks = [ask for ask in drawn_asks(draw, name, document, RATES) if ask.line.isascii()]
+        pairs: list[tuple[Sequence[Block], bytes]] = []
+        tool, workers = self.tool(name), WORKERS[seed % 3]
+        with Session(tool, document, workers) as session, Pipe(tool, document, "--places") as pipe:
+            pairs.append((session.opening, pipe.opening.removesuffix(b"ready\n")))
+            number = len(session.opening)
+            for ask in asks:
+                answer = pipe.ask(ask.line)
+                if ask.is_document:
+                    self.assertEqual(f"document\n{session.document()}end\n", answer.decode())
+                    continue
+                pairs.append(([said_to(session, ask, number)], answer))
+                number += 1
+                if seed % 2:
+                    self.assertEqual(write_report(pairs[-1][0]), answer.decode(), ask)
+        for blocks, text in pairs:
+            self.assertEqual(list(blocks), read_report(text.decode(), changes=False))
+            self.assertEqual(write_report(blocks), text.decode())
+
+    def test_reports_are_those_of_whole_blocks(self) -> None:
+        for name in self.names:
+            for seed in range(6):
+                with self.subTest(name, seed=seed):
+                    self.same_as_whole(name, seed)
 
     def test_twenty_batches_are_taken_back(self) -> None:
         draw = Draw(4)
@@ -222,7 +276,7 @@ class Failing(unittest.TestCase):
     def test_killed_in_the_middle(self) -> None:
         error = self.fails(ToolEnded, "dies")
         self.assertEqual(error.status, -signal.SIGKILL)
-        self.assertTrue(error.said.startswith("run 2\nstatus halted\nmemory 0 0 "), error.said)
+        self.assertEqual(error.said, "run 2\nstatus halted\n")
 
     def test_ended_in_the_middle(self) -> None:
         error = self.fails(ToolEnded, "exits")
@@ -259,13 +313,13 @@ class Failing(unittest.TestCase):
             self.assertRaises(ToolEnded, session.document)
 
     @contextlib.contextmanager
-    def interrupt(self, session: Session, said: list[bytes]) -> Iterator[None]:
+    def interrupt(self, session: Session, said: bytes) -> Iterator[None]:
         """Interrupts as soon as the tool has said so much of its answer, and half a second later at the earliest."""
 
         def wait_and_kill() -> None:
             for _ in range(3000):
                 time.sleep(0.01)
-                if session._tool._said == said:
+                if session._tool._said[1:] == said:
                     break
             time.sleep(0.5)
             os.kill(os.getpid(), signal.SIGINT)
@@ -278,7 +332,7 @@ class Failing(unittest.TestCase):
     def test_an_interrupt(self) -> None:
         for flaw in ("hangs", "deaf"):
             with self.subTest(flaw), patch("fannulavo.tools._GRACE", 0.2), Session(fake("heat", flaw), HEAT) as session:
-                with self.assertRaises(Interrupted) as raised, self.interrupt(session, [b"run 1\n"]):
+                with self.assertRaises(Interrupted) as raised, self.interrupt(session, b"run 1\n"):
                     session.apply(EDIT)
                 self.assertEqual(raised.exception.said, "run 1\n")
                 self.assertRaises(SessionClosed, session.undo)
@@ -288,7 +342,7 @@ class Failing(unittest.TestCase):
         script = f"import time; print({first!r}, end=''); print('ready', flush=True); input(); "
         script += "print('run 1\\nstatus hal', end='', flush=True); time.sleep(60)"
         with Session([sys.executable, "-c", script], HEAT) as session:
-            with self.assertRaises(Interrupted) as raised, self.interrupt(session, [b"run 1\n"]):
+            with self.assertRaises(Interrupted) as raised, self.interrupt(session, b"run 1\nstatus hal"):
                 session.apply(EDIT)
             self.assertEqual(raised.exception.said, "run 1\nstatus hal")
 
@@ -299,12 +353,12 @@ class Failing(unittest.TestCase):
         with Session([sys.executable, "-c", script], HEAT) as session, patch(
             "fannulavo.session.batch_text", lambda _: text
         ):
-            with self.assertRaises(Interrupted), self.interrupt(session, []):
+            with self.assertRaises(Interrupted), self.interrupt(session, b""):
                 session.apply(EDIT)
 
     def test_an_interrupt_leaves_the_with_block(self) -> None:
         with self.assertRaises(KeyboardInterrupt), Session(fake("heat", "hangs"), HEAT) as session:
-            with self.interrupt(session, [b"run 1\n"]):
+            with self.interrupt(session, b"run 1\n"):
                 session.apply(EDIT)
 
     def test_a_tool_without_documents(self) -> None:
@@ -319,6 +373,44 @@ class Failing(unittest.TestCase):
         script = f"print({first!r}, end=''); print('ready', flush=True); input(); print({two!r})"
         with Session([sys.executable, "-c", script], HEAT) as session:
             self.assertRaises(MalformedReport, session.apply, EDIT)
+
+    def scripted(self, *answers: str) -> Session:
+        """A session with a tool that says these answers, whatever it is asked."""
+        first = answer("heat", HEAT, places=True).report
+        script = f"print({first!r}, end=''); print('ready', flush=True)\n"
+        script += "".join(f"input(); print({text!r}, end='', flush=True)\n" for text in answers)
+        return Session([sys.executable, "-c", f"{script}input()"], HEAT)
+
+    def test_words_are_read_where_they_are_asked_for(self) -> None:
+        with self.scripted("run 1\nstatus halted\nmemory 1 0 x\ntotal 0\nexecuted 0 redelivered 0\n") as session:
+            report = session.apply(EDIT)
+            self.assertEqual((list(report.memories), report.total), ([0, 1, 2], 0))
+            self.assertIs(report.memories[0], session.opening[0].memories[0])
+            for _ in range(2):
+                with self.assertRaises(MalformedReport) as raised:
+                    report.memories[1]
+                self.assertEqual((raised.exception.line, raised.exception.text), (3, "memory 1 0 x"))
+            self.assertTrue(session.is_open)
+            session._tool.process.kill()
+            self.assertRaises(ToolEnded, session.close)
+
+    def test_more_than_a_block(self) -> None:
+        with self.scripted("run 1\nunread J1\nrun", " 2\nunread J1\n", "run 3\nunread J1\n") as session:
+            self.assertRaises(NotRead, session.undo)
+            self.assertRaises(NotRead, session.undo)
+            self.assertRaises(NotRead, session.undo)
+            session._tool.process.kill()
+            self.assertRaises(ToolEnded, session.close)
+        with self.scripted("run 1\nunread J1\nrun 2\n", "run 2\nunread J1\n") as session:
+            self.assertRaises(NotRead, session.undo)
+            self.assertRaises(MalformedReport, session.undo)
+
+    def test_an_interrupt_while_an_answer_is_read(self) -> None:
+        """What was lost of it would be missing in each later report."""
+        with Session(fake("heat"), HEAT) as session:
+            with patch("fannulavo.session.blocks_in", side_effect=KeyboardInterrupt):
+                self.assertRaises(Interrupted, session.apply, EDIT)
+            self.assertRaises(SessionClosed, session.undo)
 
     def test_an_exception_leaves_the_with_block(self) -> None:
         with self.assertRaises(LookupError), Session(fake("heat"), HEAT):
