@@ -16,13 +16,13 @@ def live(count):
 
 
 DOCUMENTS = Part(("ci/documents",), 6_800)
-FIRST = (Part(("ci/test_gate",), 84), Part(("ci/statement",), 2), Part(("ci/python",), 58))  # before anything is proved
+FIRST = (Part(("ci/test_gate",), 84), Part(("ci/statement",), 2), Part(("ci/python",), 64))  # before anything is proved
 PROOFS = Part(("rt", "ci"), 103)  # 23 crates and 80 must-fail edits
 LAST = (
     DOCUMENTS,
     Part(("ci/random", "300"), 1_800),
     live(40),
-    Part(("ci/sessions",), 6),
+    Part(("ci/sessions",), 7),
     Part(("ci/progress",), 3),
     Part(("ci/count_allocations",), 6),
     Part(("ci/refuse_allocations",), 14_000),
