@@ -57,8 +57,8 @@ impl OutcomeRows {
         ensures { IfOk result (λ o. o ≡ []) }
     {
         let mut rows = OutcomeRows::new(alloc)?;
-        rows.reserve(count)?;
-        Ok(rows)
+        let reserved = rows.reserve(count);
+        reserved.and(Ok(rows))
     }
 
     /// The same, with room in the lists that most turns fill.
@@ -66,8 +66,8 @@ impl OutcomeRows {
         ensures { IfOk result (λ o. o ≡ []) }
     {
         let mut rows = OutcomeRows::with_capacity(alloc, count)?;
-        rows.lists.reserve(count)?;
-        Ok(rows)
+        let reserved = rows.lists.reserve(count);
+        reserved.and(Ok(rows))
     }
 
     /// Makes room for so many outcomes more, but not in their lists.
@@ -258,9 +258,15 @@ impl OutcomeRows {
         ensures { IfOk result (λ o. o ≡ replaced self.now processes.now new.now) }
     {
         let mut all = OutcomeRows::new(alloc)?;
-        all.reserve_like(self, Share::whole())?;
-        add_replaced(&mut all, self, processes, new)?;
-        Ok(all)
+        match all.reserve_like(self, Share::whole()) {
+            Ok(()) => {}
+            Err(error) => {
+                drop(all);
+                return Err(error);
+            }
+        }
+        let added = add_replaced(&mut all, self, processes, new);
+        added.and(Ok(all))
     }
 
     /// These outcomes, which stay as they are, or `OutOfMemory`.

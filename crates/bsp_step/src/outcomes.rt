@@ -228,14 +228,24 @@ impl Outcomes {
         ensures { IfOk result (λ o. o ≡ replaced self.now processes.items new) }
     {
         if processes.is_empty() {
+            drop(processes);
+            drop(new);
             return self.copy();
         }
-        let rows = self.base_rows(alloc, processes.as_slice())?;
-        let others = Others {
-            processes,
-            rows: new,
-        };
-        Outcomes::with(alloc, rows, others)
+        match self.base_rows(alloc, processes.as_slice()) {
+            Ok(rows) => {
+                let others = Others {
+                    processes,
+                    rows: new,
+                };
+                Outcomes::with(alloc, rows, others)
+            }
+            Err(error) => {
+                drop(processes);
+                drop(new);
+                Err(error)
+            }
+        }
     }
 
     /// The outcomes in `rows`, but for those of `others`. Where these are few they lie apart.
@@ -249,12 +259,21 @@ impl Outcomes {
     {
         let processes = others.processes.as_slice();
         if !are_few(processes.len(), rows.len()) {
-            return rows.replaced(alloc, processes, &others.rows)?.share();
+            let replaced = rows.replaced(alloc, processes, &others.rows);
+            drop(rows);
+            drop(others);
+            return replaced?.share();
         }
-        Ok(Outcomes {
-            rows: Some(rows),
-            others: Some(Shared::new(alloc, others)?),
-        })
+        match Shared::new(alloc, others) {
+            Ok(others) => Ok(Outcomes {
+                rows: Some(rows),
+                others: Some(others),
+            }),
+            Err(error) => {
+                drop(rows);
+                Err(error)
+            }
+        }
     }
 }
 

@@ -8,6 +8,7 @@ use bsp_model::{
 };
 use bsp_table::Area;
 use std::alloc::Global;
+use std::mem::replace;
 
 /// What a turn leaves in lists, its memory first. They lie in a box, so that an outcome and a context that move take few words with them.
 #[derive(Drop)]
@@ -102,8 +103,14 @@ impl TurnLists {
 impl TryCopy for TurnLists {
     fn copy(&self) -> Result<TurnLists, OutOfMemory> {
         let mut copy = TurnLists::new(self.gets.allocator());
-        copy.local = self.local.copy()?;
-        copy.append_requests(self)?;
-        Ok(copy)
+        match self.local.copy() {
+            Ok(local) => drop(replace(&mut copy.local, local)),
+            Err(error) => {
+                drop(copy);
+                return Err(error);
+            }
+        }
+        let appended = copy.append_requests(self);
+        appended.and(Ok(copy))
     }
 }

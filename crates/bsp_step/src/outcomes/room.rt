@@ -24,8 +24,8 @@ impl Outcomes {
         match &self.rows {
             Some(rows) if is_worth_room(count, rows.len()) => {
                 let mut room = OutcomeRows::new(alloc)?;
-                room.reserve_like(rows, Share::of(count, rows.len()))?;
-                Ok(room)
+                let reserved = room.reserve_like(rows, Share::of(count, rows.len()));
+                reserved.and(Ok(room))
             }
             Some(_) => OutcomeRows::with_capacity(alloc, count),
             None => OutcomeRows::with_room(alloc, count),
