@@ -66,15 +66,14 @@ module _ {P : Type 0} (acts : P → ViewParts → List Act) (ending : P → View
       ap (λ (v : LiveParts P). first ++ blocks_after detail 1 (last_result acts ending v) (live_replies acts ending looks v job.batches)) is
       ∙ ap (λ rs. first ++ blocks_after detail 1 (last_result acts ending (opened detail.changes job.program job.input)) rs) (live_replies-from (opened detail.changes job.program job.input) job.batches)
 
-  pub begun_text : (detail : Detail) (job : Job P) (live next : LiveParts P) (zero two end : List ℕ) → live ≡ opened false job.program job.input
-      → two ≡ zero ++ opening_block acts ending looks detail.places live.program live.input ++ blocks_after detail 1 (last_result acts ending next) (live_replies acts ending looks next job.batches) ++ end
-      → next ≡ record live { changes = detail.changes } → two ≡ zero ++ text_of detail (replies_of acts ending looks false job) ++ end
-  begun_text detail job live next zero two end l t n =
+  pub begun_text : (detail : Detail) (job : Job P) (live : LiveParts P) (zero two end : List ℕ) → live ≡ opened detail.changes job.program job.input
+      → two ≡ zero ++ opening_block acts ending looks detail.places live.program live.input ++ blocks_after detail 1 (last_result acts ending live) (live_replies acts ending looks live job.batches) ++ end
+      → two ≡ zero ++ text_of detail (replies_of acts ending looks false job) ++ end
+  begun_text detail job live zero two end is t =
       let first = opening_block acts ending looks detail.places job.program job.input in
-      let others = blocks_after detail 1 (last_result acts ending next) (live_replies acts ending looks next job.batches) in
-      let is : next ≡ opened detail.changes job.program job.input = n ∙ ap (λ (v : LiveParts P). record v { changes = detail.changes }) l in
-      t ∙ ap (λ (v : LiveParts P). zero ++ opening_block acts ending looks detail.places v.program v.input ++ others ++ end) l
-      ∙ ap (λ u. u ++ end) (append_assoc zero first others ∙ ap (λ u. zero ++ u) (report_is detail job next is))
+      let others = blocks_after detail 1 (last_result acts ending live) (live_replies acts ending looks live job.batches) in
+      t ∙ ap (λ (v : LiveParts P). zero ++ opening_block acts ending looks detail.places v.program v.input ++ others ++ end) is
+      ∙ ap (λ u. u ++ end) (append_assoc zero first others ∙ ap (λ u. zero ++ u) (report_is detail job live is))
 
   -- the block of an opening, of which the run was told
   pub opening_told : (places : Bool) (live next : LiveParts P) (history : Run) (update : Update) (old new : List ℕ) → live ≡ next → input_fault live.input ≡ None

@@ -1,12 +1,11 @@
 -- What of a list is another than in the list before, place by place.
-use Rattle.std.proofs.Common.{◌≡◌, ℕ, zero, suc, ◌+◌, ◌<◌, Bool, true, false, cond, List, [], ◌∷◌, ◌++◌, length, take, drop, get_or, slice_get, Option, None, Some, append_assoc, refl, sym, ap, ◌∙◌, subst, arith, add-one, inl, inr}
-use Rattle.std.specs.Prelude.{slice_set}
+use Rattle.std.proofs.Common.{◌≡◌, ℕ, suc, ◌+◌, ◌<◌, Bool, true, false, cond, List, [], ◌∷◌, ◌++◌, length, take, get_or, slice_get, Option, None, Some, append_assoc, refl, sym, ap, ◌∙◌, arith, inl, inr}
 use Rattle.std.specs.Bool.{Decides}
-use Rattle.std.proofs.lemmas.List.{append-nil, drop_all, length-take-le, set-get_or, take_all, take_more}
-use Rattle.std.proofs.lemmas.Option.{get_or_from_slice_get, slice_get_cases}
+use Rattle.std.proofs.lemmas.List.{append-nil, length-take-le, take_all, take_more}
+use Rattle.std.proofs.lemmas.Option.{slice_get_cases}
 use Rattle.bsp_engine.specs.Changes.{other, others, piece_if}
 use Rattle.bsp_engine.specs.Lines.{numbered}
-use Rattle.bsp_engine.specs.Inside.Touched.{piece_of, piece_there, put_in, put_there}
+use Rattle.bsp_engine.specs.Inside.Touched.{piece_of, piece_there}
 use Rattle.bsp_engine.proofs.Numbering.{numbered-snoc}
 
 -- one item, where a test tells whether it is the same
@@ -65,57 +64,16 @@ module _ {A : Type 0} (piece : ℕ → A → List ℕ) (same : A → A → Bool)
   pub untold_item : (text : List ℕ) (p : ℕ) (old new : A) → old ≡ new → text ≡ text ++ piece_if piece p (other same (Some old) new)
   untold_item text p old new e = sym (ap (λ o. text ++ piece_if piece p o) (sym (other_same same old new (d old new) e)) ∙ append-nil text)
 
--- a list whose first items are new already
-mixed-at : {A : Type 0} (olds news : List A) (k : ℕ) → length olds ≡ length news → k < length news → slice_get (take k news ++ drop k olds) k ≡ slice_get olds k
-mixed-at olds news zero long l = refl
-mixed-at [] (n ∷ news) (suc k) long l = absurd (omega (arith, long))
-mixed-at olds [] (suc k) long l = absurd (omega (arith, l))
-mixed-at (o ∷ olds) (n ∷ news) (suc k) long l = mixed-at olds news k (omega (arith, long)) (omega arith)
-
-mixed-set : {A : Type 0} (olds news : List A) (k : ℕ) (x : A) → length olds ≡ length news → slice_get news k ≡ Some x → slice_set (take k news ++ drop k olds) k x ≡ take (suc k) news ++ drop (suc k) olds
-mixed-set [] [] k x long at = cc
-mixed-set [] (n ∷ news) k x long at = absurd (omega (arith, long))
-mixed-set (o ∷ olds) [] k x long at = cc
-mixed-set (o ∷ olds) (n ∷ news) zero x long at = let is : x ≡ n = cc in ap (λ y. y ∷ olds) is
-mixed-set (o ∷ olds) (n ∷ news) (suc k) x long at = ap (λ l. n ∷ l) (mixed-set olds news k x (omega (arith, long)) at)
-
-mixed_whole : {A : Type 0} (olds news : List A) (k : ℕ) → length olds ≡ length news → k ≡ length news → take k news ++ drop k olds ≡ news
-mixed_whole olds news k long is =
-    ap (λ xs. xs ++ drop k olds) (take_all k news (omega arith)) ∙ ap (λ xs. news ++ xs) (drop_all k olds (omega arith)) ∙ append-nil news
-
--- what is put where it stands
-put_same : {A : Type 0} (xs : List A) (p : ℕ) (o : Option A) → slice_get xs p ≡ o → put_in xs p o ≡ xs
-put_same xs p None e = refl
-put_same xs p (Some x) e = ap (slice_set xs p) (sym (get_or_from_slice_get xs p x x e)) ∙ set-get_or xs p x
-
-pub unput : {A : Type 0} (olds news : List A) (p : ℕ) → slice_get olds p ≡ slice_get news p → olds ≡ put_there olds news p
-unput olds news p e = sym (put_same olds p (slice_get news p) e)
-
--- the items so far were told, and put in the place of the old ones
-pub record AreToldBelow {A : Type 0} (piece : ℕ → A → List ℕ) (same : A → A → Bool) (olds news : List A) (k : ℕ) (first text : List ℕ) (now : List A) : Type 0 where
-  pub told : text ≡ first ++ numbered (piece_if piece) 0 (others same olds (take k news))
-  pub items : now ≡ take k news ++ drop k olds
-
-pub tell_more : {A : Type 0} (piece : ℕ → A → List ℕ) (same : A → A → Bool) (olds news : List A) (k : ℕ) (first text next : List ℕ) (now later : List A) → length olds ≡ length news → k < length news
-    → AreToldBelow piece same olds news k first text now → next ≡ text ++ piece_there piece same now news k → later ≡ put_there now news k → AreToldBelow piece same olds news (k + 1) first next later
-tell_more piece same olds news k first text next now later long l h t i =
-    let at : slice_get now k ≡ slice_get olds k = ap (λ xs. slice_get xs k) h.items ∙ mixed-at olds news k long l in
+-- one place more
+pub tell_more : {A : Type 0} (piece : ℕ → A → List ℕ) (same : A → A → Bool) (olds news : List A) (k : ℕ) (first text next : List ℕ) → k < length news
+    → text ≡ first ++ numbered (piece_if piece) 0 (others same olds (take k news)) → next ≡ text ++ piece_there piece same olds news k → next ≡ first ++ numbered (piece_if piece) 0 (others same olds (take (k + 1) news))
+tell_more piece same olds news k first text next l h t =
     elim (slice_get_cases news k).1 [
-      | inl w ↦
-          let x = w.0 in
-          let told : piece_there piece same now news k ≡ piece_if piece k (other same (slice_get olds k) x) =
-          ap (λ o. piece_of piece same k o (slice_get news k)) at ∙ ap (piece_of piece same k (slice_get olds k)) w.2 in
-          record {
-            told = others_told piece same first text next olds news k x l (sym w.3) h.told (t ∙ ap (λ q. text ++ q) told);
-            items =
-                i ∙ ap (put_in now k) w.2 ∙ ap (λ xs. slice_set xs k x) h.items
-                ∙ subst (λ n. slice_set (take k news ++ drop k olds) k x ≡ take n news ++ drop n olds) (sym (add-one k)) (mixed-set olds news k x long w.2);
-          }
+      | inl w ↦ others_told piece same first text next olds news k w.0 l (sym w.3) h (t ∙ ap (λ o. text ++ piece_of piece same k (slice_get olds k) o) w.2)
       | inr w ↦ absurd (omega (arith, w.0, l))
     ]
 
 -- all of them
-pub told_whole : {A : Type 0} (piece : ℕ → A → List ℕ) (same : A → A → Bool) (olds news : List A) (k : ℕ) (first text : List ℕ) (now : List A) → length olds ≡ length news → k ≡ length news → AreToldBelow piece same olds news k first text now
-    → (text ≡ first ++ numbered (piece_if piece) 0 (others same olds news)) × (now ≡ news)
-told_whole piece same olds news k first text now long is h =
-    (h.told ∙ ap (λ xs. first ++ numbered (piece_if piece) 0 (others same olds xs)) (take_all k news (omega arith)), h.items ∙ mixed_whole olds news k long is)
+pub told_whole : {A : Type 0} (piece : ℕ → A → List ℕ) (same : A → A → Bool) (olds news : List A) (k : ℕ) (first text : List ℕ) → k ≡ length news
+    → text ≡ first ++ numbered (piece_if piece) 0 (others same olds (take k news)) → text ≡ first ++ numbered (piece_if piece) 0 (others same olds news)
+told_whole piece same olds news k first text is h = h ∙ ap (λ xs. first ++ numbered (piece_if piece) 0 (others same olds xs)) (take_all k news (omega arith))

@@ -12,7 +12,7 @@ use Rattle.bsp_incr.specs.declared.reply.Update.{Update}
 use Rattle.bsp_incr.specs.Edits.{edited}
 use Rattle.bsp_incr.proofs.Lawful.{edited_count}
 use Rattle.bsp_incr.proofs.PlacesGathered.{in_cons, none_in_nil}
-use Rattle.bsp_engine.specs.Inside.Touched.{flagged, flags_of, IsResultBefore, HaveSameUnflagged}
+use Rattle.bsp_engine.specs.Inside.Touched.{flagged, flags_of, IsUpdateBetween, HaveSameUnflagged}
 use Rattle.bsp_engine.specs.Untouched.{touched, at_limit, end_alike, HasTheSame}
 use Rattle.bsp_engine.proofs.Endings.{count_result_lines, count_result_memories}
 use Rattle.bsp_engine.proofs.Untouched.{untouched_stay}
@@ -81,29 +81,26 @@ unflagged_same old new flags n a b c d e same =
       lines = record { count = c ∙ sym d; one_each = e ∙ sym d; same = λ p l f. (same p (omega (arith, l, d)) f).lines };
     }
 
-enough : (batch : List Edit) (update : Update) (new : Run) (before : RunResult) (h : IsResultBefore before batch update new) → HaveSameUnflagged (flags_of (result_of h.old) (result_of new) batch update) (result_of h.old) (result_of new)
-enough batch update new before h =
-    let old = h.old in
+pub flags_are_enough : (old : Run) (batch : List Edit) (update : Update) (new : Run) (flags : List Bool) → IsUpdateBetween old batch update new → flags ≡ flags_of (result_of old) (result_of new) batch update → HaveSameUnflagged flags (result_of old) (result_of new)
+flags_are_enough old batch update new flags h is =
     let runs = h.runs in
     let n = length h.input.mems in
     let many : length (result_of old).memories ≡ n = count_result_memories h.turn h.input old runs.before in
     let ps = touched batch update in
+    let up = replicate (length (result_of old).memories) true in
+    let down = replicate (length (result_of old).memories) false in
     let long : length (flags_of (result_of old) (result_of new) batch update) ≡ n =
-    elim (end_alike (result_of old) (result_of new)) as (λ b. length (cond b (flagged (replicate (length (result_of old).memories) false) ps) (replicate (length (result_of old).memories) true)) ≡ n) [
-      | true ↦ length-flagged (replicate (length (result_of old).memories) false) ps ∙ length-replicate (length (result_of old).memories) false ∙ many
+    elim (end_alike (result_of old) (result_of new)) as (λ b. length (cond b (flagged down ps) up) ≡ n) [
+      | true ↦ length-flagged down ps ∙ length-replicate (length (result_of old).memories) false ∙ many
       | false ↦ length-replicate (length (result_of old).memories) true ∙ many
     ] in
     let same : (p : ℕ) → p < n → slice_get (flags_of (result_of old) (result_of new) batch update) p ≡ Some false → HasTheSame (result_of old) (result_of new) p = λ p l.
-    elim (end_alike (result_of old) (result_of new)) as (λ b. end_alike (result_of old) (result_of new) ≡ b → slice_get (cond b (flagged (replicate (length (result_of old).memories) false) ps) (replicate (length (result_of old).memories) true)) p ≡ Some false → HasTheSame (result_of old) (result_of new) p) [
-      | true ↦ λ e f. untouched_stay h.turn h.looks h.input batch update old new runs e p l (away (replicate (length (result_of old).memories) false) ps p f)
+    elim (end_alike (result_of old) (result_of new)) as (λ b. end_alike (result_of old) (result_of new) ≡ b → slice_get (cond b (flagged down ps) up) p ≡ Some false → HasTheSame (result_of old) (result_of new) p) [
+      | true ↦ λ e f. untouched_stay h.turn h.looks h.input batch update old new runs e p l (away down ps p f)
       | false ↦ λ e f. absurd (all_up (length (result_of old).memories) p (omega (arith, l, many)) f)
     ] refl in
-    unflagged_same (result_of old) (result_of new) (flags_of (result_of old) (result_of new) batch update) n many
+    subst (λ (f : List Bool). HaveSameUnflagged f (result_of old) (result_of new)) (sym is)
+    (unflagged_same (result_of old) (result_of new) (flags_of (result_of old) (result_of new) batch update) n many
     (count_result_memories h.turn (edited h.input batch) new runs.after ∙ edited_count h.input batch)
     (count_result_lines h.turn h.input old runs.before)
-    (count_result_lines h.turn (edited h.input batch) new runs.after ∙ edited_count h.input batch) long same
-
-pub flags_are_enough : (before : RunResult) (batch : List Edit) (update : Update) (new : Run) (flags : List Bool) → IsResultBefore before batch update new → flags ≡ flags_of before (result_of new) batch update → HaveSameUnflagged flags before (result_of new)
-flags_are_enough before batch update new flags h is =
-    subst (λ (f : List Bool). HaveSameUnflagged f before (result_of new)) (sym is)
-    (subst (λ (b : RunResult). HaveSameUnflagged (flags_of b (result_of new) batch update) b (result_of new)) (sym h.gives) (enough batch update new before h))
+    (count_result_lines h.turn (edited h.input batch) new runs.after ∙ edited_count h.input batch) long same)

@@ -1,6 +1,6 @@
 -- Batches that an open session makes, and their text.
-use Rattle.std.proofs.Common.{◌≡◌, ◌<◌, ℕ, ◌+◌, Bool, cond, List, [], ◌∷◌, ◌++◌, drop, drop-cons, add-one, get_or, length, codes, Option, None, Some, Result, OnOk, append_assoc, refl, sym, ap, subst, ◌∙◌}
-use Rattle.std.specs.Prelude.{is_some}
+use Rattle.std.proofs.Common.{◌≡◌, ◌<◌, ℕ, ◌+◌, Bool, Bor, unwrap_or, List, [], ◌∷◌, ◌++◌, drop, drop-cons, add-one, get_or, length, codes, Option, None, Some, Result, OnOk, append_assoc, refl, sym, ap, subst, ◌∙◌}
+use Rattle.std.specs.Prelude.{option_copied}
 use Rattle.bsp_model.specs.declared.input.Input.{Input}
 use Rattle.bsp_model.specs.declared.fault.End.{End}
 use Rattle.bsp_step.specs.ViewParts.{ViewParts}
@@ -27,7 +27,7 @@ use Rattle.bsp_engine.specs.declared.asked.Asked.TheVariants.{Undo}
 use Rattle.bsp_engine.specs.Live.{LiveParts, after_batch, answer_lines, answer_to, answer_to_undo, last_result, undos_after}
 use Rattle.bsp_engine.specs.Untouched.{AreRunsAround}
 use Rattle.bsp_engine.specs.Inside.LiveReplies.{live_reply, live_replies, live_replying}
-use Rattle.bsp_engine.specs.Inside.Given.{IsResultIn}
+use Rattle.bsp_engine.specs.Inside.Given.{result_if}
 use Rattle.bsp_engine.proofs.Beginning.{blocks-batch}
 
 -- what takes an accepted batch back is kept
@@ -38,33 +38,31 @@ kept_undo before live batch undo undos at none is more =
     more ∙ ap (λ (u : List Edit). u ∷ before.undos) is ∙ sym (ap (λ (r : Option EditRefusal). undos_after r before batch) none) in
     subst (λ (v : LiveParts _). record before { undos = undos } ≡ record v { undos = undos_after (refusal_of v.input batch) v batch }) at (λ k. record before { undos = all k })
 
--- what is kept of a run is its result
-pub kept_is : (last : Option RunResult) (h r : Run) → IsResultIn last h → h ≡ r → last ≡ cond (is_some last) (Some (result_of r)) None
-kept_is None h r is e = refl
-kept_is (Some x) h r is e = ap Some (is ∙ ap result_of e)
+-- what is borrowed, or else another borrowed value
+pub borrowed_or : {A : Type 0} (o : Option (Bor A)) (x : Bor A) → (unwrap_or o x).now ≡ unwrap_or (option_copied o) x.now
+borrowed_or None x = refl
+borrowed_or (Some y) x = refl
 
 module _ {P : Type 0} (acts : P → ViewParts → List Act) (ending : P → ViewParts → End) (looks : P → ViewParts → ℕ → Bool) where
   abbrev advance_lines : Bool → LiveParts P → List Edit → List ℕ
   advance_lines places v batch = reply_lines places (last_result acts ending v) (live_reply acts ending looks v batch)
 
-  -- The text of an accepted batch, of which the lines of the run after it were told against what was kept of the run before.
-  pub accepted_text : {E : Type 0} (places : Bool) (live shown : LiveParts P) (batch : List Edit) (last : Option RunResult) (update : Update) (before after history : Run) (r : Result (Unit {0}) E) (old new : List ℕ) → live ≡ shown
-      → is_some last ≡ live.changes → IsResultIn last before → AreRunsAround (turn_of (acts live.program) (ending live.program)) (looks live.program) live.input batch update before after → history ≡ after
-      → OnOk r (new ≡ old ++ reply_lines places last (Done (result_of history) (Some update)))
-      → OnOk r (new ≡ old ++ reply_lines places (last_result acts ending shown) (live_reply acts ending looks shown batch))
+  -- The text of an accepted batch, of which the lines of the run after it were told against the run before.
+  pub accepted_text : {E : Type 0} (places changes : Bool) (live shown : LiveParts P) (batch : List Edit) (update : Update) (before after old new : Run) (r : Result (Unit {0}) E) (t0 t1 : List ℕ) → live ≡ shown → changes ≡ live.changes
+      → AreRunsAround (turn_of (acts live.program) (ending live.program)) (looks live.program) live.input batch update before after → old ≡ before → new ≡ after
+      → OnOk r (t1 ≡ t0 ++ reply_lines places (result_if changes old) (Done (result_of new) (Some update)))
+      → OnOk r (t1 ≡ t0 ++ reply_lines places (last_result acts ending shown) (live_reply acts ending looks shown batch))
   unfolding last_result live_reply
-  accepted_text places live shown batch last update before after history r old new at asked is runs same told =
+  accepted_text places changes live shown batch update before after old new r t0 t1 at asked runs same_old same_new told =
       let turn = turn_of (acts live.program) (ending live.program) in
       let input : Input = live.input in
-      let result = run turn input in
-      let kept : last ≡ cond live.changes (Some (result_of result)) None =
-      kept_is last before result is ((one_run turn input before runs.lawful).0 runs.before) ∙ ap (λ c. cond c (Some (result_of result)) None) asked in
-      let reply : Done (result_of history) (Some update) ≡ reply_to (looks live.program) turn input batch =
-      ap (λ (h : Run). Done (result_of h) (Some update)) same
+      let kept : result_if changes old ≡ result_if live.changes (run turn input) = λ k. result_if (asked k) ((same_old ∙ (one_run turn input before runs.lawful).0 runs.before) k) in
+      let reply : Done (result_of new) (Some update) ≡ reply_to (looks live.program) turn input batch =
+      ap (λ (h : Run). Done (result_of h) (Some update)) same_new
       ∙ replied_is (looks live.program) turn input batch before after update runs.lawful runs.accepted runs.before runs.after runs.exact in
-      subst (λ v. OnOk r (new ≡ old ++ advance_lines places v batch)) at
-      (subst (λ (b : Option RunResult). OnOk r (new ≡ old ++ reply_lines places b (reply_to (looks live.program) turn input batch))) kept
-      (subst (λ (x : Reply). OnOk r (new ≡ old ++ reply_lines places last x)) reply told))
+      subst (λ v. OnOk r (t1 ≡ t0 ++ advance_lines places v batch)) at
+      (subst (λ (b : Option RunResult). OnOk r (t1 ≡ t0 ++ reply_lines places b (reply_to (looks live.program) turn input batch))) kept
+      (subst (λ (x : Reply). OnOk r (t1 ≡ t0 ++ reply_lines places (result_if changes old) x)) reply told))
 
   -- the text of a batch that is refused
   pub refused_text : {E : Type 0} (places : Bool) (live shown : LiveParts P) (batch : List Edit) (refusal : EditRefusal) (r : Result (Unit {0}) E) (old new : List ℕ) → live ≡ shown → refusal_of live.input batch ≡ Some refusal

@@ -11,31 +11,29 @@ use bsp_model::{CostRow, Memories, MemoryRef, OutOfMemory, Same};
 use bsp_run::{Lines, RunResult};
 
 /// The item at a place, if there is one.
-pub fn item_at<T>(items: &[T], at: usize) -> Option<&T>
+fn item_at<T>(items: &[T], at: usize) -> Option<&T>
     ensures { option_map (λ x. x.now) result ≡ slice_get items.now at }
 {
     let item = items.get(at)?;
     Some(item)
 }
 
-/// Appends the line of a memory, unless it is the same as before. Whether it is another.
+/// Appends the line of a memory, unless it is the same as before.
 pub fn push_other_memory<'a>(
     text: &mut Vec<u8>,
     pid: u64,
     old: Option<MemoryRef<'a>>,
     new: &MemoryRef<'a>,
-) -> Result<bool, OutOfMemory>
-    ensures text { OnOk result (text.new.items ≡ text.old.items ++
+) -> Result<(), OutOfMemory>
+    ensures { OnOk result (text.new.items ≡ text.old.items ++
         piece_if memory_line pid (other same_words old.entry new.now)) }
-    ensures same { IfOk result (λ another. another ≡ false → old.entry ≡ Some new.now) }
 {
     if let Some(old) = old {
         if new.same(&old) {
-            return Ok(false);
+            return Ok(());
         }
     }
-    push_words_line(text, "memory", pid, new)?;
-    Ok(true)
+    push_words_line(text, "memory", pid, new)
 }
 
 /// The memory of a process, if there is one.
@@ -74,24 +72,23 @@ fn push_lines_or_silence(text: &mut Vec<u8>, pid: u64, lines: &Lines) -> Result<
     push_lines(text, pid, lines)
 }
 
-/// Appends the lines of a process, unless they are the same as before. Whether they are other ones.
+/// Appends the lines of a process, unless they are the same as before.
 pub fn push_other_lines(
     text: &mut Vec<u8>,
     pid: u64,
     old: Option<&Lines>,
     new: &Lines,
-) -> Result<bool, OutOfMemory>
-    ensures text { OnOk result (text.new.items ≡ text.old.items ++
+) -> Result<(), OutOfMemory>
+    ensures { OnOk result (text.new.items ≡ text.old.items ++
         piece_if other_lines pid (other same_lines (option_map (λ l. l.now) old.entry) new.now)) }
-    ensures same { IfOk result (λ another. another ≡ false → option_map (λ l. l.now) old.entry ≡ Some new.now) }
 {
-    if let Some(old) = old {
-        if new.same(old) {
-            return Ok(false);
-        }
+    let Some(old) = old else {
+        return push_lines_or_silence(text, pid, new);
+    };
+    if new.same(old) {
+        return Ok(());
     }
-    push_lines_or_silence(text, pid, new)?;
-    Ok(true)
+    push_lines_or_silence(text, pid, new)
 }
 
 fn push_all_other_lines(

@@ -16,7 +16,6 @@ use crate::asked::{Asked, Unread};
 use crate::block_lines::{push_refusal, push_update};
 use crate::crew::Crew;
 use crate::jobs::Job;
-use crate::last::Last;
 use crate::lines::push_line;
 use crate::options::Detail;
 use crate::unread::push_unread;
@@ -24,7 +23,7 @@ use crate::whole_run::push_run;
 use bsp_incr::{Batch, Edit, EditError, Session, Update};
 use bsp_model::{Input, OutOfMemory};
 use bsp_pool::Gate;
-use bsp_run::{DEPTH_OF_RUNS, RunError};
+use bsp_run::{DEPTH_OF_RUNS, History, RunError};
 use bsp_step::Program;
 use std::alloc::{AllocError, Global};
 use std::collections::VecDeque;
@@ -35,22 +34,18 @@ use std::thread::Threads;
 #[derive(Drop)]
 pub struct Live<P: Program> {
     session: Session<P>,
-    /// What the run gives, if the blocks tell changes alone.
-    last: Option<Last>,
+    /// Whether the blocks tell changes alone.
+    changes: bool,
     /// The batches that take the accepted ones back that still stand, the newest first.
     undos: VecDeque<Batch>,
 }
 
 impl<P: Program> Model for Live<P> {
-    ghost use Rattle.std.specs.Prelude.{is_some};
     ghost use Rattle.bsp_engine.specs.Live.{LiveParts};
-    ghost use Rattle.bsp_engine.specs.Inside.Given.{IsResultIn};
 
     ghost Value = { LiveParts P };
 
-    ghost view = { λ l. record { program = l.session.program; input = l.session.input; undos = l.undos.items; changes = is_some l.last } };
-
-    ghost invariant = { λ l. IsResultIn l.last l.session.history };
+    ghost view = { λ l. record { program = l.session.program; input = l.session.input; undos = l.undos.items; changes = l.changes } };
 }
 
 impl<P: Program + Drop> Live<P> {
@@ -62,21 +57,22 @@ impl<P: Program + Drop> Live<P> {
     }
 }
 
-/// The session of a lawful input, of which nothing is told yet, and what was done for it.
+/// The session of a lawful input, and what was done for it.
 fn open<P: Program + Drop, R: Threads + Sync, G: Gate>(
     crew: &Crew<'_, R, G>,
+    changes: bool,
     program: P,
     input: Input,
 ) -> Result<(Live<P>, Update), OutOfMemory>
     requires lawful { input_fault input ≡ None }
-    ensures live { IfOk result (λ r. r.0 ≡ opened false program input) }
+    ensures live { IfOk result (λ r. r.0 ≡ opened changes program input) }
     ensures update { IfOk result (λ r. r.1 ≡ update_of (P.looks program) None (run (turn_of (P.acts program) (P.ending program)) input)) }
 {
     match Session::open(crew.rt, crew.alloc, program, input, crew.workers, crew.gate) {
         Ok((session, update)) => {
             let live = Live {
                 session,
-                last: None,
+                changes,
                 undos: VecDeque::new(crew.alloc),
             };
             Ok((live, update))
@@ -86,23 +82,22 @@ fn open<P: Program + Drop, R: Threads + Sync, G: Gate>(
     }
 }
 
-/// Appends the block of the opening, for which this was done, and keeps what it told if the blocks are to tell changes alone.
-fn tell_opening<P: Program + Drop>(
-    detail: Detail,
-    live: &mut Live<P>,
+/// Appends the block of the opening, for which this was done.
+fn push_opening<P: Program + Drop>(
+    places: bool,
+    live: &Live<P>,
     update: &Update,
     text: &mut Vec<u8>,
 ) -> Result<(), OutOfMemory>
-    requires { update.now ≡ update_of (P.looks live.old.program) None (run (turn_of (P.acts live.old.program) (P.ending live.old.program)) live.old.input) }
-    ensures live { OnOk result (live.new ≡ record live.old { changes = detail.changes }) }
-    ensures text { OnOk result (text.new.items ≡ text.old.items ++ opening_block P.acts P.ending P.looks detail.places live.old.program live.old.input) }
+    requires { update.now ≡ update_of (P.looks live.now.program) None (run (turn_of (P.acts live.now.program) (P.ending live.now.program)) live.now.input) }
+    ensures { OnOk result (text.new.items ≡ text.old.items ++ opening_block P.acts P.ending P.looks places live.now.program live.now.input) }
 {
     // That the input is lawful, and the history its run, is known where they are read.
     let _input = live.session.input();
     let history = live.session.history();
     push_line(text, "run", &[0])?;
-    live.last = push_run(text, detail.changes, history)?;
-    push_update(text, detail.places, update)
+    push_run(text, history)?;
+    push_update(text, places, update)
 }
 
 /// Keeps what takes a batch back, unless the batch is refused.
@@ -120,6 +115,36 @@ fn keep_undo<P: Program + Drop>(
     }
 }
 
+/// Applies a batch of edits, and appends the lines of its reply. The history that it replaced, if it replaced one, goes to `before`.
+fn advance_keeping<P: Program + Drop, R: Threads + Sync, G: Gate>(
+    crew: &Crew<'_, R, G>,
+    places: bool,
+    live: &mut Live<P>,
+    text: &mut Vec<u8>,
+    batch: &[Edit],
+    before: &mut Option<History>,
+) -> Result<(), OutOfMemory>
+    ensures after { OnOk result (live.new ≡ advanced live.old batch.now) }
+    ensures text { OnOk result (text.new.items ≡ text.old.items ++ reply_lines places (last_result P.acts P.ending live.old) (live_reply P.acts P.ending P.looks live.old batch.now)) }
+{
+    match apply(crew, &mut live.session, batch, before) {
+        Ok(update) => {
+            let detail = Detail {
+                places,
+                changes: live.changes,
+            };
+            let nprocs = live.session.input().mems.len();
+            let new = live.session.history();
+            let old = before.as_ref().unwrap_or(new);
+            let pushed = push_accepted(text, detail, nprocs, old, new, batch, &update);
+            drop(update);
+            pushed
+        }
+        Err(EditError::Refused(refusal)) => push_refusal(text, refusal),
+        Err(EditError::OutOfMemory) => Err(AllocError),
+    }
+}
+
 /// Applies a batch of edits, and appends the lines of its reply.
 fn advance<P: Program + Drop, R: Threads + Sync, G: Gate>(
     crew: &Crew<'_, R, G>,
@@ -131,16 +156,10 @@ fn advance<P: Program + Drop, R: Threads + Sync, G: Gate>(
     ensures after { OnOk result (live.new ≡ advanced live.old batch.now) }
     ensures text { OnOk result (text.new.items ≡ text.old.items ++ reply_lines places (last_result P.acts P.ending live.old) (live_reply P.acts P.ending P.looks live.old batch.now)) }
 {
-    match apply(crew, &mut live.session, batch) {
-        Ok(update) => {
-            let history = live.session.history();
-            let pushed = push_accepted(text, places, &mut live.last, history, batch, &update);
-            drop(update);
-            pushed
-        }
-        Err(EditError::Refused(refusal)) => push_refusal(text, refusal),
-        Err(EditError::OutOfMemory) => Err(AllocError),
-    }
+    let mut before = None;
+    let advanced = advance_keeping(crew, places, live, text, batch, &mut before);
+    drop(before);
+    advanced
 }
 
 /// Makes a batch, and appends the lines of its reply. What takes it back is kept, unless it is refused.
@@ -188,12 +207,13 @@ fn tell_all<P: Program + Drop, R: Threads + Sync, G: Gate>(
     text: &mut Vec<u8>,
     end: &[u8],
 ) -> Result<(), OutOfMemory>
-    requires { update.now ≡ update_of (P.looks live.old.program) None (run (turn_of (P.acts live.old.program) (P.ending live.old.program)) live.old.input) }
-    ensures live { OnOk result (live.new ≡ after_batches (record live.old { changes = detail.changes }) batches.now) }
+    requires update { update.now ≡ update_of (P.looks live.old.program) None (run (turn_of (P.acts live.old.program) (P.ending live.old.program)) live.old.input) }
+    requires changes { live.old.changes ≡ detail.changes }
+    ensures live { OnOk result (live.new ≡ after_batches live.old batches.now) }
     ensures text { OnOk result (text.new.items ≡ text.old.items ++ opening_block P.acts P.ending P.looks detail.places live.old.program live.old.input
-        ++ blocks_after detail 1 (last_result P.acts P.ending (record live.old { changes = detail.changes })) (live_replies P.acts P.ending P.looks (record live.old { changes = detail.changes }) batches.now) ++ end.now) }
+        ++ blocks_after detail 1 (last_result P.acts P.ending live.old) (live_replies P.acts P.ending P.looks live.old batches.now) ++ end.now) }
 {
-    tell_opening(detail, live, update, text)?;
+    push_opening(detail.places, live, update, text)?;
     make_all(crew, detail, live, text, batches)?;
     text.extend_from_slice(end)
 }
@@ -215,19 +235,26 @@ pub fn begin<P: Program + Drop, R: Threads + Sync, G: Gate>(
         input,
         batches,
     } = job;
-    let (mut live, update) = open(crew, program, input)?;
-    let told = tell_all(
-        crew,
-        detail,
-        &mut live,
-        &update,
-        batches.as_slice(),
-        text,
-        end,
-    );
-    drop(update);
-    drop(batches);
-    told.and(Ok(live))
+    match open(crew, detail.changes, program, input) {
+        Ok((mut live, update)) => {
+            let told = tell_all(
+                crew,
+                detail,
+                &mut live,
+                &update,
+                batches.as_slice(),
+                text,
+                end,
+            );
+            drop(update);
+            drop(batches);
+            told.and(Ok(live))
+        }
+        Err(error) => {
+            drop(batches);
+            Err(error)
+        }
+    }
 }
 
 /// Takes the last accepted batch back that still stands, and appends what is answered.

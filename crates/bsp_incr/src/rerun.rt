@@ -28,6 +28,7 @@ use bsp_pool::Gate;
 use bsp_run::{History, Tape};
 use bsp_step::Program;
 pub use given::Given;
+use std::mem::replace;
 use std::thread::Threads;
 pub use under_way::UnderWay;
 pub use workers::Workers;
@@ -48,9 +49,17 @@ fn remake_all<P: Program, G: Gate, R: Threads + Sync>(
 {
     let mut under_way = UnderWay::new(given.workers.alloc, first);
     while tape.is_open() {
-        advance(given, tape, &mut under_way)?;
+        match advance(given, tape, &mut under_way) {
+            Ok(()) => {}
+            Err(error) => {
+                drop(under_way);
+                return Err(error);
+            }
+        }
     }
-    Ok(under_way.update)
+    let UnderWay { update, spare, .. } = under_way;
+    drop(spare);
+    Ok(update)
 }
 
 /// All supersteps of a run, from its opening on, and what was done for them. The processes in `first` begin with something else than in the run before.
@@ -65,8 +74,13 @@ fn remade<P: Program, G: Gate, R: Threads + Sync>(
         (λ r. r.1 ≡ update_of (P.looks given.now.program) given.now.before r.0) }
 {
     let mut tape = opened(given, &first)?;
-    let update = remake_all(given, &mut tape, first)?;
-    Ok((tape, update))
+    match remake_all(given, &mut tape, first) {
+        Ok(update) => Ok((tape, update)),
+        Err(error) => {
+            drop(tape);
+            Err(error)
+        }
+    }
 }
 
 /// The run of a program on a lawful input, made against the run before, if there was one, of the same program and as many processes: a turn is
@@ -96,15 +110,22 @@ pub fn rerun<P: Program, G: Gate, R: Threads + Sync>(
     };
     let (tape, update) = remade(&given, first)?;
     let executed = update.executed.as_slice();
-    let history = finished(old, tape, input.mems.len(), executed)?;
-    Ok((history, update))
+    match finished(old, tape, input.mems.len(), executed) {
+        Ok(history) => Ok((history, update)),
+        Err(error) => {
+            drop(update);
+            Err(error)
+        }
+    }
 }
 
-/// Puts the run of an edited input in the place of the run of the input as it was, against which it is made. After `OutOfMemory` that run stays.
+/// Puts the run of an edited input in the place of the run of the input as it was, against which it is made and which goes to `before`. After
+/// `OutOfMemory` that run stays.
 fn rerun_from_edits<P: Program, G: Gate, R: Threads + Sync>(
     workers: Workers<'_, R, G>,
     program: &P,
     history: &mut History,
+    before: &mut Option<History>,
     input: &Input,
     edits: &[Edit],
 ) -> Result<Update, OutOfMemory>
@@ -113,19 +134,21 @@ fn rerun_from_edits<P: Program, G: Gate, R: Threads + Sync>(
     ensures run { OnOk result (history.new ≡ run (turn_by P.Program program.now) input.now) }
     ensures update { IfOk result
         (λ update. update ≡ update_of (P.looks program.now) (Some history.old) history.new) }
+    ensures before { OnOk result (before.new ≡ Some history.old) }
     ensures err { OnErr result (history.new ≡ history.old) }
 {
     let marks = marks_of_edits(history, input, edits);
     let (made, update) = rerun(workers, program, Some(&*history), input, marks)?;
-    *history = made;
+    before.insert(replace(history, made));
     Ok(update)
 }
 
-/// Edits an input and makes its run again, against the run of the input as it was. After `OutOfMemory` nothing has changed.
+/// Edits an input and makes its run again, against the run of the input as it was, which goes to `before`. After `OutOfMemory` nothing has changed.
 pub fn rerun_edited<P: Program, G: Gate, R: Threads + Sync>(
     workers: Workers<'_, R, G>,
     program: &P,
     history: &mut History,
+    before: &mut Option<History>,
     input: &mut Input,
     edits: &[Edit],
 ) -> Result<Update, OutOfMemory>
@@ -137,11 +160,12 @@ pub fn rerun_edited<P: Program, G: Gate, R: Threads + Sync>(
         (history.new ≡ run (turn_by P.Program program.now) (edited input.old edits.now)) }
     ensures update { IfOk result
         (λ update. update ≡ update_of (P.looks program.now) (Some history.old) history.new) }
+    ensures before { OnOk result (before.new ≡ Some history.old) }
     ensures err_input { OnErr result (input.new ≡ input.old) }
     ensures err_history { OnErr result (history.new ≡ history.old) }
 {
     let formers = make_edits(workers.alloc, input, edits)?;
-    match rerun_from_edits(workers, program, history, input, edits) {
+    match rerun_from_edits(workers, program, history, before, input, edits) {
         Ok(update) => Ok(update),
         Err(error) => {
             restore(input, formers);

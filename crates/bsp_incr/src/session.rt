@@ -35,7 +35,7 @@ impl<P: Program> Model for Session<P> {
 }
 
 impl<P: Program + Drop> Session<P> {
-    ghost use Rattle.std.specs.Prelude.{◌≡◌, ◌<◌, ◌≤◌, IfOk, IfErr, OnOk, OnErr, None, Some};
+    ghost use Rattle.std.specs.Prelude.{◌≡◌, ◌<◌, ◌≤◌, IfOk, IfErr, OnOk, OnErr, None, Some, unwrap_or};
     ghost use Rattle.bsp_model.specs.Input.{input_fault};
     ghost use Rattle.bsp_step.specs.Turn.{turn_of};
     ghost use Rattle.bsp_run.specs.Law.{IsBspRun};
@@ -64,7 +64,11 @@ impl<P: Program + Drop> Session<P> {
     {
         match input.check() {
             Ok(()) => {}
-            Err(fault) => return Err(RunError::Input(fault)),
+            Err(fault) => {
+                drop(program);
+                drop(input);
+                return Err(RunError::Input(fault));
+            }
         }
         let workers = Workers {
             rt,
@@ -73,13 +77,21 @@ impl<P: Program + Drop> Session<P> {
             gate,
         };
         let marks = all_marks(&input);
-        let (history, update) = rerun(workers, &program, None, &input, marks)?;
-        let session = Session {
-            program,
-            input,
-            history,
-        };
-        Ok((session, update))
+        match rerun(workers, &program, None, &input, marks) {
+            Ok((history, update)) => {
+                let session = Session {
+                    program,
+                    input,
+                    history,
+                };
+                Ok((session, update))
+            }
+            Err(error) => {
+                drop(program);
+                drop(input);
+                Err(error.into())
+            }
+        }
     }
 
     /// The input, in which there is no fault.
@@ -121,6 +133,35 @@ impl<P: Program + Drop> Session<P> {
             (Some self.old.history) self.new.history u) }
         ensures err { OnErr result (self.new ≡ self.old) }
     {
+        let mut before = None;
+        let applied = self.apply_keeping(rt, alloc, edits, workers, gate, &mut before);
+        drop(before);
+        applied
+    }
+
+    /// The same, and hands out the history that the batch replaced: `before` is `None` where the batch left the history as it was.
+    pub fn apply_keeping<R: Threads + Sync, G: Gate>(
+        &mut self,
+        rt: &R,
+        alloc: Global,
+        edits: &[Edit],
+        workers: usize,
+        gate: &G,
+        before: &mut Option<History>,
+    ) -> Result<Update, EditError>
+        requires workers { (0 < workers) × (workers ≤ 16) }
+        ensures accepted { OnOk result (refusal_of self.old.input edits.now ≡ None) }
+        ensures refused { IfErr result (λ e. refusal_of self.old.input edits.now ≡ refusal_in e) }
+        ensures program { self.new.program ≡ self.old.program }
+        ensures given { OnOk result (self.new.input ≡ edited self.old.input edits.now) }
+        ensures law { OnOk result (IsBspRun (turn_of (P.acts self.old.program) (P.ending self.old.program))
+            self.new.input self.new.history) }
+        ensures exact { IfOk result (λ u. IsExact (P.looks self.old.program)
+            (Some self.old.history) self.new.history u) }
+        ensures before { OnOk result (unwrap_or before.new self.new.history ≡ self.old.history) }
+        ensures err { OnErr result (self.new ≡ self.old) }
+    {
+        drop(before.take());
         match refusal_of(&self.input, edits) {
             Some(refusal) => return Err(EditError::Refused(refusal)),
             None => {}
@@ -134,14 +175,15 @@ impl<P: Program + Drop> Session<P> {
             count: workers,
             gate,
         };
-        Ok(self.change(workers, edits)?)
+        Ok(self.change(workers, edits, before)?)
     }
 
-    /// Applies a batch that is accepted. After `OutOfMemory` nothing has changed.
+    /// Applies a batch that is accepted. The history goes to `before`. After `OutOfMemory` nothing has changed.
     fn change<R: Threads + Sync, G: Gate>(
         &mut self,
         workers: Workers<'_, R, G>,
         edits: &[Edit],
+        before: &mut Option<History>,
     ) -> Result<Update, OutOfMemory>
         requires accepted { refusal_of self.old.input edits.now ≡ None }
         ensures program { self.new.program ≡ self.old.program }
@@ -150,12 +192,14 @@ impl<P: Program + Drop> Session<P> {
             self.new.input self.new.history) }
         ensures exact { IfOk result (λ u. IsExact (P.looks self.old.program)
             (Some self.old.history) self.new.history u) }
+        ensures before { OnOk result (before.new ≡ Some self.old.history) }
         ensures err { OnErr result (self.new ≡ self.old) }
     {
         let update = rerun_edited(
             workers,
             &self.program,
             &mut self.history,
+            before,
             &mut self.input,
             edits,
         )?;

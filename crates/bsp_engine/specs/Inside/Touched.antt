@@ -5,7 +5,7 @@ use Rattle.bsp_step.specs.ViewParts.{ViewParts}
 use Rattle.bsp_step.specs.OutcomeParts.{OutcomeParts}
 use Rattle.bsp_run.specs.declared.result.RunResult.{RunResult}
 use Rattle.bsp_run.specs.Run.{Run}
-use Rattle.bsp_run.specs.Result.{costs_of, lines_of, memories_of, result_of, total_of}
+use Rattle.bsp_run.specs.Result.{costs_of, lines_of, memories_of, total_of}
 use Rattle.bsp_incr.specs.declared.edit.Edit.{Edit}
 use Rattle.bsp_incr.specs.declared.reply.Update.{Update}
 use Rattle.bsp_engine.specs.Changes.{count_line, other, other_lines, other_number, others, piece_if, same_lines, same_row, same_words}
@@ -13,14 +13,12 @@ use Rattle.bsp_engine.specs.Lines.{line, numbered}
 use Rattle.bsp_engine.specs.Text.{cost_line, memory_line}
 use Rattle.bsp_engine.specs.Untouched.{touched, end_alike, AreRunsAround}
 
--- The result is that of a run before the batch, and the run is the one after it.
-pub record IsResultBefore (before : RunResult) (batch : List Edit) (update : Update) (new : Run) : Type 0 where
+-- A run before the batch, the run after it, and what was done for that.
+pub record IsUpdateBetween (old : Run) (batch : List Edit) (update : Update) (new : Run) : Type 0 where
   pub turn : ViewParts → OutcomeParts
   pub looks : ViewParts → ℕ → Bool
   pub input : Input
-  pub old : Run
   pub runs : AreRunsAround turn looks input batch update old new
-  pub gives : before ≡ result_of old
 
 -- the flags with those of these processes up
 abbrev pub flagged : List Bool → List ℕ → List Bool
@@ -47,27 +45,13 @@ piece_of piece same p old (Some new) = piece_if piece p (other same old new)
 abbrev pub piece_there : {A : Type 0} → (ℕ → A → List ℕ) → (A → A → Bool) → List A → List A → ℕ → List ℕ
 piece_there piece same olds news p = piece_of piece same p (slice_get olds p) (slice_get news p)
 
--- what the process has, in its place
-abbrev pub put_in : {A : Type 0} → List A → ℕ → Option A → List A
-put_in olds p None = olds
-put_in olds p (Some new) = slice_set olds p new
-
-abbrev pub put_there : {A : Type 0} → List A → List A → ℕ → List A
-put_there olds news p = put_in olds p (slice_get news p)
-
 -- Of a process with no flag the results have the same.
 pub record HaveSameUnflagged (flags : List Bool) (old new : RunResult) : Type 0 where
   pub memories : AreSameUnflagged flags old.memories new.memories
   pub lines : AreSameUnflagged flags old.lines new.lines
 
--- what of the memories and of the lines of a run is another than in the result before
-abbrev pub process_changes : RunResult → Run → List ℕ
-process_changes old new =
-    numbered (piece_if memory_line) 0 (others same_words old.memories (memories_of new))
-    ++ numbered (piece_if other_lines) 0 (others same_lines old.lines (lines_of new))
-
--- the same of the costs, with their number and their sum
-abbrev pub cost_changes : RunResult → Run → List ℕ
+-- what of the costs of a run is another than in the run before, with their number and their sum
+abbrev pub cost_changes : Run → Run → List ℕ
 cost_changes old new =
-    numbered (piece_if cost_line) 0 (others same_row old.costs (costs_of new))
-    ++ count_line (other_number (length old.costs) (length (costs_of new))) ++ line (codes "total") (total_of (costs_of new) ∷ [])
+    numbered (piece_if cost_line) 0 (others same_row (costs_of old) (costs_of new))
+    ++ count_line (other_number (length (costs_of old)) (length (costs_of new))) ++ line (codes "total") (total_of (costs_of new) ∷ [])

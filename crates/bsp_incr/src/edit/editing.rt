@@ -106,7 +106,7 @@ fn replace_at<T: Drop>(items: &mut Seq<T>, at: usize, item: T) -> T
     let none = Seq::new(items.allocator());
     let mut all = replace(items, none).into_vec();
     let former = replace(&mut all[at], item);
-    *items = Seq::from_vec(all);
+    drop(replace(items, Seq::from_vec(all)));
     former
 }
 
@@ -125,7 +125,13 @@ fn edit_word(
         return Ok(None);
     };
     let mut memory = memory.copy()?;
-    let _ = memory.store(addr, value)?;
+    match memory.store(addr, value) {
+        Ok(_) => {}
+        Err(error) => {
+            drop(memory);
+            return Err(error);
+        }
+    }
     let memory = replace_at(&mut input.mems, pid as usize, memory);
     Ok(Some(Former::Memory { pid, memory }))
 }

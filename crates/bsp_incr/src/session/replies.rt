@@ -26,11 +26,16 @@ use std::thread::Threads;
 fn done(history: &History, update: Update) -> Result<Reply, OutOfMemory>
     ensures { IfOk result (λ reply. reply ≡ Reply.Done (result_of history.now) (Some update)) }
 {
-    let result = history.result()?;
-    Ok(Reply::Done {
-        result,
-        update: Some(update),
-    })
+    match history.result() {
+        Ok(result) => Ok(Reply::Done {
+            result,
+            update: Some(update),
+        }),
+        Err(error) => {
+            drop(update);
+            Err(error)
+        }
+    }
 }
 
 /// The reply to a batch.
@@ -119,7 +124,9 @@ fn all_replies<P: Program + Drop, R: Threads + Sync, G: Gate>(
     ensures { IfOk result (λ all. all.items ≡ replies (P.looks opened.0.program)
         (turn_by P.Program opened.0.program) opened.0.input batches.now) }
 {
-    replies_once_open(workers, &mut opened, batches)
+    let replies = replies_once_open(workers, &mut opened, batches);
+    drop(opened);
+    replies
 }
 
 /// The replies of a session: the opening first, then one for each batch. 1 to 16 workers share the turns and the deliveries.
@@ -195,20 +202,20 @@ fn all_scratch_replies<P: Program, G: Gate>(
     alloc: Global,
     program: &P,
     opening: Reply,
-    mut input: Input,
+    input: &mut Input,
     batches: &[Batch],
     gate: &G,
 ) -> Result<Vec<Reply>, OutOfMemory>
-    requires lawful { input_fault input ≡ None }
-    requires opening { opening ≡ Reply.Done (result_of (run (turn_by P.Program program.now) input)) None }
+    requires lawful { input_fault input.old ≡ None }
+    requires opening { opening ≡ Reply.Done (result_of (run (turn_by P.Program program.now) input.old)) None }
     ensures { IfOk result (λ all. all.items
-        ≡ map without_update (replies (P.looks program.now) (turn_by P.Program program.now) input batches.now)) }
+        ≡ map without_update (replies (P.looks program.now) (turn_by P.Program program.now) input.old batches.now)) }
 {
     let mut all = Vec::new(alloc);
     all.push(opening)?;
     for batch in batches {
         gate.enter(DEPTH_OF_RUNS, all.len() as u64);
-        let reply = scratch_reply(alloc, program, &mut input, batch, gate)?;
+        let reply = scratch_reply(alloc, program, input, batch, gate)?;
         all.push(reply)?;
     }
     Ok(all)
@@ -219,7 +226,7 @@ fn all_scratch_replies<P: Program, G: Gate>(
 pub fn scratch_run_behind<P: Program, G: Gate>(
     alloc: Global,
     program: &P,
-    input: Input,
+    mut input: Input,
     batches: &[Batch],
     gate: &G,
 ) -> Result<Vec<Reply>, RunError>
@@ -231,10 +238,22 @@ pub fn scratch_run_behind<P: Program, G: Gate>(
 {
     match input.check() {
         Ok(()) => {}
-        Err(fault) => return Err(RunError::Input(fault)),
+        Err(fault) => {
+            drop(input);
+            return Err(RunError::Input(fault));
+        }
     }
-    let opening = scratch_done(alloc, program, &input, gate)?;
-    Ok(all_scratch_replies(alloc, program, opening, input, batches, gate)?)
+    match scratch_done(alloc, program, &input, gate) {
+        Ok(opening) => {
+            let replies = all_scratch_replies(alloc, program, opening, &mut input, batches, gate);
+            drop(input);
+            Ok(replies?)
+        }
+        Err(error) => {
+            drop(input);
+            Err(error.into())
+        }
+    }
 }
 
 /// `scratch_run_behind` an open gate.

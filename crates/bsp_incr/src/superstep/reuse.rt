@@ -22,7 +22,14 @@ pub fn reuse<P: Program>(
     // That a view keeps its limits is known where a field of it is read.
     let _step = recorded.step;
     let mut memory = view.memory.to_memory()?;
-    outcome.stores.make_again(&mut memory)?;
-    rows.push_over(&outcome, &mut memory)?;
-    Ok(())
+    match outcome.stores.make_again(&mut memory) {
+        Ok(()) => {}
+        Err(error) => {
+            drop(memory);
+            return Err(error);
+        }
+    }
+    let pushed = rows.push_over(&outcome, &mut memory);
+    drop(memory);
+    pushed
 }

@@ -81,13 +81,19 @@ fn served_turns<P: Program, R, G>(
 {
     let mut served = OutcomeRows::with_capacity(given.workers.alloc, processes.len())?;
     for process in processes {
-        add_served(
+        match add_served(
             &mut served,
             given.program,
             superstep,
             old_outcomes,
             *process,
-        )?;
+        ) {
+            Ok(()) => {}
+            Err(error) => {
+                drop(served);
+                return Err(error);
+            }
+        }
     }
     Ok(served)
 }
@@ -232,9 +238,14 @@ fn over_recorded<P: Program, R, G>(
     requires turns { taken ≡ turns_of (turn_by P.Program given.now.program) superstep.now.views.now needs.taken.items }
     ensures { IfOk result (λ all. all ≡ map (turn_by P.Program given.now.program) superstep.now.views.now) }
 {
-    let renewed = with_served_turns(given, superstep, old_outcomes, needs.served)?;
-    let all = renewed.replaced(given.workers.alloc, needs.taken, taken)?;
-    Ok(all)
+    match with_served_turns(given, superstep, old_outcomes, needs.served) {
+        Ok(renewed) => renewed.replaced(given.workers.alloc, needs.taken, taken),
+        Err(error) => {
+            drop(needs.taken);
+            drop(taken);
+            Err(error)
+        }
+    }
 }
 
 /// The turns of a superstep: the workers take those that have to be taken, and their places are added.

@@ -11,4 +11,4 @@ loop-pid-preserved c =
     let pid = c.loop-pid.pid in
     let within : pid < length news = omega arith in
     others_told memory_line same_words c.args.text.now.items _ _ (unwrap_or (option_map (λ m. m.now) c.args.olds) []) news pid c.get.result within (c.get.ensures ∙ get_or_default news pid [] c.get.result within) c.loop-pid.invariant
-    (c.in_ok-push_other_memory.ensures.text ∙ ap (λ (o : Option (List ℕ)). c.loop-pid.text.items ++ piece_if memory_line pid (other same_words o c.get.result)) c.memory_at.ensures)
+    (c.in_ok-push_other_memory.ensures ∙ ap (λ (o : Option (List ℕ)). c.loop-pid.text.items ++ piece_if memory_line pid (other same_words o c.get.result)) c.memory_at.ensures)

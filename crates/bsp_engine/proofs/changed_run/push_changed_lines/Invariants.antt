@@ -1,7 +1,8 @@
+use Rattle.std.proofs.Common.{◌≡◌, ◌++◌, take}
 use Rattle.bsp_run.specs.Result.{lines_of}
-use Rattle.bsp_engine.specs.Changes.{other_lines, same_lines}
-use Rattle.bsp_engine.proofs.Changed.{AreToldBelow}
-use Rattle.bsp_engine.proofs.last.tell_all_lines.Given as goal
+use Rattle.bsp_engine.specs.Changes.{other_lines, others, piece_if, same_lines}
+use Rattle.bsp_engine.specs.Lines.{numbered}
+use Rattle.bsp_engine.proofs.changed_run.push_changed_lines.Given as goal
 
 abbrev pub invariant-loop-pid : goal.invariant-loop-pid
-invariant-loop-pid l = AreToldBelow other_lines same_lines l.initial.olds (lines_of l.history) l.pid l.initial.text.items l.text.items l.olds
+invariant-loop-pid l = l.text.items ≡ l.initial.text.items ++ numbered (piece_if other_lines) 0 (others same_lines (lines_of l.old) (take l.pid (lines_of l.new)))

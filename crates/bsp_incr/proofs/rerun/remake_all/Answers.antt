@@ -36,9 +36,9 @@ loop-tape-preserved g c =
     let whole : Run = run turn c.args.given.now.input in
     let open_now : is_open c.loop-tape.tape.phase ≡ true = sym c.is_open.ensures ∙ c.loop-tape-test.true in
     record {
-      leads = subst (λ (r : Run). LeadsTo turn r whole) (sym c.in_ok-advance.ensures.tape) (advance-leads turn c.loop-tape.tape whole c.loop-tape.invariant.leads open_now);
-      under_way = c.in_ok-advance.ensures.under_way;
-      table = c.in_ok-advance.ensures.table;
+      leads = subst (λ (r : Run). LeadsTo turn r whole) (sym c.in-Ok.ensures.tape) (advance-leads turn c.loop-tape.tape whole c.loop-tape.invariant.leads open_now);
+      under_way = c.in-Ok.ensures.under_way;
+      table = c.in-Ok.ensures.table;
     }
 
 pub loop-tape-smaller : goal.loop-tape-smaller
@@ -46,7 +46,7 @@ loop-tape-smaller g c =
     let turn = turn_by g.P.Program c.args.given.now.program in
     let whole : Run = run turn c.args.given.now.input in
     let open_now : is_open c.loop-tape.tape.phase ≡ true = sym c.is_open.ensures ∙ c.loop-tape-test.true in
-    subst (λ (r : Run). supersteps_left r < supersteps_left c.loop-tape.tape) (sym c.in_ok-advance.ensures.tape) (fewer_left turn c.loop-tape.tape whole c.loop-tape.invariant.leads open_now)
+    subst (λ (r : Run). supersteps_left r < supersteps_left c.loop-tape.tape) (sym c.in-Ok.ensures.tape) (fewer_left turn c.loop-tape.tape whole c.loop-tape.invariant.leads open_now)
 
 pub returns-clause-ended : goal.returns-clause-ended
 returns-clause-ended g c =

@@ -34,9 +34,9 @@ finished-requires-clause-executed g c = λ r e.
     subst (LinesStayBut r tape) (sym c.as_slice-executed.ensures)
     (lines_stay acts ending looks input r tape update (laws.footprint c.args.program.now) c.requires.lawful (subst (IsBefore turn input) e c.requires.before) law updated)
 
-pub returns-clause-run : goal.returns-clause-run
-returns-clause-run g c = c.in_ok-history.ensures ∙ c.in_ok-tape.ensures.run
+pub returns-in-Ok-clause-run : goal.returns-in-Ok-clause-run
+returns-in-Ok-clause-run g c = c.in-Ok.ensures ∙ c.in_ok-tape.ensures.run
 
-pub returns-clause-update : goal.returns-clause-update
-returns-clause-update g c =
-    subst (λ (r : Run). c.in_ok-tape.update ≡ update_of (g.P.Program.looks c.args.program.now) (option_map (λ k. k.now) c.args.old) r) (sym c.in_ok-history.ensures) c.in_ok-tape.ensures.update
+pub returns-in-Ok-clause-update : goal.returns-in-Ok-clause-update
+returns-in-Ok-clause-update g c =
+    subst (λ (r : Run). c.in_ok-tape.update ≡ update_of (g.P.Program.looks c.args.program.now) (option_map (λ k. k.now) c.args.old) r) (sym c.in-Ok.ensures) c.in_ok-tape.ensures.update

@@ -7,6 +7,6 @@ returns-clause-former g c =
     let all = c.into_vec-all.result.items in
     let at = c.args.at in
     let former = c.replace-former.result in
-    ap (λ xs. slice_set xs at former) c.from_vec.ensures ∙ set-set all at c.replace-former.new.dest former
+    ap (λ xs. slice_set xs at former) (c.replace-2.ensures.after ∙ c.from_vec.ensures) ∙ set-set all at c.replace-former.new.dest former
     ∙ ap (slice_set all at) (c.replace-former.ensures.value ∙ c.index_mut.ensures.value) ∙ set-get_or all at c.index_mut.result.now
     ∙ c.into_vec-all.ensures ∙ c.replace.ensures.value

@@ -4,7 +4,7 @@ use Rattle.bsp_run.specs.Law.{IsBspRun}
 use Rattle.bsp_incr.specs.Replies.{SessionParts}
 use Rattle.bsp_incr.proofs.Exactness.{exact_of}
 use Rattle.bsp_incr.proofs.Unchanged.{no-update}
-use Rattle.bsp_incr.proofs.session.Session.apply.Goals as goal
+use Rattle.bsp_incr.proofs.session.Session.apply_keeping.Goals as goal
 
 pub returns-then-are_there-clause-exact : goal.returns-then-are_there-clause-exact
 returns-then-are_there-clause-exact g c =

@@ -7,15 +7,15 @@ use Rattle.bsp_incr.proofs.session.Session.open.Goals as goal
 pub all_marks-marks-requires : goal.all_marks-marks-requires
 all_marks-marks-requires g c = (lawful_input c.args.input c.in-Ok.ensures.ok).few_processes
 
-pub returns-clause-law : goal.returns-clause-law
-returns-clause-law g c =
+pub returns-in-Ok-rerun-clause-law : goal.returns-in-Ok-rerun-clause-law
+returns-in-Ok-rerun-clause-law g c =
     let turn = turn_of (g.P.Program.acts c.args.program) (g.P.Program.ending c.args.program) in
-    (one_run turn c.args.input c.in_ok-history.history c.in-Ok.ensures.ok).1 c.in_ok-history.ensures.run
+    (one_run turn c.args.input c.in-Ok-rerun.history c.in-Ok.ensures.ok).1 c.in-Ok-rerun.ensures.run
 
-pub returns-clause-exact : goal.returns-clause-exact
-returns-clause-exact g c = exact_of c.in_ok-history.ensures.update
+pub returns-in-Ok-rerun-clause-exact : goal.returns-in-Ok-rerun-clause-exact
+returns-in-Ok-rerun-clause-exact g c = exact_of c.in-Ok-rerun.ensures.update
 
 pub invariant_of-session : goal.invariant_of-session
 invariant_of-session g c =
     let turn = turn_of (g.P.Program.acts c.args.program) (g.P.Program.ending c.args.program) in
-    record { lawful = c.in-Ok.ensures.ok; law = (one_run turn c.args.input c.in_ok-history.history c.in-Ok.ensures.ok).1 c.in_ok-history.ensures.run }
+    record { lawful = c.in-Ok.ensures.ok; law = (one_run turn c.args.input c.in-Ok-rerun.history c.in-Ok.ensures.ok).1 c.in-Ok-rerun.ensures.run }

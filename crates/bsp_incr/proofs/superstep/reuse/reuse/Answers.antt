@@ -1,4 +1,4 @@
-use Rattle.std.proofs.Common.{◌≡◌, ◌∙◌, ◌++◌, ◌∷◌, [], ap, sym, subst, length, List, ℕ}
+use Rattle.std.proofs.Common.{◌≡◌, ◌∙◌, ◌++◌, ◌∷◌, [], ap, sym, subst, length, List, ℕ, OnOk}
 use Rattle.bsp_model.specs.Stores.{made_again}
 use Rattle.bsp_step.specs.ViewParts.{ViewParts, IsView}
 use Rattle.bsp_step.specs.OutcomeParts.{OutcomeParts}
@@ -8,8 +8,8 @@ use Rattle.bsp_incr.proofs.Reusing.{turn_of-alike}
 use Rattle.bsp_incr.proofs.Serving.{Decides-serves}
 use Rattle.bsp_incr.proofs.superstep.reuse.reuse.Goals as goal
 
-pub push_over-requires : goal.push_over-requires
-push_over-requires g c =
+pub push_over-pushed-requires : goal.push_over-pushed-requires
+push_over-pushed-requires g c =
     let acts = g.P.Program.acts c.args.program.now in
     let ending = g.P.Program.ending c.args.program.now in
     let looks = g.P.Program.looks c.args.program.now in
@@ -21,7 +21,7 @@ push_over-requires g c =
     let serves = (Decides-serves looks v w).0 c.requires.serves in
     let stores = ap (λ (x : OutcomeParts). x.stores) (c.outcome.view_is ∙ c.requires.outcome) in
     let start = c.in_ok-memory.ensures ∙ ap (λ (x : ViewParts). x.memory) c.view.view_is in
-    let memory = c.in_ok-make_again.ensures ∙ ap (λ (m : List ℕ). made_again m c.outcome.inside.stores) start ∙ ap (made_again w.memory) stores in
+    let memory = c.in-Ok.ensures ∙ ap (λ (m : List ℕ). made_again m c.outcome.inside.stores) start ∙ ap (made_again w.memory) stores in
     let alike = turn_of-alike acts ending looks v w (laws.footprint c.args.program.now) here there serves in
     ap (λ (m : List ℕ). length m) (memory ∙ ap (λ (x : OutcomeParts). x.memory) (sym alike))
     ∙ (turn_of-issued acts ending w there).memory ∙ sym serves.parts.same_length ∙ sym (turn_of-issued acts ending v here).memory
@@ -37,9 +37,9 @@ returns g c =
     let w : ViewParts = c.args.view.now in
     let stores = ap (λ (x : OutcomeParts). x.stores) (c.outcome.view_is ∙ c.requires.outcome) in
     let start = c.in_ok-memory.ensures ∙ ap (λ (x : ViewParts). x.memory) c.view.view_is in
-    let memory = c.in_ok-make_again.ensures ∙ ap (λ (m : List ℕ). made_again m c.outcome.inside.stores) start ∙ ap (made_again w.memory) stores in
+    let memory = c.in-Ok.ensures ∙ ap (λ (m : List ℕ). made_again m c.outcome.inside.stores) start ∙ ap (made_again w.memory) stores in
     let made : record c.args.outcome { memory = c.make_again.new.memory } ≡ turn_of acts ending w =
     ap (λ (x : OutcomeParts). record x { memory = c.make_again.new.memory }) c.requires.outcome
     ∙ ap (λ (m : List ℕ). record (turn_of acts ending v) { memory = m }) memory
     ∙ sym (turn_of-alike acts ending looks v w (laws.footprint c.args.program.now) (subst IsView c.recorded.view_is c.recorded.invariant) (subst IsView c.view.view_is c.view.invariant) ((Decides-serves looks v w).0 c.requires.serves)) in
-    c.in_ok-push_over.ensures.ok ∙ ap (λ (o : OutcomeParts). c.args.rows.now ++ o ∷ []) made
+    subst (λ (o : OutcomeParts). OnOk c.push_over-pushed.result (c.push_over-pushed.new.self ≡ c.args.rows.now ++ o ∷ [])) made c.push_over-pushed.ensures.ok

@@ -1,4 +1,5 @@
 use Rattle.std.proofs.Common.{◌≡◌, ◌<◌, ◌∙◌, List, All, ap, sym, subst, length, refl}
+use Rattle.std.specs.Prelude.{IfOk}
 use Rattle.std.proofs.lemmas.List.{length-map}
 use Rattle.bsp_model.specs.Replaced.{replaced, IsAscending}
 use Rattle.bsp_model.proofs.Replaced.{length-replaced}
@@ -41,7 +42,7 @@ replaced-requires-clause-known g c =
     let turn = turn_by g.P.Program c.args.given.now.program in
     let new = superstep.views.now in
     let long : length c.args.old_outcomes.now ≡ length new = ap (λ (os : List OutcomeParts). length os) c.requires.recorded ∙ length-map superstep.old_views turn ∙ superstep.count c.requires.some in
-    let after : length c.in_ok-renewed.renewed ≡ length new = ap (λ (os : List OutcomeParts). length os) c.in_ok-renewed.ensures ∙ length-replaced c.args.old_outcomes.now c.args.needs.served.items (turns_of turn new c.args.needs.served.items) ∙ long in
+    let after : length c.in-Ok.renewed ≡ length new = ap (λ (os : List OutcomeParts). length os) c.in-Ok.ensures ∙ length-replaced c.args.old_outcomes.now c.args.needs.served.items (turns_of turn new c.args.needs.served.items) ∙ long in
     subst (λ m. All (λ p. p < m) c.args.needs.taken.items) (sym after) (listed_below (length new) (differs_now (g.P.Program.looks c.args.given.now.program) superstep) c.args.needs.taken.items c.requires.taken)
 
 pub replaced-requires-clause-ascending : goal.replaced-requires-clause-ascending
@@ -49,15 +50,16 @@ replaced-requires-clause-ascending g c =
     let superstep = c.args.superstep.now in
     subst IsAscending (sym c.requires.taken) (processes_where-ascending (length superstep.views.now) (differs_now (g.P.Program.looks c.args.given.now.program) superstep))
 
-pub returns : goal.returns
-returns g c =
+pub returns-in-Ok : goal.returns-in-Ok
+returns-in-Ok g c =
     let superstep = c.args.superstep.now in
     let turn = turn_by g.P.Program c.args.given.now.program in
     let looks = g.P.Program.looks c.args.given.now.program in
     let old = superstep.old_views in
     let new = superstep.views.now in
     let set = c.requires.served.0 in
-    c.in_ok-all.ensures
-    ∙ ap (λ (os : List OutcomeParts). replaced os c.args.needs.taken.items c.args.taken) c.in_ok-renewed.ensures
+    subst (λ (os : List OutcomeParts). IfOk c.replaced.result (λ all. all ≡ os))
+    (ap (λ (os : List OutcomeParts). replaced os c.args.needs.taken.items c.args.taken) c.in-Ok.ensures
     ∙ turns_in_place turn looks old new set c.args.old_outcomes.now (turns_of turn new c.args.needs.served.items) c.args.taken c.args.needs.served.items c.args.needs.taken.items
-    c.requires.served.1.0 (superstep.count c.requires.some) c.requires.recorded c.requires.served.1.1 c.requires.taken refl c.requires.turns
+    c.requires.served.1.0 (superstep.count c.requires.some) c.requires.recorded c.requires.served.1.1 c.requires.taken refl c.requires.turns)
+    c.replaced.ensures
