@@ -1,3 +1,4 @@
+pub mod OwnWords
 pub mod Joining
 pub mod MessagesSent
 pub mod MessagesArrived

@@ -1,7 +1,7 @@
 -- Collective calls (BSP collectives after Valiant 1990; by messages: this profile). Each first half is the acts of a process in one superstep; what came is
 -- taken in the next.
-use Rattle.std.specs.Prelude.{ℕ, List, [], ◌∷◌, ◌++◌, ◌+◌, ◌-◌, ◌*◌, ◌/◌, ◌==◌, if◌then◌else◌, take, drop, length, map, slice_index, sum}
-use Rattle.std.specs.List.{range_with_len}
+use Rattle.std.specs.Prelude.{ℕ, List, [], ◌∷◌, ◌++◌, ◌+◌, ◌-◌, ◌*◌, ◌/◌, ◌==◌, if◌then◌else◌, nat_lt, take, drop, length, map, slice_index, sum}
+use Rattle.std.specs.List.{flat_map, prefix_len, range_with_len}
 use Rattle.bsp_model.specs.Limits.{most_line_words}
 use Rattle.bsp_step.specs.ViewParts.{ViewParts}
 use Rattle.bsp_step.specs.Act.{Act}
@@ -23,6 +23,14 @@ block_size count nprocs = (count + (nprocs - 1)) / nprocs
 -- the words in lines, as many in each as a line has room for
 abbrev pub lines : List ℕ → List (List ℕ)
 lines words = map (block words most_line_words) (range_with_len 0 (block_size (length words) most_line_words))
+
+-- what all processes printed, one line after the other
+abbrev pub words_printed : List (List (List ℕ)) → List ℕ
+words_printed printed = flat_map (λ lines. flat_map (λ line. line) lines) printed
+
+-- how many words lead that are below a bound
+abbrev pub lead : ℕ → List ℕ → ℕ
+lead bound words = prefix_len (λ word. nat_lt word bound) words
 
 -- The words in parts of these lengths, one after the other: those of part k. Where the words end, the last parts are shorter, or empty, and a part without
 -- a length is empty.

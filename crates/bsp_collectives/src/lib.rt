@@ -14,7 +14,7 @@ pub use laws::{
     gather_arrives_apart, gather_arrives_at_the_root_alone, gather_costs, reduce_arrives,
     scan_arrives, scatter_arrives, spread_arrives, turns_send_their_acts,
 };
-pub use local::{block, in_order, print_lines};
+pub use local::{block, in_order, lead, print_lines};
 pub use operation::Operation;
 pub use receiving::{combine, forward, receive, receive_parts};
 pub use sending::{
