@@ -4,4 +4,5 @@ pub mod Blocks
 pub mod Turns
 pub mod Memories
 pub mod Supersteps
+pub mod Costs
 pub mod OrderRun
