@@ -76,7 +76,9 @@ class Live(InAPlace):
 
     FLAWS = {
         "late": (0, "line 0"),
-        "unread_edits": (9, "in place of"),
+        "unread_edits": (5, "in place of"),
+        "mute": (0, "on standard error"),
+        "blames": (0, "on standard error"),
         "undoes_refused": (12, "undo"),
         "numbers": (10, "b'run "),
         "forgets": (2, "its first lines"),

@@ -1,10 +1,12 @@
 """What a live session has to answer to lines, by the plain model of ci/model.py."""
 import json
+import re
 from itertools import groupby
 
 from cases import difference
 from model import TOOLS, line, report_of
 from modelled.documents import Job, Refused, job_of, tree_of
+from modelled.lines import HELP, bytes_reason, refusal_reason, value_reason
 from modelled.runs import Input
 from modelled.sessions import Edit
 
@@ -58,9 +60,18 @@ def changes_of(before, block):
     return told + [each for about in new if about[0] in ("total", *UPDATE) for each in new[about]]
 
 
+def unread_reason(text, why):
+    """The pattern of what is said on standard error of a line that was not read as a batch. Of a text that is no TOML
+    the place is known only to lie on the line, and a CR may stand behind it."""
+    if why == "J1" and not bytes_reason(text):
+        columns = "|".join(map(str, range(1, len(text.decode()) + 3)))
+        return f"line 1, column ({columns}): [^\n]+"
+    return re.escape(bytes_reason(text) or value_reason(tree_of(b"batch = " + text)["batch"]))
+
+
 class Judge:
     """The session of a document after some lines: its input, and for each accepted batch that stands the edits that
-    take it back."""
+    take it back; and the patterns of the lines that were to be said on standard error."""
 
     def __init__(self, tool, document, places, changes):
         self.catalogue = TOOLS[tool]
@@ -70,6 +81,7 @@ class Judge:
         self.places, self.changes = places, changes
         self.number = 0
         self.undos = []
+        self.errors = []
         self.last = []  # the last block with a status, whole
 
     def text(self, lines):
@@ -102,12 +114,18 @@ class Judge:
         return first + "".join(self.batch(edits) for edits in self.batches) + "ready\n"
 
     def answer(self, ask):
-        """The block of a line, which does not ask for the document."""
+        """The answer to a line, which does not ask for the document."""
+        if ask.is_help:
+            return "".join(f"{each}\n" for each in HELP)
         if ask.unread:
+            self.errors += [unread_reason(ask.line, ask.unread)] if ask.unread != "long" else []
             return self.text([line("unread", ask.unread)])
         if ask.is_undo:
             return self.replied(self.undos.pop())[0] if self.undos else self.text(["unread undo"])
-        return self.batch([Edit(part, numbers) for part, *numbers in ask.batch])
+        edits = [Edit(part, numbers) for part, *numbers in ask.batch]
+        reason = refusal_reason(self.input, edits)
+        self.errors += [re.escape(reason)] if reason else []
+        return self.batch(edits)
 
     def of_scratch(self):
         """The report of the input as it is, with --scratch."""

@@ -1,6 +1,8 @@
 """A client of live sessions, and the talks that it has with them."""
 import contextlib
+import errno
 import os
+import re
 import select
 import subprocess
 import time
@@ -88,24 +90,24 @@ class Client:
         self.wait_for(lambda heard: heard.endswith(b"\nend\n"))
         return self.take(len(self.heard)).removesuffix(b"end\n")
 
-    def end(self):
-        """Ends the input. Nothing more may come, and nothing on standard error."""
+    def end(self, errors=()):
+        """Ends the input. Nothing more may come, and on standard error the lines of these patterns."""
         self.process.stdin.close()
         with contextlib.suppress(Wrong):
             self.wait_for(lambda heard: False)
-        self.ended_with(0, b"", self.heard)
+        self.ended_with(0, "".join(f"{each}\n" for each in errors), self.heard)
 
     def ended_with(self, status, error, rest=b""):
-        """Sees how the session has ended: its status, and what went to standard error."""
+        """Sees how the session has ended: its status, and the pattern of what went to standard error."""
         try:
             found = self.process.wait(SECONDS)
         except subprocess.TimeoutExpired:
             raise Wrong(f"no end after {SECONDS} seconds") from None
         self.errors.seek(0)
-        said = self.errors.read()
-        if (found, said[: len(error)], rest) != (status, error, b"") or (not error and said):
-            what = f"status {found}, {said[:80]!r} on standard error and {rest[:80]!r} more"
-            raise Wrong(f"{what}, in place of {status} and {error!r}")
+        said = self.errors.read().decode(errors="replace")
+        if (found, rest) != (status, b"") or not re.fullmatch(error, said):
+            what = f"status {found}, {said[:300]!r} on standard error and {rest[:80]!r} more"
+            raise Wrong(f"{what}, in place of {status} and {error[:300]!r}")
 
     def close(self):
         """Leaves nothing behind."""
@@ -208,7 +210,7 @@ class Talk:
                 how = self.in_pieces if self.draw.happens(0.3) else lambda ask, what: self.at_once([ask], what)
                 how(asks.pop(0), what)
         self.last(last) if self.draw.happens(0.5) else self.at_once([last], "the last line")
-        self.client.end()
+        self.client.end(self.judge.errors)
 
 
 def words_of(seed, changes):
@@ -221,7 +223,7 @@ def random_talk(crate, command, room, options, seed):
     """What differs in the talk of a seed."""
     draw = Draw(f"live {crate} {seed}")
     document = drawn_job(crate, draw)
-    rates = {"undo": draw.choice((0.1, 0.3)), "document": 0.08}
+    rates = {"undo": draw.choice((0.1, 0.3)), "document": 0.08, "help": 0.04}
     words, path = words_of(seed, "--changes" in options), f"{room}/{crate} {seed}.toml"
     judge = Judge(crate, document, "--places" in words, "--changes" in words)
     try:
@@ -246,7 +248,7 @@ def dying_talk(crate, command, room, seed):
             with contextlib.suppress(BrokenPipeError):
                 client.process.stdin.write(b"" if is_idle else draw.choice((b"[]", b"[]\n", b"foo\n", b"[]\n" * 50)))
             client.process.stdin.close()
-            client.ended_with(*((0, b"") if is_idle else (1, b"fault write\n")))
+            client.ended_with(*((0, "") if is_idle else (1, "fault write\n")))
     except FAILURES as wrong:
         return [f"{crate} seed {seed}, a client that dies: {wrong}"]
     return []
@@ -269,7 +271,8 @@ def long_talk(crate, command, room):
 
 
 def start_differences(command, words, status, error):
-    """What differs where a session can't be opened: nothing is written then, and nothing of standard input is read."""
+    """What differs where a session can't be opened: nothing is written then, and nothing of standard input is read.
+    The text on standard error begins so."""
     try:
         ended = subprocess.run([*command, *words], input=b"[]\n", capture_output=True, timeout=SECONDS)
     except FAILURES as wrong:
@@ -283,9 +286,10 @@ def faulty_starts(crate, command, room):
     """What differs with files that are not there, or are no document, and with options that do not go together."""
     path = f"{room}/{crate} start.toml"
     document = drawn_job(crate, Draw(f"start {crate}"))
+    absent = f"fault read\n{room}/nowhere: {os.strerror(errno.ENOENT)} (os error {errno.ENOENT})\n".encode()
     starts = {
-        "no file": (document, ["--follow", f"{room}/nowhere"], 1, b"fault read\n"),
-        "a folder": (document, ["--follow", room], 1, b"fault read\n"),
+        "no file": (document, ["--follow", f"{room}/nowhere"], 1, absent),
+        "a folder": (document, ["--follow", room], 1, f"fault read\n{room}: it can't be read\n".encode()),
         "no document": (b"limit = 1\n", ["--follow", path], 3, b"fault J2\n"),
         "no TOML": (b"]", ["--follow", path], 3, b"fault J1\n"),
         "from scratch": (document, ["--follow", path, "--scratch"], 2, b""),

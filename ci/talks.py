@@ -12,6 +12,8 @@ UNREAD = (
     (b"Undo", "J1"),
     (b"undo 2", "J1"),
     (b"undo undo", "J1"),
+    (b"help me", "J1"),
+    (b"Help", "J1"),
     (b"documents", "J1"),
     (b"\xff", "J1"),
     (b"\x00", "J1"),
@@ -34,6 +36,9 @@ UNREAD = (
     (b'[["limit", 5, 6]]', "J3"),
     (b'[["colour", 1]]', "J3"),
     (b'[["word", 0, 0]]', "J3"),
+    (b'[["arg", 0, 0, 0, 0]]', "J3"),
+    (b'[["a\\u0007b", 0]]', "J3"),
+    (b'[["limit", 1], 7]', "J3"),
     (b'[["limit", 1], ["prices", 1, true]]', "J3"),
     (b'[["prices", -1, 1], ["limit"]]', "J3"),
     (b'[["word", 0, 0, -1]]', "J7"),
@@ -45,8 +50,8 @@ BLANK = (b"", b" ", b" \t ", b"# why", b'  # [["limit", 1]]', b"#undo")
 
 @dataclass(frozen=True)
 class Ask:
-    """A line without its end, and what it asks: a batch of edits, that the last one be taken back, that the input be
-    written, or nothing that is read."""
+    """A line without its end, and what it asks: a batch of edits, that the last one be taken back, that the input or
+    the lines that there are be written, or nothing that is read."""
 
     line: bytes
     batch: list | None = None
@@ -60,6 +65,10 @@ class Ask:
     @property
     def is_document(self):
         return self.word == "document"
+
+    @property
+    def is_help(self):
+        return self.word == "help"
 
 
 def word_ask(draw, word):
@@ -86,12 +95,14 @@ def batch_text(draw, batch):
 
 
 def draw_ask(draw, memories, args, rates):
-    """A line: mostly a batch. `rates` gives how often it is an `undo` and a `document`."""
+    """A line: mostly a batch. `rates` gives how often it is an `undo`, a `document` and a `help`."""
     kind = draw.random()
     if kind < rates["undo"]:
         return word_ask(draw, "undo")
     if kind < rates["undo"] + rates["document"]:
         return word_ask(draw, "document")
+    if kind < sum(rates.values()):
+        return word_ask(draw, "help")
     if kind > 0.9:
         line, why = draw.choice(UNREAD)
         return Ask(line, unread=why)

@@ -4,11 +4,12 @@
 usage: fake_tool.py TOOL [--workers N] [--scratch] [--places] [--changes] [--follow FILE] [--flaw NAME]
 
 TOOL is bsp_tool, heat, collectives or bsp_script. All is as with the program of that name, but that it is slow, that no line says
-where a document's fault is, and that the words are not checked. With a flaw it is wrong in one way (FLAWS), so that
+where a document's fault is, or where a line is no TOML, and that the words are not checked. With a flaw it is wrong in one way (FLAWS), so that
 it can be shown that its client notices.
 """
 from __future__ import annotations
 
+import errno
 import json
 import os
 import signal
@@ -20,7 +21,8 @@ sys.path.insert(0, f"{ROOT}/ci")
 sys.dont_write_bytecode = True
 
 from model import MOST_BYTES, answer, changed_lines, line, result_lines, update_lines  # noqa: E402
-from modelled.documents import SHAPES, TOOLS, Refused, has_negative, job_of, tree_of  # noqa: E402
+from modelled.documents import TOOLS, Refused, job_of, tree_of  # noqa: E402
+from modelled.lines import HELP, bytes_reason, form_reason, refusal_reason, value_reason  # noqa: E402
 from modelled.runs import Input, Run, run  # noqa: E402
 from modelled.sessions import Edit  # noqa: E402
 
@@ -31,7 +33,9 @@ FLAWS = {
     "deaf": "it hangs, and does not end when it is told to",
     "garbles": "block 2 has a line that none may have",
     "late": "a block is written when the next line has come",
-    "numbers": "`document` counts as a block",
+    "numbers": "`document` and `help` count as a block",
+    "mute": "it does not say on standard error why a line was not read as a batch",
+    "blames": "it says why a line was not read as a batch, whatever the line is",
     "undoes_refused": "`undo` takes back nothing where the last batch was refused",
     "undoes_once": "a second `undo` takes the first back",
     "unread_edits": "a line with a negative number sets the limit to 1",
@@ -55,6 +59,7 @@ class Live:
         self.places, self.changes = "--places" in words, "--changes" in words
         self.flaw = words[words.index("--flaw") + 1] if "--flaw" in words else ""
         self.was_refused = False
+        self.why = ""  # what is said of the last line on standard error
 
     def block(self, lines: list[str]) -> list[str]:
         self.number += 1
@@ -103,31 +108,45 @@ class Live:
         self.number += self.flaw == "numbers"
         return ["document", *(f"{name} = {json.dumps(value)}" for name, value in values.items()), "end"]
 
+    def help(self) -> list[str]:
+        self.number += self.flaw == "numbers"
+        return HELP
+
     def answer(self, text: bytes) -> list[str]:
         """The answer to a line."""
         text = text.removesuffix(b"\n")
+        self.why = "edit 0: not an edit" if self.flaw == "blames" else ""
         if len(text) > MOST_BYTES:
             return self.block(["unread long"])
-        word = text.partition(b"#")[0].strip(b" \t\r")
-        if word in (b"undo", b"document"):
-            return self.undo() if word == b"undo" else self.document()
+        word = text.partition(b"#")[0].strip(b" \t\r").decode(errors="replace")
+        if word in ("undo", "document", "help"):
+            return getattr(self, word)()
         try:
-            return self.batch(batch_of(text if word else b"[] " + text))
-        except Refused as fault:
-            if self.flaw == "unread_edits" and str(fault) == "J7":
+            batch = batch_of(text if word else b"[] " + text)
+        except Unread as unread:
+            fault, self.why = unread.args
+            if self.flaw == "unread_edits" and fault == "J7":
                 self.batch([Edit("limit", [1])])
                 self.number -= 1
             return self.block([line("unread", fault)])
+        self.why = self.why or refusal_reason(self.inputs[-1], batch)
+        return self.batch(batch)
+
+
+class Unread(Exception):
+    """A line that is no batch: the fault, and the reason."""
 
 
 def batch_of(text: bytes) -> list[Edit]:
-    """The batch that a line is, or the fault of a line that is none."""
-    tree = tree_of(b"batch = " + text + b"\n")
-    batch = tree["batch"]
-    if tree.keys() != {"batch"} or not SHAPES["batches"]([batch]):
-        raise Refused("J3")
-    if has_negative(batch):
-        raise Refused("J7")
+    """The batch that a line is."""
+    try:
+        batch = tree_of(b"batch = " + text + b"\n")["batch"]
+    except Refused as fault:
+        raise Unread(str(fault), bytes_reason(text) or "line 1, column 1: no TOML value") from fault
+    if not isinstance(batch, list) or any(map(form_reason, batch)):
+        raise Unread("J3", value_reason(batch))
+    if value_reason(batch):
+        raise Unread("J7", value_reason(batch))
     return [Edit(part, numbers) for part, *numbers in batch]
 
 
@@ -159,8 +178,10 @@ def follow(tool: str, path: str, words: list[str]) -> int:
     try:
         with open(path, "rb") as file:
             live = Live(tool, file.read(), words)
+    except FileNotFoundError:
+        return ended(f"fault read\n{path}: {os.strerror(errno.ENOENT)} (os error {errno.ENOENT})", 1)
     except OSError:
-        return ended("fault read", 1)
+        return ended(f"fault read\n{path}: it can't be read", 1)
     except Refused as fault:
         return ended(f"fault {fault}", 3)
     say(live.run_again())
@@ -173,6 +194,8 @@ def follow(tool: str, path: str, words: list[str]) -> int:
         if live.flaw == "late":
             late, lines = lines, late
         say(lines)
+        if live.why and live.flaw != "mute":
+            print(live.why, file=sys.stderr, flush=True)
     say(late)
     if live.flaw == "stays":
         time.sleep(60)

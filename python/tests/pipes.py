@@ -19,7 +19,8 @@ class Pipe:
             file.write(document)
             file.flush()
             words = [*command, "--follow", file.name, *options]
-            self._process = subprocess.Popen(words, bufsize=0, stdin=subprocess.PIPE, stdout=subprocess.PIPE)
+            pipes = {"stdin": subprocess.PIPE, "stdout": subprocess.PIPE, "stderr": subprocess.DEVNULL}
+            self._process = subprocess.Popen(words, bufsize=0, **pipes)
             assert self._process.stdin and self._process.stdout
             self._in, self._out = self._process.stdin, self._process.stdout
             self.opening = self._hear((b"ready\n",))

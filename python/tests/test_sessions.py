@@ -446,7 +446,7 @@ class Failing(unittest.TestCase):
     def test_a_document_that_is_not_there(self) -> None:
         with self.assertRaises(ToolEnded) as raised:
             Session(fake("heat"), "/nowhere/at all")
-        self.assertEqual(raised.exception.errors, "fault read\n")
+        self.assertEqual(raised.exception.errors.splitlines()[0], "fault read")
 
     def test_a_program_that_is_no_tool(self) -> None:
         self.assertEqual(self.starts_not(["true"]).status, 0)

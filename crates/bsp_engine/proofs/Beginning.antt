@@ -20,11 +20,10 @@ use Rattle.bsp_incr.specs.Inside.Replies.{done, reply_if, replies_from}
 use Rattle.bsp_engine.specs.declared.errors.JobFault.{JobFault}
 use Rattle.bsp_engine.specs.declared.jobs.Job.{Job}
 use Rattle.bsp_engine.specs.declared.options.Detail.{Detail}
-use Rattle.bsp_engine.specs.Asked.{asked_of, is_document}
-use Rattle.bsp_engine.specs.Document.{document_block}
+use Rattle.bsp_engine.specs.Asked.{asked_of, asks_for_text}
 use Rattle.bsp_engine.specs.declared.attendant.Attendant.{Attendant}
 use Rattle.bsp_engine.specs.Inside.DueAt.{due_at, due_from}
-use Rattle.bsp_engine.specs.Live.{LiveParts, after, after_batch, after_batches, opened, last_result, answer_to, answer_block, blocks, first_text, due_of}
+use Rattle.bsp_engine.specs.Live.{LiveParts, after, after_batch, after_batches, opened, last_result, answer_to, answer_block, asked_text, blocks, first_text, due_of}
 use Rattle.bsp_engine.specs.Inside.LiveReplies.{live_reply, live_replies, live_replying, opening_block}
 use Rattle.bsp_engine.specs.Inside.Replies.{replies_of}
 use Rattle.bsp_engine.specs.Blocks.{reply_block, result_before, blocks_after, text_of}
@@ -84,13 +83,13 @@ module _ {P : Type 0} (acts : P → ViewParts → List Act) (ending : P → View
       (one_run (turn_of (acts live.program) (ending live.program)) live.input history lawful).0 law ∙ ap (λ (v : LiveParts P). run (turn_of (acts v.program) (ending v.program)) v.input) at in
       told ∙ (λ k. old ++ reply_block places 0 None (Done (result_of (is k)) (Some (done k))))
 
-  -- one line more, that asks for no document
-  blocks_next : (own : List ℕ) (places : Bool) (last number : ℕ) (live next : LiveParts P) (l text : List ℕ) → is_document l ≡ false → number ≡ last + 1
+  -- one line more, that asks for no text
+  blocks_next : (own : List ℕ) (places : Bool) (last number : ℕ) (live next : LiveParts P) (l text : List ℕ) → asks_for_text l ≡ false → number ≡ last + 1
       → text ≡ answer_block places number (last_result acts ending live) (answer_to (live_replying acts ending looks) live (asked_of l)) → next ≡ after live (asked_of l)
       → (later : List (List ℕ)) → blocks acts ending (live_replying acts ending looks) own places (last + 1) live (l ∷ later) ≡ text ++ blocks acts ending (live_replying acts ending looks) own places (number + 1) next later
   unfolding blocks
   blocks_next own places last number live next l text d n t x later =
-      let told = document_block own live.input ++ blocks acts ending (live_replying acts ending looks) own places (last + 1) live later in
+      let told = asked_text own live.input l ++ blocks acts ending (live_replying acts ending looks) own places (last + 1) live later in
       let block = answer_block places (last + 1) (last_result acts ending live) (answer_to (live_replying acts ending looks) live (asked_of l)) in
       let rest = blocks acts ending (live_replying acts ending looks) own places (last + 1 + 1) (after live (asked_of l)) later in
       ap (λ (b : Bool). cond b told (block ++ rest)) d
@@ -98,18 +97,18 @@ module _ {P : Type 0} (acts : P → ViewParts → List Act) (ending : P → View
       ∙ (ap (λ b. b ++ blocks acts ending (live_replying acts ending looks) own places (number + 1) (after live (asked_of l)) later) (sym t)
       ∙ ap (λ (v : LiveParts P). text ++ blocks acts ending (live_replying acts ending looks) own places (number + 1) v later) (sym x)))
 
-  -- one that asks for it
-  document_next : (own : List ℕ) (places : Bool) (k : ℕ) (live : LiveParts P) (l text : List ℕ) → is_document l ≡ true → text ≡ document_block own live.input
+  -- one that asks for a text
+  text_next : (own : List ℕ) (places : Bool) (k : ℕ) (live : LiveParts P) (l text : List ℕ) → asks_for_text l ≡ true → text ≡ asked_text own live.input l
       → (later : List (List ℕ)) → blocks acts ending (live_replying acts ending looks) own places k live (l ∷ later) ≡ text ++ blocks acts ending (live_replying acts ending looks) own places k live later
   unfolding blocks
-  document_next own places k live l text d t later =
+  text_next own places k live l text d t later =
       let rest = blocks acts ending (live_replying acts ending looks) own places k live later in
       let block = answer_block places k (last_result acts ending live) (answer_to (live_replying acts ending looks) live (asked_of l)) in
-      ap (λ (b : Bool). cond b (document_block own live.input ++ rest) (block ++ blocks acts ending (live_replying acts ending looks) own places (k + 1) (after live (asked_of l)) later)) d
+      ap (λ (b : Bool). cond b (asked_text own live.input l ++ rest) (block ++ blocks acts ending (live_replying acts ending looks) own places (k + 1) (after live (asked_of l)) later)) d
       ∙ ap (λ b. b ++ rest) (sym t)
 
   -- the same of whoever answers
-  pub attendant_next : (a b : Attendant P) (l text : List ℕ) (number : ℕ) → is_document l ≡ false → number ≡ a.last + 1 → b.last ≡ number → b.places ≡ a.places → b.own.items ≡ a.own.items
+  pub attendant_next : (a b : Attendant P) (l text : List ℕ) (number : ℕ) → asks_for_text l ≡ false → number ≡ a.last + 1 → b.last ≡ number → b.places ≡ a.places → b.own.items ≡ a.own.items
       → text ≡ answer_block a.places number (last_result acts ending a.live) (answer_to (live_replying acts ending looks) a.live (asked_of l)) → b.live ≡ after a.live (asked_of l)
       → (later : List (List ℕ)) → due_at acts ending looks a (l ∷ later) ≡ text ++ due_at acts ending looks b later
   unfolding due_at
@@ -119,11 +118,11 @@ module _ {P : Type 0} (acts : P → ViewParts → List Act) (ending : P → View
       ∙ (ap (λ (q : Bool). text ++ blocks acts ending (live_replying acts ending looks) a.own.items q (b.last + 1) b.live later) (sym p)
       ∙ ap (λ (w : List ℕ). text ++ blocks acts ending (live_replying acts ending looks) w b.places (b.last + 1) b.live later) (sym o)))
 
-  pub attendant_tells : (a b : Attendant P) (l text : List ℕ) → is_document l ≡ true → text ≡ document_block a.own.items a.live.input → a.own.items ≡ b.own.items → a.places ≡ b.places → a.last ≡ b.last → a.live ≡ b.live
+  pub attendant_tells : (a b : Attendant P) (l text : List ℕ) → asks_for_text l ≡ true → text ≡ asked_text a.own.items a.live.input l → a.own.items ≡ b.own.items → a.places ≡ b.places → a.last ≡ b.last → a.live ≡ b.live
       → (later : List (List ℕ)) → due_at acts ending looks a (l ∷ later) ≡ text ++ due_at acts ending looks b later
   unfolding due_at
   attendant_tells a b l text d t own places last live later =
-      document_next a.own.items a.places (a.last + 1) a.live l text d t later
+      text_next a.own.items a.places (a.last + 1) a.live l text d t later
       ∙ (λ k. text ++ blocks acts ending (live_replying acts ending looks) (own k) (places k) (last k + 1) (live k) later)
 
   pub due_at-none : (a : Attendant P) → due_at acts ending looks a [] ≡ []

@@ -25,6 +25,11 @@ pub stopped_part : (r : Result (Unit {0}) EngineError) (due now : Due) (line : L
 stopped_part (Ok u) due now line old new text next part is = tt
 stopped_part (Err e) due now line old new text next part is = subst (λ (x : EngineError). Stopped due line old new x) (sym is) (stopped_write due now line old new text next part)
 
+-- the error is handed on
+pub stopped_on : (r : Result (Unit {0}) EngineError) (e : EngineError) (due : Due) (line : List ℕ) (old new : Option (List Event)) → IsErrAnd r (λ y. y ≡ e) → Stopped due line old new e → IfErr r (λ x. Stopped due line old new x)
+stopped_on (Ok u) e due line old new same stopped = tt
+stopped_on (Err y) e due line old new same stopped = subst (λ (x : EngineError). Stopped due line old new x) (sym same) stopped
+
 -- there was no memory for it
 pub stopped_before : (due : Due) (line : List ℕ) (log : Option (List Event)) → Stopped due line log log OutOfMemory
 stopped_before due line log = record {

@@ -23,9 +23,8 @@ use Rattle.std.specs.List.{list_any}
 use Rattle.std.proofs.lemmas.Bool.{or_parts}
 use Rattle.bsp_engine.specs.declared.jobs.Job.{Job}
 use Rattle.bsp_engine.specs.Answers.{LinesAreBatches}
-use Rattle.bsp_engine.specs.Asked.{asked_of, is_document}
-use Rattle.bsp_engine.specs.Document.{document_block}
-use Rattle.bsp_engine.specs.Live.{LiveParts, Replying, after, after_batch, after_batches, opened, undos_after, last_result, answer_to, answer_block, blocks, first_text, due_of, AreLiveReplies}
+use Rattle.bsp_engine.specs.Asked.{asked_of, asks_for_text}
+use Rattle.bsp_engine.specs.Live.{LiveParts, Replying, asked_text, after, after_batch, after_batches, opened, undos_after, last_result, answer_to, answer_block, blocks, first_text, due_of, AreLiveReplies}
 use Rattle.bsp_engine.specs.Inside.LiveReplies.{live_reply, live_replies, live_replying, opening_block}
 use Rattle.bsp_engine.specs.Inside.Replies.{replies_of}
 use Rattle.bsp_engine.specs.Blocks.{blocks_after, reply_block, text_of}
@@ -60,7 +59,7 @@ module _ {P : Type 0} (acts : P → ViewParts → List Act) (ending : P → View
   -- One definition of a block serves documents and lines: where each line asks for a batch, the blocks are those of a document that has these batches
   -- from block k on.
   blocks-batches : (replying : Replying P) (own : List ℕ) (places : Bool) (k : ℕ) (live : LiveParts P) (lines : List (List ℕ)) (batches : List (List Edit)) → AreLiveReplies acts ending looks replying → input_fault live.input ≡ None
-      → map asked_of lines ≡ map Batch batches → list_any is_document lines ≡ false
+      → map asked_of lines ≡ map Batch batches → list_any asks_for_text lines ≡ false
       → blocks acts ending replying own places k live lines ≡ blocks_after (record { places = places; changes = live.changes }) k (last_result acts ending live) (live_replies acts ending looks live batches)
   unfolding blocks
   blocks-batches replying own places k live [] [] are lawful same none = refl
@@ -69,10 +68,10 @@ module _ {P : Type 0} (acts : P → ViewParts → List Act) (ending : P → View
   blocks-batches replying own places k live (l ∷ ls) (b ∷ bs) are lawful same none =
       let first : asked_of l ≡ Batch b = cc in
       let others : map asked_of ls ≡ map Batch bs = cc in
-      let (here, more) = or_parts (is_document l) (list_any is_document ls) none in
+      let (here, more) = or_parts (asks_for_text l) (list_any asks_for_text ls) none in
       let last = last_result acts ending live in
       let detail : Detail = record { places = places; changes = live.changes } in
-      let told = document_block own live.input ++ blocks acts ending replying own places k live ls in
+      let told = asked_text own live.input l ++ blocks acts ending replying own places k live ls in
       let block = answer_block places k last (answer_to replying live (asked_of l)) ++ blocks acts ending replying own places (k + 1) (after live (asked_of l)) ls in
       ap (λ (q : Bool). cond q told block) here
       ∙ (ap (λ (a : Asked). answer_block places k last (answer_to replying live a) ++ blocks acts ending replying own places (k + 1) (after live a) ls) first

@@ -10,7 +10,7 @@ use Rattle.bsp_incr.specs.Edits.{refusal_of}
 use Rattle.bsp_engine.specs.declared.asked.Asked.TheVariants.{Batch, Undo}
 use Rattle.bsp_engine.specs.declared.jobs.Job.{Job}
 use Rattle.bsp_engine.specs.declared.options.Detail.{Detail}
-use Rattle.bsp_engine.specs.Asked.{asked_of, is_document}
+use Rattle.bsp_engine.specs.Asked.{asked_of, asks_for_text}
 use Rattle.bsp_engine.specs.Blocks.{text_of}
 use Rattle.bsp_engine.specs.Live.{AreLiveReplies, LiveParts, Replying, after, after_batch, due_of}
 
@@ -19,7 +19,7 @@ use Rattle.bsp_engine.specs.Live.{AreLiveReplies, LiveParts, Replying, after, af
 abbrev pub LinesAreBatches : {P : Type 0} → (P → ViewParts → List Act) → (P → ViewParts → End) → (P → ViewParts → ℕ → Bool) → Type 0
 LinesAreBatches {P} acts ending looks =
     (replying : Replying P) (detail : Detail) (own : List ℕ) (job : Job P) (lines : List (List ℕ)) (batches : List (List Edit)) → AreLiveReplies acts ending looks replying
-    → input_fault job.input ≡ None → map asked_of lines ≡ map Batch batches → list_any is_document lines ≡ false
+    → input_fault job.input ≡ None → map asked_of lines ≡ map Batch batches → list_any asks_for_text lines ≡ false
     → (later : List ℕ) × (text_of detail (replying.job (record job { batches = job.batches ++ batches })) ≡ text_of detail (replying.job job) ++ later)
     × (due_of acts ending replying detail own job lines ≡ text_of detail (replying.job job) ++ codes "ready\n" ++ later)
 

@@ -58,6 +58,14 @@ is_long line = nat_lt most_document_bytes (length line)
 abbrev pub is_document : List ℕ → Bool
 is_document line = not (is_long line) && is_word (codes "document") line
 
+-- the line asks which lines there are
+abbrev pub is_help : List ℕ → Bool
+is_help line = not (is_long line) && is_word (codes "help") line
+
+-- The line asks for one of the two texts. No run is made for it.
+abbrev pub asks_for_text : List ℕ → Bool
+asks_for_text line = is_document line || is_help line
+
 -- What a line asks, of which no more is kept than a document may have and one byte.
 unfoldable pub asked_of : List ℕ → Asked
 asked_of line =

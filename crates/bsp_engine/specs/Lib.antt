@@ -9,6 +9,7 @@ pub mod Document
 pub mod Faults
 pub mod Flow
 pub mod Followed
+pub mod Help
 pub mod JobOf
 pub mod Keys
 pub mod Limits

@@ -21,8 +21,9 @@ use Rattle.bsp_engine.specs.declared.asked.Unread.{Unread}
 use Rattle.bsp_engine.specs.declared.asked.Unread.TheVariants.{NotToml, WrongType, BadWord, TooLong, NothingToUndo}
 use Rattle.bsp_engine.specs.declared.jobs.Job.{Job}
 use Rattle.bsp_engine.specs.declared.options.Detail.{Detail}
-use Rattle.bsp_engine.specs.Asked.{asked_of, is_document}
+use Rattle.bsp_engine.specs.Asked.{asked_of, asks_for_text, is_document}
 use Rattle.bsp_engine.specs.Document.{document_block}
+use Rattle.bsp_engine.specs.Help.{help_block}
 use Rattle.bsp_engine.specs.Lines.{line}
 use Rattle.bsp_engine.specs.Reported.{AreRepliesTo}
 use Rattle.bsp_engine.specs.Blocks.{reply_lines, text_of}
@@ -112,12 +113,16 @@ answer_block places k before answer = line (codes "run") (k ∷ []) ++ answer_li
 unfoldable pub last_result : {P : Type 0} → (P → ViewParts → List Act) → (P → ViewParts → End) → LiveParts P → Option RunResult
 last_result acts ending live = if live.changes then Some (result_of (run (turn_of (acts live.program) (ending live.program)) live.input)) else None
 
--- The text due for lines: a block for each, of which the first has this number. A line that asks for the document is answered by it, has no number, and
--- changes nothing; `own` is the text of the keys that are the catalogue's own.
+-- the text for which a line asks: the input as a document, or the lines that there are; `own` is the text of the keys that are the catalogue's own
+abbrev pub asked_text : List ℕ → Input → List ℕ → List ℕ
+asked_text own input l = if is_document l then document_block own input else help_block
+
+-- The text due for lines: a block for each, of which the first has this number. A line that asks for a text is answered by it, has no number, and
+-- changes nothing.
 unfoldable pub blocks : {P : Type 0} → (P → ViewParts → List Act) → (P → ViewParts → End) → Replying P → List ℕ → Bool → ℕ → LiveParts P → List (List ℕ) → List ℕ
 blocks acts ending replying own places k live [] = []
 blocks acts ending replying own places k live (l ∷ later) =
-    if is_document l then document_block own live.input ++ blocks acts ending replying own places k live later
+    if asks_for_text l then asked_text own live.input l ++ blocks acts ending replying own places k live later
     else answer_block places k (last_result acts ending live) (answer_to replying live (asked_of l))
     ++ blocks acts ending replying own places (k + 1) (after live (asked_of l)) later
 

@@ -2,7 +2,7 @@
 
 ghost use Rattle.std.specs.Prelude.{◌≡◌, ◌++◌, IfOk, Some, codes};
 ghost use Rattle.toml.specs.View.{table_view};
-ghost use Rattle.bsp_engine.specs.Asked.{asked_at, asked_of, begins_with_word, document_of, is_blank, is_document, is_space, is_word, no_edits};
+ghost use Rattle.bsp_engine.specs.Asked.{asked_at, asked_of, asks_for_text, begins_with_word, document_of, is_blank, is_document, is_help, is_space, is_word, no_edits};
 ghost use Rattle.bsp_engine.specs.Tree.{tree_of};
 
 use crate::errors::JobError;
@@ -84,6 +84,20 @@ pub fn is_document(line: &[u8]) -> bool
     line.len() <= MOST_DOCUMENT_BYTES && is_word(b"document", line)
 }
 
+/// Whether the line asks which lines there are.
+fn is_help(line: &[u8]) -> bool
+    ensures { result ≡ is_help line.now }
+{
+    line.len() <= MOST_DOCUMENT_BYTES && is_word(b"help", line)
+}
+
+/// Whether the line asks for a text, for which no run is made.
+pub fn asks_for_text(line: &[u8]) -> bool
+    ensures { result ≡ asks_for_text line.now }
+{
+    is_document(line) || is_help(line)
+}
+
 /// The key, and the batch of no edit where no other is written.
 fn key_before(blank: bool) -> &'static [u8]
     ensures { result.now ≡ codes "batch = " ++ no_edits blank }
@@ -93,7 +107,7 @@ fn key_before(blank: bool) -> &'static [u8]
 
 /// The document that has what stands on the line as its key `batch`.
 #[tactic(auto, unfolding(crate::specs::Asked::document_of))]
-fn document_of(alloc: Global, line: &[u8]) -> Result<Vec<u8>, OutOfMemory>
+pub fn document_of(alloc: Global, line: &[u8]) -> Result<Vec<u8>, OutOfMemory>
     ensures { IfOk result (λ document. document.items ≡ document_of line.now) }
 {
     let mut document = Vec::new(alloc);

@@ -1,7 +1,7 @@
 //! Who answers the lines of a live session, one after the other.
 
 ghost use Rattle.std.specs.Prelude.{◌≡◌, ◌∷◌, ◌++◌, List, ℕ, IfErr, IfOk, IsOkAnd, OnOk, Err, false};
-ghost use Rattle.bsp_engine.specs.Asked.{asked_of, is_document};
+ghost use Rattle.bsp_engine.specs.Asked.{asked_of, asks_for_text};
 ghost use Rattle.bsp_engine.specs.Document.{WithOwnText};
 ghost use Rattle.bsp_engine.specs.JobOf.{job_of};
 ghost use Rattle.bsp_engine.specs.Refusal.{IfFault};
@@ -9,7 +9,8 @@ ghost use Rattle.bsp_engine.specs.Inside.DueAt.{due_at, due_from};
 ghost use Rattle.bsp_engine.specs.Inside.LiveReplies.{live_replying};
 ghost use Rattle.bsp_engine.specs.Live.{after, answer_block, answer_to, due_of, last_result};
 
-use crate::asked::{asked_of, is_document};
+use crate::asked::{asked_of, asks_for_text};
+use crate::asked_text::put_asked_text;
 use crate::catalogue::Catalogue;
 use crate::crew::Crew;
 use crate::errors::JobError;
@@ -17,7 +18,6 @@ use crate::jobs::read_job_and_keys;
 use crate::lines::push_line;
 use crate::live::{Live, begin, push_answer};
 use crate::options::Detail;
-use crate::session_document::put_document;
 use bsp_model::OutOfMemory;
 use bsp_pool::Gate;
 use bsp_run::DEPTH_OF_RUNS;
@@ -87,13 +87,13 @@ fn write_block<P: Program + Drop, R: Threads + Sync, G: Gate>(
     )
 }
 
-/// Writes the answer to a line that asks for no document, as the block with the next number.
+/// Writes the answer to a line that asks for no text, as the block with the next number.
 fn write_next_block<P: Program + Drop, R: Threads + Sync, G: Gate>(
     crew: &Crew<'_, R, G>,
     attendant: &mut Attendant<P>,
     line: &[u8],
 ) -> Result<(), OutOfMemory>
-    requires { is_document line.now ≡ false }
+    requires { asks_for_text line.now ≡ false }
     ensures { OnOk result ((later : List (List ℕ)) →
         due_at P.acts P.ending P.looks attendant.old (line.now ∷ later) ≡ due_from P.acts P.ending P.looks attendant.new later) }
 {
@@ -114,10 +114,10 @@ pub fn respond<P: Program + Drop, R: Threads + Sync, G: Gate>(
     ensures { OnOk result ((later : List (List ℕ)) →
         due_at P.acts P.ending P.looks attendant.old (line.now ∷ later) ≡ due_from P.acts P.ending P.looks attendant.new later) }
 {
-    if !is_document(line) {
+    if !asks_for_text(line) {
         return write_next_block(crew, attendant, line);
     }
     let own = attendant.own.as_slice();
     let input = attendant.live.input();
-    put_document(&mut attendant.text, own, input)
+    put_asked_text(&mut attendant.text, own, input, line)
 }

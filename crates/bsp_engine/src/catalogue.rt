@@ -33,6 +33,11 @@ pub trait Catalogue {
     fn key_at_fault(document: &Table) -> &'static str
         ensures { meaning.is_key result.now ≡ true };
 
+    /// The names of the programs, in words, for whoever wrote another name (J5); empty where programs have no names.
+    fn names() -> &'static str {
+        ""
+    }
+
     /// Whether no key that the catalogue needs is absent (else J2).
     fn has_required_keys(document: &Table) -> bool
         ensures { result ≡ meaning.has_required_keys (table_view document.now) };

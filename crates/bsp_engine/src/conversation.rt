@@ -49,7 +49,12 @@ fn answer<P: Program + Drop, R: Threads + Sync, G: Gate, T: Terminal>(
     let answered = respond(crew, attendant, line);
     crew.gate.leave();
     match answered {
-        Ok(()) => say_all(terminal, attendant.text.as_slice()),
+        Ok(()) => {
+            let text = attendant.text.as_slice();
+            say_all(terminal, text)?;
+            terminal.answered(line, text, attendant.live.input());
+            Ok(())
+        }
         Err(_) => Err(EngineError::OutOfMemory),
     }
 }

@@ -1,6 +1,6 @@
 //! Readers and writers of std, whose failures are counted.
 
-ghost use Rattle.std.specs.Prelude.{◌≡◌, ◌+◌, ◌-◌, ◌^◌, ◌<◌};
+ghost use Rattle.std.specs.Prelude.{◌≡◌, ◌+◌, ◌-◌, ◌^◌, ◌<◌, nat_lt};
 
 use crate::flow::{Failed, Sink, Source};
 use std::io::{Read, Write};
@@ -27,6 +27,13 @@ impl<T> Counted<T> {
         ensures { result ≡ record { inner = inner; failures = 0 } }
     {
         Counted { inner, failures: 0 }
+    }
+
+    /// Whether a failure is counted.
+    pub fn has_failed(&self) -> bool
+        ensures { result ≡ nat_lt 0 self.now.failures }
+    {
+        self.failures > 0
     }
 
     fn count_failure(&mut self)

@@ -3,6 +3,7 @@
 
 mod accepted;
 mod asked;
+mod asked_text;
 mod attendant;
 mod block_lines;
 mod blocks;

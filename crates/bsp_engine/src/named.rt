@@ -20,6 +20,9 @@ pub trait ByName {
     // The program with a name.
     ghost named: { List ℕ → Option Self.Program };
 
+    /// The names of all programs, in words, for whoever wrote another name.
+    fn names() -> &'static str;
+
     /// The program with this name; where no program has it, a document with it is J5.
     fn by_name(name: &str) -> Option<Self::Program>
         ensures { result ≡ named name.now };
@@ -45,6 +48,10 @@ impl<N: ByName> Catalogue for Named<N> {
 
     fn key_at_fault(_document: &Table) -> &'static str {
         "program"
+    }
+
+    fn names() -> &'static str {
+        N::names()
     }
 
     fn has_required_keys(document: &Table) -> bool {

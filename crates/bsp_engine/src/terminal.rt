@@ -1,9 +1,12 @@
 //! Two ends of a conversation: what is heard and what is said, in the order in which it was.
 
-ghost use Rattle.std.specs.Prelude.{◌≤◌, ◌∷◌, [], List, Option, length, take, IfOk, OnErr};
+ghost use Rattle.std.specs.Prelude.{◌≡◌, ◌≤◌, ◌∷◌, [], List, Option, length, take, IfOk, OnErr};
 ghost use Rattle.bsp_engine.specs.Talk.{Event, Fails, Goes, heard, said};
 
+use crate::explain::explain_line;
 use crate::flow::Failed;
+use bsp_model::Input;
+use std::alloc::Global;
 use std::io::{Read, Write};
 
 /// Where bytes come from and where they go to, of which the one may wait for the other.
@@ -22,23 +25,29 @@ pub trait Terminal {
         ensures bound { IfOk result (λ n. n ≤ length buf.now) }
         ensures said { IfOk result (λ n. Goes (log self.old) (log self.new) (said (take n buf.now) ∷ [])) }
         ensures failed { OnErr result (Fails (log self.old) (log self.new)) };
+
+    /// Called where all of the answer to a line was said, with the input after it. Somewhere else more may be told of the line.
+    fn answered(&mut self, _line: &[u8], _answer: &[u8], _input: &Input)
+        ensures kept { log self.new ≡ log self.old }
+    {}
 }
 
-/// A reader and a writer of std. Nothing is known of what happened.
+/// A reader and a writer of std, and a runtime, whose standard error is told why a line had no effect. Nothing is known of what happened.
 #[derive(Drop)]
-pub struct Console<R, W> {
+pub struct Console<'a, E, R, W> {
+    rt: &'a E,
     reader: R,
     writer: W,
 }
 
-impl<R, W> Console<R, W> {
-    /// The two as one.
-    pub fn new(reader: R, writer: W) -> Console<R, W> {
-        Console { reader, writer }
+impl<'a, E, R, W> Console<'a, E, R, W> {
+    /// The three as one.
+    pub fn new(rt: &'a E, reader: R, writer: W) -> Console<'a, E, R, W> {
+        Console { rt, reader, writer }
     }
 }
 
-impl<R: Read, W: Write> Terminal for Console<R, W> {
+impl<'a, E: Alloc<A = Global> + Eprint, R: Read, W: Write> Terminal for Console<'a, E, R, W> {
     ghost use Rattle.std.specs.Prelude.{None};
 
     ghost log = { λ _. None };
@@ -57,6 +66,13 @@ impl<R: Read, W: Write> Terminal for Console<R, W> {
         match self.writer.flush() {
             Ok(()) => Ok(n),
             Err(_) => Err(Failed),
+        }
+    }
+
+    fn answered(&mut self, line: &[u8], answer: &[u8], input: &Input) {
+        let mut why = String::new(self.rt.alloc());
+        if explain_line(self.rt.alloc(), line, answer, input, &mut why).is_ok() && !why.is_empty() {
+            let _ = eprintln!(self.rt; "{why}");
         }
     }
 }

@@ -1,15 +1,15 @@
 //! A whole tool: its command line, standard input, standard output and exit status.
 //!
 //! Where there is no report, a fault line goes to standard error, and the exit status is 1 (the machine failed), 2 (the command line is refused)
-//! or 3 (the document is refused). Where the document has a fault, a second line says where, unless memory for it is refused.
+//! or 3 (the document is refused). Where the document has a fault, or the file can't be read, a second line says more, unless memory for it is refused.
 
-ghost use Rattle.std.specs.Prelude.{◌<◌, ◌≤◌};
+ghost use Rattle.std.specs.Prelude.{◌≡◌, ◌<◌, ◌≤◌};
 
 use crate::catalogue::Catalogue;
 use crate::counted::Counted;
 use crate::documents::engine;
 use crate::errors::EngineError;
-use crate::explain::explain;
+use crate::explain::{explain, explain_file};
 use crate::following::follow;
 use crate::options::{Options, Tool, read_options, words_status};
 use crate::progress::{Progress, Watched};
@@ -18,6 +18,7 @@ use bsp_model::OutOfMemory;
 use bsp_pool::Gate;
 use std::alloc::Global;
 use std::env::Env;
+use std::io::Read;
 use std::process::ExitCode;
 use std::rt::Files;
 use std::thread::Threads;
@@ -86,6 +87,21 @@ fn ended<C: Catalogue, R: Alloc<A = Global> + Eprint>(
     status
 }
 
+/// Says why a file can't be opened, or else that it can't be read.
+fn name_file<R: Alloc<A = Global> + Files + Eprint>(rt: &R, path: &str) {
+    let mut line = String::new(rt.alloc());
+    let explained = match fs::open(rt, path) {
+        Ok(file) => {
+            drop(file);
+            explain_file(path, &"it can't be read", &mut line)
+        }
+        Err(error) => explain_file(path, &error, &mut line),
+    };
+    if explained.is_ok() {
+        let _ = eprintln!(rt; "{line}");
+    }
+}
+
 /// Runs the job of the document on standard input.
 fn run_input<C: Catalogue, R: Alloc<A = Global> + Input + Print + Eprint + Threads + Clock + Sync>(
     rt: &R,
@@ -106,7 +122,33 @@ fn run_input<C: Catalogue, R: Alloc<A = Global> + Input + Print + Eprint + Threa
     )
 }
 
-/// Runs the job of the document in a file, and then answers each line of standard input.
+/// Runs the job of the document that is read of a source, and then answers each line of standard input.
+fn follow_source<
+    C: Catalogue,
+    R: Alloc<A = Global> + Input + Print + Eprint + Threads + Clock + Sync,
+    T: Read,
+>(
+    rt: &R,
+    options: Options,
+    source: &mut Counted<T>,
+    document: &mut Vec<u8>,
+    progress: &Progress<'_, R>,
+) -> Result<(), EngineError>
+    requires workers { (0 < options.workers) × (options.workers ≤ 16) }
+    requires source { source.old.failures ≡ 0 }
+{
+    follow::<C, R, _, _, _>(
+        rt,
+        rt.alloc(),
+        options,
+        source,
+        &mut Console::new(rt, rt.reader(), io::writer(rt)),
+        document,
+        progress,
+    )
+}
+
+/// The same of a file, of which is told whether it can't be read.
 fn follow_file<
     C: Catalogue,
     R: Alloc<A = Global> + Files + Input + Print + Eprint + Threads + Clock + Sync,
@@ -116,21 +158,18 @@ fn follow_file<
     path: &str,
     document: &mut Vec<u8>,
     progress: &Progress<'_, R>,
+    is_unread: &mut bool,
 ) -> Result<(), EngineError>
     requires workers { (0 < options.workers) × (options.workers ≤ 16) }
 {
     let Ok(file) = fs::open(rt, path) else {
+        *is_unread = true;
         return Err(EngineError::Read);
     };
-    follow::<C, R, _, _, _>(
-        rt,
-        rt.alloc(),
-        options,
-        &mut Counted::new(file),
-        &mut Console::new(rt.reader(), io::writer(rt)),
-        document,
-        progress,
-    )
+    let mut source = Counted::new(file);
+    let outcome = follow_source::<C, R, _>(rt, options, &mut source, document, progress);
+    *is_unread = source.has_failed();
+    outcome
 }
 
 /// Runs a job, shows its progress, and says why there is no report where that is so.
@@ -142,12 +181,20 @@ fn run_shown<
 {
     let progress = Progress::new(rt, !options.quiet && rt.is_watched());
     let mut document = Vec::new(rt.alloc());
+    let mut is_unread = false;
     let outcome = match path {
         None => run_input::<C, R>(rt, options, &mut document, &progress),
-        Some(path) => follow_file::<C, R>(rt, options, path, &mut document, &progress),
+        Some(path) => {
+            let unread = &mut is_unread;
+            follow_file::<C, R>(rt, options, path, &mut document, &progress, unread)
+        }
     };
     progress.leave();
-    ended::<C, R>(rt, outcome, document.as_slice())
+    let status = ended::<C, R>(rt, outcome, document.as_slice());
+    if is_unread {
+        name_file(rt, path.unwrap_or(""));
+    }
+    status
 }
 
 /// Does what the words ask for; the first word is the program's name.

@@ -20,6 +20,10 @@ impl ByName for Programs {
 
     ghost named = { program_named };
 
+    fn names() -> &'static str {
+        "broadcast, broadcast_in_two, scatter, gather, all_gather, exchange, reduce, all_reduce, scan and exchange_parts"
+    }
+
     fn by_name(name: &str) -> Option<Collective> {
         Collective::by_name(name)
     }

@@ -18,6 +18,10 @@ impl ByName for Programs {
 
     ghost named = { program_named };
 
+    fn names() -> &'static str {
+        "heat"
+    }
+
     fn by_name(name: &str) -> Option<Heat> {
         match name {
             "heat" => Some(Heat),

@@ -18,6 +18,10 @@ impl ByName for Programs {
 
     ghost named = { program_named };
 
+    fn names() -> &'static str {
+        "oddeven"
+    }
+
     fn by_name(name: &str) -> Option<OddEven> {
         match name {
             "oddeven" => Some(OddEven),

@@ -18,6 +18,10 @@ impl ByName for Programs {
 
     ghost named = { program_named };
 
+    fn names() -> &'static str {
+        "samplesort"
+    }
+
     fn by_name(name: &str) -> Option<SampleSort> {
         match name {
             "samplesort" => Some(SampleSort),

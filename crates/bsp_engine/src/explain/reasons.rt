@@ -101,8 +101,22 @@ fn push_size(
     }
 }
 
-/// Appends the place of what is wrong, and the reason.
-pub fn push_fault(line: &mut String, table: &Table, wrong: &Wrong<'_>) -> Result<(), OutOfMemory> {
+/// Appends which programs there are, where they have names.
+fn push_names(line: &mut String, names: &str) -> Result<(), OutOfMemory> {
+    line.push_str("there is no such program")?;
+    if names.is_empty() {
+        return Ok(());
+    }
+    write!(line, "; this tool has {names}")
+}
+
+/// Appends the place of what is wrong, and the reason. The programs have these names.
+pub fn push_fault(
+    line: &mut String,
+    table: &Table,
+    wrong: &Wrong<'_>,
+    names: &str,
+) -> Result<(), OutOfMemory> {
     line.push_str(number_of(wrong.fault))?;
     push_place(line, wrong)?;
     line.push_str(": ")?;
@@ -111,7 +125,7 @@ pub fn push_fault(line: &mut String, table: &Table, wrong: &Wrong<'_>) -> Result
         JobFault::MissingKey => line.push_str("this key is missing"),
         JobFault::WrongType => line.push_str(shape_reason(wrong)),
         JobFault::UnknownKey => line.push_str("there is no such key"),
-        JobFault::UnknownProgram => line.push_str("there is no such program"),
+        JobFault::UnknownProgram => push_names(line, names),
         JobFault::BadWord => line.push_str("a negative number"),
         JobFault::NotToml => line.push_str("not TOML"),
     }

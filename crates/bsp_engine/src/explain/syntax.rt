@@ -19,17 +19,18 @@ fn position_after(before: &[u8]) -> (usize, usize) {
     (line, column)
 }
 
-/// Appends where a text is no TOML document, and the first line of the reason, unless memory was refused.
+/// Appends where a text is no TOML document, and the first line of the reason, unless memory was refused. So many bytes stood before the text.
 pub fn push_syntax_error(
     line: &mut String,
-    text: &str,
+    text: &[u8],
+    skipped: usize,
     error: &toml::de::Error,
 ) -> Result<(), OutOfMemory> {
     let Some(span) = error.span() else {
         return Err(AllocError);
     };
-    let bytes = text.as_bytes();
-    let (row, column) = position_after(&bytes[..span.start.min(bytes.len())]);
+    let start = span.start.saturating_sub(skipped).min(text.len());
+    let (row, column) = position_after(&text[..start]);
     write!(line, "line {row}, column {column}: ")?;
     match error.message().split_once("\n") {
         Some((first, _)) => push_escaped(line, first),

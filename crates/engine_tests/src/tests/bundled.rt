@@ -19,6 +19,10 @@ impl ByName for BundledPrograms {
 
     ghost named = { program_named };
 
+    fn names() -> &'static str {
+        "broadcast, prefix, matvec and rank"
+    }
+
     fn by_name(name: &str) -> Option<Bundled> {
         Bundled::by_name(name)
     }
