@@ -1,5 +1,5 @@
 -- The memories that the turns left, once they are handed on and the puts are written in them.
-use Rattle.std.proofs.Common.{◌≡◌, ◌<◌, ◌+◌, ℕ, List, [], ◌∷◌, ◌++◌, length, map, fold, get_or, All, refl, sym, ap, ◌∙◌, subst, arith}
+use Rattle.std.proofs.Common.{◌≡◌, ◌<◌, ◌+◌, ℕ, List, [], ◌∷◌, length, map, fold, All, refl, sym, ap, ◌∙◌, subst, arith}
 use Rattle.std.specs.List.{range_with_len}
 use Rattle.std.proofs.lemmas.Grind.{fold-append}
 use Rattle.std.proofs.lemmas.List.{get_or-map, length-map}
@@ -7,7 +7,7 @@ use Rattle.std.proofs.lemmas.List.Folds.{fold-map}
 use Rattle.std.proofs.lemmas.List.FromFn.{length-range_with_len}
 use Rattle.bsp_model.specs.declared.request.Put.{Put}
 use Rattle.bsp_model.proofs.Replaced.{map-all_places}
-use Rattle.bsp_step.specs.OutcomeParts.{OutcomeParts, outcome_of, no_outcome}
+use Rattle.bsp_step.specs.OutcomeParts.{OutcomeParts, no_outcome}
 use Rattle.bsp_deliver.specs.Requests.{requests_from, all_puts}
 use Rattle.bsp_deliver.specs.Delivery.{get_write, delivery_parts, next_memory}
 use Rattle.bsp_deliver.specs.Condition.{sizes_of, AreRequestsInside, AreDeliverable, IsAscending}

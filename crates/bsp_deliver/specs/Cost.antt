@@ -1,5 +1,5 @@
 -- The h-relation of a superstep (the usual additive BSP cost formula, later than Valiant 1990; units and what counts: this profile).
-use Rattle.std.specs.Prelude.{ℕ, ◌≡◌, ◌<◌, ◌^◌, ◌+◌, ◌&&◌, ◌==◌, not, max, List, [], ◌∷◌, ◌++◌, map, filter, length, sum_by}
+use Rattle.std.specs.Prelude.{ℕ, ◌+◌, ◌&&◌, ◌==◌, not, max, List, [], ◌∷◌, ◌++◌, map, filter, length, sum_by}
 use Rattle.bsp_model.specs.declared.request.Put.{Put}
 use Rattle.bsp_model.specs.declared.request.Get.{Get}
 use Rattle.bsp_model.specs.declared.request.Send.{Send}

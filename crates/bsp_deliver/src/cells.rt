@@ -1,6 +1,6 @@
 //! The next memories and queues of several processes.
 
-ghost use Rattle.std.specs.Prelude.{◌≡◌, ◌<◌, ◌≤◌, ◌++◌, ◌∷◌, [], All, length, nat_eq, slice_index_or, IfOk, OnErr, OnOk};
+ghost use Rattle.std.specs.Prelude.{◌≡◌, ◌<◌, ◌≤◌, ◌++◌, ◌∷◌, [], All, length, slice_index_or, IfOk, OnErr, OnOk};
 ghost use Rattle.bsp_model.specs.Replaced.{replaced, IsAscending};
 
 use bsp_model::{
@@ -40,13 +40,11 @@ impl Cells {
         }
     }
 
-    /// Of no process, with room for so many, or `OutOfMemory`. Where there is to be none it takes no memory.
-    pub fn with_capacity(alloc: Global, count: usize) -> Result<Cells, OutOfMemory>
-        ensures { IfOk result (λ cells. cells ≡ []) }
+    /// Makes room for so many processes more. For none it takes no memory.
+    pub fn reserve(&mut self, count: usize) -> Result<(), OutOfMemory>
+        ensures { self.new ≡ self.old }
     {
-        let mut cells = Cells::new(alloc);
-        cells.memories.reserve(count)?;
-        Ok(cells)
+        self.memories.reserve(count)
     }
 
     /// Makes the room that other cells take beside their full pages.
@@ -71,13 +69,6 @@ impl Cells {
         ensures { result ≡ length self.now }
     {
         self.memories.len()
-    }
-
-    /// Whether there is no process.
-    pub fn is_empty(&self) -> bool
-        ensures { result ≡ nat_eq (length self.now) 0 }
-    {
-        self.len() == 0
     }
 
     /// The memory of a process.

@@ -132,20 +132,6 @@ fn largest(numbers: &[u64]) -> u64
     most
 }
 
-/// The h-relation, from the sums over all requests.
-fn h_from(sums: &Sums, outcomes: &Outcomes) -> u64
-    requires few { length outcomes.now ≤ MOST_PROCESSES }
-    requires sums { sums.now ≡ fold counted no_words (transfers_from 0 outcomes.now) }
-    requires room { HasRoom sums.now 0 }
-    ensures value { result ≡ h_relation outcomes.now }
-    ensures small { result < 2 ^ 29 }
-{
-    let nprocs = outcomes.len();
-    let sent = largest(&sums.sent[..nprocs]);
-    let received = largest(&sums.received[..nprocs]);
-    sent.max(received)
-}
-
 /// The h-relation of a superstep that ends by delivery: the largest number of words that a process sends or receives. A put counts its words
 /// from sender to target, a get from owner to requester, a message its tag and payload; words to oneself count nowhere (the usual additive BSP
 /// cost formula; what counts: this profile). It takes no memory.
@@ -154,5 +140,9 @@ pub fn h_of(outcomes: &Outcomes) -> u64
     ensures value { result ≡ h_relation outcomes.now }
     ensures small { result < 2 ^ 29 }
 {
-    h_from(&Sums::of(outcomes), outcomes)
+    let sums = Sums::of(outcomes);
+    let nprocs = outcomes.len();
+    let sent = largest(&sums.sent[..nprocs]);
+    let received = largest(&sums.received[..nprocs]);
+    sent.max(received)
 }

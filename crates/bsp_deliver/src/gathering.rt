@@ -1,6 +1,6 @@
 //! What a superstep's end brings to several processes, in one pass over all requests.
 
-ghost use Rattle.std.specs.Prelude.{◌≡◌, ◌<◌, ℕ, All, IfOk, OnOk, length, map};
+ghost use Rattle.std.specs.Prelude.{◌≡◌, ◌<◌, ℕ, All, OnOk, length, map};
 ghost use Rattle.bsp_model.specs.Columns.{row_at};
 ghost use Rattle.bsp_deliver.specs.Delivery.{delivery_parts, next_memory, next_queue};
 ghost use Rattle.bsp_deliver.specs.Condition.{AreDeliverable, IsAscending};
@@ -38,8 +38,9 @@ pub(crate) fn queues_after(
     Ok(())
 }
 
-/// Makes `cells` what `deliver` answers for each of these processes.
-pub(crate) fn deliver_into(
+/// Makes `cells` what `deliver` answers for each of these processes, in the order of the list. The list is ascending. For no process it takes no memory,
+/// and else the requests are gone over once.
+pub fn deliver_some(
     alloc: Global,
     outcomes: &Outcomes,
     processes: &[usize],
@@ -51,30 +52,11 @@ pub(crate) fn deliver_into(
     ensures { OnOk result (cells.new
         ≡ map (λ d. (next_memory (delivery_parts outcomes.now d), next_queue (delivery_parts outcomes.now d))) processes.now) }
 {
+    if processes.is_empty() {
+        cells.clear();
+        return Ok(());
+    }
     memories_after(alloc, outcomes, processes, &mut cells.memories)?;
     queues_after(alloc, outcomes, processes, &mut cells.queues)?;
     Ok(())
-}
-
-/// What `deliver` answers for each of these processes, in the order of the list. The list is ascending. For no process it takes no memory, and else
-/// the requests are gone over once. What the processes get is gathered in the room of cells that are no longer needed.
-pub fn deliver_some(
-    alloc: Global,
-    outcomes: &Outcomes,
-    processes: &[usize],
-    room: Cells,
-) -> Result<Cells, OutOfMemory>
-    requires deliverable { AreDeliverable outcomes.now }
-    requires known { All (λ d. d < length outcomes.now) processes.now }
-    requires ascending { IsAscending processes.now }
-    ensures { IfOk result (λ cells. cells
-        ≡ map (λ d. (next_memory (delivery_parts outcomes.now d), next_queue (delivery_parts outcomes.now d))) processes.now) }
-{
-    let mut cells = room;
-    if processes.is_empty() {
-        cells.clear();
-        return Ok(cells);
-    }
-    deliver_into(alloc, outcomes, processes, &mut cells)?;
-    Ok(cells)
 }

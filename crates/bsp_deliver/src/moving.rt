@@ -7,7 +7,7 @@ ghost use Rattle.bsp_deliver.specs.Condition.{AreDeliverable};
 ghost use Rattle.bsp_deliver.specs.Inside.Gathering.{put_at};
 
 use crate::Cells;
-use crate::gathering::{deliver_into, queues_after};
+use crate::gathering::{deliver_some, queues_after};
 use crate::writing::{memories_after, write_puts};
 use bsp_model::{Memories, OutOfMemory};
 use bsp_step::{ListKind, Outcomes, PutRows};
@@ -67,7 +67,7 @@ pub fn deliver_moving(
         ≡ map (λ d. (next_memory (delivery_parts outcomes.old d), next_queue (delivery_parts outcomes.old d))) processes.now) }
 {
     if !outcomes.is_without(ListKind::Gets) {
-        deliver_into(alloc, outcomes, processes, cells)?;
+        deliver_some(alloc, outcomes, processes, cells)?;
         return Ok(());
     }
     queues_after(alloc, outcomes, processes, &mut cells.queues)?;

@@ -7,8 +7,9 @@ ghost use Rattle.bsp_deliver.specs.Condition.{AreDeliverable};
 ghost use Rattle.bsp_deliver.specs.Inside.Comparison.{HasSameParcel, IsReadable};
 
 use crate::addressed::Addressed;
+use crate::touched::read_same_words;
 use bsp_model::limits::MOST_MEMORY_WORDS;
-use bsp_model::{Get, MemoryRef, Put, Send, are_same};
+use bsp_model::{Get, MemoryRef, ProcessSet, Put, Send, are_same};
 use bsp_step::{OutcomeRef, Outcomes};
 
 /// The place of the next request to `d`, or the number of requests.
@@ -104,20 +105,6 @@ pub(crate) fn is_same_answer(old: &Outcomes, new: &Outcomes, get: &Get) -> bool
     are_same_words(&earlier.memory, &later.memory, get.start, get.len)
 }
 
-/// Whether gets read the same words.
-fn are_same_answers(old: &Outcomes, new: &Outcomes, gets: &[Get]) -> bool
-    requires old { All (IsReadable old.now) gets.now }
-    requires new { All (IsReadable new.now) gets.now }
-    ensures { IsTrue result ↔ (map (words_read old.now) gets.now ≡ map (words_read new.now) gets.now) }
-{
-    for get in gets {
-        if !is_same_answer(old, new, get) {
-            return false;
-        }
-    }
-    true
-}
-
 /// Whether the gets of `d` are equal lists, and the words that they read are equal. It takes no memory.
 pub fn answers_same(old: &Outcomes, new: &Outcomes, d: usize) -> bool
     requires known { d < length old.now }
@@ -128,5 +115,6 @@ pub fn answers_same(old: &Outcomes, new: &Outcomes, d: usize) -> bool
 {
     let before = old.get(d);
     let after = new.get(d);
-    are_same(before.gets, after.gets) && are_same_answers(old, new, before.gets)
+    are_same(before.gets, after.gets)
+        && read_same_words(old, new, &ProcessSet::all(new.len()), before.gets)
 }

@@ -28,7 +28,12 @@ fn reads_same_words(old: &Outcomes, new: &Outcomes, changed: &ProcessSet, get: &
 }
 
 /// Whether gets read the words that they read before.
-fn read_same_words(old: &Outcomes, new: &Outcomes, changed: &ProcessSet, gets: &[Get]) -> bool
+pub(crate) fn read_same_words(
+    old: &Outcomes,
+    new: &Outcomes,
+    changed: &ProcessSet,
+    gets: &[Get],
+) -> bool
     requires marks { length changed.now ≡ length new.now }
     requires before { All (IsReadable old.now) gets.now }
     requires after { All (IsReadable new.now) gets.now }
@@ -105,28 +110,6 @@ fn mark_readers(marks: &mut ProcessSet, old: &Outcomes, new: &Outcomes, changed:
     }
 }
 
-/// Marks the processes to which a delivery depends on something else than before. Where nobody gets words, only those that have changed are
-/// looked at.
-fn mark_touched<'a>(
-    marks: &mut ProcessSet,
-    old: &'a Outcomes,
-    new: &'a Outcomes,
-    changed: &ProcessSet,
-)
-    requires as_many { length marks.old ≡ length new.now }
-    requires count { length old.now ≡ length new.now }
-    requires marks { length changed.now ≡ length new.now }
-    requires before { AreDeliverable old.now }
-    requires after { AreDeliverable new.now }
-    requires unchanged { AreSameUnlessMarked old.now new.now changed.now }
-    ensures { AreMarkedUnless (λ d. delivery_parts old.now d ≡ delivery_parts new.now d) marks.old marks.new }
-{
-    mark_changes(marks, old, new, changed);
-    if !new.is_without(ListKind::Gets) {
-        mark_readers(marks, old, new, changed);
-    }
-}
-
 /// The processes to which a delivery depends on something else than before: whose memory after computing, gets or words that they read are
 /// others, or to whom other puts or messages are brought.
 ///
@@ -145,6 +128,10 @@ pub fn touched_by_changes<'a>(
     ensures { AreTouched old.now new.now result }
 {
     let mut touched = ProcessSet::none(new.len());
-    mark_touched(&mut touched, old, new, changed);
+    mark_changes(&mut touched, old, new, changed);
+    if new.is_without(ListKind::Gets) {
+        return touched;
+    }
+    mark_readers(&mut touched, old, new, changed);
     touched
 }

@@ -6,15 +6,13 @@ ghost use Rattle.bsp_deliver.specs.Delivery.{get_write, delivery_parts, next_mem
 ghost use Rattle.bsp_deliver.specs.Inside.Gathering.{overlay, put_at, ArePlaces, AreTargets};
 ghost use Rattle.bsp_deliver.specs.Condition.{AreDeliverable, AreRequestsInside, IsAscending, IsGetInside, sizes_of};
 
-use crate::delivery::{piece_at, words_at};
 use bsp_model::limits::{MOST_MEMORY_WORDS, MOST_PROCESSES};
 use bsp_model::{Get, Memories, OutOfMemory, ProcessSet, PutsRef};
 use bsp_step::{ListKind, Outcomes};
 use std::alloc::Global;
 
-/// Writes the words that a get reads to the memory at the reader's place.
+/// Writes the words that a get reads to the memory at the reader's place, as far as they lie in one piece at a time.
 fn write_get(
-    alloc: Global,
     memories: &mut Memories,
     place: usize,
     get: &Get,
@@ -27,18 +25,20 @@ fn write_get(
         (overlay (slice_index_or memories.old place []) (get_write (get.now, words_read outcomes.now get.now) ∷ []))) }
 {
     let owner = outcomes.get(get.owner as usize);
-    if let Some(words) = piece_at(&owner.memory, get.start, get.len) {
-        memories.write(place, get.into, words)?;
-        return Ok(());
+    // Its length fits in a word, and so does each address in it.
+    let _room = memories.get(place).len();
+    let mut done = 0;
+    while done < get.len {
+        let rest = owner.memory.words_from(get.start + done);
+        let here = rest.len().min((get.len - done) as usize);
+        memories.write(place, get.into + done, &rest[..here])?;
+        done += here as u64;
     }
-    let words = words_at(alloc, &owner.memory, get.start, get.len)?;
-    memories.write(place, get.into, words.as_slice())?;
     Ok(())
 }
 
 /// Writes the words that the gets read, in issue order, to the memory at the reader's place.
 fn write_gets(
-    alloc: Global,
     memories: &mut Memories,
     place: usize,
     gets: &[Get],
@@ -51,14 +51,13 @@ fn write_gets(
         (overlay (slice_index_or memories.old place []) (map (λ g. get_write (g, words_read outcomes.now g)) gets.now))) }
 {
     for get in gets {
-        write_get(alloc, memories, place, get, outcomes)?;
+        write_get(memories, place, get, outcomes)?;
     }
     Ok(())
 }
 
 /// Adds the memory of process `d` after computing, with the words over it that its gets read.
 pub(crate) fn add_memory(
-    alloc: Global,
     memories: &mut Memories,
     d: usize,
     outcomes: &Outcomes,
@@ -70,13 +69,12 @@ pub(crate) fn add_memory(
     let own = outcomes.get(d);
     let place = memories.len();
     memories.push_copy(&own.memory)?;
-    write_gets(alloc, memories, place, own.gets, outcomes)?;
+    write_gets(memories, place, own.gets, outcomes)?;
     Ok(())
 }
 
 /// Makes `memories` those of these processes after computing, with the words over each that its gets read.
 fn load_memories(
-    alloc: Global,
     outcomes: &Outcomes,
     processes: &[usize],
     memories: &mut Memories,
@@ -91,7 +89,7 @@ fn load_memories(
     }
     outcomes.make_room_for_memories(processes.len(), memories)?;
     for process in processes {
-        add_memory(alloc, memories, *process, outcomes)?;
+        add_memory(memories, *process, outcomes)?;
     }
     Ok(())
 }
@@ -212,7 +210,7 @@ pub(crate) fn memories_after(
     requires ascending { IsAscending processes.now }
     ensures { OnOk result (memories.new ≡ map (λ d. next_memory (delivery_parts outcomes.now d)) processes.now) }
 {
-    load_memories(alloc, outcomes, processes, memories)?;
+    load_memories(outcomes, processes, memories)?;
     if processes.len() == outcomes.len() {
         write_all(memories, processes, outcomes)?;
         return Ok(());

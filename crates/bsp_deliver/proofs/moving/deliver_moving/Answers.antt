@@ -13,11 +13,11 @@ returns c =
     let Q : ℕ → List Message = λ d. next_queue (delivery_parts os d) in
     cells_of-maps N Q c.args.processes.now c.move_memories.new.memories c.queues_after.new.queues c.in_ok-move_memories.ensures c.in_ok-queues_after.ensures
 
-pub deliver_into-requires-clause-known : goal.deliver_into-requires-clause-known
-deliver_into-requires-clause-known c = let n = length c.args.outcomes.now in subst (All (λ d. d < n)) (sym c.requires.processes) (all_known n)
+pub deliver_some-requires-clause-known : goal.deliver_some-requires-clause-known
+deliver_some-requires-clause-known c = let n = length c.args.outcomes.now in subst (All (λ d. d < n)) (sym c.requires.processes) (all_known n)
 
-pub deliver_into-requires-clause-ascending : goal.deliver_into-requires-clause-ascending
-deliver_into-requires-clause-ascending c = subst IsAscending (sym c.requires.processes) (all_ascending (length c.args.outcomes.now))
+pub deliver_some-requires-clause-ascending : goal.deliver_some-requires-clause-ascending
+deliver_some-requires-clause-ascending c = subst IsAscending (sym c.requires.processes) (all_ascending (length c.args.outcomes.now))
 
 pub queues_after-requires-clause-known : goal.queues_after-requires-clause-known
 queues_after-requires-clause-known c = let n = length c.args.outcomes.now in subst (All (λ d. d < n)) (sym c.requires.processes) (all_known n)

@@ -1,5 +1,6 @@
-use Rattle.std.proofs.Common.{map, sym, ap, ◌∙◌, arith}
+use Rattle.std.proofs.Common.{◌<◌, Bool, List, true, length, get_or, map, sym, ap, ◌∙◌, arith}
 use Rattle.std.proofs.lemmas.Bool.{false≢true}
+use Rattle.std.proofs.lemmas.List.{length-replicate, get_or-replicate}
 use Rattle.bsp_step.specs.OutcomeParts.{OutcomeParts, outcome_of}
 use Rattle.bsp_deliver.specs.Requests.{words_read}
 use Rattle.bsp_deliver.specs.Delivery.{delivery_parts}
@@ -7,12 +8,12 @@ use Rattle.bsp_deliver.proofs.SameParts.{readable_of}
 use Rattle.bsp_deliver.proofs.Comparing.{pairs_from, pairs_apart}
 use Rattle.bsp_deliver.proofs.same.answers_same.Goals as goal
 
-pub are_same_answers-requires-clause-old : goal.are_same_answers-requires-clause-old
-are_same_answers-requires-clause-old c =
+pub read_same_words-requires-clause-before : goal.read_same_words-requires-clause-before
+read_same_words-requires-clause-before c =
     rw (ap (λ (o : OutcomeParts). o.gets) (c.before-2.view_is ∙ c.get-before.ensures)) (readable_of c.args.old.now c.args.d c.requires.old c.requires.known)
 
-pub are_same_answers-requires-clause-new : goal.are_same_answers-requires-clause-new
-are_same_answers-requires-clause-new c =
+pub read_same_words-requires-clause-after : goal.read_same_words-requires-clause-after
+read_same_words-requires-clause-after c =
     rw (c.are_same.ensures.0 c.if-are_same.true ∙ ap (λ (o : OutcomeParts). o.gets) (c.after.view_is ∙ c.get-after.ensures))
     (readable_of c.args.new.now c.args.d c.requires.new (omega (arith, c.requires.known, c.requires.as_many)))
 
@@ -25,8 +26,8 @@ returns-then-are_same c =
     let f = words_read old in let h = words_read new in
     let old_gets = ap (λ (o : OutcomeParts). o.gets) (c.before-2.view_is ∙ c.get-before.ensures) in
     let new_gets = ap (λ (o : OutcomeParts). o.gets) (c.after.view_is ∙ c.get-after.ensures) in (
-      λ t. pairs_from f h G H (sym old_gets ∙ c.are_same.ensures.0 c.if-are_same.true ∙ new_gets) (sym (ap (map f) old_gets) ∙ c.are_same_answers.ensures.0 t ∙ ap (map h) old_gets),
-      λ e. let parts = pairs_apart f h G H e in c.are_same_answers.ensures.1 (ap (map f) old_gets ∙ parts.1 ∙ ap (map h) (sym parts.0) ∙ sym (ap (map h) old_gets)),
+      λ t. pairs_from f h G H (sym old_gets ∙ c.are_same.ensures.0 c.if-are_same.true ∙ new_gets) (sym (ap (map f) old_gets) ∙ c.read_same_words.ensures.0 t ∙ ap (map h) old_gets),
+      λ e. let parts = pairs_apart f h G H e in c.read_same_words.ensures.1 (ap (map f) old_gets ∙ parts.1 ∙ ap (map h) (sym parts.0) ∙ sym (ap (map h) old_gets)),
     )
 
 pub returns-else-are_same : goal.returns-else-are_same
@@ -38,3 +39,12 @@ returns-else-are_same c =
       λ t. absurd (false≢true (sym c.if-are_same.false ∙ t)),
       λ e. c.are_same.ensures.1 (old_gets ∙ (pairs_apart (words_read old) (words_read new) (outcome_of old d).gets (outcome_of new d).gets e).0 ∙ sym new_gets),
     )
+
+pub read_same_words-requires-clause-marks : goal.read_same_words-requires-clause-marks
+read_same_words-requires-clause-marks c = ap length c.all.ensures ∙ length-replicate c.len.result true ∙ c.len.ensures
+
+pub read_same_words-requires-clause-unchanged : goal.read_same_words-requires-clause-unchanged
+read_same_words-requires-clause-unchanged c =
+    λ p known unmarked.
+    let inside : p < c.len.result = omega (arith, known, c.len.ensures) in
+    absurd (false≢true (sym unmarked ∙ ap (λ (marks : List Bool). get_or marks p true) c.all.ensures ∙ get_or-replicate c.len.result p true true inside))

@@ -4,7 +4,7 @@ use Rattle.bsp_deliver.specs.declared.cost.Sums.{Sums}
 use Rattle.bsp_deliver.specs.Cost.{largest, h_relation}
 use Rattle.bsp_deliver.specs.Inside.Sums.{transfers_from}
 use Rattle.bsp_deliver.proofs.Counts.{sent_below, received_below, sent_over_all, received_over_all}
-use Rattle.bsp_deliver.proofs.cost.h_from.Goals as goal
+use Rattle.bsp_deliver.proofs.cost.h_of.Goals as goal
 
 largest_below : (bound : ℕ) (ns : List ℕ) → 0 < bound → All (λ n. n < bound) ns → largest ns < bound
 largest_below bound [] some h = some
@@ -20,8 +20,8 @@ front_below n ns h =
 pub returns-clause-small : goal.returns-clause-small
 returns-clause-small c =
     let n = c.len-nprocs.result in
-    let sent = front_below n c.args.sums.now.sent c.requires.room.sent in
-    let received = front_below n c.args.sums.now.received c.requires.room.received in
+    let sent = front_below n c.of-sums.result.sent c.of-sums.ensures.room.sent in
+    let received = front_below n c.of-sums.result.received c.of-sums.ensures.room.received in
     omega (arith, c.max.ensures, c.largest-sent.ensures, c.largest-received.ensures)
 
 pub returns-clause-value : goal.returns-clause-value
@@ -32,7 +32,7 @@ returns-clause-value c =
     let few = c.requires.few in
     c.max.ensures
     ∙ (λ i. max (c.largest-sent.ensures i) (c.largest-received.ensures i))
-    ∙ ap (λ n. max (largest (take n c.args.sums.now.sent)) (largest (take n c.args.sums.now.received))) c.len-nprocs.ensures
-    ∙ ap (λ (s : Sums). max (largest (take (length os) s.sent)) (largest (take (length os) s.received))) c.requires.sums
+    ∙ ap (λ n. max (largest (take n c.of-sums.result.sent)) (largest (take n c.of-sums.result.received))) c.len-nprocs.ensures
+    ∙ ap (λ (s : Sums). max (largest (take (length os) s.sent)) (largest (take (length os) s.received))) c.of-sums.ensures.sums
     ∙ (λ i. max (largest (sent_below ts (length os) few i)) (largest (received_below ts (length os) few i)))
     ∙ (λ i. max (largest (sent_over_all os (length os) i)) (largest (received_over_all os (length os) i)))

@@ -2,7 +2,7 @@ use Rattle.std.proofs.Common.{ℕ, List}
 use Rattle.bsp_model.specs.declared.request.Message.{Message}
 use Rattle.bsp_deliver.specs.Delivery.{delivery_parts, next_memory, next_queue}
 use Rattle.bsp_deliver.proofs.CellsOf.{cells_of-maps}
-use Rattle.bsp_deliver.proofs.gathering.deliver_into.Goals as goal
+use Rattle.bsp_deliver.proofs.gathering.deliver_some.Goals as goal
 
 pub returns : goal.returns
 returns c =
