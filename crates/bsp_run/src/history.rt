@@ -147,8 +147,7 @@ impl History {
     pub fn lines(&self, pid: u64) -> Option<&Lines>
         ensures { option_map (λ x. x.now) result ≡ slice_get (lines_of self.now) pid }
     {
-        let lines = self.sums.lines.as_slice().get(pid as usize)?;
-        Some(lines)
+        self.sums.lines.as_slice().get(pid as usize)
     }
 
     /// The cost of each superstep.

@@ -152,18 +152,17 @@ fn mark_others(before: &[Lines], marks: &ProcessSet, turns: &[&Outcomes]) -> Pro
     others
 }
 
-/// The lines of each process that are not taken from a run before, in one column.
-fn gathered(
+/// Gathers the lines of each process that are not taken from a run before.
+fn gather(
     alloc: Global,
+    all: &mut LineColumn,
     before: &[Lines],
     marks: &ProcessSet,
     turns: &[&Outcomes],
     nprocs: usize,
-) -> Result<LineColumn, OutOfMemory>
-    ensures { IfOk result (λ all. AreGathered before.now marks.now
-        (map (λ o. o.now) turns.now) nprocs all) }
+) -> Result<(), OutOfMemory>
+    ensures { OnOk result (AreGathered before.now marks.now (map (λ o. o.now) turns.now) nprocs all.new) }
 {
-    let mut all = LineColumn::new(alloc);
     let mut lines = PrintedLines::new(alloc);
     for pid in 0..nprocs {
         if !is_taken(before, marks, pid) {
@@ -171,7 +170,7 @@ fn gathered(
             all.put(pid, &lines.as_ref())?;
         }
     }
-    Ok(all)
+    Ok(())
 }
 
 /// The lines of a process: those of a run before, or else those in a column.
@@ -202,9 +201,9 @@ pub fn each_lines(
 {
     let mut each = Vec::with_capacity(alloc, nprocs)?;
     for pid in 0..nprocs {
-        each.push(lines_from(before, marks, all, pid)?)?;
+        each.push_reserved(lines_from(before, marks, all, pid)?);
     }
-    Ok(SharedSeq::from_vec(each)?)
+    SharedSeq::from_vec(each)
 }
 
 /// The lines of each process: those of a run before where it is not marked. The others are gathered in one column, if there are any.
@@ -222,9 +221,10 @@ fn lines_taken(
         return before.copy();
     }
     let before = before.as_slice();
-    let all = gathered(alloc, before, marks, turns, nprocs)?;
+    let mut all = LineColumn::new(alloc);
+    gather(alloc, &mut all, before, marks, turns, nprocs)?;
     let all = Shared::new(alloc, all)?;
-    Ok(each_lines(alloc, before, marks, &all, nprocs)?)
+    each_lines(alloc, before, marks, &all, nprocs)
 }
 
 /// The supersteps of a run in which lines may stand, the one that ended it among them. In the others nobody's lines are looked for.

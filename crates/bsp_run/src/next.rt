@@ -53,7 +53,6 @@ impl Tape {
         ensures { IfOk result (λ views. views ≡ next_views self.now) }
     {
         let alloc = *self.past.allocator();
-        let views = like.replaced(alloc, setting, processes, cells)?;
-        Ok(views)
+        like.replaced(alloc, setting, processes, cells)
     }
 }

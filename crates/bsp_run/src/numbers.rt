@@ -13,7 +13,7 @@ pub fn numbers(alloc: Global, count: usize) -> Result<Vec<usize>, OutOfMemory>
 {
     let mut numbers = Vec::with_capacity(alloc, count)?;
     for number in 0..count {
-        numbers.push(number)?;
+        numbers.push_reserved(number);
     }
     Ok(numbers)
 }

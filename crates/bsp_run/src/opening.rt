@@ -1,13 +1,11 @@
 //! Opening a run.
 
-ghost use Rattle.std.specs.Prelude.{◌≡◌, ◌<◌, ◌++◌, ◌∷◌, [], All, IfOk, OnOk, None, length, map};
-ghost use Rattle.bsp_model.specs.Input.{input_fault};
-ghost use Rattle.bsp_run.specs.Run.{open_views, start};
+ghost use Rattle.std.specs.Prelude.{◌≡◌, ◌<◌, ◌++◌, ◌∷◌, [], All, IfOk, OnOk, length, map};
 ghost use Rattle.bsp_run.specs.State.{first_cell, no_messages};
 
-use crate::{Arguments, Views};
+use crate::Arguments;
 use bsp_deliver::Cells;
-use bsp_model::{Input, Memory, OutOfMemory, Seq, SharedSeq, TryCopy, Words};
+use bsp_model::{Memory, OutOfMemory, Seq, SharedSeq, TryCopy, Words};
 use bsp_step::Queue;
 use std::alloc::Global;
 
@@ -36,20 +34,22 @@ fn push_first(
     }
 }
 
-/// The memory and the queue of each process in the first superstep.
-pub fn first_cells(
+/// Adds the memory and the queue of each process in the first superstep.
+pub fn add_first_cells(
     alloc: Global,
+    cells: &mut Cells,
     mems: &[Memory],
     recording: Recording,
-) -> Result<Cells, OutOfMemory>
-    ensures { IfOk result (λ cells. cells ≡ map (λ m. (m, no_messages m)) mems.now) }
+) -> Result<(), OutOfMemory>
+    requires empty { cells.old ≡ [] }
+    ensures { OnOk result (cells.new ≡ map (λ m. (m, no_messages m)) mems.now) }
 {
-    let mut cells = Cells::with_capacity(alloc, mems.len())?;
+    cells.reserve(mems.len())?;
     let none = Queue::new(alloc);
     for memory in mems {
-        push_first(&mut cells, memory, &none, recording)?;
+        push_first(cells, memory, &none, recording)?;
     }
-    Ok(cells)
+    Ok(())
 }
 
 /// The arguments of each process, for views and runs that share them.
@@ -58,34 +58,27 @@ pub fn shared_args(args: &Seq<Words>) -> Result<Arguments, OutOfMemory>
 {
     let mut shared = Vec::with_capacity(args.allocator(), args.len())?;
     for words in args.as_slice() {
-        shared.push(words.copy()?.share()?)?;
+        shared.push_reserved(words.copy()?.share()?);
     }
     SharedSeq::from_vec(shared)
 }
 
-/// What the processes see in superstep 0 of the run of a lawful input.
-pub fn first_views(alloc: Global, input: &Input, recording: Recording) -> Result<Views, OutOfMemory>
-    requires { input_fault input.now ≡ None }
-    ensures { IfOk result (λ views. views ≡ open_views (start input.now)) }
-{
-    let args = shared_args(&input.args)?;
-    Views::first(alloc, input, args, recording)
-}
-
-/// The memories of some processes in the first superstep, and their queues.
-pub fn first_cells_of(
+/// Adds the memories of some processes in the first superstep, and their queues.
+pub fn add_first_cells_of(
     alloc: Global,
+    cells: &mut Cells,
     mems: &[Memory],
     processes: &[usize],
-) -> Result<Cells, OutOfMemory>
-    requires { All (λ p. p < length mems.now) processes.now }
-    ensures { IfOk result (λ cells. cells ≡ map (first_cell mems.now) processes.now) }
+) -> Result<(), OutOfMemory>
+    requires empty { cells.old ≡ [] }
+    requires known { All (λ p. p < length mems.now) processes.now }
+    ensures { OnOk result (cells.new ≡ map (first_cell mems.now) processes.now) }
 {
-    let mut cells = Cells::with_capacity(alloc, processes.len())?;
+    cells.reserve(processes.len())?;
     let none = Queue::new(alloc);
     for process in processes {
         let memory = &mems[*process];
         cells.push_copy(&memory.as_ref(), &none.as_ref())?;
     }
-    Ok(cells)
+    Ok(())
 }

@@ -5,15 +5,15 @@ ghost use Rattle.std.specs.List.{range_with_len};
 ghost use Rattle.bsp_model.specs.Input.{input_fault};
 ghost use Rattle.bsp_step.specs.Turn.{turn_of};
 ghost use Rattle.bsp_run.specs.Run.{Run, start, advance, after_turns, after_delivery, open_views, run};
-ghost use Rattle.bsp_run.specs.Condition.{is_ended, is_open};
-ghost use Rattle.bsp_run.specs.Inside.IsUnrecorded.{IsUnrecorded, AreTaken, HasEnded};
+ghost use Rattle.bsp_run.specs.Condition.{is_open};
+ghost use Rattle.bsp_run.specs.Inside.IsUnrecorded.{IsUnrecorded, AreTaken};
 ghost use Rattle.bsp_run.specs.Inside.Turns.{AreTurnsOf};
 ghost use Rattle.bsp_run.specs.Result.{result_of};
 ghost use Rattle.bsp_run.specs.Law.{IsBspRun, IsBspResult};
 ghost use Rattle.bsp_run.specs.RunErrors.{input_fault_of};
 
 use crate::numbers::numbers;
-use crate::opening::{Recording, first_views};
+use crate::opening::Recording;
 use crate::tape::checked;
 use crate::unrecorded::{Unrecorded, all_turns};
 use crate::wide::turns_by_one;
@@ -42,7 +42,7 @@ fn plain_outcomes<P: Program>(
     };
     let views = tape.open_views();
     turns_by_one(alloc, &mut rows, program, views, processes, &Open)?;
-    Ok(rows.outcomes.share()?)
+    rows.outcomes.share()
 }
 
 /// The deliveries to all processes, at the end of a superstep whose turns are taken.
@@ -51,7 +51,8 @@ fn plain_delivery(alloc: Global, tape: &mut Tape, processes: &[usize]) -> Result
     requires processes { processes.now ≡ range_with_len 0 (length tape.old.outcomes) }
     ensures { OnOk result (tape.new ≡ after_delivery tape.old) }
 {
-    let cells = deliver_some(alloc, tape.outcomes(), processes, Cells::new(alloc))?;
+    let mut cells = Cells::new(alloc);
+    deliver_some(alloc, tape.outcomes(), processes, &mut cells)?;
     tape.delivered(cells)
 }
 
@@ -73,17 +74,20 @@ fn plain_superstep<P: Program>(
     plain_delivery(alloc, tape, all)
 }
 
-/// All supersteps of the run of a lawful input.
-fn plain_tape<P: Program>(alloc: Global, program: &P, input: &Input) -> Result<Tape, OutOfMemory>
+/// The history of the run of a lawful input.
+fn plain_history<P: Program>(
+    alloc: Global,
+    program: &P,
+    input: &Input,
+) -> Result<History, OutOfMemory>
     requires lawful { input_fault input.now ≡ None }
-    ensures ended { IfOk result (λ tape. is_ended tape.phase ≡ true) }
-    ensures run { IfOk result (λ tape. tape ≡ run (turn_of (P.acts program.now) (P.ending program.now)) input.now) }
+    ensures { IfOk result (λ history. history ≡ run (turn_of (P.acts program.now) (P.ending program.now)) input.now) }
 {
     let mut tape = Tape::open_lawful(alloc, input)?;
     while tape.is_open() {
         plain_superstep(alloc, program, &mut tape)?;
     }
-    Ok(tape)
+    tape.finish()
 }
 
 /// The run of a program on an input, on one thread: every process from its first superstep, up to the superstep limit. `law` says what it is in
@@ -95,8 +99,8 @@ pub fn run_plain<P: Program>(alloc: Global, program: &P, input: &Input) -> Resul
     ensures input { IfErr result (λ e. input_fault input.now ≡ input_fault_of e) }
 {
     checked(input)?;
-    let tape = plain_tape(alloc, program, input)?;
-    Ok(tape.finish()?)
+    let history = plain_history(alloc, program, input)?;
+    Ok(history)
 }
 
 /// Takes the turns of the open superstep of a run of which no record is kept, in which the processes see these views. True where they end the run.
@@ -117,47 +121,27 @@ fn unrecorded_turns<P: Program, G: Gate>(
     Ok(kept.end.is_some())
 }
 
-/// The supersteps of a run of which no record is kept, from the first on, in which the processes see these views. It answers what they see in the last
-/// one, or at the limit after it.
-fn unrecorded_supersteps<P: Program, G: Gate>(
+/// What `lawful_result` answers, where this is kept before the first superstep, in which the processes see these views.
+fn unrecorded_result<P: Program, G: Gate>(
     alloc: Global,
     program: &P,
     input: &Input,
     mut views: Views,
     kept: &mut Unrecorded,
     gate: &G,
-) -> Result<Views, OutOfMemory>
+) -> Result<RunResult, OutOfMemory>
     requires lawful { input_fault input.now ≡ None }
     requires kept { IsUnrecorded (start input.now) views kept.old }
     requires end { kept.old.end ≡ None }
-    ensures { IfOk result (λ last. HasEnded kept.new.end
-        (run (turn_of (P.acts program.now) (P.ending program.now)) input.now) last kept.new) }
+    ensures { IfOk result (λ r. r ≡ result_of (run (turn_of (P.acts program.now) (P.ending program.now)) input.now)) }
 {
     for step in 0..input.limit {
         if unrecorded_turns(alloc, program, &views, kept, gate)? {
-            return Ok(views);
+            return kept.result(alloc, &views);
         }
         views = kept.go_on(alloc, views)?;
     }
-    Ok(views)
-}
-
-/// What `lawful_result` answers, where this is kept before the first superstep.
-fn unrecorded_result<P: Program, G: Gate>(
-    alloc: Global,
-    program: &P,
-    input: &Input,
-    kept: &mut Unrecorded,
-    gate: &G,
-) -> Result<RunResult, OutOfMemory>
-    requires lawful { input_fault input.now ≡ None }
-    requires kept { IsUnrecorded (start input.now) (open_views (start input.now)) kept.old }
-    requires end { kept.old.end ≡ None }
-    ensures { IfOk result (λ r. r ≡ result_of (run (turn_of (P.acts program.now) (P.ending program.now)) input.now)) }
-{
-    let views = first_views(alloc, input, Recording::None)?;
-    let last = unrecorded_supersteps(alloc, program, input, views, kept, gate)?;
-    kept.result(alloc, &last)
+    kept.result(alloc, &views)
 }
 
 /// What `run_result` answers, where the input is known to be lawful. The gate is passed before each turn.
@@ -171,8 +155,9 @@ pub fn lawful_result<P: Program, G: Gate>(
     ensures { IfOk result (λ r. r ≡ result_of (run (turn_of (P.acts program.now) (P.ending program.now)) input.now)) }
 {
     let processes = numbers(alloc, input.mems.len())?;
+    let views = Views::first(alloc, input, Recording::None)?;
     let mut kept = Unrecorded::new(alloc, input, processes);
-    unrecorded_result(alloc, program, input, &mut kept, gate)
+    unrecorded_result(alloc, program, input, views, &mut kept, gate)
 }
 
 /// What the run of a program on an input gives. It keeps no record of the run: beside the lines and the costs, memory for one superstep.

@@ -2,7 +2,7 @@
 
 ghost use Rattle.std.specs.Prelude.{◌≡◌, ◌<◌, [], All, IfOk, length, nat_eq, slice_index_or};
 ghost use Rattle.bsp_model.specs.Replaced.{replaced, IsAscending};
-ghost use Rattle.bsp_run.specs.Inside.SharedCells.{no_cell, with_others, AreOthers, IsBelow};
+ghost use Rattle.bsp_run.specs.Inside.SharedCells.{no_cell, IsBelow};
 
 use bsp_deliver::Cells;
 use bsp_model::{OutOfMemory, Shared, TryCopy, are_among, are_few, place_among};
@@ -13,62 +13,23 @@ use std::marker::Model;
 #[derive(Drop)]
 pub struct SharedCells {
     cells: Shared<Cells>,
-    /// What few processes have in the place of that.
-    others: Option<OtherCells>,
-}
-
-/// The memories and queues of some processes, which are in ascending order.
-#[derive(Drop)]
-pub struct OtherCells {
-    processes: Vec<usize>,
-    cells: Cells,
+    /// The few processes that have others in the place of that, in ascending order.
+    apart: Vec<usize>,
+    /// The memories and queues of these processes.
+    others: Cells,
 }
 
 impl Model for SharedCells {
     ghost use Rattle.std.specs.Prelude.{List, ℕ};
     ghost use Rattle.bsp_model.specs.declared.request.Message.{Message};
-    ghost use Rattle.bsp_run.specs.Inside.SharedCells.{cells_with, HasOthers};
+    ghost use Rattle.bsp_model.specs.Replaced.{replaced};
+    ghost use Rattle.bsp_run.specs.Inside.SharedCells.{AreOthers};
 
     ghost Value = { List ((List ℕ) × (List Message)) };
 
-    ghost view = { λ c. cells_with c.cells c.others };
+    ghost view = { λ c. replaced c.cells c.apart.items c.others };
 
-    ghost invariant = { λ c. HasOthers c.cells c.others };
-}
-
-impl OtherCells {
-    /// The cells among which those of a process are, these or all others, and at which place.
-    #[inline(always)]
-    fn cells_of<'a>(&'a self, cells: &'a Cells, pid: usize) -> (&'a Cells, usize)
-        requires others { AreOthers cells.now self.now }
-        requires known { pid < length cells.now }
-        ensures inside { result.1 < length result.0.now }
-        ensures there { slice_index_or result.0.now result.1 no_cell ≡ slice_index_or (with_others cells.now self.now) pid no_cell }
-    {
-        match place_among(self.processes.as_slice(), pid) {
-            Some(place) => (&self.cells, place),
-            None => (cells, pid),
-        }
-    }
-
-    /// Cells in which new cells of the processes give the same list as in `cells` with the other cells. None of them lies apart.
-    fn cells_below(
-        &self,
-        alloc: Global,
-        cells: &Shared<Cells>,
-        processes: &[usize],
-    ) -> Result<Shared<Cells>, OutOfMemory>
-        requires others { AreOthers cells.now self.now }
-        requires ascending { IsAscending processes.now }
-        ensures count { IfOk result (λ below. length below ≡ length cells.now) }
-        ensures below { IfOk result (λ below. IsBelow below (with_others cells.now self.now) processes.now) }
-    {
-        let apart = self.processes.as_slice();
-        if are_among(apart, processes) {
-            return Ok(cells.copy()?);
-        }
-        Ok(Shared::new(alloc, cells.replaced(alloc, apart, &self.cells)?)?)
-    }
+    ghost invariant = { λ c. AreOthers c.cells c.apart.items c.others };
 }
 
 impl SharedCells {
@@ -78,7 +39,8 @@ impl SharedCells {
     {
         Ok(SharedCells {
             cells: Shared::new(alloc, cells)?,
-            others: None,
+            apart: Vec::new(alloc),
+            others: Cells::new(alloc),
         })
     }
 
@@ -86,8 +48,7 @@ impl SharedCells {
     pub fn into_room(self, alloc: Global) -> Cells
         ensures { result ≡ [] }
     {
-        let SharedCells { cells, others: _ } = self;
-        match cells.try_unwrap() {
+        match self.cells.try_unwrap() {
             Ok(mut cells) => {
                 cells.clear();
                 cells
@@ -111,8 +72,8 @@ impl SharedCells {
         ensures inside { result.1 < length result.0.now }
         ensures there { slice_index_or result.0.now result.1 no_cell ≡ slice_index_or self.now pid no_cell }
     {
-        match &self.others {
-            Some(others) => others.cells_of(&self.cells, pid),
+        match place_among(self.apart.as_slice(), pid) {
+            Some(place) => (&self.others, place),
             None => (&self.cells, pid),
         }
     }
@@ -123,10 +84,12 @@ impl SharedCells {
         ensures count { IfOk result (λ cells. length cells ≡ length self.now) }
         ensures below { IfOk result (λ cells. IsBelow cells self.now processes.now) }
     {
-        match &self.others {
-            Some(others) => Ok(others.cells_below(alloc, &self.cells, processes)?),
-            None => Ok(self.cells.copy()?),
+        let apart = self.apart.as_slice();
+        if are_among(apart, processes) {
+            return Ok(self.cells.copy()?);
         }
+        let cells: &Cells = &self.cells;
+        Ok(Shared::new(alloc, cells.replaced(alloc, apart, &self.others)?)?)
     }
 
     /// These cells, but for new ones of some processes, which are in ascending order. Where they are few they lie apart, and the rest is shared.
@@ -143,11 +106,11 @@ impl SharedCells {
     {
         let cells = self.cells_below(alloc, processes.as_slice())?;
         if are_few(processes.len(), self.len()) {
-            let others = Some(OtherCells {
-                processes,
-                cells: new,
+            return Ok(SharedCells {
+                cells,
+                apart: processes,
+                others: new,
             });
-            return Ok(SharedCells { cells, others });
         }
         let all = cells.replaced(alloc, processes.as_slice(), &new)?;
         SharedCells::new(alloc, all)

@@ -7,11 +7,11 @@ ghost use Rattle.bsp_run.specs.Result.{cost_of_delivery, cost_of_end, total_of};
 ghost use Rattle.bsp_run.specs.Inside.Printed.{lines_in, AreLinesAnd};
 
 use crate::costs::{cost_of_delivery, cost_of_end, total_of};
-use crate::printed::{add_printed, lines_printed};
+use crate::printed::lines_printed;
 use crate::{RunResult, Status};
 use bsp_model::limits::{HIGHEST_PRICE, MOST_SUPERSTEPS};
 use bsp_model::{CostRow, Input, LineColumn, Memories, OutOfMemory, Seq};
-use bsp_step::Outcomes;
+use bsp_step::{ListKind, Outcomes};
 use std::alloc::Global;
 use std::mem;
 
@@ -42,7 +42,7 @@ impl Tally {
         }
     }
 
-    /// Adds the lines of a superstep, and what it cost.
+    /// Adds the lines of a superstep, where any stand, and what it cost.
     fn add(&mut self, alloc: Global, outcomes: &Outcomes, row: CostRow) -> Result<(), OutOfMemory>
         requires { row.cost < 2 ^ 50 }
         ensures g { OnOk result (self.new.g ≡ self.old.g) }
@@ -50,8 +50,12 @@ impl Tally {
         ensures lines { OnOk result (AreLinesAnd self.old.lines.items outcomes.now self.new.lines.items) }
         ensures costs { OnOk result (self.new.costs ≡ self.old.costs ++ row ∷ []) }
     {
-        add_printed(alloc, &mut self.lines, outcomes)?;
         self.costs.push(row)?;
+        if outcomes.is_without(ListKind::Lines) {
+            return Ok(());
+        }
+        let superstep = outcomes.all_lines(alloc)?;
+        self.lines.push(superstep)?;
         Ok(())
     }
 
@@ -95,8 +99,7 @@ impl Tally {
         }) }
     {
         let total = total_of(self.costs.as_slice());
-        let lines = mem::replace(&mut self.lines, Vec::new(alloc));
-        let lines = lines_printed(alloc, lines, memories.len())?;
+        let lines = lines_printed(alloc, &mut self.lines, memories.len())?;
         let costs = mem::replace(&mut self.costs, Seq::new(alloc)).share()?;
         Ok(RunResult {
             status,

@@ -15,7 +15,7 @@ ghost use Rattle.bsp_run.specs.Result.{cost_of_delivery, IsSmall};
 
 use crate::costs::cost_of_delivery;
 use crate::keeping::{keep_superstep, phase_after, phase_at};
-use crate::opening::{Recording, first_cells_of, first_views};
+use crate::opening::{Recording, add_first_cells_of};
 use crate::{Arguments, Phase, RunError, Setting, Status, Superstep, Views, ViewsRef};
 use bsp_deliver::Cells;
 use bsp_model::{CostRow, Input, OutOfMemory, Shared, SharedSeq, TryCopy};
@@ -73,7 +73,7 @@ impl Tape {
         requires lawful { input_fault input.now ≡ None }
         ensures { IfOk result (λ tape. tape ≡ start input.now) }
     {
-        let views = first_views(alloc, input, Recording::Kept)?;
+        let views = Views::first(alloc, input, Recording::Kept)?;
         Tape::open_with(alloc, input, views)
     }
 
@@ -94,7 +94,8 @@ impl Tape {
         ensures { IfOk result (λ tape. tape ≡ start input.now) }
     {
         let mems = input.mems.as_slice();
-        let cells = first_cells_of(alloc, mems, processes.as_slice())?;
+        let mut cells = Cells::new(alloc);
+        add_first_cells_of(alloc, &mut cells, mems, processes.as_slice())?;
         let setting = Setting::first(alloc, args, mems.len())?;
         let views = like.replaced(alloc, setting, processes, cells)?;
         Tape::open_with(alloc, input, views)

@@ -79,7 +79,7 @@ fn next_views(
     let setting = views.next_setting(outcomes)?;
     let mut cells = views.into_room(alloc);
     deliver_moving(alloc, outcomes, processes, &mut cells)?;
-    Ok(Views::open(alloc, setting, cells)?)
+    Views::open(alloc, setting, cells)
 }
 
 impl Unrecorded {
@@ -110,8 +110,7 @@ impl Unrecorded {
     {
         let taken = &mut self.taken.outcomes;
         self.tally.add_delivery(alloc, taken)?;
-        let views = next_views(alloc, views, self.processes.as_slice(), taken)?;
-        Ok(views)
+        next_views(alloc, views, self.processes.as_slice(), taken)
     }
 
     /// What the run gives that has ended, where the processes see these views. What was added up is handed out.

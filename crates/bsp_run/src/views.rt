@@ -14,7 +14,7 @@ ghost use Rattle.bsp_run.specs.Inside.Settings.{IsSettingOf, AreTurned};
 
 use crate::ending::end_of;
 use crate::keeping::next_table;
-use crate::opening::{Recording, first_cells};
+use crate::opening::{Recording, add_first_cells, shared_args};
 use crate::shared_cells::SharedCells;
 use crate::{Arguments, Setting, Status};
 use bsp_deliver::{Cells, next_tag_size};
@@ -77,18 +77,18 @@ impl Views {
         })
     }
 
-    /// The views of superstep 0, with the arguments of the input.
+    /// What the processes see in superstep 0 of the run of a lawful input.
     pub(crate) fn first(
         alloc: Global,
         input: &Input,
-        args: Arguments,
         recording: Recording,
     ) -> Result<Views, OutOfMemory>
-        requires lawful { input_fault input.now ≡ None }
-        requires args { args ≡ input.now.args }
+        requires { input_fault input.now ≡ None }
         ensures { IfOk result (λ views. views ≡ open_views (start input.now)) }
     {
-        let cells = first_cells(alloc, input.mems.as_slice(), recording)?;
+        let mut cells = Cells::new(alloc);
+        add_first_cells(alloc, &mut cells, input.mems.as_slice(), recording)?;
+        let args = shared_args(&input.args)?;
         let setting = Setting::first(alloc, args, cells.len())?;
         Views::open(alloc, setting, cells)
     }

@@ -7,7 +7,7 @@ ghost use Rattle.bsp_deliver.specs.Condition.{AreDeliverable, IsAscending};
 ghost use Rattle.bsp_run.specs.Shares.{turns_of, deliveries_to};
 ghost use Rattle.std.specs.List.{range_with_len};
 ghost use Rattle.bsp_run.specs.Run.{advance, after_delivery, open_views, run};
-ghost use Rattle.bsp_run.specs.Condition.{is_ended, is_open};
+ghost use Rattle.bsp_run.specs.Condition.{is_open};
 ghost use Rattle.bsp_run.specs.Inside.Turns.{AreTurnsOf};
 ghost use Rattle.bsp_run.specs.Law.{IsBspRun};
 ghost use Rattle.bsp_run.specs.RunErrors.{input_fault_of};
@@ -81,33 +81,32 @@ fn by_workers<W: Joining, G: Gate, R: Threads + Sync>(
 /// the place k of the list, counted from 0, passes the gate with k before that turn.
 ///
 /// They are gathered in `rows`, in which there is nothing yet: by one worker as each turn leaves its outcome, in the lists of the spare outcome that
-/// is handed in and answered. Of several each gathers in rows of its own, and once all have left these are copied in order.
+/// is there. Of several each gathers in rows of its own, and once all have left these are copied in order.
 ///
 /// # Errors
 /// `OutOfMemory` where the calling thread is refused memory for the list, or for a turn that no worker handed in.
 pub fn wide_turns<P: Program, G: Gate, R: Threads + Sync>(
     rt: &R,
     alloc: Global,
-    mut rows: TurnRows,
+    rows: &mut TurnRows,
     program: &P,
     views: &Views,
     processes: &[usize],
     workers: usize,
     gate: &G,
-) -> Result<TurnRows, OutOfMemory>
-    requires empty { rows.outcomes ≡ [] }
+) -> Result<(), OutOfMemory>
+    requires empty { rows.old.outcomes ≡ [] }
     requires processes { All (λ p. p < length views.now) processes.now }
     requires workers { (0 < workers) × (workers ≤ 16) }
-    ensures { IfOk result (λ all. all.outcomes ≡ turns_of (turn_of (P.acts program.now) (P.ending program.now)) views.now processes.now) }
+    ensures { OnOk result (rows.new.outcomes
+        ≡ turns_of (turn_of (P.acts program.now) (P.ending program.now)) views.now processes.now) }
 {
     gate.enter(DEPTH_OF_SUPERSTEPS, views.setting().step);
     if workers.min(processes.len()) < 2 {
-        turns_by_one(alloc, &mut rows, program, views, processes, gate)?;
-    } else {
-        let turns = Turns { program, views };
-        by_workers(rt, alloc, &turns, &mut rows, processes, workers, gate)?;
+        return turns_by_one(alloc, rows, program, views, processes, gate);
     }
-    Ok(rows)
+    let turns = Turns { program, views };
+    by_workers(rt, alloc, &turns, rows, processes, workers, gate)
 }
 
 /// Passes the gate with each of so many places, in order.
@@ -142,8 +141,8 @@ fn sorted_deliveries<G: Gate, R: Threads + Sync>(
     by_workers(rt, alloc, &deliveries, cells, processes, workers, gate)
 }
 
-/// The next memory and queue of some processes, in the order of the list, shared by 1 to 16 workers. `processes` are places in
-/// `outcomes`, which are those of all processes, in ascending order. Whoever drew the place k of the list, counted from 0, passes the
+/// Gathers the next memory and queue of some processes, in the order of the list, where there are none yet, shared by 1 to 16 workers. `processes` are
+/// places in `outcomes`, which are those of all processes, in ascending order. Whoever drew the place k of the list, counted from 0, passes the
 /// gate with k before that delivery.
 ///
 /// The requests are gone over once: one worker passes the gate with every place, and then makes the deliveries together; several sort the requests first. Where the gate tells the time and the requests are few, the calling thread is the one worker.
@@ -154,24 +153,25 @@ fn sorted_deliveries<G: Gate, R: Threads + Sync>(
 pub fn wide_deliveries<G: Gate, R: Threads + Sync>(
     rt: &R,
     alloc: Global,
+    cells: &mut Cells,
     outcomes: &Outcomes,
     processes: &[usize],
     workers: usize,
     gate: &G,
-) -> Result<Cells, OutOfMemory>
+) -> Result<(), OutOfMemory>
+    requires empty { cells.old ≡ [] }
     requires deliverable { AreDeliverable outcomes.now }
     requires processes { All (λ d. d < length outcomes.now) processes.now }
     requires ascending { IsAscending processes.now }
     requires workers { (0 < workers) × (workers ≤ 16) }
-    ensures { IfOk result (λ cells. cells ≡ deliveries_to outcomes.now processes.now) }
+    ensures { OnOk result (cells.new ≡ deliveries_to outcomes.now processes.now) }
 {
     if workers.min(processes.len()) < 2 || gate.now().is_some() && is_light(outcomes) {
         pass_all(gate, processes.len());
-        return deliver_some(alloc, outcomes, processes, Cells::new(alloc));
+        return deliver_some(alloc, outcomes, processes, cells);
     }
-    let mut cells = Cells::with_capacity(alloc, processes.len())?;
-    sorted_deliveries(rt, alloc, &mut cells, outcomes, processes, workers, gate)?;
-    Ok(cells)
+    cells.reserve(processes.len())?;
+    sorted_deliveries(rt, alloc, cells, outcomes, processes, workers, gate)
 }
 
 /// The outcomes of the open superstep of a run, by the workers.
@@ -190,13 +190,15 @@ fn wide_outcomes<P: Program, G: Gate, R: Threads + Sync>(
     ensures { IfOk result (AreTurnsOf (turn_of (P.acts program.now) (P.ending program.now)) (open_views tape.now)) }
 {
     let room = tape.outcomes_before().room_for(alloc, processes.len())?;
-    let rows = TurnRows {
+    let mut rows = TurnRows {
         outcomes: room,
         spare: None,
     };
     let views = tape.open_views();
-    let taken = wide_turns(rt, alloc, rows, program, views, processes, workers, gate)?;
-    Ok(taken.outcomes.share()?)
+    wide_turns(
+        rt, alloc, &mut rows, program, views, processes, workers, gate,
+    )?;
+    rows.outcomes.share()
 }
 
 /// The deliveries to all processes, at the end of a superstep whose turns are taken, by the workers.
@@ -213,7 +215,9 @@ fn wide_delivery<G: Gate, R: Threads + Sync>(
     requires workers { (0 < workers) × (workers ≤ 16) }
     ensures { OnOk result (tape.new ≡ after_delivery tape.old) }
 {
-    let cells = wide_deliveries(rt, alloc, tape.outcomes(), processes, workers, gate)?;
+    let mut cells = Cells::new(alloc);
+    let outcomes = tape.outcomes();
+    wide_deliveries(rt, alloc, &mut cells, outcomes, processes, workers, gate)?;
     tape.delivered(cells)
 }
 
@@ -239,25 +243,24 @@ fn wide_superstep<P: Program, G: Gate, R: Threads + Sync>(
     wide_delivery(rt, alloc, tape, all, workers, gate)
 }
 
-/// All supersteps of the run of a lawful input, by the workers.
-fn wide_tape<P: Program, G: Gate, R: Threads + Sync>(
+/// The history of the run of a lawful input, by the workers.
+fn wide_history<P: Program, G: Gate, R: Threads + Sync>(
     rt: &R,
     alloc: Global,
     program: &P,
     input: &Input,
     workers: usize,
     gate: &G,
-) -> Result<Tape, OutOfMemory>
+) -> Result<History, OutOfMemory>
     requires lawful { input_fault input.now ≡ None }
     requires workers { (0 < workers) × (workers ≤ 16) }
-    ensures ended { IfOk result (λ tape. is_ended tape.phase ≡ true) }
-    ensures run { IfOk result (λ tape. tape ≡ run (turn_of (P.acts program.now) (P.ending program.now)) input.now) }
+    ensures { IfOk result (λ history. history ≡ run (turn_of (P.acts program.now) (P.ending program.now)) input.now) }
 {
     let mut tape = Tape::open_lawful(alloc, input)?;
     while tape.is_open() {
         wide_superstep(rt, alloc, program, &mut tape, workers, gate)?;
     }
-    Ok(tape)
+    tape.finish()
 }
 
 /// What `run_plain` answers, by 1 to 16 workers. They share the turns of each superstep, and then its deliveries: whoever drew a process
@@ -277,6 +280,6 @@ pub fn run_wide<P: Program, G: Gate, R: Threads + Sync>(
     ensures input { IfErr result (λ e. input_fault input.now ≡ input_fault_of e) }
 {
     checked(input)?;
-    let tape = wide_tape(rt, alloc, program, input, workers, gate)?;
-    Ok(tape.finish()?)
+    let history = wide_history(rt, alloc, program, input, workers, gate)?;
+    Ok(history)
 }

@@ -19,6 +19,7 @@ use crate::compare::{
 };
 use crate::rerun::{Given, UnderWay};
 use crate::superstep::deliveries::{Deliveries, touched_beside};
+use bsp_deliver::Cells;
 use bsp_model::{CostRow, OutOfMemory, ProcessSet, Seq};
 use bsp_pool::Gate;
 use bsp_run::{Phase, Setting, Tape, Views, wide_deliveries};
@@ -177,9 +178,11 @@ fn deliveries_among<P: Program, G: Gate, R: Threads + Sync>(
     let workers = &given.workers;
     let processes = touched.members(workers.alloc)?;
     add_places(redelivered, tape.step() as u64, processes.as_slice())?;
-    let cells = wide_deliveries(
+    let mut cells = Cells::new(workers.alloc);
+    wide_deliveries(
         workers.rt,
         workers.alloc,
+        &mut cells,
         tape.outcomes(),
         processes.as_slice(),
         workers.count,

@@ -133,13 +133,14 @@ fn taken_turns<P: Program, G: Gate, R: Threads + Sync>(
 {
     let workers = &given.workers;
     let room = superstep.like.room_for(workers.alloc, processes.len())?;
-    let rows = wide_turns(
+    let mut rows = TurnRows {
+        outcomes: room,
+        spare: spare.take(),
+    };
+    wide_turns(
         workers.rt,
         workers.alloc,
-        TurnRows {
-            outcomes: room,
-            spare: spare.take(),
-        },
+        &mut rows,
         given.program,
         superstep.views,
         processes,

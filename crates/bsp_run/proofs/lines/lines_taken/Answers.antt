@@ -1,4 +1,4 @@
-use Rattle.std.proofs.Common.{◌≡◌, ◌∙◌, ℕ, List, length, map, ap, sym, subst}
+use Rattle.std.proofs.Common.{◌≡◌, ◌∙◌, ℕ, List, IfOk, length, map, ap, sym, subst}
 use Rattle.std.proofs.lemmas.Result.{IfOk-weaker}
 use Rattle.bsp_step.specs.OutcomeParts.{OutcomeParts}
 use Rattle.bsp_deliver.specs.Requests.{each_below}
@@ -21,7 +21,8 @@ returns c =
     let before : List (List (List ℕ)) = c.args.before.now in
     let marks = c.args.marks.now in
     let turns : List (List OutcomeParts) = map (λ o. o.now) c.args.turns.now in
-    let all : List (List (List ℕ)) = c.in_ok-all.all in
-    c.in_ok-each_lines.ensures ∙ ap (λ (old : List (List (List ℕ))). each_below n (lines_from old marks c.in_ok-all-2.all)) c.as_slice-before.ensures
-    ∙ ap (λ (column : List (List (List ℕ))). each_below n (lines_from before marks column)) c.in_ok-all-2.ensures
-    ∙ lines_from_all before marks turns n all c.requires (subst (λ (old : List (List (List ℕ))). AreGathered old marks turns n all) c.as_slice-before.ensures c.in_ok-all.ensures)
+    let all : List (List (List ℕ)) = c.gather.new.all in
+    subst (λ (each : List (List (List ℕ))). IfOk c.each_lines.result (λ lines. lines ≡ each)) (ap (λ (old : List (List (List ℕ))). each_below n (lines_from old marks c.in_ok-all.all)) c.as_slice-before.ensures
+    ∙ ap (λ (column : List (List (List ℕ))). each_below n (lines_from before marks column)) c.in_ok-all.ensures
+    ∙ lines_from_all before marks turns n all c.requires (subst (λ (old : List (List (List ℕ))). AreGathered old marks turns n all) c.as_slice-before.ensures c.in_ok-gather.ensures))
+    c.each_lines.ensures

@@ -1,4 +1,5 @@
-use Rattle.std.proofs.Common.{◌≡◌, ◌∙◌, ◌<◌, ℕ, All, List, ap, sym, subst, length, refl, arith}
+use Rattle.std.proofs.Common.{◌≡◌, ◌∙◌, ◌<◌, ℕ, All, List, ap, sym, subst, length, refl, arith, IfOk}
+use Rattle.bsp_step.specs.ViewParts.{ViewParts}
 use Rattle.bsp_run.specs.Run.{Run}
 use Rattle.bsp_run.specs.Condition.{deliveries_of}
 use Rattle.bsp_run.specs.Inside.Settings.{AreTurned}
@@ -25,4 +26,4 @@ pub returns : goal.returns
 returns c = λ r t.
     let known = c.in_ok-setting.ensures r t in
     let made = deliveries_made c.args.outcomes.now (length c.args.outcomes.now) c.args.processes.now c.deliver_moving.new.cells refl c.requires.processes c.in_ok-deliver_moving.ensures ∙ ap deliveries_of (sym t.outcomes) in
-    c.in_ok-open.ensures ∙ views_next r c.in_ok-setting.setting c.deliver_moving.new.cells known made
+    subst (λ (vs : List ViewParts). IfOk c.open.result (λ next. next ≡ vs)) (views_next r c.in_ok-setting.setting c.deliver_moving.new.cells known made) c.open.ensures

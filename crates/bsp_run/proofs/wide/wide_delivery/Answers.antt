@@ -11,8 +11,8 @@ use Rattle.bsp_run.proofs.wide.wide_delivery.Goals as goal
 pub wide_deliveries-requires-clause-processes : goal.wide_deliveries-requires-clause-processes
 wide_deliveries-requires-clause-processes g c κs within =
     let r : Run = c.args.tape.now in
-    let kept = c.outcomes.ensures.outcomes ∙ outcomes_shown-turned r c.requires.turned in
-    are_known c.args.processes.now (length r.outcomes) c.outcomes.result.now c.requires.processes (ap (λ (os : List OutcomeParts). length os) kept)
+    let kept = c.outcomes-outcomes.ensures.outcomes ∙ outcomes_shown-turned r c.requires.turned in
+    are_known c.args.processes.now (length r.outcomes) c.outcomes-outcomes.result.now c.requires.processes (ap (λ (os : List OutcomeParts). length os) kept)
 
 pub wide_deliveries-requires-clause-ascending : goal.wide_deliveries-requires-clause-ascending
 wide_deliveries-requires-clause-ascending g c κs within =
@@ -22,5 +22,5 @@ wide_deliveries-requires-clause-ascending g c κs within =
 pub delivered-requires-clause-cells : goal.delivered-requires-clause-cells
 delivered-requires-clause-cells g c =
     let r : Run = c.args.tape.now in
-    let kept = c.outcomes.ensures.outcomes ∙ outcomes_shown-turned r c.requires.turned in
-    deliveries_made c.outcomes.result.now (length r.outcomes) c.args.processes.now c.in_ok-cells.cells (ap (λ (os : List OutcomeParts). length os) kept) c.requires.processes c.in_ok-cells.ensures ∙ ap deliveries_of kept
+    let kept = c.outcomes-outcomes.ensures.outcomes ∙ outcomes_shown-turned r c.requires.turned in
+    deliveries_made c.outcomes-outcomes.result.now (length r.outcomes) c.args.processes.now c.wide_deliveries.new.cells (ap (λ (os : List OutcomeParts). length os) kept) c.requires.processes c.in_ok-wide_deliveries.ensures ∙ ap deliveries_of kept

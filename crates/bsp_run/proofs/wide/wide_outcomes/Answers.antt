@@ -1,5 +1,8 @@
 use Rattle.std.proofs.Common.{◌∙◌, ap, length}
+use Rattle.std.proofs.lemmas.Result.{IfOk-weaker}
+use Rattle.bsp_step.specs.Turn.{turn_of}
 use Rattle.bsp_run.specs.Run.{open_views}
+use Rattle.bsp_run.specs.Inside.Turns.{AreTurnsOf}
 use Rattle.bsp_run.proofs.Runs.{open_phase}
 use Rattle.bsp_run.proofs.Shares.{are_known, turns_made}
 use Rattle.bsp_run.proofs.wide.wide_outcomes.Goals as goal
@@ -11,5 +14,10 @@ wide_turns-requires-clause-processes g c κs within =
 pub returns : goal.returns
 returns g c =
     let opened = open_phase c.args.tape.now.phase c.requires.open in
-    turns_made (g.P.Program.acts c.args.program.now) (g.P.Program.ending c.args.program.now) (open_views c.args.tape.now) c.open_views-views.result.now c.args.processes.now c.in_ok-share.field-0
-    c.open_views-views.ensures.views (c.open_views-views.ensures.limits opened) c.requires.processes (c.in_ok-share.ensures ∙ c.in_ok-taken.ensures)
+    let acts = g.P.Program.acts c.args.program.now in
+    let ending = g.P.Program.ending c.args.program.now in
+    IfOk-weaker c.share.result _ (AreTurnsOf (turn_of acts ending) (open_views c.args.tape.now))
+    (λ os e.
+    turns_made acts ending (open_views c.args.tape.now) c.open_views-views.result.now c.args.processes.now os
+    c.open_views-views.ensures.views (c.open_views-views.ensures.limits opened) c.requires.processes (e ∙ c.in_ok-wide_turns.ensures))
+    c.share.ensures

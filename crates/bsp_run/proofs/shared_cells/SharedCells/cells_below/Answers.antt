@@ -1,7 +1,18 @@
-use Rattle.std.proofs.Common.{length, ap, sym, ◌∙◌}
-use Rattle.bsp_run.proofs.SharedCells.{length-with}
+use Rattle.std.proofs.Common.{◌≡◌, List, ℕ, All, length, ap, sym, subst, ◌∙◌}
+use Rattle.std.specs.List.{Contains}
+use Rattle.bsp_model.specs.Replaced.{replaced}
+use Rattle.bsp_model.proofs.Replaced.{length-replaced, replaced-over}
+use Rattle.bsp_model.specs.declared.request.Message.{Message}
 use Rattle.bsp_run.proofs.shared_cells.SharedCells.cells_below.Goals as goal
 
-pub returns-in_ok-cells_below-in-Some-clause-count : goal.returns-in_ok-cells_below-in-Some-clause-count
-returns-in_ok-cells_below-in-Some-clause-count c =
-    c.in_ok-cells_below-in-Some.ensures.count ∙ sym (length-with c.self.inside.cells c.self.inside.others) ∙ ap length c.self.view_is
+pub returns-then-are_among-clause-count : goal.returns-then-are_among-clause-count
+returns-then-are_among-clause-count c =
+    ap length c.in_ok-copy.ensures ∙ sym (length-replaced c.self.inside.cells c.self.inside.apart.items c.self.inside.others) ∙ ap length c.self.view_is
+
+pub returns-then-are_among-clause-below : goal.returns-then-are_among-clause-below
+returns-then-are_among-clause-below c new count =
+    let processes = c.args.processes.now in
+    ap (λ (os : List (List ℕ × List Message)). replaced os processes new) c.in_ok-copy.ensures
+    ∙ sym (replaced-over c.self.inside.cells c.self.inside.apart.items c.self.inside.others processes new
+    (subst (λ (ps : List ℕ). All (Contains processes) ps) c.as_slice-apart.ensures.value (c.are_among.ensures.0 c.if-are_among.true)) count)
+    ∙ ap (λ (os : List (List ℕ × List Message)). replaced os processes new) c.self.view_is

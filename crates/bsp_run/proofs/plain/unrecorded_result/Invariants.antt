@@ -1,7 +1,7 @@
 use Rattle.std.proofs.Common.{◌≡◌, ◌-◌, None}
 use Rattle.bsp_step.specs.Turn.{turn_of}
 use Rattle.bsp_run.proofs.UnrecordedRuns.{IsUnderway}
-use Rattle.bsp_run.proofs.plain.unrecorded_supersteps.Given as goal
+use Rattle.bsp_run.proofs.plain.unrecorded_result.Given as goal
 
 -- what is kept is that of the run so far, and the supersteps that are left make it the run
 abbrev pub invariant-loop-step : goal.invariant-loop-step

@@ -1,7 +1,7 @@
 use Rattle.bsp_step.specs.Turn.{turn_of}
 use Rattle.bsp_run.specs.Run.{run}
 use Rattle.bsp_run.proofs.Runs.{LeadsTo, supersteps_left}
-use Rattle.bsp_run.proofs.wide.wide_tape.Given as goal
+use Rattle.bsp_run.proofs.plain.plain_history.Given as goal
 
 -- the supersteps that are left make the run
 abbrev pub invariant-loop-alloc : goal.invariant-loop-alloc
