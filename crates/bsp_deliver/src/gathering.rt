@@ -57,6 +57,5 @@ pub fn deliver_some(
         return Ok(());
     }
     memories_after(alloc, outcomes, processes, &mut cells.memories)?;
-    queues_after(alloc, outcomes, processes, &mut cells.queues)?;
-    Ok(())
+    queues_after(alloc, outcomes, processes, &mut cells.queues)
 }

@@ -45,10 +45,7 @@ fn move_memories(
             *outcomes = puts.into_room(room).share()?;
             Ok(())
         }
-        Err(shared) => {
-            memories_after(alloc, &shared, processes, memories)?;
-            Ok(())
-        }
+        Err(shared) => memories_after(alloc, &shared, processes, memories),
     }
 }
 
@@ -67,10 +64,8 @@ pub fn deliver_moving(
         ≡ map (λ d. (next_memory (delivery_parts outcomes.old d), next_queue (delivery_parts outcomes.old d))) processes.now) }
 {
     if !outcomes.is_without(ListKind::Gets) {
-        deliver_some(alloc, outcomes, processes, cells)?;
-        return Ok(());
+        return deliver_some(alloc, outcomes, processes, cells);
     }
     queues_after(alloc, outcomes, processes, &mut cells.queues)?;
-    move_memories(alloc, outcomes, processes, &mut cells.memories)?;
-    Ok(())
+    move_memories(alloc, outcomes, processes, &mut cells.memories)
 }

@@ -69,8 +69,7 @@ pub(crate) fn add_memory(
     let own = outcomes.get(d);
     let place = memories.len();
     memories.push_copy(&own.memory)?;
-    write_gets(memories, place, own.gets, outcomes)?;
-    Ok(())
+    write_gets(memories, place, own.gets, outcomes)
 }
 
 /// Makes `memories` those of these processes after computing, with the words over each that its gets read.
@@ -212,9 +211,7 @@ pub(crate) fn memories_after(
 {
     load_memories(outcomes, processes, memories)?;
     if processes.len() == outcomes.len() {
-        write_all(memories, processes, outcomes)?;
-        return Ok(());
+        return write_all(memories, processes, outcomes);
     }
-    write_some(alloc, memories, processes, outcomes)?;
-    Ok(())
+    write_some(alloc, memories, processes, outcomes)
 }

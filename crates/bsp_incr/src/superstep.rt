@@ -49,7 +49,7 @@ fn end_turns<P: Program, G: Gate, R: Threads + Sync>(
 {
     let before = delivered_outcomes(given.old, tape.step());
     if ends_as_before(before, &outcomes, doubtful) {
-        tape.turned_to_deliver(outcomes)?;
+        tape.turned_to_deliver(outcomes);
         return Ok(Some(KnownTable::AsBefore));
     }
     if tape.turned(outcomes)? {

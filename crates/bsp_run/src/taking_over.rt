@@ -52,17 +52,14 @@ impl Tape {
     }
 
     /// Takes the outcomes of the open superstep, one for each view. They are known to end it by delivery, so that nobody is asked for a fault again.
-    /// After `OutOfMemory` nothing has changed.
-    pub fn turned_to_deliver(&mut self, outcomes: Outcomes) -> Result<(), OutOfMemory>
+    pub fn turned_to_deliver(&mut self, outcomes: Outcomes)
         requires open { self.old.phase ≡ Phase.Open }
         requires turns { AreOutcomesOf (open_views self.old) outcomes }
         requires delivers { end_of (length self.old.past) self.old.state.table outcomes ≡ None }
-        ensures ok { OnOk result (self.new ≡ after_turns self.old outcomes) }
-        ensures err { OnErr result (self.new ≡ self.old) }
+        ensures { self.new ≡ after_turns self.old outcomes }
     {
         self.outcomes = outcomes;
         self.phase = Phase::Turned;
-        Ok(())
     }
 
     /// The cost of the superstep whose turns are taken, at the prices of this run, where as much was computed and moved as in the same superstep of

@@ -1,10 +1,10 @@
 //! A run of which no record is kept: what its reply needs, superstep by superstep.
 
-ghost use Rattle.std.specs.Prelude.{◌≡◌, IfOk, None, OnOk, false, length, map};
+ghost use Rattle.std.specs.Prelude.{◌≡◌, IfOk, None, OnOk, length, map};
 ghost use Rattle.std.specs.List.{range_with_len};
 ghost use Rattle.bsp_model.specs.Input.{input_fault};
 ghost use Rattle.bsp_step.specs.Turn.{turn_of};
-ghost use Rattle.bsp_run.specs.Run.{Run, start, open_views, after_delivery, is_limit};
+ghost use Rattle.bsp_run.specs.Run.{Run, start, open_views, after_delivery};
 ghost use Rattle.bsp_run.specs.Setting.{next_views};
 ghost use Rattle.bsp_run.specs.Result.{result_of};
 ghost use Rattle.bsp_run.specs.Inside.Settings.{AreTurned};
@@ -119,33 +119,16 @@ impl Unrecorded {
         ensures { (r : Run) → HasEnded self.old.end r views.now self.old → IfOk result (λ given. given ≡ result_of r) }
     {
         match self.end.take() {
-            Some(status) => self.ended(alloc, status),
-            None => self.ended_at_limit(alloc, views),
+            Some(status) => {
+                let outcomes = &self.taken.outcomes;
+                self.tally.add_end(alloc, outcomes)?;
+                let memories = memories_of_outcomes(alloc, outcomes)?;
+                self.tally.take_result(alloc, status, memories)
+            }
+            None => {
+                let memories = memories_of_views(alloc, views)?;
+                self.tally.take_result(alloc, Status::Limit, memories)
+            }
         }
-    }
-
-    /// What the run gives that ended so with the turns that were taken. What was added up is handed out.
-    fn ended(&mut self, alloc: Global, status: Status) -> Result<RunResult, OutOfMemory>
-        requires ended { (r : Run)
-            × ((vs : _) × IsUnrecordedIn (Phase.Ended status) r vs self.old self.old.taken.outcomes) }
-        requires before { is_limit (Phase.Ended status) ≡ false }
-        ensures { (r : Run) (vs : _) → IsUnrecordedIn (Phase.Ended status) r vs self.old self.old.taken.outcomes
-            → IfOk result (λ given. given ≡ result_of r) }
-    {
-        let outcomes = &self.taken.outcomes;
-        self.tally.add_end(alloc, outcomes)?;
-        let memories = memories_of_outcomes(alloc, outcomes)?;
-        self.tally.take_result(alloc, status, memories)
-    }
-
-    /// What the run gives that ended at the limit, where the processes would see these views. What was added up is handed out.
-    fn ended_at_limit(&mut self, alloc: Global, views: &Views) -> Result<RunResult, OutOfMemory>
-        requires ended { (r : Run)
-            × IsUnrecordedIn (Phase.Ended Status.Limit) r views.now self.old r.outcomes }
-        ensures { (r : Run) → IsUnrecordedIn (Phase.Ended Status.Limit) r views.now self.old r.outcomes
-            → IfOk result (λ given. given ≡ result_of r) }
-    {
-        let memories = memories_of_views(alloc, views)?;
-        self.tally.take_result(alloc, Status::Limit, memories)
     }
 }

@@ -133,8 +133,7 @@ impl Views {
     pub(crate) fn into_room(self, alloc: Global) -> Cells
         ensures { result ≡ [] }
     {
-        let Views { setting: _, cells } = self;
-        cells.into_room(alloc)
+        self.cells.into_room(alloc)
     }
 
     /// The number of processes.

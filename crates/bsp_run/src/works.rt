@@ -98,9 +98,7 @@ impl<'a> Gathering for Deliveries<'a> {
     }
 
     fn add(&self, alloc: Global, cells: &mut Cells, process: &usize) -> Result<(), OutOfMemory> {
-        let (mut memory, queue) = deliver_sorted(alloc, *process, self.sorted, self.outcomes)?;
-        cells.push(&mut memory, &queue.as_ref())?;
-        Ok(())
+        deliver_sorted(alloc, cells, *process, self.sorted, self.outcomes)
     }
 }
 

@@ -1,4 +1,5 @@
 use Rattle.std.proofs.Common.{◌<◌, ℕ, List, All, length, sym, subst}
+use Rattle.std.proofs.lemmas.Result.{on_ok_weaker}
 use Rattle.bsp_model.specs.declared.request.Message.{Message}
 use Rattle.bsp_deliver.specs.Delivery.{delivery_parts, next_memory, next_queue}
 use Rattle.bsp_deliver.specs.Condition.{IsAscending}
@@ -11,7 +12,8 @@ returns c =
     let os = c.args.outcomes.now in
     let N : ℕ → List ℕ = λ d. next_memory (delivery_parts os d) in
     let Q : ℕ → List Message = λ d. next_queue (delivery_parts os d) in
-    cells_of-maps N Q c.args.processes.now c.move_memories.new.memories c.queues_after.new.queues c.in_ok-move_memories.ensures c.in_ok-queues_after.ensures
+    on_ok_weaker c.move_memories.result
+    (λ moved. cells_of-maps N Q c.args.processes.now c.move_memories.new.memories c.queues_after.new.queues moved c.in_ok-queues_after.ensures) c.move_memories.ensures
 
 pub deliver_some-requires-clause-known : goal.deliver_some-requires-clause-known
 deliver_some-requires-clause-known c = let n = length c.args.outcomes.now in subst (All (λ d. d < n)) (sym c.requires.processes) (all_known n)

@@ -1,5 +1,6 @@
 use Rattle.std.proofs.Common.{◌≡◌, ◌<◌, List, All, length, map, sym, ap, subst, ◌∙◌}
 use Rattle.std.proofs.lemmas.List.FromFn.{length-range_with_len}
+use Rattle.std.proofs.lemmas.Result.{on_ok_weaker}
 use Rattle.bsp_step.specs.OutcomeParts.{OutcomeParts}
 use Rattle.bsp_deliver.specs.Condition.{IsAscending}
 use Rattle.bsp_deliver.specs.Delivery.{delivery_parts, next_memory}
@@ -27,7 +28,8 @@ returns-in_ok-outcomes-in-Ok c =
     ∙ memories_moved c.args.outcomes.now c.args.processes.now c.replace-room.new.dest c.in-Ok.puts c.requires.deliverable c.requires.unread c.requires.processes
     (c.replace-room.ensures.after ∙ c.in-Ok.ensures.memories ∙ ap (map (λ (o : OutcomeParts). o.memory)) c.replace.ensures.value) (c.in-Ok.ensures.puts ∙ ap (map (λ (o : OutcomeParts). o.puts)) c.replace.ensures.value)
 
-pub returns-in_ok-memories_after-in-Err : goal.returns-in_ok-memories_after-in-Err
-returns-in_ok-memories_after-in-Err c =
-    c.in_ok-memories_after-in-Err.ensures
-    ∙ ap (λ (os : List OutcomeParts). map (λ d. next_memory (delivery_parts os d)) c.args.processes.now) (c.in-Err.ensures.shared ∙ c.replace.ensures.value)
+pub returns-in-Err : goal.returns-in-Err
+returns-in-Err c =
+    on_ok_weaker c.memories_after.result
+    (λ e. e ∙ ap (λ (os : List OutcomeParts). map (λ d. next_memory (delivery_parts os d)) c.args.processes.now) (c.in-Err.ensures.shared ∙ c.replace.ensures.value))
+    c.memories_after.ensures

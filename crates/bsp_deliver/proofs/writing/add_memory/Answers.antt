@@ -1,5 +1,6 @@
 use Rattle.std.proofs.Common.{◌≡◌, List, ℕ, [], ◌∷◌, ◌++◌, length, map, set, get_or, ap, ◌∙◌, arith}
 use Rattle.std.proofs.Math.Seq.{get_or-append_seam, set-append_seam}
+use Rattle.std.proofs.lemmas.Result.{on_ok_weaker}
 use Rattle.bsp_model.specs.declared.request.Get.{Get}
 use Rattle.bsp_step.specs.OutcomeParts.{OutcomeParts, outcome_of}
 use Rattle.bsp_deliver.specs.Requests.{words_read}
@@ -31,11 +32,14 @@ returns c =
     let gets : c.own.inside.gets.now ≡ o.gets = ap (λ (x : OutcomeParts). x.gets) (c.own.view_is ∙ c.get-own.ensures) in
     let memory : c.own.inside.memory ≡ o.memory = ap (λ (x : OutcomeParts). x.memory) (c.own.view_is ∙ c.get-own.ensures) in
     let here = λ (ms : List (List ℕ)) (place : ℕ). set ms place (overlay (get_or ms place []) (G c.own.inside.gets.now)) in
-    c.in_ok-write_gets.ensures
+    on_ok_weaker c.write_gets.result
+    (λ e.
+    e
     ∙ ap (λ (ms : List (List ℕ)). here ms c.len-place.result) c.in_ok-push_copy.ensures.ok
     ∙ ap (here (first ++ c.own.inside.memory ∷ [])) c.len-place.ensures
     ∙ ap (λ (m : List ℕ). set (first ++ c.own.inside.memory ∷ []) (length first) (overlay m (G c.own.inside.gets.now))) (get_or-append_seam first c.own.inside.memory [] [])
     ∙ set-append_seam first c.own.inside.memory [] (overlay c.own.inside.memory (G c.own.inside.gets.now))
     ∙ ap (λ (m : List ℕ). first ++ overlay m (G c.own.inside.gets.now) ∷ []) memory
     ∙ ap (λ gs. first ++ overlay o.memory (G gs) ∷ []) gets
-    ∙ ap (λ ws. first ++ overlay o.memory ws ∷ []) (map_twice get_write (λ (g : Get). (g, words_read os g)) o.gets)
+    ∙ ap (λ ws. first ++ overlay o.memory ws ∷ []) (map_twice get_write (λ (g : Get). (g, words_read os g)) o.gets))
+    c.write_gets.ensures

@@ -2,6 +2,7 @@ use Rattle.std.proofs.Common.{◌≡◌, ◌<◌, ◌∙◌, ℕ, List, All, len
 use Rattle.std.specs.List.{range_with_len}
 use Rattle.std.proofs.lemmas.List.{ext_get_or, length-map}
 use Rattle.std.proofs.lemmas.List.FromFn.{get_or-range_with_len, length-range_with_len}
+use Rattle.std.proofs.lemmas.Result.{on_ok_weaker}
 use Rattle.bsp_model.proofs.Replaced.{all_places}
 use Rattle.bsp_step.specs.OutcomeParts.{OutcomeParts}
 use Rattle.bsp_deliver.specs.Requests.{all_puts}
@@ -32,15 +33,17 @@ returns-then-processes-len c =
     let ps = c.args.processes.now in
     let all = all_numbers n ps c.requires.known c.requires.ascending (c.if-processes-len.true ∙ c.len.ensures) in
     let at : ArePlaces n ps ps = subst (λ (l : List ℕ). ArePlaces n l l) (sym all) (at_own_place n) in
-    c.in_ok-write_all.ensures
-    ∙ ap (λ (ms : List (List ℕ)). fold (λ xs s. put_at ps xs s.1) ms (all_puts os)) c.in_ok-load_memories.ensures
-    ∙ memories_gathered os ps ps (map (computed os) ps) c.requires.deliverable c.requires.known at refl
+    let all_written = ap (λ (ms : List (List ℕ)). fold (λ xs s. put_at ps xs s.1) ms (all_puts os)) c.in_ok-load_memories.ensures
+    ∙ memories_gathered os ps ps (map (computed os) ps) c.requires.deliverable c.requires.known at refl in
+    on_ok_weaker c.write_all.result (λ e. e ∙ all_written) c.write_all.ensures
 
 pub returns : goal.returns
 returns c =
     let os = c.args.outcomes.now in
     let ps = c.args.processes.now in
-    let places = c.in_ok-write_some.ensures.0 in
-    c.in_ok-write_some.ensures.2
-    ∙ ap (λ (ms : List (List ℕ)). fold (λ xs s. put_at places xs s.1) ms (all_puts os)) c.in_ok-load_memories.ensures
-    ∙ memories_gathered os ps places (map (computed os) ps) c.requires.deliverable c.requires.known c.in_ok-write_some.ensures.1 refl
+    on_ok_weaker c.write_some.result
+    (λ some.
+    some.2
+    ∙ ap (λ (ms : List (List ℕ)). fold (λ xs s. put_at some.0 xs s.1) ms (all_puts os)) c.in_ok-load_memories.ensures
+    ∙ memories_gathered os ps some.0 (map (computed os) ps) c.requires.deliverable c.requires.known some.1 refl)
+    c.write_some.ensures

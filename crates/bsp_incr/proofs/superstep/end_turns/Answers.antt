@@ -60,7 +60,7 @@ returns-then-ends_as_before-clause-answer g c =
     let before = c.delivered_outcomes-before.ensures.outcomes ∙ ap (λ (m : Making _). delivered_outcomes m.before c.step.result) c.given.view_is ∙ ap (delivered_outcomes old) c.step.ensures in
     let yes = c.if-ends_as_before.true in
     let ends = end_as_before old r (outcomes_if_any (option_map (λ o. o.now) c.delivered_outcomes-before.result)) c.args.outcomes c.args.outcomes before refl (c.ends_as_before.ensures.some yes) (c.requires.doubtful.same_table (c.ends_as_before.ensures.table yes)) (c.ends_as_before.ensures.ends yes) in
-    turned_as_before turn input old r c.turned_to_deliver.new.self c.args.outcomes known.before c.requires.made ends c.in_ok-turned_to_deliver.ensures.ok
+    turned_as_before turn input old r c.turned_to_deliver.new.self c.args.outcomes known.before c.requires.made ends c.turned_to_deliver.ensures
 
 pub returns-then-ends_as_before-clause-known : goal.returns-then-ends_as_before-clause-known
 returns-then-ends_as_before-clause-known g c =
@@ -72,4 +72,4 @@ returns-then-ends_as_before-clause-known g c =
     let before = c.delivered_outcomes-before.ensures.outcomes ∙ ap (λ (m : Making _). delivered_outcomes m.before c.step.result) c.given.view_is ∙ ap (delivered_outcomes old) c.step.ensures in
     let yes = c.if-ends_as_before.true in
     let ends = end_as_before old r (outcomes_if_any (option_map (λ o. o.now) c.delivered_outcomes-before.result)) c.args.outcomes c.args.outcomes before refl (c.ends_as_before.ensures.some yes) (c.requires.doubtful.same_table (c.ends_as_before.ensures.table yes)) (c.ends_as_before.ensures.ends yes) in
-    knows_next_as_before turn input old r c.turned_to_deliver.new.self c.args.outcomes known.before c.requires.made ends c.in_ok-turned_to_deliver.ensures.ok
+    knows_next_as_before turn input old r c.turned_to_deliver.new.self c.args.outcomes known.before c.requires.made ends c.turned_to_deliver.ensures

@@ -27,5 +27,5 @@ invariant_of-self c =
       run = subst IsRun (sym (is_after c)) (turned_is_run r c.args.outcomes c.self.invariant.run (ap (λ (x : Run). x.phase) c.self.view_is ∙ c.requires.open) turns);
     }
 
-pub returns-clause-ok : goal.returns-clause-ok
-returns-clause-ok c = is_after c ∙ ap (λ (x : Run). after_turns x c.args.outcomes) c.self.view_is
+pub returns : goal.returns
+returns c = is_after c ∙ ap (λ (x : Run). after_turns x c.args.outcomes) c.self.view_is

@@ -1,34 +1,54 @@
-use Rattle.std.proofs.Common.{◌∙◌, Option, Some, None, sym, subst}
+use Rattle.std.proofs.Common.{◌≡◌, ◌+◌, ◌∙◌, ◌∷◌, [], List, Option, Some, None, IfOk, ap, sym, subst, refl, length, arith, length-append}
+use Rattle.bsp_model.specs.declared.cost.CostRow.{CostRow}
+use Rattle.bsp_step.specs.OutcomeParts.{OutcomeParts}
+use Rattle.bsp_run.specs.declared.result.RunResult.{RunResult}
 use Rattle.bsp_run.specs.declared.result.Status.{Status}
+use Rattle.bsp_run.specs.declared.tally.Tally.{Tally}
+use Rattle.bsp_run.specs.Run.{Run}
+use Rattle.bsp_run.specs.Condition.{IsInPhase, IsAtLimit}
+use Rattle.bsp_run.specs.Result.{cost_of_end}
 use Rattle.bsp_run.specs.Inside.IsUnrecorded.{HasEnded}
+use Rattle.bsp_run.proofs.Conditions.{count_of_outcomes}
+use Rattle.bsp_run.proofs.UnrecordedRuns.{ended_so, ended_result, limit_result, rows_are}
 use Rattle.bsp_run.proofs.unrecorded.Unrecorded.result.Goals as goal
 
-pub ended-requires-clause-ended : goal.ended-requires-clause-ended
-ended-requires-clause-ended c =
-    let h : HasEnded (Some c.in-Some.status) c.requires.ended.0 c.args.views.now c.args.self.now =
-    subst (λ (o : Option Status). HasEnded o c.requires.ended.0 c.args.views.now c.args.self.now) (sym c.take.ensures.value ∙ c.in-Some.is) c.requires.ended.1 in
-    (c.requires.ended.0, (c.args.views.now, record { same = (h.0).same; phase = (h.0).phase; outcomes = (h.0).outcomes }))
+pub take_result-requires : goal.take_result-requires
+take_result-requires c =
+    let r : Run = c.requires.ended.0 in
+    let h : HasEnded (Some c.in-Some.status) r c.args.views.now c.args.self.now =
+    subst (λ (o : Option Status). HasEnded o r c.args.views.now c.args.self.now) (sym c.take.ensures.value ∙ c.in-Some.is) c.requires.ended.1 in
+    let t = h.0 in
+    let room = (ended_so r c.in-Some.status (subst (λ p. IsInPhase p r) t.phase t.same.run.phase) h.1).0 in
+    let before : Tally = c.args.self.now.tally in
+    let rows : length c.add_end.new.self.costs ≡ length before.costs + 1 =
+    ap (λ (rows : List CostRow). length rows) c.in_ok-add_end-in-Some.ensures.costs ∙ length-append before.costs (cost_of_end c.args.self.now.taken.outcomes ∷ []) in
+    omega (arith, room, rows, rows_are r c.args.views.now c.args.self.now t.same, t.same.run.few_supersteps)
 
-pub ended-requires-clause-before : goal.ended-requires-clause-before
-ended-requires-clause-before c =
-    let h : HasEnded (Some c.in-Some.status) c.requires.ended.0 c.args.views.now c.args.self.now =
-    subst (λ (o : Option Status). HasEnded o c.requires.ended.0 c.args.views.now c.args.self.now) (sym c.take.ensures.value ∙ c.in-Some.is) c.requires.ended.1 in
-    h.1
-
-pub returns-in-Some : goal.returns-in-Some
-returns-in-Some c = λ r e.
+pub returns-in_ok-memories-in-Some : goal.returns-in_ok-memories-in-Some
+returns-in_ok-memories-in-Some c = λ r e.
     let h : HasEnded (Some c.in-Some.status) r c.args.views.now c.args.self.now =
     subst (λ (o : Option Status). HasEnded o r c.args.views.now c.args.self.now) (sym c.take.ensures.value ∙ c.in-Some.is) e in
-    c.ended.ensures r c.args.views.now record { same = (h.0).same; phase = (h.0).phase; outcomes = (h.0).outcomes }
+    let t = h.0 in
+    let os : List OutcomeParts = c.args.self.now.taken.outcomes in
+    let made = ended_so r c.in-Some.status (subst (λ p. IsInPhase p r) t.phase t.same.run.phase) h.1 in
+    let count : length os ≡ length r.state.memories = ap (λ (us : List OutcomeParts). length us) (sym t.outcomes) ∙ count_of_outcomes r.args (length r.past) r.state r.outcomes made.1 in
+    let more = c.in_ok-add_end-in-Some.ensures in
+    subst (λ (given : RunResult). IfOk c.take_result.result (λ x. x ≡ given))
+    (ended_result r c.in-Some.status c.args.views.now c.args.self.now os c.in_ok-memories-in-Some.memories c.add_end.new.self t h.1 count c.in_ok-memories-in-Some.ensures more.lines more.costs)
+    c.take_result.ensures
 
-pub ended_at_limit-requires : goal.ended_at_limit-requires
-ended_at_limit-requires c =
-    let h : HasEnded None c.requires.ended.0 c.args.views.now c.args.self.now =
-    subst (λ (o : Option Status). HasEnded o c.requires.ended.0 c.args.views.now c.args.self.now) (sym c.take.ensures.value ∙ c.in-None.is) c.requires.ended.1 in
-    record { ended = (c.requires.ended.0, record { same = h.same; phase = h.phase; outcomes = h.outcomes }) }
+pub take_result-requires-in-None : goal.take_result-requires-in-None
+take_result-requires-in-None c =
+    let r : Run = c.requires.ended.0 in
+    let t : HasEnded None r c.args.views.now c.args.self.now =
+    subst (λ (o : Option Status). HasEnded o r c.args.views.now c.args.self.now) (sym c.take.ensures.value ∙ c.in-None.is) c.requires.ended.1 in
+    let at : IsAtLimit r = subst (λ p. IsInPhase p r) t.phase t.same.run.phase in
+    omega (arith, at.full, rows_are r c.args.views.now c.args.self.now t.same, t.same.run.few_supersteps)
 
-pub returns-in-None : goal.returns-in-None
-returns-in-None c = λ r e.
-    let h : HasEnded None r c.args.views.now c.args.self.now =
+pub returns-in_ok-memories-in-None : goal.returns-in_ok-memories-in-None
+returns-in_ok-memories-in-None c = λ r e.
+    let t : HasEnded None r c.args.views.now c.args.self.now =
     subst (λ (o : Option Status). HasEnded o r c.args.views.now c.args.self.now) (sym c.take.ensures.value ∙ c.in-None.is) e in
-    c.ended_at_limit.ensures r record { same = h.same; phase = h.phase; outcomes = h.outcomes }
+    subst (λ (given : RunResult). IfOk c.take_result-in-None.result (λ x. x ≡ given))
+    (limit_result r c.args.views.now c.args.self.now r.outcomes c.in_ok-memories-in-None.memories c.args.self.now.tally t c.in_ok-memories-in-None.ensures refl)
+    c.take_result-in-None.ensures
