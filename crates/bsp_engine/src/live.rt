@@ -127,22 +127,21 @@ fn advance_keeping<P: Program + Drop, R: Threads + Sync, G: Gate>(
     ensures after { OnOk result (live.new ≡ advanced live.old batch.now) }
     ensures text { OnOk result (text.new.items ≡ text.old.items ++ reply_lines places (last_result P.acts P.ending live.old) (live_reply P.acts P.ending P.looks live.old batch.now)) }
 {
-    match apply(crew, &mut live.session, batch, before) {
-        Ok(update) => {
-            let detail = Detail {
-                places,
-                changes: live.changes,
-            };
-            let nprocs = live.session.input().mems.len();
-            let new = live.session.history();
-            let old = before.as_ref().unwrap_or(new);
-            let pushed = push_accepted(text, detail, nprocs, old, new, batch, &update);
-            drop(update);
-            pushed
-        }
-        Err(EditError::Refused(refusal)) => push_refusal(text, refusal),
-        Err(EditError::OutOfMemory) => Err(AllocError),
-    }
+    let update = match apply(crew, &mut live.session, batch, before) {
+        Ok(update) => update,
+        Err(EditError::Refused(refusal)) => return push_refusal(text, refusal),
+        Err(EditError::OutOfMemory) => return Err(AllocError),
+    };
+    let detail = Detail {
+        places,
+        changes: live.changes,
+    };
+    let nprocs = live.session.input().mems.len();
+    let new = live.session.history();
+    let old = before.as_ref().unwrap_or(new);
+    let pushed = push_accepted(text, detail, nprocs, old, new, batch, &update);
+    drop(update);
+    pushed
 }
 
 /// Applies a batch of edits, and appends the lines of its reply.

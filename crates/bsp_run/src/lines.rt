@@ -222,8 +222,8 @@ fn lines_taken(
     }
     let before = before.as_slice();
     let mut all = LineColumn::new(alloc);
-    gather(alloc, &mut all, before, marks, turns, nprocs)?;
-    let all = Shared::new(alloc, all)?;
+    let gathered = gather(alloc, &mut all, before, marks, turns, nprocs);
+    let all = Shared::new(alloc, gathered.and(Ok(all))?)?;
     each_lines(alloc, before, marks, &all, nprocs)
 }
 

@@ -50,14 +50,14 @@ fn in_one_column(
 ) -> Result<LineColumn, OutOfMemory>
     ensures { IfOk result (λ all. (p : ℕ) → p < nprocs → row_at all p ≡ lines_in printed.old.items p) }
 {
-    let mut all = LineColumn::new(alloc);
     if printed.len() > 1 {
-        gather(alloc, &mut all, printed.as_slice(), nprocs)?;
-        return Ok(all);
+        let mut all = LineColumn::new(alloc);
+        let gathered = gather(alloc, &mut all, printed.as_slice(), nprocs);
+        return gathered.and(Ok(all));
     }
     match printed.pop() {
         Some(superstep) => Ok(superstep),
-        None => Ok(all),
+        None => Ok(LineColumn::new(alloc)),
     }
 }
 

@@ -22,6 +22,7 @@ use bsp_model::{CostRow, Input, OutOfMemory, Shared, SharedSeq, TryCopy};
 use bsp_step::{Outcomes, View};
 use std::alloc::Global;
 use std::marker::Model;
+use std::mem::replace;
 
 /// A run while it is recorded: the turns and the deliveries are handed in, superstep by superstep.
 #[derive(Drop)]
@@ -94,11 +95,26 @@ impl Tape {
         ensures { IfOk result (λ tape. tape ≡ start input.now) }
     {
         let mems = input.mems.as_slice();
+        let setting = match Setting::first(alloc, args, mems.len()) {
+            Ok(setting) => setting,
+            Err(error) => {
+                drop(processes);
+                return Err(error);
+            }
+        };
         let mut cells = Cells::new(alloc);
-        add_first_cells_of(alloc, &mut cells, mems, processes.as_slice())?;
-        let setting = Setting::first(alloc, args, mems.len())?;
-        let views = like.replaced(alloc, setting, processes, cells)?;
-        Tape::open_with(alloc, input, views)
+        match add_first_cells_of(alloc, &mut cells, mems, processes.as_slice()) {
+            Ok(()) => {
+                let views = like.replaced(alloc, setting, processes, cells)?;
+                Tape::open_with(alloc, input, views)
+            }
+            Err(error) => {
+                drop(setting);
+                drop(processes);
+                drop(cells);
+                Err(error)
+            }
+        }
     }
 
     /// The same, where the views of superstep 0 are given.
@@ -177,11 +193,18 @@ impl Tape {
         ensures err { OnErr result (self.new ≡ self.old) }
     {
         let alloc = *self.past.allocator();
-        let end = self.views.end(alloc, &outcomes)?;
-        let goes_on = end.is_none();
-        self.outcomes = outcomes;
-        self.phase = phase_after(end);
-        Ok(goes_on)
+        match self.views.end(alloc, &outcomes) {
+            Ok(end) => {
+                let goes_on = end.is_none();
+                drop(replace(&mut self.outcomes, outcomes));
+                drop(replace(&mut self.phase, phase_after(end)));
+                Ok(goes_on)
+            }
+            Err(error) => {
+                drop(outcomes);
+                Err(error)
+            }
+        }
     }
 
     /// Takes the next memory and queue of each process. The messages that nobody took are discarded with the
@@ -193,10 +216,17 @@ impl Tape {
         ensures err { OnErr result (self.new ≡ self.old) }
     {
         let alloc = *self.past.allocator();
-        let setting = self.next_setting()?;
-        let views = Views::open(alloc, setting, cells)?;
-        let row = self.cost();
-        self.delivered_as(views, row)
+        match self.next_setting() {
+            Ok(setting) => {
+                let views = Views::open(alloc, setting, cells)?;
+                let row = self.cost();
+                self.delivered_as(views, row)
+            }
+            Err(error) => {
+                drop(cells);
+                Err(error)
+            }
+        }
     }
 
     /// The cost of the superstep whose turns are taken.

@@ -58,9 +58,17 @@ pub(crate) fn all_turns<P: Program, G: Gate>(
         outcomes: room,
         spare: taken.spare.take(),
     };
-    turns_by_one(alloc, &mut rows, program, views, processes, gate)?;
-    taken.spare = rows.spare;
-    taken.outcomes = rows.outcomes.share()?;
+    match turns_by_one(alloc, &mut rows, program, views, processes, gate) {
+        Ok(()) => {}
+        Err(error) => {
+            drop(rows);
+            return Err(error);
+        }
+    }
+    let TurnRows { outcomes, spare } = rows;
+    drop(mem::replace(&mut taken.spare, spare));
+    let outcomes = outcomes.share()?;
+    drop(mem::replace(&mut taken.outcomes, outcomes));
     Ok(())
 }
 
@@ -76,10 +84,22 @@ fn next_views(
     requires processes { processes.now ≡ range_with_len 0 (length outcomes.old) }
     ensures { (r : Run) → AreTurned r views outcomes.old → IfOk result (λ next. next ≡ next_views r) }
 {
-    let setting = views.next_setting(outcomes)?;
+    let setting = match views.next_setting(outcomes) {
+        Ok(setting) => setting,
+        Err(error) => {
+            drop(views);
+            return Err(error);
+        }
+    };
     let mut cells = views.into_room(alloc);
-    deliver_moving(alloc, outcomes, processes, &mut cells)?;
-    Views::open(alloc, setting, cells)
+    match deliver_moving(alloc, outcomes, processes, &mut cells) {
+        Ok(()) => Views::open(alloc, setting, cells),
+        Err(error) => {
+            drop(setting);
+            drop(cells);
+            Err(error)
+        }
+    }
 }
 
 impl Unrecorded {

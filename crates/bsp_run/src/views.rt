@@ -86,11 +86,17 @@ impl Views {
         requires { input_fault input.now ≡ None }
         ensures { IfOk result (λ views. views ≡ open_views (start input.now)) }
     {
-        let mut cells = Cells::new(alloc);
-        add_first_cells(alloc, &mut cells, input.mems.as_slice(), recording)?;
         let args = shared_args(&input.args)?;
-        let setting = Setting::first(alloc, args, cells.len())?;
-        Views::open(alloc, setting, cells)
+        let setting = Setting::first(alloc, args, input.mems.len())?;
+        let mut cells = Cells::new(alloc);
+        match add_first_cells(alloc, &mut cells, input.mems.as_slice(), recording) {
+            Ok(()) => Views::open(alloc, setting, cells),
+            Err(error) => {
+                drop(setting);
+                drop(cells);
+                Err(error)
+            }
+        }
     }
 
     /// What all processes see alike.

@@ -195,10 +195,20 @@ fn wide_outcomes<P: Program, G: Gate, R: Threads + Sync>(
         spare: None,
     };
     let views = tape.open_views();
-    wide_turns(
+    let turned = wide_turns(
         rt, alloc, &mut rows, program, views, processes, workers, gate,
-    )?;
-    rows.outcomes.share()
+    );
+    match turned {
+        Ok(()) => {
+            let TurnRows { outcomes, spare } = rows;
+            drop(spare);
+            outcomes.share()
+        }
+        Err(error) => {
+            drop(rows);
+            Err(error)
+        }
+    }
 }
 
 /// The deliveries to all processes, at the end of a superstep whose turns are taken, by the workers.
@@ -217,8 +227,13 @@ fn wide_delivery<G: Gate, R: Threads + Sync>(
 {
     let mut cells = Cells::new(alloc);
     let outcomes = tape.outcomes();
-    wide_deliveries(rt, alloc, &mut cells, outcomes, processes, workers, gate)?;
-    tape.delivered(cells)
+    match wide_deliveries(rt, alloc, &mut cells, outcomes, processes, workers, gate) {
+        Ok(()) => tape.delivered(cells),
+        Err(error) => {
+            drop(cells);
+            Err(error)
+        }
+    }
 }
 
 /// One superstep more of a run that has not ended, by the workers.
@@ -258,7 +273,13 @@ fn wide_history<P: Program, G: Gate, R: Threads + Sync>(
 {
     let mut tape = Tape::open_lawful(alloc, input)?;
     while tape.is_open() {
-        wide_superstep(rt, alloc, program, &mut tape, workers, gate)?;
+        match wide_superstep(rt, alloc, program, &mut tape, workers, gate) {
+            Ok(()) => {}
+            Err(error) => {
+                drop(tape);
+                return Err(error);
+            }
+        }
     }
     tape.finish()
 }

@@ -37,8 +37,8 @@ push_accepted-pushed-requires-clause-update g c =
       runs = c.in-Ok.ensures.runs;
     }))
 
-pub returns-in-Ok-clause-text : goal.returns-in-Ok-clause-text
-returns-in-Ok-clause-text g c =
+pub returns-clause-text : goal.returns-clause-text
+returns-clause-text g c =
     let session = c.live.inside.session in
     let old : c.unwrap_or-old.result.now ≡ session.history =
     ap (λ (x : Bor Run). x.now) c.unwrap_or-old.ensures ∙ borrowed_or c.as_ref.result c.history-new.result
