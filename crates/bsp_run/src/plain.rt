@@ -137,11 +137,15 @@ fn unrecorded_result<P: Program, G: Gate>(
 {
     for step in 0..input.limit {
         if unrecorded_turns(alloc, program, &views, kept, gate)? {
-            return kept.result(alloc, &views);
+            let result = kept.result(alloc, &views);
+            drop(views);
+            return result;
         }
         views = kept.go_on(alloc, views)?;
     }
-    kept.result(alloc, &views)
+    let result = kept.result(alloc, &views);
+    drop(views);
+    result
 }
 
 /// What `run_result` answers, where the input is known to be lawful. The gate is passed before each turn.

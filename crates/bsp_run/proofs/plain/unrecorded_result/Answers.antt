@@ -29,8 +29,8 @@ unrecorded_turns-requires-clause-opened g c κs within =
     let r : Run = u.so_far in
     (r, (underway_open turn input n vs kept u, u.same))
 
-pub result-requires : goal.result-requires
-result-requires g c =
+pub result-result-requires : goal.result-result-requires
+result-result-requires g c =
     let input : Input = c.args.input.now in
     let turn = turn_of (g.P.Program.acts c.args.program.now) (g.P.Program.ending c.args.program.now) in
     let vs : List ViewParts = c.loop-step.views in
@@ -55,7 +55,7 @@ returns-then-branch g c =
     let r : Run = u.so_far in
     let taken : AreTaken true (turned_so turn r) vs c.unrecorded_turns.new.kept =
     subst (λ (b : Bool). AreTaken b (turned_so turn r) vs c.unrecorded_turns.new.kept) c.if-branch.true (c.in_ok-unrecorded_turns.ensures r (underway_open turn input n vs kept u) u.same) in
-    c.result.ensures (run turn input) (subst (λ (x : Run). HasEnded c.unrecorded_turns.new.kept.end x vs c.unrecorded_turns.new.kept) (ended_is_run turn input n vs kept u taken.0) taken.1)
+    c.result-result.ensures (run turn input) (subst (λ (x : Run). HasEnded c.unrecorded_turns.new.kept.end x vs c.unrecorded_turns.new.kept) (ended_is_run turn input n vs kept u taken.0) taken.1)
 
 pub go_on-requires : goal.go_on-requires
 go_on-requires g c =
@@ -88,8 +88,8 @@ loop-step-preserved g c =
       end = c.in_ok-views.ensures.end ∙ taken.0;
     }
 
-pub result-requires-2 : goal.result-requires-2
-result-requires-2 g c =
+pub result-result-requires-2 : goal.result-result-requires-2
+result-result-requires-2 g c =
     let input : Input = c.args.input.now in
     let turn = turn_of (g.P.Program.acts c.args.program.now) (g.P.Program.ending c.args.program.now) in
     record { ended = (run turn input, limit_is_run turn input (input.limit - c.loop-step.step) c.loop-step.views c.loop-step.kept c.loop-step.invariant.under_way (omega (arith, c.loop-step-test.false)) c.loop-step.invariant.end) }
@@ -98,4 +98,4 @@ pub returns : goal.returns
 returns g c =
     let input : Input = c.args.input.now in
     let turn = turn_of (g.P.Program.acts c.args.program.now) (g.P.Program.ending c.args.program.now) in
-    c.result-2.ensures (run turn input) (limit_is_run turn input (input.limit - c.loop-step.step) c.loop-step.views c.loop-step.kept c.loop-step.invariant.under_way (omega (arith, c.loop-step-test.false)) c.loop-step.invariant.end)
+    c.result-result-2.ensures (run turn input) (limit_is_run turn input (input.limit - c.loop-step.step) c.loop-step.views c.loop-step.kept c.loop-step.invariant.under_way (omega (arith, c.loop-step-test.false)) c.loop-step.invariant.end)
