@@ -222,8 +222,8 @@ fn lines_taken(
     }
     let before = before.as_slice();
     let mut all = LineColumn::new(alloc);
-    let gathered = gather(alloc, &mut all, before, marks, turns, nprocs);
-    let all = Shared::new(alloc, gathered.and(Ok(all))?)?;
+    gather(alloc, &mut all, before, marks, turns, nprocs)?;
+    let all = Shared::new(alloc, all)?;
     each_lines(alloc, before, marks, &all, nprocs)
 }
 

@@ -14,7 +14,6 @@ use crate::keeping::{keep_superstep, phase_at};
 use crate::{History, Phase, Tape, Views};
 use bsp_model::{CostRow, OutOfMemory, Shared, TryCopy};
 use bsp_step::Outcomes;
-use std::mem::replace;
 
 /// The list of what the processes see in a superstep.
 fn views_in(history: &History, step: usize) -> Result<Shared<Views>, OutOfMemory>
@@ -59,8 +58,8 @@ impl Tape {
         requires delivers { end_of (length self.old.past) self.old.state.table outcomes ≡ None }
         ensures { self.new ≡ after_turns self.old outcomes }
     {
-        drop(replace(&mut self.outcomes, outcomes));
-        drop(replace(&mut self.phase, Phase::Turned));
+        self.outcomes = outcomes;
+        self.phase = Phase::Turned;
     }
 
     /// The cost of the superstep whose turns are taken, at the prices of this run, where as much was computed and moved as in the same superstep of

@@ -22,7 +22,6 @@ use bsp_model::{CostRow, Input, OutOfMemory, Shared, SharedSeq, TryCopy};
 use bsp_step::{Outcomes, View};
 use std::alloc::Global;
 use std::marker::Model;
-use std::mem::replace;
 
 /// A run while it is recorded: the turns and the deliveries are handed in, superstep by superstep.
 #[derive(Drop)]
@@ -193,18 +192,11 @@ impl Tape {
         ensures err { OnErr result (self.new ≡ self.old) }
     {
         let alloc = *self.past.allocator();
-        match self.views.end(alloc, &outcomes) {
-            Ok(end) => {
-                let goes_on = end.is_none();
-                drop(replace(&mut self.outcomes, outcomes));
-                drop(replace(&mut self.phase, phase_after(end)));
-                Ok(goes_on)
-            }
-            Err(error) => {
-                drop(outcomes);
-                Err(error)
-            }
-        }
+        let end = self.views.end(alloc, &outcomes)?;
+        let goes_on = end.is_none();
+        self.outcomes = outcomes;
+        self.phase = phase_after(end);
+        Ok(goes_on)
     }
 
     /// Takes the next memory and queue of each process. The messages that nobody took are discarded with the

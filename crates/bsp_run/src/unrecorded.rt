@@ -67,8 +67,7 @@ pub(crate) fn all_turns<P: Program, G: Gate>(
     }
     let TurnRows { outcomes, spare } = rows;
     drop(mem::replace(&mut taken.spare, spare));
-    let outcomes = outcomes.share()?;
-    drop(mem::replace(&mut taken.outcomes, outcomes));
+    taken.outcomes = outcomes.share()?;
     Ok(())
 }
 

@@ -179,7 +179,7 @@ fn deliveries_among<P: Program, G: Gate, R: Threads + Sync>(
     let processes = touched.members(workers.alloc)?;
     add_places(redelivered, tape.step() as u64, processes.as_slice())?;
     let mut cells = Cells::new(workers.alloc);
-    wide_deliveries(
+    match wide_deliveries(
         workers.rt,
         workers.alloc,
         &mut cells,
@@ -187,8 +187,14 @@ fn deliveries_among<P: Program, G: Gate, R: Threads + Sync>(
         processes.as_slice(),
         workers.count,
         workers.gate,
-    )?;
-    Ok(Deliveries { processes, cells })
+    ) {
+        Ok(()) => Ok(Deliveries { processes, cells }),
+        Err(error) => {
+            drop(processes);
+            drop(cells);
+            Err(error)
+        }
+    }
 }
 
 /// The deliveries of the superstep whose turns are taken, and the marks of the next.

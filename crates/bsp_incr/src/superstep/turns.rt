@@ -20,6 +20,7 @@ use bsp_pool::Gate;
 use bsp_run::{TurnRows, wide_turns};
 use bsp_step::{Outcome, OutcomeRows, Outcomes, Program};
 use std::alloc::Global;
+use std::mem::replace;
 use std::thread::Threads;
 
 /// Whether the turn of a process has to be taken, which may be asked of the doubtful ones alone. The tables are not compared where all processes are known
@@ -137,7 +138,7 @@ fn taken_turns<P: Program, G: Gate, R: Threads + Sync>(
         outcomes: room,
         spare: spare.take(),
     };
-    wide_turns(
+    match wide_turns(
         workers.rt,
         workers.alloc,
         &mut rows,
@@ -146,9 +147,20 @@ fn taken_turns<P: Program, G: Gate, R: Threads + Sync>(
         processes,
         workers.count,
         workers.gate,
-    )?;
-    *spare = rows.spare;
-    Ok(rows.outcomes)
+    ) {
+        Ok(()) => {
+            let TurnRows {
+                outcomes,
+                spare: left,
+            } = rows;
+            drop(replace(spare, left));
+            Ok(outcomes)
+        }
+        Err(error) => {
+            drop(rows);
+            Err(error)
+        }
+    }
 }
 
 /// The processes of an open superstep whose turns have to be taken, and those for which the recorded turns serve, in ascending order.

@@ -20,7 +20,7 @@ wide_deliveries-requires-clause-ascending g c κs within =
     let set : List Bool = c.args.touched.now in
     subst IsAscending (sym (c.as_slice-2.ensures.value ∙ c.in_ok-processes.ensures)) (processes_where-ascending (length set) (λ p. get_or set p false))
 
-pub returns-clause-places : goal.returns-clause-places
-returns-clause-places g c =
+pub returns-in-Ok-clause-places : goal.returns-in-Ok-clause-places
+returns-in-Ok-clause-places g c =
     c.in_ok-add_places.ensures ∙ ap (λ n. c.args.redelivered.now ++ places_of n c.as_slice.result.now) c.step.ensures
     ∙ ap (λ (ks : List ℕ). c.args.redelivered.now ++ places_of (length c.args.tape.now.past) ks) (c.as_slice.ensures.value ∙ c.in_ok-processes.ensures)
