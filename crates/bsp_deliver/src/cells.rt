@@ -126,9 +126,15 @@ impl Cells {
         ensures { IfOk result (λ c. c ≡ replaced self.now processes.now cells.now) }
     {
         let mut all = Cells::new(alloc);
-        all.reserve_like(self)?;
-        add_replaced(&mut all, self, processes, cells)?;
-        Ok(all)
+        match all.reserve_like(self) {
+            Ok(()) => {}
+            Err(error) => {
+                drop(all);
+                return Err(error);
+            }
+        }
+        let added = add_replaced(&mut all, self, processes, cells);
+        added.and(Ok(all))
     }
 }
 

@@ -285,11 +285,14 @@ impl History {
     pub fn result(&self) -> Result<RunResult, OutOfMemory>
         ensures { IfOk result (λ r. r ≡ result_of self.now) }
     {
+        let costs = self.sums.costs.copy()?;
+        let lines = self.sums.lines.copy()?;
+        let status = self.status().copy()?;
         Ok(RunResult {
-            status: self.status().copy()?,
+            status,
             memories: self.memories()?,
-            lines: self.sums.lines.copy()?,
-            costs: self.sums.costs.copy()?,
+            lines,
+            costs,
             total: self.sums.total,
         })
     }

@@ -41,8 +41,17 @@ fn plain_outcomes<P: Program>(
         spare: None,
     };
     let views = tape.open_views();
-    turns_by_one(alloc, &mut rows, program, views, processes, &Open)?;
-    rows.outcomes.share()
+    match turns_by_one(alloc, &mut rows, program, views, processes, &Open) {
+        Ok(()) => {
+            let TurnRows { outcomes, spare } = rows;
+            drop(spare);
+            outcomes.share()
+        }
+        Err(error) => {
+            drop(rows);
+            Err(error)
+        }
+    }
 }
 
 /// The deliveries to all processes, at the end of a superstep whose turns are taken.
@@ -52,8 +61,13 @@ fn plain_delivery(alloc: Global, tape: &mut Tape, processes: &[usize]) -> Result
     ensures { OnOk result (tape.new ≡ after_delivery tape.old) }
 {
     let mut cells = Cells::new(alloc);
-    deliver_some(alloc, tape.outcomes(), processes, &mut cells)?;
-    tape.delivered(cells)
+    match deliver_some(alloc, tape.outcomes(), processes, &mut cells) {
+        Ok(()) => tape.delivered(cells),
+        Err(error) => {
+            drop(cells);
+            Err(error)
+        }
+    }
 }
 
 /// One superstep more of a run that has not ended.
@@ -85,7 +99,13 @@ fn plain_history<P: Program>(
 {
     let mut tape = Tape::open_lawful(alloc, input)?;
     while tape.is_open() {
-        plain_superstep(alloc, program, &mut tape)?;
+        match plain_superstep(alloc, program, &mut tape) {
+            Ok(()) => {}
+            Err(error) => {
+                drop(tape);
+                return Err(error);
+            }
+        }
     }
     tape.finish()
 }
@@ -136,7 +156,14 @@ fn unrecorded_result<P: Program, G: Gate>(
     ensures { IfOk result (λ r. r ≡ result_of (run (turn_of (P.acts program.now) (P.ending program.now)) input.now)) }
 {
     for step in 0..input.limit {
-        if unrecorded_turns(alloc, program, &views, kept, gate)? {
+        let ends = match unrecorded_turns(alloc, program, &views, kept, gate) {
+            Ok(ends) => ends,
+            Err(error) => {
+                drop(views);
+                return Err(error);
+            }
+        };
+        if ends {
             let result = kept.result(alloc, &views);
             drop(views);
             return result;

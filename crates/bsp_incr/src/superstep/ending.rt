@@ -100,7 +100,9 @@ fn next_views_like<P: Program, G: Gate, R: Threads + Sync>(
     // What stands of the run before is known where it is read.
     let _before = given.old;
     match next_setting(tape, old_next, known) {
-        Ok(setting) => { tape.next_views_like(old_next, setting, deliveries.processes, deliveries.cells) }
+        Ok(setting) => {
+            tape.next_views_like(old_next, setting, deliveries.processes, deliveries.cells)
+        }
         Err(error) => {
             drop(deliveries);
             Err(error)

@@ -11,13 +11,13 @@ pub turns_by_one-requires-clause-processes : goal.turns_by_one-requires-clause-p
 turns_by_one-requires-clause-processes g c κs within =
     are_known c.args.processes.now (length (open_views c.args.tape.now)) c.open_views-views.result.now c.requires.processes (ap length c.open_views-views.ensures.views)
 
-pub returns : goal.returns
-returns g c =
+pub returns-in-Ok : goal.returns-in-Ok
+returns-in-Ok g c =
     let opened = open_phase c.args.tape.now.phase c.requires.open in
     let acts = g.P.Program.acts c.args.program.now in
     let ending = g.P.Program.ending c.args.program.now in
     IfOk-weaker c.share.result _ (AreTurnsOf (turn_of acts ending) (open_views c.args.tape.now))
     (λ os e.
     turns_made acts ending (open_views c.args.tape.now) c.open_views-views.result.now c.args.processes.now os
-    c.open_views-views.ensures.views (c.open_views-views.ensures.limits opened) c.requires.processes (e ∙ c.in_ok-turns_by_one.ensures))
+    c.open_views-views.ensures.views (c.open_views-views.ensures.limits opened) c.requires.processes (e ∙ c.in-Ok.ensures))
     c.share.ensures

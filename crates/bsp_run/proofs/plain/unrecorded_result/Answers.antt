@@ -40,11 +40,11 @@ result-result-requires g c =
     let u : IsUnderway turn input (n + 1) vs kept = subst (λ m. IsUnderway turn input m vs kept) left c.loop-step.invariant.under_way in
     let r : Run = u.so_far in
     let taken : AreTaken true (turned_so turn r) vs c.unrecorded_turns.new.kept =
-    subst (λ (b : Bool). AreTaken b (turned_so turn r) vs c.unrecorded_turns.new.kept) c.if-branch.true (c.in_ok-unrecorded_turns.ensures r (underway_open turn input n vs kept u) u.same) in
+    subst (λ (b : Bool). AreTaken b (turned_so turn r) vs c.unrecorded_turns.new.kept) c.if-ends.true (c.in-Ok.ensures r (underway_open turn input n vs kept u) u.same) in
     record { ended = (run turn input, subst (λ (x : Run). HasEnded c.unrecorded_turns.new.kept.end x vs c.unrecorded_turns.new.kept) (ended_is_run turn input n vs kept u taken.0) taken.1) }
 
-pub returns-then-branch : goal.returns-then-branch
-returns-then-branch g c =
+pub returns-then-ends : goal.returns-then-ends
+returns-then-ends g c =
     let input : Input = c.args.input.now in
     let turn = turn_of (g.P.Program.acts c.args.program.now) (g.P.Program.ending c.args.program.now) in
     let vs : List ViewParts = c.loop-step.views in
@@ -54,7 +54,7 @@ returns-then-branch g c =
     let u : IsUnderway turn input (n + 1) vs kept = subst (λ m. IsUnderway turn input m vs kept) left c.loop-step.invariant.under_way in
     let r : Run = u.so_far in
     let taken : AreTaken true (turned_so turn r) vs c.unrecorded_turns.new.kept =
-    subst (λ (b : Bool). AreTaken b (turned_so turn r) vs c.unrecorded_turns.new.kept) c.if-branch.true (c.in_ok-unrecorded_turns.ensures r (underway_open turn input n vs kept u) u.same) in
+    subst (λ (b : Bool). AreTaken b (turned_so turn r) vs c.unrecorded_turns.new.kept) c.if-ends.true (c.in-Ok.ensures r (underway_open turn input n vs kept u) u.same) in
     c.result-result.ensures (run turn input) (subst (λ (x : Run). HasEnded c.unrecorded_turns.new.kept.end x vs c.unrecorded_turns.new.kept) (ended_is_run turn input n vs kept u taken.0) taken.1)
 
 pub go_on-requires : goal.go_on-requires
@@ -68,7 +68,7 @@ go_on-requires g c =
     let u : IsUnderway turn input (n + 1) vs kept = subst (λ m. IsUnderway turn input m vs kept) left c.loop-step.invariant.under_way in
     let r : Run = u.so_far in
     let taken : AreTaken false (turned_so turn r) vs c.unrecorded_turns.new.kept =
-    subst (λ (b : Bool). AreTaken b (turned_so turn r) vs c.unrecorded_turns.new.kept) c.if-branch.false (c.in_ok-unrecorded_turns.ensures r (underway_open turn input n vs kept u) u.same) in
+    subst (λ (b : Bool). AreTaken b (turned_so turn r) vs c.unrecorded_turns.new.kept) c.if-ends.false (c.in-Ok.ensures r (underway_open turn input n vs kept u) u.same) in
     record { turned = (turned_so turn r, taken.1) }
 
 pub loop-step-preserved : goal.loop-step-preserved
@@ -82,7 +82,7 @@ loop-step-preserved g c =
     let u : IsUnderway turn input (n + 1) vs kept = subst (λ m. IsUnderway turn input m vs kept) left c.loop-step.invariant.under_way in
     let r : Run = u.so_far in
     let taken : AreTaken false (turned_so turn r) vs c.unrecorded_turns.new.kept =
-    subst (λ (b : Bool). AreTaken b (turned_so turn r) vs c.unrecorded_turns.new.kept) c.if-branch.false (c.in_ok-unrecorded_turns.ensures r (underway_open turn input n vs kept u) u.same) in
+    subst (λ (b : Bool). AreTaken b (turned_so turn r) vs c.unrecorded_turns.new.kept) c.if-ends.false (c.in-Ok.ensures r (underway_open turn input n vs kept u) u.same) in
     record {
       under_way = underway_next turn input n vs c.in_ok-views.views kept c.go_on.new.self u (taken.1).phase (c.in_ok-views.ensures.views (turned_so turn r) taken.1);
       end = c.in_ok-views.ensures.end ∙ taken.0;

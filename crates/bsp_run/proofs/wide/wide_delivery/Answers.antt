@@ -23,4 +23,4 @@ pub delivered-requires-clause-cells : goal.delivered-requires-clause-cells
 delivered-requires-clause-cells g c =
     let r : Run = c.args.tape.now in
     let kept = c.outcomes-outcomes.ensures.outcomes ∙ outcomes_shown-turned r c.requires.turned in
-    deliveries_made c.outcomes-outcomes.result.now (length r.outcomes) c.args.processes.now c.wide_deliveries.new.cells (ap (λ (os : List OutcomeParts). length os) kept) c.requires.processes c.in_ok-wide_deliveries.ensures ∙ ap deliveries_of kept
+    deliveries_made c.outcomes-outcomes.result.now (length r.outcomes) c.args.processes.now c.wide_deliveries.new.cells (ap (λ (os : List OutcomeParts). length os) kept) c.requires.processes c.in-Ok.ensures ∙ ap deliveries_of kept

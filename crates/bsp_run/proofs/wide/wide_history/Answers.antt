@@ -18,14 +18,14 @@ loop-alloc-preserved g c =
     let turn = turn_of (g.P.Program.acts c.args.program.now) (g.P.Program.ending c.args.program.now) in
     let whole : Run = run turn c.args.input.now in
     let open_now : is_open c.loop-alloc.tape.phase ≡ true = sym c.is_open.ensures ∙ c.loop-alloc-test.true in
-    subst (λ (r : Run). LeadsTo turn r whole) (sym c.in_ok-wide_superstep.ensures) (advance-leads turn c.loop-alloc.tape whole c.loop-alloc.invariant open_now)
+    subst (λ (r : Run). LeadsTo turn r whole) (sym c.in-Ok.ensures) (advance-leads turn c.loop-alloc.tape whole c.loop-alloc.invariant open_now)
 
 pub loop-alloc-smaller : goal.loop-alloc-smaller
 loop-alloc-smaller g c =
     let turn = turn_of (g.P.Program.acts c.args.program.now) (g.P.Program.ending c.args.program.now) in
     let whole : Run = run turn c.args.input.now in
     let open_now : is_open c.loop-alloc.tape.phase ≡ true = sym c.is_open.ensures ∙ c.loop-alloc-test.true in
-    subst (λ (r : Run). supersteps_left r < supersteps_left c.loop-alloc.tape) (sym c.in_ok-wide_superstep.ensures) (fewer_left turn c.loop-alloc.tape whole c.loop-alloc.invariant open_now)
+    subst (λ (r : Run). supersteps_left r < supersteps_left c.loop-alloc.tape) (sym c.in-Ok.ensures) (fewer_left turn c.loop-alloc.tape whole c.loop-alloc.invariant open_now)
 
 pub finish-requires : goal.finish-requires
 finish-requires g c =
