@@ -80,3 +80,50 @@ class Run(Building):
         self.place.script("crates/tool/out/tool", "cat")
         os.utime(f"{self.place.root}/crates/tool/out/tool", (2**33, 2**33))
         self.assertEqual(self.run_on("tool"), (0, [DOCUMENT.decode().strip()], []))
+
+
+class Try(Building):
+    """A kernel `tool` over a library `low`, and a file that the kernel does not name."""
+
+    def setUp(self):
+        super().setUp()
+        self.place.script("shell", f"cd {self.place.root}", 'eval "$1"')
+        self.place.write("crates.txt", b"low:\nother:\ntool: other low\n")
+        for crate in ("low", "other"):
+            self.place.write(f"crates/{crate}/src/lib.rt")
+        self.place.write("crates/tool/src/kernel.rt", b"use crate::parts::Part;\nuse low::Low;\n\nimpl Program for Tool {\n")
+        self.place.write("crates/tool/src/parts.rt", b"ghost use Rattle.other.specs;\n")
+        self.place.write("crates/tool/src/rest.rt", b"use crate::kernel::Tool;\n")
+        self.place.write("document", DOCUMENT)
+
+    def try_it(self, *words):
+        return self.place.run("shell", f'./try {" ".join(words)} < document')
+
+    def test_the_kernel_and_what_it_names_is_compiled_over_the_small_library(self):
+        self.rt("cat src/main.rt", "cat", "sort ../../crates.txt", f"echo '{Run.TRIED.format(3)}' >&2")
+        made = ["#![tactic(auto)]", "", "mod kernel;", "mod parts;", "", "fn main(rt: HostRuntime) -> std::process::ExitCode {"]
+        made += ["    quick::run_quick(&rt, &kernel::Tool)", "}", "limit = 1", "low:", "quick: bsp_model bsp_step bsp_run", "tool: quick low"]
+        self.assertEqual(self.try_it("tool"), (3, made))
+
+    def test_another_program(self):
+        self.rt("cat src/main.rt", f"echo '{Run.TRIED.format(0)}' >&2")
+        status, lines = self.try_it("tool", "parts::Part")
+        self.assertEqual((status, lines[2]), (0, "mod parts;"))
+        self.assertIn("    quick::run_quick(&rt, &parts::Part)", lines)
+
+    def test_no_kernel(self):
+        self.assertEqual(self.try_it("low"), (2, ["try: low: 0 types of it are a Program; name one as MODULE::TYPE"]))
+        self.assertEqual(self.try_it("tool", "kernels::Tool"), (2, ["try: tool: kernels::Tool is in no module of it"]))
+        self.assertEqual(self.try_it("nothing")[0], 2)
+
+    def test_no_answer(self):
+        self.rt("echo 'src/kernel.rt:1:1: error' >&2", "exit 1")
+        self.assertEqual(self.try_it("tool"), (1, ["src/kernel.rt:1:1: error", "try: there is no answer"]))
+
+    def test_the_stored_block_is_compared(self):
+        self.rt("echo 'run 0'", "echo 'total 1'", f"echo '{Run.TRIED.format(0)}' >&2")
+        self.place.write("crates/tool/stdin", DOCUMENT)
+        self.place.write("crates/tool/stdout", b"run 0\ntotal 1\nexecuted 1 redelivered 0\nrun 1\n")
+        self.assertEqual(self.place.run("ci/tried", "tool"), (0, ["1 passed, 0 failed"]))
+        self.place.write("crates/tool/stdout", b"run 0\ntotal 2\nexecuted 1 redelivered 0\nrun 1\n")
+        self.assertEqual(self.place.run("ci/tried", "tool"), (1, ["tried: tool: another block than the stored one", "0 passed, 1 failed"]))

@@ -64,7 +64,7 @@ class Place:
         shutil.copytree(f"{ROOT}/ci", f"{self.root}/ci", ignore=shutil.ignore_patterns("__pycache__"))
         shutil.copytree(f"{ROOT}/python", f"{self.root}/python", ignore=shutil.ignore_patterns("__pycache__"))
         shutil.copytree(f"{ROOT}/bench", f"{self.root}/bench")
-        for script in ("build", "check", "run"):
+        for script in ("build", "check", "run", "try"):
             shutil.copy(f"{ROOT}/{script}", self.root)
         self.write("crates.txt", b"")
         os.mkdir(f"{self.root}/cases")
