@@ -1,4 +1,4 @@
-//! Batches that a session takes, and what is told of the run after them.
+//! Batches that a session takes, and the lines of the run after a batch.
 
 ghost use Rattle.std.specs.Prelude.{◌≡◌, ◌++◌, IfOk, IfErr, OnOk, OnErr, Some, length, unwrap_or};
 ghost use Rattle.bsp_step.specs.Turn.{turn_of};
@@ -44,7 +44,7 @@ pub fn apply<P: Program + Drop, R: Threads + Sync, G: Gate>(
     session.apply_keeping(crew.rt, crew.alloc, batch, crew.workers, crew.gate, before)
 }
 
-/// Appends the lines of the run after a batch: all, or with changes what of it is another than in the run before.
+/// Appends the lines of the run after a batch: all lines, or with changes those that have changed.
 fn push_history(
     text: &mut Vec<u8>,
     changes: bool,

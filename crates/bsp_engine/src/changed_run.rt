@@ -1,4 +1,4 @@
-//! What of a run after a batch is another than in the run before it.
+//! The changes of the run after a batch against the run before it.
 
 ghost use Rattle.std.specs.Prelude.{◌≡◌, ◌++◌, false, length, IfOk, OnOk, slice_get};
 ghost use Rattle.bsp_run.specs.Result.{lines_of, memories_of, result_of};
@@ -38,7 +38,7 @@ fn end_alike(old: &History, new: &History) -> bool
     is_at_limit(old.status()) == is_at_limit(new.status())
 }
 
-/// The flags of the processes of which the run after a batch may give something else.
+/// A flag for each process: up where its memory or its lines may have changed.
 fn flags_of(
     alloc: Global,
     nprocs: usize,
@@ -58,7 +58,7 @@ fn flags_of(
     Ok(flags)
 }
 
-/// Appends the line of a process's memory, if its flag is up and it has another one.
+/// Appends the line of a process's memory, if its flag is up and the memory has changed.
 fn push_memory_if(
     text: &mut Vec<u8>,
     old: &History,
@@ -79,7 +79,7 @@ fn push_memory_if(
     }
 }
 
-/// Appends the line of each memory that is another.
+/// Appends the line of each changed memory.
 fn push_changed_memories(
     text: &mut Vec<u8>,
     old: &History,
@@ -96,7 +96,7 @@ fn push_changed_memories(
     Ok(())
 }
 
-/// Appends the lines of a process, if its flag is up and it has other ones.
+/// Appends the lines of a process, if its flag is up and its lines have changed.
 fn push_lines_if(
     text: &mut Vec<u8>,
     old: &History,
@@ -117,7 +117,7 @@ fn push_lines_if(
     }
 }
 
-/// Appends the lines of each process that has other ones.
+/// Appends the lines of each process whose lines have changed.
 fn push_changed_lines(
     text: &mut Vec<u8>,
     old: &History,
@@ -134,7 +134,7 @@ fn push_changed_lines(
     Ok(())
 }
 
-/// Appends the costs that are others, and the sum.
+/// Appends the changed costs, the number of supersteps if it has changed, and the sum.
 fn push_changed_costs(text: &mut Vec<u8>, old: &History, new: &History) -> Result<(), OutOfMemory>
     ensures { OnOk result (text.new.items ≡ text.old.items ++ cost_changes old.now new.now) }
 {
@@ -144,8 +144,8 @@ fn push_changed_costs(text: &mut Vec<u8>, old: &History, new: &History) -> Resul
     push_line(text, "total", &[new.total()])
 }
 
-/// Appends the lines of what of the run after a batch is another than in the run before it. Only the processes that the update touches are looked at,
-/// or all of them where the runs do not end alike.
+/// Appends the changes of the run after a batch against the run before it. The processes that the update touches are compared alone. Where the runs do
+/// not end alike, all processes are compared.
 pub fn push_changed(
     text: &mut Vec<u8>,
     nprocs: usize,

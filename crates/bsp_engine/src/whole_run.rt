@@ -21,7 +21,7 @@ pub fn push_result(text: &mut Vec<u8>, run: &RunResult) -> Result<(), OutOfMemor
     push_line(text, "total", &[run.total])
 }
 
-/// Appends all of what a history gives.
+/// Appends the whole result of a history.
 pub fn push_run(text: &mut Vec<u8>, history: &History) -> Result<(), OutOfMemory>
     ensures { OnOk result (text.new.items ≡ text.old.items ++ result_lines (result_of history.now)) }
 {

@@ -1,4 +1,4 @@
--- What a block of changes is told against.
+-- The result against which a block of changes is made.
 use Rattle.std.specs.Prelude.{Bool, Option, None, Some, if◌then◌else◌}
 use Rattle.bsp_run.specs.declared.result.RunResult.{RunResult}
 use Rattle.bsp_run.specs.Run.{Run}

@@ -50,7 +50,7 @@ pub record HaveSameUnflagged (flags : List Bool) (old new : RunResult) : Type 0 
   pub memories : AreSameUnflagged flags old.memories new.memories
   pub lines : AreSameUnflagged flags old.lines new.lines
 
--- what of the costs of a run is another than in the run before, with their number and their sum
+-- the changes of the costs of a run against the run before, with the number of supersteps and the sum
 abbrev pub cost_changes : Run → Run → List ℕ
 cost_changes old new =
     numbered (piece_if cost_line) 0 (others same_row (costs_of old) (costs_of new))
