@@ -2,28 +2,27 @@
 use Rattle.std.proofs.Common.{◌≡◌, ℕ, suc, ◌+◌, ◌*◌, ◌^◌, ◌<◌, ◌≤◌, ◌==◌, ◌&&◌, Bool, true, false, cond, not, List, [], ◌∷◌, ◌++◌, map, take, filter, length, fold, sum_by, replicate, All, refl, sym, ◌∙◌, ap, arith, get_or, subst, inl, inr, append_assoc, append-nil}
 use Rattle.std.proofs.lemmas.Bool.{eq-eqb, ne_eqb, cases_eq, cases_lt}
 use Rattle.std.proofs.lemmas.List.{length-set, set_past, get_or-set_same, get_or-set_other, get_or-replicate, length-replicate, get_or-take, length-take-le, take_more, map-append, length-map, length-append, get_or-map}
-use Rattle.std.proofs.lemmas.List.Elements.{filter-append, All-set, All-map, All-tail, All-head, All-replicate, All-append}
-use Rattle.std.proofs.lemmas.List.Sums.{sum_by-cons, sum_by-append}
+use Rattle.std.proofs.lemmas.List.Elements.{All-set, All-map, All-tail, All-head, All-replicate, All-append}
+use Rattle.std.proofs.lemmas.List.Sums.{sum_by-cons}
 use Rattle.std.proofs.lemmas.List.FromFn.{fill_by_all}
 use Rattle.std.proofs.lemmas.Grind.{common_steps, fold-append}
 use Rattle.bsp_model.specs.declared.request.Put.{Put}
 use Rattle.bsp_model.specs.declared.request.Get.{Get}
-use Rattle.bsp_model.specs.declared.request.Send.{Send}
 use Rattle.bsp_step.specs.OutcomeParts.{OutcomeParts, IsShortSend, outcome_of}
 use Rattle.bsp_deliver.specs.declared.cost.Sums.{Sums}
-use Rattle.bsp_deliver.specs.Requests.{each_below, requests_from, all_puts, all_gets, all_sends}
+use Rattle.bsp_deliver.specs.Requests.{each_below}
 use Rattle.bsp_deliver.specs.Condition.{sizes_of, AreRequestsInside, AreDeliverable}
-use Rattle.bsp_deliver.specs.Cost.{Transfer, put_transfer, get_transfer, send_transfer, transfers, count_sent, count_received}
-use Rattle.bsp_deliver.specs.Inside.Sums.{raised, counted, no_words, transfers_of, transfers_from, HasRoom, IsSmall}
-use Rattle.bsp_deliver.proofs.Senders.{at_item, length-sizes_of, map_twice}
-use Rattle.bsp_deliver.proofs.Writes.{each_below-same}
+use Rattle.bsp_deliver.specs.Cost.{Transfer, put_transfer, get_transfer, send_transfer, count_sent, count_received}
+use Rattle.bsp_deliver.specs.Inside.Sums.{raised, counted, counted_to, no_words, transfers_of, transfers_from, HasRoom, IsSmall}
+use Rattle.bsp_deliver.proofs.Senders.{at_item, length-sizes_of}
 
 -- one transfer more is counted
-pub counted_more : {R : Type 0} (f : R → Transfer) (s now : Sums) (rs : List R) (i : ℕ) (r : R) → i < length rs → r ≡ get_or rs i r → now ≡ fold counted s (map f (take i rs)) → counted now (f r) ≡ fold counted s (map f (take (i + 1) rs))
-counted_more f s now rs i r l e h =
-    ap (λ (t : Sums). counted t (f r)) h
-    ∙ sym (fold-append counted s (map f (take i rs)) (f r ∷ []))
-    ∙ ap (fold counted s) (sym (map-append f (take i rs) (r ∷ [])) ∙ ap (map f) (ap (λ x. take i rs ++ x ∷ []) e ∙ sym (take_more rs i r l)))
+pub counted_more : {R : Type 0} (w : ℕ → Bool) (f : R → Transfer) (s now : Sums) (rs : List R) (i : ℕ) (r : R) → i < length rs → r ≡ get_or rs i r → now ≡ fold (counted_to w) s (map f (take i rs))
+    → counted_to w now (f r) ≡ fold (counted_to w) s (map f (take (i + 1) rs))
+counted_more w f s now rs i r l e h =
+    ap (λ (t : Sums). counted_to w t (f r)) h
+    ∙ sym (fold-append (counted_to w) s (map f (take i rs)) (f r ∷ []))
+    ∙ ap (fold (counted_to w) s) (sym (map-append f (take i rs) (r ∷ [])) ∙ ap (map f) (ap (λ x. take i rs ++ x ∷ []) e ∙ sym (take_more rs i r l)))
 
 -- less room is room
 pub less_room : (s : Sums) (m n : ℕ) → m ≤ n → HasRoom s n → HasRoom s m
@@ -48,10 +47,13 @@ counted_room s t m small h =
       | false ↦ record { sent = raised_room s.sent t.source t.count m small.few_words h.sent; received = raised_room s.received t.target t.count m small.few_words h.received }
     ]
 
-pub room_after : (s : Sums) (ts : List Transfer) (n : ℕ) → All IsSmall ts → HasRoom s (length ts + n) → HasRoom (fold counted s ts) n
-room_after s [] n small h = less_room s n (0 + n) (omega arith) h
-room_after s (t ∷ ts) n small h =
-    room_after (counted s t) ts n (All-tail IsSmall t ts small) (counted_room s t (length ts + n) (All-head IsSmall t ts small) (less_room s (suc (length ts + n)) (suc (length ts) + n) (omega arith) h))
+counted_to_room : (w : ℕ → Bool) (s : Sums) (t : Transfer) (m : ℕ) → IsSmall t → HasRoom s (suc m) → HasRoom (counted_to w s t) m
+counted_to_room w s t m small h = elim (w t.target) as (λ b. HasRoom (cond b (counted s t) s) m) [ true ↦ counted_room s t m small h | false ↦ less_room s m (suc m) (omega arith) h ]
+
+pub room_after : (w : ℕ → Bool) (s : Sums) (ts : List Transfer) (n : ℕ) → All IsSmall ts → HasRoom s (length ts + n) → HasRoom (fold (counted_to w) s ts) n
+room_after w s [] n small h = less_room s n (0 + n) (omega arith) h
+room_after w s (t ∷ ts) n small h =
+    room_after w (counted_to w s t) ts n (All-tail IsSmall t ts small) (counted_to_room w s t (length ts + n) (All-head IsSmall t ts small) (less_room s (suc (length ts + n)) (suc (length ts) + n) (omega arith) h))
 
 pub no_words_room : (n : ℕ) → 4112 * n < 2 ^ 29 → HasRoom no_words n
 no_words_room n h =
@@ -103,7 +105,7 @@ length_received : (s : Sums) (t : Transfer) → length (counted s t).received �
 length_received s t =
     elim (t.source == t.target) as (λ b. length (cond b s (record { sent = raised s.sent t.source t.count; received = raised s.received t.target t.count })).received ≡ length s.received) [ true ↦ refl | false ↦ length-set s.received t.target (get_or s.received t.target 0 + t.count) ]
 
-sum_more : (P : Transfer → Bool) (t : Transfer) (ts : List Transfer) → sum_by (λ (x : Transfer). x.count) (filter P (t ∷ ts)) ≡ cond (P t) t.count 0 + sum_by (λ (x : Transfer). x.count) (filter P ts)
+pub sum_more : (P : Transfer → Bool) (t : Transfer) (ts : List Transfer) → sum_by (λ (x : Transfer). x.count) (filter P (t ∷ ts)) ≡ cond (P t) t.count 0 + sum_by (λ (x : Transfer). x.count) (filter P ts)
 sum_more P t ts =
     elim (P t) as (λ b. sum_by (λ (x : Transfer). x.count) (cond b (t ∷ filter P ts) (filter P ts)) ≡ cond b t.count 0 + sum_by (λ (x : Transfer). x.count) (filter P ts)) [
       | true ↦ sum_by-cons (λ (x : Transfer). x.count) t (filter P ts)
@@ -151,19 +153,21 @@ transfers_from-append n m [] o e = let k : m ≡ n = omega arith in rw k (append
 transfers_from-append n m (x ∷ os) o e =
     ap (λ ys. transfers_of n x ++ ys) (transfers_from-append (n + 1) m os o (omega arith)) ∙ sym (append_assoc (transfers_of n x) (transfers_from (n + 1) os) (transfers_of m o))
 
-pub transfers_more : (s : Sums) (os : List OutcomeParts) (p : ℕ) → p < length os
-    → fold counted (fold counted s (transfers_from 0 (take p os))) (transfers_of p (outcome_of os p)) ≡ fold counted s (transfers_from 0 (take (p + 1) os))
-transfers_more s os p l =
+pub transfers_more : (w : ℕ → Bool) (s : Sums) (os : List OutcomeParts) (p : ℕ) → p < length os
+    → fold (counted_to w) (fold (counted_to w) s (transfers_from 0 (take p os))) (transfers_of p (outcome_of os p)) ≡ fold (counted_to w) s (transfers_from 0 (take (p + 1) os))
+transfers_more w s os p l =
     let long : p ≡ 0 + length (take p os) = grind (arith, common_steps) in
-    sym (fold-append counted s (transfers_from 0 (take p os)) (transfers_of p (outcome_of os p)))
-    ∙ ap (fold counted s) (sym (transfers_from-append 0 p (take p os) (outcome_of os p) long) ∙ ap (transfers_from 0) (sym (take_more os p _ l)))
+    sym (fold-append (counted_to w) s (transfers_from 0 (take p os)) (transfers_of p (outcome_of os p)))
+    ∙ ap (fold (counted_to w) s) (sym (transfers_from-append 0 p (take p os) (outcome_of os p) long) ∙ ap (transfers_from 0) (sym (take_more os p _ l)))
 
-pub room_next : {R : Type 0} (f : R → Transfer) (xs : List R) (s : Sums) (m n : ℕ) → All (λ x. IsSmall (f x)) xs → length xs + n ≤ m → HasRoom s m → HasRoom (fold counted s (map f xs)) n
-room_next f xs s m n small l h =
-    room_after s (map f xs) n (All-map IsSmall f xs small) (less_room s (length (map f xs) + n) m (omega (arith, length-map xs f)) h)
+pub room_next : {R : Type 0} (w : ℕ → Bool) (f : R → Transfer) (xs : List R) (s : Sums) (m n : ℕ) → All (λ x. IsSmall (f x)) xs → length xs + n ≤ m → HasRoom s m
+    → HasRoom (fold (counted_to w) s (map f xs)) n
+room_next w f xs s m n small l h =
+    room_after w s (map f xs) n (All-map IsSmall f xs small) (less_room s (length (map f xs) + n) m (omega (arith, length-map xs f)) h)
 
-pub room_at : {R : Type 0} (f : R → Transfer) (xs : List R) (s after : Sums) (m n : ℕ) → after ≡ fold counted s (map f xs) → All (λ x. IsSmall (f x)) xs → length xs + n ≤ m → HasRoom s m → HasRoom after n
-room_at f xs s after m n e small l h = subst (λ (x : Sums). HasRoom x n) (sym e) (room_next f xs s m n small l h)
+pub room_at : {R : Type 0} (w : ℕ → Bool) (f : R → Transfer) (xs : List R) (s after : Sums) (m n : ℕ) → after ≡ fold (counted_to w) s (map f xs) → All (λ x. IsSmall (f x)) xs → length xs + n ≤ m → HasRoom s m
+    → HasRoom after n
+room_at w f xs s after m n e small l h = subst (λ (x : Sums). HasRoom x n) (sym e) (room_next w f xs s m n small l h)
 
 -- the requests of a process are small
 size_at : (os : List OutcomeParts) (q : ℕ) → AreDeliverable os → q < length (sizes_of os) → get_or (sizes_of os) q 0 ≤ 4096
@@ -217,47 +221,3 @@ length-transfers_of p o =
       length-map o.gets (get_transfer p),
       length-map o.sends (send_transfer p),
     )
-
--- the sums process by process are the sums over all puts, all gets and all messages
-abbrev total : (Transfer → Bool) → List Transfer → ℕ
-total P ts = sum_by (λ (t : Transfer). t.count) (filter P ts)
-
-total-append : (P : Transfer → Bool) (xs ys : List Transfer) → total P (xs ++ ys) ≡ total P xs + total P ys
-total-append P xs ys = ap (sum_by (λ (t : Transfer). t.count)) (filter-append P xs ys) ∙ sum_by-append (λ (t : Transfer). t.count) (filter P xs) (filter P ys)
-
-total-three : (P : Transfer → Bool) (xs ys zs : List Transfer) → total P (xs ++ ys ++ zs) ≡ total P xs + total P ys + total P zs
-total-three P xs ys zs = omega (arith, total-append P (xs ++ ys) zs, total-append P xs ys)
-
--- one sender's requests and the others'
-total_by_sender : {R : Type 0} (P : Transfer → Bool) (of : OutcomeParts → List R) (f : ℕ → R → Transfer) (n : ℕ) (o : OutcomeParts) (os : List OutcomeParts)
-    → total P (map (λ (s : ℕ × R). f s.0 s.1) (requests_from of n (o ∷ os))) ≡ total P (map (f n) (of o)) + total P (map (λ (s : ℕ × R). f s.0 s.1) (requests_from of (n + 1) os))
-total_by_sender {R = R} P of f n o os =
-    let F : (ℕ × R) → Transfer = λ s. f s.0 s.1 in
-    ap (total P) (map-append F (map (λ r. (n, r)) (of o)) (requests_from of (n + 1) os) ∙ ap (λ xs. xs ++ map F (requests_from of (n + 1) os)) (sym (map_twice F (λ r. (n, r)) (of o))))
-    ∙ total-append P (map (f n) (of o)) (map F (requests_from of (n + 1) os))
-
-total_from : (P : Transfer → Bool) (n : ℕ) (os : List OutcomeParts)
-    → total P (transfers_from n os) ≡ total P (map (λ (s : ℕ × Put). put_transfer s.0 s.1) (requests_from (λ o. o.puts) n os)) + total P (map (λ (s : ℕ × Get). get_transfer s.0 s.1) (requests_from (λ o. o.gets) n os)) + total P (map (λ (s : ℕ × Send). send_transfer s.0 s.1) (requests_from (λ o. o.sends) n os))
-total_from P n [] = refl
-total_from P n (o ∷ os) =
-    omega (
-      arith,
-      total-append P (transfers_of n o) (transfers_from (n + 1) os),
-      total-three P (map (put_transfer n) o.puts) (map (get_transfer n) o.gets) (map (send_transfer n) o.sends),
-      total_from P (n + 1) os,
-      total_by_sender P (λ x. x.puts) put_transfer n o os,
-      total_by_sender P (λ x. x.gets) get_transfer n o os,
-      total_by_sender P (λ x. x.sends) send_transfer n o os,
-    )
-
-total_all : (P : Transfer → Bool) (os : List OutcomeParts) → total P (transfers_from 0 os) ≡ total P (transfers os)
-unfolding transfers all_puts all_gets all_sends
-total_all P os =
-    total_from P 0 os
-    ∙ sym (total-three P (map (λ (s : ℕ × Put). put_transfer s.0 s.1) (requests_from (λ o. o.puts) 0 os)) (map (λ (s : ℕ × Get). get_transfer s.0 s.1) (requests_from (λ o. o.gets) 0 os)) (map (λ (s : ℕ × Send). send_transfer s.0 s.1) (requests_from (λ o. o.sends) 0 os)))
-
-pub sent_over_all : (os : List OutcomeParts) (n : ℕ) → each_below n (count_sent (transfers_from 0 os)) ≡ each_below n (count_sent (transfers os))
-sent_over_all os n = each_below-same n (count_sent (transfers_from 0 os)) (count_sent (transfers os)) (λ p l. total_all (λ t. (t.source == p) && not (t.target == p)) os)
-
-pub received_over_all : (os : List OutcomeParts) (n : ℕ) → each_below n (count_received (transfers_from 0 os)) ≡ each_below n (count_received (transfers os))
-received_over_all os n = each_below-same n (count_received (transfers_from 0 os)) (count_received (transfers os)) (λ p l. total_all (λ t. (t.target == p) && not (t.source == p)) os)

@@ -17,3 +17,5 @@ pub mod ReadWords
 pub mod WrittenAt
 pub mod CellsOf
 pub mod MovedMemories
+pub mod Targeted
+pub mod BothOk

@@ -13,8 +13,9 @@ use Rattle.bsp_model.proofs.ProcessSets.{member_within, processes_are}
 use Rattle.bsp_step.specs.OutcomeParts.{OutcomeParts, no_outcome, outcome_of}
 use Rattle.bsp_deliver.specs.Requests.{each_below, all_puts, all_sends, words_read}
 use Rattle.bsp_deliver.specs.Delivery.{DeliveryParts, delivery_parts}
-use Rattle.bsp_deliver.specs.Inside.Comparison.{HasSameParcel, KeepsOwn, BringsSame, AllBringSame, ReadsSame, IsReadable}
+use Rattle.bsp_deliver.specs.Inside.Comparison.{HasSameParcel, KeepsOwn, BringsSame, AllBringSame, ReadsSame}
 use Rattle.bsp_deliver.specs.Condition.{AreDeliverable}
+use Rattle.bsp_deliver.specs.Readable.{IsReadable}
 use Rattle.bsp_deliver.specs.Touched.{AreSameUnlessMarked}
 use Rattle.bsp_deliver.specs.Inside.Marks.{AreMarkedUnless, AreToKnown}
 use Rattle.bsp_deliver.proofs.Senders.{length-sizes_of, readable_gets}

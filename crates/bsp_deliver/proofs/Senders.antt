@@ -12,7 +12,7 @@ use Rattle.bsp_step.specs.OutcomeParts.{OutcomeParts, no_outcome, outcome_of}
 use Rattle.bsp_deliver.specs.Requests.{requests_from, all_puts, all_sends}
 use Rattle.bsp_deliver.specs.Delivery.{delivery_parts}
 use Rattle.bsp_deliver.specs.Condition.{sizes_of, IsPutInside, AreRequestsInside, AreDeliverable}
-use Rattle.bsp_deliver.specs.Inside.Comparison.{IsReadable}
+use Rattle.bsp_deliver.specs.Readable.{IsReadable}
 
 -- a fact of each element, at the one that was read
 pub at_item : {X : Type 0} (P : X → Type 0) (xs : List X) (i : ℕ) (x : X) → All P xs → i < length xs → x ≡ get_or xs i x → P x

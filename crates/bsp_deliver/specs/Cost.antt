@@ -1,5 +1,5 @@
 -- The h-relation of a superstep (the usual additive BSP cost formula, later than Valiant 1990; units and what counts: this profile).
-use Rattle.std.specs.Prelude.{ℕ, ◌+◌, ◌&&◌, ◌==◌, not, max, List, [], ◌∷◌, ◌++◌, map, filter, length, sum_by}
+use Rattle.std.specs.Prelude.{ℕ, Bool, ◌+◌, ◌&&◌, ◌==◌, not, max, List, [], ◌∷◌, ◌++◌, map, filter, length, sum_by}
 use Rattle.bsp_model.specs.declared.request.Put.{Put}
 use Rattle.bsp_model.specs.declared.request.Get.{Get}
 use Rattle.bsp_model.specs.declared.request.Send.{Send}
@@ -44,3 +44,12 @@ largest (n ∷ ns) = max n (largest ns)
 unfoldable pub h_relation : List OutcomeParts → ℕ
 h_relation os =
     max (largest (each_below (length os) (count_sent (transfers os)))) (largest (each_below (length os) (count_received (transfers os))))
+
+-- the requests of the superstep that move words to these processes
+abbrev pub transfers_to : (ℕ → Bool) → List OutcomeParts → List Transfer
+transfers_to targets os = filter (λ t. targets t.target) (transfers os)
+
+-- The largest number of words that a process sends or receives, of the requests to these processes alone.
+unfoldable pub h_relation_to : (ℕ → Bool) → List OutcomeParts → ℕ
+h_relation_to targets os =
+    let ts = transfers_to targets os in max (largest (each_below (length os) (count_sent ts))) (largest (each_below (length os) (count_received ts)))

@@ -2,6 +2,7 @@ pub mod Requests
 pub mod Delivery
 pub mod Inbox
 pub mod Condition
+pub mod Readable
 pub mod SyncFault
 pub mod Cost
 pub mod Touched

@@ -51,8 +51,8 @@ impl Cells {
     fn reserve_like(&mut self, like: &Cells) -> Result<(), OutOfMemory>
         ensures { self.new ≡ self.old }
     {
-        self.memories.reserve_like(&like.memories, Share::whole())?;
-        self.queues.reserve_like(&like.queues, Share::whole())
+        let memories = self.memories.reserve_like(&like.memories, Share::whole());
+        memories.and(self.queues.reserve_like(&like.queues, Share::whole()))
     }
 
     /// Takes all processes away. The room stays.
@@ -95,8 +95,7 @@ impl Cells {
         ensures err { OnErr result (self.new ≡ self.old) }
     {
         self.queues.put(self.memories.len(), queue)?;
-        self.memories.push_from(memory)?;
-        Ok(())
+        self.memories.push_from(memory)
     }
 
     /// Adds one process more, with copies of this memory and this queue. After `OutOfMemory` nothing has changed.
@@ -109,8 +108,7 @@ impl Cells {
         ensures err { OnErr result (self.new ≡ self.old) }
     {
         self.queues.put(self.memories.len(), queue)?;
-        self.memories.push_copy(memory)?;
-        Ok(())
+        self.memories.push_copy(memory)
     }
 
     /// These memories and queues, but for new ones of some processes, which are in ascending order.
@@ -153,7 +151,6 @@ impl ByProcess for Cells {
     fn append_range(&mut self, more: &Cells, from: usize, to: usize) -> Result<(), OutOfMemory> {
         self.queues
             .take_range(self.memories.len(), &more.queues, from, to)?;
-        self.memories.append_range(&more.memories, from, to)?;
-        Ok(())
+        self.memories.append_range(&more.memories, from, to)
     }
 }

@@ -32,8 +32,8 @@ pub(crate) fn queues_after(
     let mut queue = Queue::new(alloc);
     for place in 0..processes.len() {
         queue.clear();
-        add_queue(&mut queue, processes[place], &sends, outcomes)?;
-        queues.put(place, &queue.as_ref())?;
+        let added = add_queue(&mut queue, processes[place], &sends, outcomes);
+        added.and(queues.put(place, &queue.as_ref()))?;
     }
     Ok(())
 }

@@ -18,12 +18,12 @@ mod writing;
 
 pub use addressed::inbox;
 pub use cells::Cells;
-pub use cost::h_of;
+pub use cost::{h_of, h_to};
 pub use delivery::{deliver, deliver_inbox};
 pub use faults::{has_sync, next_tag_size, sync_fault};
 pub use gathering::deliver_some;
 pub use inboxes::Inbox;
 pub use moving::deliver_moving;
-pub use same::{answers_same, parcel_same};
+pub use same::{answers_same, are_same_puts, are_same_sends, is_same_answer, parcel_same};
 pub use sorting::{SortedRequests, deliver_sorted, sort_requests};
 pub use touched::touched_by_changes;

@@ -38,14 +38,14 @@ fn move_memories(
     requires processes { processes.now ≡ range_with_len 0 (length outcomes.old) }
     ensures { OnOk result (memories.new ≡ map (λ d. next_memory (delivery_parts outcomes.old d)) processes.now) }
 {
-    match mem::replace(outcomes, Outcomes::new()).into_memories() {
-        Ok((handed, puts)) => {
+    match outcomes.take_memories() {
+        Some((handed, puts)) => {
             let room = mem::replace(memories, handed);
-            write_rows(memories, processes, &puts)?;
-            *outcomes = puts.into_room(room).share()?;
-            Ok(())
+            let written = write_rows(memories, processes, &puts);
+            let kept = puts.keep_room(room, outcomes);
+            written.and(kept)
         }
-        Err(shared) => memories_after(alloc, &shared, processes, memories),
+        None => memories_after(alloc, outcomes, processes, memories),
     }
 }
 

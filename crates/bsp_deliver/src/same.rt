@@ -4,7 +4,8 @@ ghost use Rattle.std.specs.Prelude.{◌≡◌, ℕ, ◌+◌, ◌<◌, ◌≤◌,
 ghost use Rattle.bsp_deliver.specs.Requests.{each_below, words_read};
 ghost use Rattle.bsp_deliver.specs.Delivery.{delivery_parts};
 ghost use Rattle.bsp_deliver.specs.Condition.{AreDeliverable};
-ghost use Rattle.bsp_deliver.specs.Inside.Comparison.{HasSameParcel, IsReadable};
+ghost use Rattle.bsp_deliver.specs.Readable.{IsReadable};
+ghost use Rattle.bsp_deliver.specs.Inside.Comparison.{HasSameParcel};
 
 use crate::addressed::Addressed;
 use crate::touched::read_same_words;
@@ -56,11 +57,27 @@ pub(crate) fn are_same_to<R: Addressed>(
     i == old_count && j == new_count
 }
 
+/// Whether one sender puts the same to `d`.
+#[inline(always)]
+pub fn are_same_puts(old: &OutcomeRef<'_>, new: &OutcomeRef<'_>, d: u64) -> bool
+    ensures { IsTrue result ↔ (filter (λ p. p.target == d) old.now.puts ≡ filter (λ p. p.target == d) new.now.puts) }
+{
+    are_same_to::<Put>(old, new, 0, d)
+}
+
+/// Whether one sender sends the same to `d`.
+#[inline(always)]
+pub fn are_same_sends(old: &OutcomeRef<'_>, new: &OutcomeRef<'_>, d: u64) -> bool
+    ensures { IsTrue result ↔ (filter (λ m. m.target == d) old.now.sends ≡ filter (λ m. m.target == d) new.now.sends) }
+{
+    are_same_to::<Send>(old, new, 0, d)
+}
+
 /// Whether one sender puts and sends the same to `d`.
 fn is_same_parcel(old: &OutcomeRef<'_>, new: &OutcomeRef<'_>, d: u64) -> bool
     ensures { IsTrue result ↔ HasSameParcel d old.now new.now }
 {
-    are_same_to::<Put>(old, new, 0, d) && are_same_to::<Send>(old, new, 0, d)
+    are_same_puts(old, new, d) && are_same_sends(old, new, d)
 }
 
 /// Whether the puts and the sends to `d` are equal lists, senders kept. It takes no memory.
@@ -94,7 +111,7 @@ fn are_same_words(old: &MemoryRef<'_>, new: &MemoryRef<'_>, start: u64, len: u64
 }
 
 /// Whether a get reads the same words.
-pub(crate) fn is_same_answer(old: &Outcomes, new: &Outcomes, get: &Get) -> bool
+pub fn is_same_answer(old: &Outcomes, new: &Outcomes, get: &Get) -> bool
     requires old { IsReadable old.now get.now }
     requires new { IsReadable new.now get.now }
     ensures { IsTrue result ↔ (words_read old.now get.now ≡ words_read new.now get.now) }

@@ -4,7 +4,8 @@ ghost use Rattle.std.specs.Prelude.{◌≡◌, ◌<◌, ◌↔◌, IsTrue, All, 
 ghost use Rattle.bsp_deliver.specs.Requests.{words_read};
 ghost use Rattle.bsp_deliver.specs.Delivery.{delivery_parts};
 ghost use Rattle.bsp_deliver.specs.Condition.{AreDeliverable};
-ghost use Rattle.bsp_deliver.specs.Inside.Comparison.{AllBringSame, BringsSame, HasSameOwn, HaveGetsUnlessMarked, IsReadable, ReadsSame};
+ghost use Rattle.bsp_deliver.specs.Readable.{IsReadable};
+ghost use Rattle.bsp_deliver.specs.Inside.Comparison.{AllBringSame, BringsSame, HasSameOwn, HaveGetsUnlessMarked, ReadsSame};
 ghost use Rattle.bsp_deliver.specs.Inside.Marks.{AreMarkedUnless};
 ghost use Rattle.bsp_deliver.specs.Touched.{AreSameUnlessMarked, AreTouched};
 

@@ -23,7 +23,7 @@ use Rattle.bsp_incr.specs.Reused.{reused, outcome_there, AreReused}
 use Rattle.bsp_incr.proofs.Reusing.{turn_of-alike}
 
 -- a place with a turn is in a superstep
-step_there : (ss : List Superstep) (place : Place) → HasTurn ss place → place.step < length ss
+pub step_there : (ss : List Superstep) (place : Place) → HasTurn ss place → place.step < length ss
 step_there ss place h =
     elim (cases_lt place.step (length ss)) [
       | inl l ↦ l

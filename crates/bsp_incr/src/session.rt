@@ -94,6 +94,13 @@ impl<P: Program + Drop> Session<P> {
         }
     }
 
+    /// The program.
+    pub fn program(&self) -> &P
+        ensures { result.now ≡ self.now.program }
+    {
+        &self.program
+    }
+
     /// The input, in which there is no fault.
     pub fn input(&self) -> &Input
         ensures input { result.now ≡ self.now.input }

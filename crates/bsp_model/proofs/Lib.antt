@@ -16,6 +16,7 @@ pub mod RowsCut
 pub mod RowsOf
 pub mod RowRanges
 pub mod SameRanges
+pub mod StoredRanges
 pub mod StoredWords
 pub mod Writes
 pub mod WrittenMemories

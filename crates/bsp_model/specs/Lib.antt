@@ -6,5 +6,6 @@ pub mod Memory
 pub mod ProcessSet
 pub mod PutsTo
 pub mod Replaced
+pub mod StoredRanges
 pub mod Stores
 pub mod Inside

@@ -44,6 +44,7 @@ pub use memory::Memory;
 pub use memory_ref::MemoryRef;
 pub use places::{are_among, are_few, place_among};
 pub use process_set::{Members, ProcessSet};
+pub use range::Range;
 pub use request::{Get, Message, Put, Send, Store};
 pub(crate) use rows::{Rows, RowsRef};
 pub use seq::{Seq, are_same};

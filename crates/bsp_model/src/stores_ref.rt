@@ -1,6 +1,7 @@
 //! Stores that are read where they lie.
 
 ghost use Rattle.std.specs.Prelude.{◌≡◌, ◌+◌, ◌^◌, ◌<◌, ◌≤◌, ◌∷◌, ◌↔◌, [], ℕ, List, length, take, drop, IfOk, IsTrue, MatchOption, OnOk};
+ghost use Rattle.bsp_model.specs.StoredRanges.{ranges_stored};
 ghost use Rattle.bsp_model.specs.Stores.{records, made_again, words_stored};
 ghost use Rattle.bsp_model.specs.Inside.Beside.{words_beside};
 ghost use Rattle.bsp_model.specs.Inside.Ranges.{stores_of, AreRanges};
@@ -93,7 +94,7 @@ fn write_ranges(memory: &mut Memory, ranges: &[Range], values: &[u64]) -> Result
 impl<'a> StoresRef<'a> {
     /// How many they are.
     #[inline(always)]
-    fn len(&self) -> usize
+    pub fn len(&self) -> usize
         ensures { result ≡ length self.now }
     {
         match range_beside(self.ranges, self.values) {
@@ -102,9 +103,16 @@ impl<'a> StoresRef<'a> {
         }
     }
 
+    /// The ranges of words that were stored one behind the other, in order.
+    pub fn ranges(&self) -> &'a [Range]
+        ensures { result.now ≡ ranges_stored self.now }
+    {
+        self.ranges
+    }
+
     /// The words that were stored, from the place `from` on, as far as they lie in one piece: at least one where there is any.
     #[inline(always)]
-    fn piece(&self, from: usize) -> &'a [u64]
+    pub fn piece(&self, from: usize) -> &'a [u64]
         requires { from ≤ length self.now }
         ensures there { result.now ≡ take (length result.now) (drop from (words_stored self.now)) }
         ensures some { from < length self.now → 0 < length result.now }

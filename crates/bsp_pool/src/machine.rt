@@ -60,14 +60,20 @@ impl<W: Work + Drop> Core<W> {
         ensures law { IfOk result (λ core. (events : List Event) → KeepsRounds (W.does work) core events) }
     {
         let inputs = inputs_at(phases.as_slice(), 0);
-        let round = Round::open(alloc, inputs.len(), workers)?;
-        Ok(Core {
-            alloc,
-            work,
-            phases,
-            committed: Vec::new(alloc),
-            round,
-        })
+        match Round::open(alloc, inputs.len(), workers) {
+            Ok(round) => Ok(Core {
+                alloc,
+                work,
+                phases,
+                committed: Vec::new(alloc),
+                round,
+            }),
+            Err(error) => {
+                drop(work);
+                drop(phases);
+                Err(error)
+            }
+        }
     }
 
     /// The outputs of the phases that are committed, in order: what the work gives for the inputs of the first phases.

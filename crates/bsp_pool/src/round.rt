@@ -51,11 +51,18 @@ impl<T: Drop> Round<T> {
     ) -> Result<Round<T>, OutOfMemory>
         ensures { IfOk result (λ r. r ≡ opened inputs workers) }
     {
-        Ok(Round {
-            draws: Vec::new(alloc),
-            workers: vec![in alloc; Worker::Ready; workers]?,
-            outputs: no_outputs(alloc, inputs)?,
-        })
+        let workers = vec![in alloc; Worker::Ready; workers]?;
+        match no_outputs(alloc, inputs) {
+            Ok(outputs) => Ok(Round {
+                draws: Vec::new(alloc),
+                workers,
+                outputs,
+            }),
+            Err(error) => {
+                drop(workers);
+                Err(error)
+            }
+        }
     }
 
     /// The worker takes the next number.
@@ -138,10 +145,18 @@ pub(crate) fn turn<W: Work>(
     ensures next { OnOk result (round.new ≡ opened next_inputs (length round.old.workers)) }
     ensures err { OnErr result (round.new ≡ round.old) }
 {
-    let missing = work_missing(alloc, work, inputs, round.outputs.as_slice())?;
-    let next = Round::open(alloc, next_inputs, round.workers.len())?;
-    let Round { outputs, .. } = mem::replace(round, next);
-    Ok(merged(outputs, missing))
+    let places = no_outputs(alloc, next_inputs)?;
+    match work_missing(alloc, work, inputs, round.outputs.as_slice()) {
+        Ok(missing) => {
+            round.draws.clear();
+            round.workers.fill(Worker::Ready);
+            Ok(merged(mem::replace(&mut round.outputs, places), missing))
+        }
+        Err(error) => {
+            drop(places);
+            Err(error)
+        }
+    }
 }
 
 /// A list of so many places, in which no output is kept.

@@ -31,28 +31,25 @@ pub(crate) fn work_missing<W: Work>(
     ensures empty { IfOk result (λ missing. missing.room.items ≡ []) }
     ensures room { IfOk result (λ missing. length inputs.now ≤ vec_capacity missing.room) }
 {
-    let room = Vec::with_capacity(alloc, inputs.len())?;
     let mut made = Vec::with_capacity(alloc, inputs.len())?;
     for (number, input) in inputs.iter().enumerate() {
-        let output = made_for(alloc, work, input, &kept[number])?;
-        made.push_reserved(output);
+        match &kept[number] {
+            Some(_) => made.push_reserved(None),
+            None => match work.work(alloc, input) {
+                Ok(output) => made.push_reserved(Some(output)),
+                Err(error) => {
+                    drop(made);
+                    return Err(error);
+                }
+            },
+        }
     }
-    Ok(Missing { made, room })
-}
-
-/// The output of this input, if none was kept.
-fn made_for<W: Work>(
-    alloc: Global,
-    work: &W,
-    input: &W::In,
-    kept: &Option<W::Out>,
-) -> Result<Option<W::Out>, OutOfMemory>
-    requires { W.accepts work.now input.now }
-    ensures { IfOk result (λ made. made ≡ made_unless kept.now (W.does work.now input.now)) }
-{
-    match kept {
-        Some(_) => Ok(None),
-        None => Ok(Some(work.work(alloc, input)?)),
+    match Vec::with_capacity(alloc, inputs.len()) {
+        Ok(room) => Ok(Missing { made, room }),
+        Err(error) => {
+            drop(made);
+            Err(error)
+        }
     }
 }
 

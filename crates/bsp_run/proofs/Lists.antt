@@ -1,7 +1,7 @@
 -- Lists that are made by a function.
-use Rattle.std.proofs.Common.{◌≡◌, ◌<◌, ℕ, ◌+◌, List, [], ◌∷◌, ◌++◌, map, All, refl, ap, sym, ◌∙◌, arith}
+use Rattle.std.proofs.Common.{◌≡◌, ◌<◌, ◌≤◌, ℕ, ◌+◌, List, [], ◌∷◌, ◌++◌, map, take, All, refl, ap, sym, ◌∙◌, arith}
 use Rattle.std.specs.List.{range_with_len}
-use Rattle.std.proofs.lemmas.List.FromFn.{map-range_with_len_more, length-range_with_len, get_or-range_with_len, fill_by_all, get_or-map-range_with_len, length-map-range_with_len}
+use Rattle.std.proofs.lemmas.List.FromFn.{take-map-range_with_len, map-range_with_len_more, length-range_with_len, get_or-range_with_len, fill_by_all, get_or-map-range_with_len, length-map-range_with_len}
 use Rattle.bsp_deliver.specs.Requests.{each_below}
 use Rattle.bsp_deliver.specs.Condition.{IsAscending}
 
@@ -23,6 +23,11 @@ each_below_more f n = map-range_with_len_more f 0 n n (omega arith)
 pub range_more : (n : ℕ) → range_with_len 0 (n + 1) ≡ range_with_len 0 n ++ n ∷ []
 range_more n =
     sym (map_same (range_with_len 0 (n + 1))) ∙ map-range_with_len_more (λ k. k) 0 n n (omega arith) ∙ ap (λ ks. ks ++ n ∷ []) (map_same (range_with_len 0 n))
+
+-- the first of the numbers below n
+pub take_range : (n k : ℕ) → k ≤ n → take k (range_with_len 0 n) ≡ range_with_len 0 k
+take_range n k within =
+    ap (take k) (sym (map_same (range_with_len 0 n))) ∙ take-map-range_with_len (λ j. j) 0 n k within ∙ map_same (range_with_len 0 k)
 
 -- the numbers below n are below n
 pub range_below : (n : ℕ) → All (λ k. k < n) (range_with_len 0 n)

@@ -14,11 +14,19 @@ use Rattle.bsp_step.specs.ViewParts.{ViewParts, IsQueue, IsTableFor, IsShortMess
 use Rattle.bsp_deliver.specs.Condition.{AreDeliverable}
 use Rattle.bsp_run.specs.declared.setting.Setting.{Setting}
 use Rattle.bsp_run.specs.declared.superstep.Superstep.{Superstep}
-use Rattle.bsp_run.specs.State.{State, cell_of, first_state, no_messages, view_of, views_of}
+use Rattle.bsp_run.specs.State.{State, cell_of, first_cell, first_state, no_messages, view_of, views_of}
 use Rattle.bsp_run.specs.Run.{start, open_views}
 use Rattle.bsp_run.specs.Inside.Opening.{CanOpen, state_of}
 use Rattle.bsp_run.specs.Condition.{IsState, IsRun}
 use Rattle.bsp_run.proofs.Lists.{map_twice, map_agree, map_same}
+
+-- the first cells of all processes, by number
+pub first_cells : (seen mems : List (List ℕ)) (ps : List ℕ) (cells : List (List ℕ × List Message)) → seen ≡ mems → ps ≡ range_with_len 0 (length mems) → cells ≡ map (first_cell seen) ps → cells ≡ map (λ m. (m, no_messages m)) mems
+first_cells seen mems ps cells same all are =
+    let cell : List ℕ → List ℕ × List Message = λ m. (m, no_messages m) in
+    are
+    ∙ (λ i. map (first_cell (same i)) (all i))
+    ∙ sym (fill_by_all (first_cell mems) (map cell mems) (length mems) ([], []) (length-map mems cell) (λ p l. get_or-map cell mems p []))
 
 -- the state that views were made of
 abbrev pub state_seen : List ViewParts → List (List Area) → ℕ → State

@@ -1,8 +1,9 @@
 -- The shares of all processes are a whole superstep.
-use Rattle.std.proofs.Common.{◌≡◌, ◌<◌, ℕ, List, map, length, All, get_or, true, false, sym, ap, ◌∙◌, subst, refl}
+use Rattle.std.proofs.Common.{◌≡◌, ◌<◌, ◌+◌, ℕ, Bool, List, map, length, All, get_or, true, false, sym, ap, ◌∙◌, subst, refl}
 use Rattle.std.specs.List.{range_with_len}
 use Rattle.std.proofs.lemmas.List.{get_or-map, length-map}
-use Rattle.std.proofs.lemmas.List.FromFn.{fill_by_all}
+use Rattle.std.proofs.lemmas.List.FromFn.{fill_by_all, length-map-range_with_len}
+use Rattle.bsp_model.specs.declared.input.Input.{Input}
 use Rattle.bsp_model.specs.declared.request.Message.{Message}
 use Rattle.bsp_model.specs.declared.fault.End.{End}
 use Rattle.bsp_step.specs.ViewParts.{ViewParts, IsView}
@@ -10,10 +11,13 @@ use Rattle.bsp_step.specs.OutcomeParts.{OutcomeParts, no_outcome}
 use Rattle.bsp_step.specs.Act.{Act}
 use Rattle.bsp_step.specs.Turn.{turn_of}
 use Rattle.bsp_run.specs.declared.phase.Phase.TheVariants.{Open}
-use Rattle.bsp_run.specs.Run.{Run, open_views, after_turns, after_delivery, advance}
-use Rattle.bsp_run.specs.Condition.{AreOutcomesOf, no_view, is_turned, deliveries_of}
+use Rattle.bsp_run.specs.Run.{Run, start, open_views, after_turns, after_delivery, advance}
+use Rattle.bsp_run.specs.Condition.{AreOutcomesOf, no_view, is_open, is_turned, deliveries_of}
+use Rattle.bsp_run.specs.State.{first_state, next_state}
+use Rattle.bsp_run.proofs.Conditions.{length-views_of}
+use Rattle.bsp_deliver.specs.Delivery.{delivery_parts, next_memory}
 use Rattle.bsp_run.specs.Shares.{turns_of, deliveries_to}
-use Rattle.bsp_run.proofs.Runs.{advance-delivers, advance-ends}
+use Rattle.bsp_run.proofs.Runs.{advance-closed, advance-delivers, advance-ends, open_phase}
 use Rattle.bsp_run.specs.Inside.Turns.{AreTurnsOf}
 use Rattle.bsp_run.proofs.Lists.{range_below}
 use Rattle.bsp_run.proofs.Turns.{AreOutcomesOf-turns}
@@ -59,6 +63,37 @@ pub superstep_ended : (turn : ViewParts → OutcomeParts) (r t : Run) (os : List
 superstep_ended turn r t os opened made turned h =
     let same : t ≡ after_turns r (map turn (open_views r)) = turned ∙ ap (after_turns r) made.turns in
     same ∙ sym (advance-ends turn r opened (ap (λ (x : Run). is_turned x.phase) (sym same) ∙ h))
+
+-- There are as many processes at the start as memories in the input, and as many after a superstep as before.
+pub count-start : (input : Input) → length (open_views (start input)) ≡ length input.mems
+unfolding start first_state
+count-start input = length-views_of input.args 0 (first_state input)
+
+count-delivered : (t : Run) → length (open_views (after_delivery t)) ≡ length t.outcomes
+unfolding after_delivery next_state
+count-delivered t =
+    length-views_of t.args _ (next_state t.state t.outcomes) ∙ length-map-range_with_len (λ d. next_memory (delivery_parts t.outcomes d)) 0 (length t.outcomes)
+
+count-turned : (r : Run) (os : List OutcomeParts) → length (open_views (after_turns r os)) ≡ length (open_views r)
+unfolding after_turns
+count-turned r os = refl
+
+count-taken : (turn : ViewParts → OutcomeParts) (r : Run) (turned : Bool) → r.phase ≡ Open → is_turned (after_turns r (map turn (open_views r))).phase ≡ turned → length (open_views (advance turn r)) ≡ length (open_views r)
+count-taken turn r true opened is =
+    let os = map turn (open_views r) in
+    ap (λ (x : Run). length (open_views x)) (advance-delivers turn r opened is)
+    ∙ count-delivered (after_turns r os)
+    ∙ ap (λ (xs : List OutcomeParts). length xs) (after_turns-outcomes r os)
+    ∙ length-map (open_views r) turn
+count-taken turn r false opened is =
+    ap (λ (x : Run). length (open_views x)) (advance-ends turn r opened is) ∙ count-turned r (map turn (open_views r))
+
+count-unless_open : (turn : ViewParts → OutcomeParts) (r : Run) (opened : Bool) → is_open r.phase ≡ opened → length (open_views (advance turn r)) ≡ length (open_views r)
+count-unless_open turn r true is = count-taken turn r _ (open_phase r.phase is) refl
+count-unless_open turn r false is = ap (λ (x : Run). length (open_views x)) (advance-closed turn r is)
+
+pub count-advance : (turn : ViewParts → OutcomeParts) (r : Run) → length (open_views (advance turn r)) ≡ length (open_views r)
+count-advance turn r = count-unless_open turn r _ refl
 
 pub deliveries_made : (os : List OutcomeParts) (count : ℕ) (ds : List ℕ) (cells : List (List ℕ × List Message)) → length os ≡ count → ds ≡ range_with_len 0 count → cells ≡ deliveries_to os ds → cells ≡ deliveries_of os
 deliveries_made os count ds cells long all made = made ∙ ap (deliveries_to os) (all ∙ ap (range_with_len 0) (sym long)) ∙ deliveries_to-all os

@@ -84,7 +84,7 @@ pub underway_open : (turn : ViewParts → OutcomeParts) (input : Input) (n : ℕ
 underway_open turn input n vs kept u = u.phase ∙ opened_while ((n + 1) == 0) (n + 1) refl (omega arith)
 
 -- the processes are those that the views are of
-pub processes_are : (r : Run) (vs : List ViewParts) (kept : Unrecorded) → IsUnrecorded r vs kept → kept.processes.items ≡ range_with_len 0 (length vs)
+pub processes_are : (r : Run) (vs : List ViewParts) (kept : Unrecorded) → IsUnrecorded r vs kept → kept.processes.now ≡ range_with_len 0 (length vs)
 processes_are r vs kept h = h.processes ∙ ap (range_with_len 0) (sym (length-views_of r.args (length r.past) r.state)) ∙ ap (λ (vs : List ViewParts). range_with_len 0 (length vs)) (sym h.views)
 
 -- the outcomes that are made of the views that are kept
@@ -105,7 +105,7 @@ unfolding after_turns
 phase_then r os end e = ap phase_after e
 
 -- what is kept serves the run whose turns are taken
-pub kept_then : (r : Run) (vs : List ViewParts) (kept now : Unrecorded) (os : List OutcomeParts) (end : Option Status) → IsUnrecorded r vs kept → HaveTurns r vs os → end_of (length r.past) r.state.table os ≡ end → now.processes.items ≡ kept.processes.items → now.tally ≡ kept.tally → IsUnrecordedIn (phase_after end) (after_turns r os) vs now os
+pub kept_then : (r : Run) (vs : List ViewParts) (kept now : Unrecorded) (os : List OutcomeParts) (end : Option Status) → IsUnrecorded r vs kept → HaveTurns r vs os → end_of (length r.past) r.state.table os ≡ end → now.processes.now ≡ kept.processes.now → now.tally ≡ kept.tally → IsUnrecordedIn (phase_after end) (after_turns r os) vs now os
 unfolding after_turns
 kept_then r vs kept now os end h have e ep et =
     record {
@@ -127,7 +127,7 @@ pub are_turned : (r : Run) (vs : List ViewParts) (kept : Unrecorded) (os : List 
 are_turned r vs kept os h = record { run = h.same.run; phase = h.phase; views = h.same.views; outcomes = h.outcomes }
 
 -- there is an outcome of each process
-pub as_many : (r : Run) (vs : List ViewParts) (kept : Unrecorded) (os : List OutcomeParts) → IsUnrecordedIn Turned r vs kept os → kept.processes.items ≡ range_with_len 0 (length os)
+pub as_many : (r : Run) (vs : List ViewParts) (kept : Unrecorded) (os : List OutcomeParts) → IsUnrecordedIn Turned r vs kept os → kept.processes.now ≡ range_with_len 0 (length os)
 as_many r vs kept os h =
     let turned : IsTurned r = is_turned_run r h.same.run h.phase in
     h.same.processes ∙ ap (range_with_len 0) (sym (count_of_outcomes r.args (length r.past) r.state r.outcomes turned.turns)) ∙ ap (λ (us : List OutcomeParts). range_with_len 0 (length us)) h.outcomes
@@ -148,7 +148,7 @@ costs_more price past vs os =
     sym (ap (map price) (map-append of past (record { views = vs; outcomes = os } ∷ [])) ∙ map-append price (map of past) (os ∷ []))
 
 -- What is kept after the next superstep has opened.
-pub unrecorded_delivered : (r : Run) (os : List OutcomeParts) (old : Unrecorded) (ws : List ViewParts) (ps : List ℕ) (vs : List ViewParts) (sums : Tally) → IsUnrecordedIn Turned r ws old os → ps ≡ old.processes.items → vs ≡ next_views r → sums.g ≡ old.tally.g → sums.l ≡ old.tally.l
+pub unrecorded_delivered : (r : Run) (os : List OutcomeParts) (old : Unrecorded) (ws : List ViewParts) (ps : List ℕ) (vs : List ViewParts) (sums : Tally) → IsUnrecordedIn Turned r ws old os → ps ≡ old.processes.now → vs ≡ next_views r → sums.g ≡ old.tally.g → sums.l ≡ old.tally.l
     → AreLinesAnd old.tally.lines.items os sums.lines.items → sums.costs ≡ old.tally.costs ++ cost_of_delivery old.tally.g old.tally.l os ∷ [] → AreKept (after_delivery r) ps vs sums
 unfolding after_delivery
 unrecorded_delivered r os old ws ps vs sums h ep ev eg el en ec =
@@ -269,7 +269,7 @@ taken_by (Some status) r t vs now e ends h =
 
 -- The turns that are gathered are those of the views, and what is kept beside them serves the run.
 pub taken_on : (turn : ViewParts → OutcomeParts) (r : Run) (vs : List ViewParts) (kept now : Unrecorded) → IsUnrecorded r vs kept → HaveTurns r vs now.taken.outcomes → now.taken.outcomes ≡ map turn vs → now.end ≡ end_of (length r.past) r.state.table now.taken.outcomes
-    → now.processes.items ≡ kept.processes.items → now.tally ≡ kept.tally → AreTaken (is_some now.end) (turned_so turn r) vs now
+    → now.processes.now ≡ kept.processes.now → now.tally ≡ kept.tally → AreTaken (is_some now.end) (turned_so turn r) vs now
 taken_on turn r vs kept now h have made ends ep et =
     let os : List OutcomeParts = now.taken.outcomes in
     taken_by now.end r (turned_so turn r) vs now refl (sym ends)

@@ -1,4 +1,4 @@
--- The views of each superstep of a run are within the limits.
+-- The views of each superstep of a run are within the limits, and what their turns leave can be delivered.
 use Rattle.std.proofs.Common.{◌≡◌, ◌<◌, ◌+◌, ◌==◌, ℕ, zero, suc, false, cond, List, ◌∷◌, [], None, map, length, All, refl, sym, ap, ◌∙◌, subst, arith, length-append}
 use Rattle.std.proofs.lemmas.Bool.Decides.{nat_tests}
 use Rattle.bsp_model.specs.declared.input.Input.{Input}
@@ -9,6 +9,7 @@ use Rattle.bsp_step.specs.ViewParts.{ViewParts, IsView}
 use Rattle.bsp_step.specs.OutcomeParts.{OutcomeParts}
 use Rattle.bsp_step.specs.Act.{Act}
 use Rattle.bsp_step.specs.Turn.{turn_of}
+use Rattle.bsp_deliver.specs.Condition.{AreDeliverable}
 use Rattle.bsp_run.specs.declared.result.Status.TheVariants.{Limit}
 use Rattle.bsp_run.specs.declared.phase.Phase.TheVariants.{Open, Ended}
 use Rattle.bsp_run.specs.declared.superstep.Superstep.{Superstep}
@@ -18,6 +19,7 @@ use Rattle.bsp_run.specs.Condition.{IsRun}
 use Rattle.bsp_run.specs.Supersteps.{supersteps_of, superstep_at}
 use Rattle.bsp_run.specs.Law.{views_in, end_in, IsBspRun}
 use Rattle.bsp_run.specs.Inside.Record.{IsRecord}
+use Rattle.bsp_run.proofs.Conditions.{AreDeliverable-from_turns}
 use Rattle.bsp_run.proofs.Opens.{start_is_run}
 use Rattle.bsp_run.proofs.Records.{superstep, open_views-in, past-turned, past-delivered, IsRecord-start, IsRecord-delivered}
 use Rattle.bsp_run.proofs.TakingOver.{taken_is_run}
@@ -78,3 +80,13 @@ views_of_run acts ending input r s lawful law l =
     let o = open_at acts ending input s lawful (omega (arith, l, law.few)) (λ k m. law.goes_on k (omega (arith, l, m))) in
     let views : open_views o.so_far ≡ (superstep_at (supersteps_of r) s).views = open_views-in turn input o.so_far o.made ∙ ap (views_in turn input) o.at ∙ sym (law.views s l) in
     subst (All IsView) views (views_within o.so_far o.run)
+
+-- In such a run what the turns leave can be delivered.
+pub deliverable_in_run : (acts : ViewParts → List Act) (ending : ViewParts → End) (input : Input) (r : Run) (s : ℕ) → input_fault input ≡ None → IsBspRun (turn_of acts ending) input r → s < length (supersteps_of r) → AreDeliverable (superstep_at (supersteps_of r) s).outcomes
+deliverable_in_run acts ending input r s lawful law l =
+    let turn = turn_of acts ending in
+    let o = open_at acts ending input s lawful (omega (arith, l, law.few)) (λ k m. law.goes_on k (omega (arith, l, m))) in
+    let k = o.so_far in
+    let left : map turn (open_views k) ≡ (superstep_at (supersteps_of r) s).outcomes = ap (map turn) (open_views-in turn input k o.made ∙ ap (views_in turn input) o.at) ∙ sym (law.outcomes s l) in
+    subst AreDeliverable left
+    (AreDeliverable-from_turns k.args (length k.past) k.state (map turn (open_views k)) o.run.state (AreOutcomesOf-turns acts ending (open_views k) (views_within k o.run)))

@@ -87,7 +87,7 @@ pub fn all_costs(
     if let Some(outcomes) = last {
         rows.push(cost_of_end(outcomes))?;
     }
-    Ok(SharedSeq::from_vec(rows)?)
+    SharedSeq::from_vec(rows)
 }
 
 /// The sum of the costs.

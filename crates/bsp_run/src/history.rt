@@ -1,6 +1,6 @@
 //! A run that has ended.
 
-ghost use Rattle.std.specs.Prelude.{◌≡◌, IfOk, IfSome, length, map, slice_get, option_map, true, All};
+ghost use Rattle.std.specs.Prelude.{◌≡◌, [], IfOk, IfSome, OnOk, length, map, slice_get, option_map, true, All};
 ghost use Rattle.bsp_deliver.specs.Condition.{AreDeliverable};
 ghost use Rattle.bsp_run.specs.Supersteps.{supersteps_of, supersteps_opened, outcomes_of};
 ghost use Rattle.bsp_run.specs.Condition.{is_ended};
@@ -17,7 +17,6 @@ use bsp_model::{
     CostRow, Memories, MemoryRef, OutOfMemory, ProcessSet, Shared, SharedSeq, TryCopy,
 };
 use bsp_step::Outcomes;
-use std::alloc::Global;
 use std::marker::Model;
 
 /// What a run gives beside its status and its memories.
@@ -91,8 +90,13 @@ impl Tape {
         requires marks { AreLinesUnlessMarked lines.now marks.now (outcomes_of (supersteps_of self)) }
         ensures { IfOk result (λ history. history ≡ self) }
     {
-        let sums = self.sums(lines, marks)?;
-        Ok(History { run: self, sums })
+        match self.sums(lines, marks) {
+            Ok(sums) => Ok(History { run: self, sums }),
+            Err(error) => {
+                drop(self);
+                Err(error)
+            }
+        }
     }
 
     /// What a run that has ended gives beside its status and its memories. It shares lines likewise.
@@ -163,31 +167,19 @@ impl History {
     {
         self.sums.total
     }
-
-    /// The number of supersteps.
-    pub fn steps(&self) -> usize
-        ensures { result ≡ length (supersteps_of self.now) }
-    {
-        let run = &self.run;
-        if is_limit(&run.phase) {
-            run.past.len()
-        } else {
-            run.past.len() + 1
-        }
-    }
 }
 
-/// The memories of these views.
-pub(crate) fn memories_of_views(alloc: Global, views: &Views) -> Result<Memories, OutOfMemory>
-    ensures { IfOk result (λ all. all ≡ map (λ v. v.memory) views.now) }
+/// Adds copies of the memories of these views, where there are none yet. After `OutOfMemory` some of them are added.
+pub(crate) fn add_memories(all: &mut Memories, views: &Views) -> Result<(), OutOfMemory>
+    requires { all.old ≡ [] }
+    ensures { OnOk result (all.new ≡ map (λ v. v.memory) views.now) }
 {
-    let mut all = Memories::new(alloc);
     all.reserve(views.len())?;
     for pid in 0..views.len() {
         let view = views.get(pid);
         all.push_copy(&view.memory)?;
     }
-    Ok(all)
+    Ok(())
 }
 
 /// The memory that a process sees, if there is such a process.
@@ -199,18 +191,6 @@ fn memory_seen(views: &Views, pid: usize) -> Option<MemoryRef<'_>>
     }
     let view = views.get(pid);
     Some(view.memory)
-}
-
-/// The memories of these outcomes.
-pub(crate) fn memories_of_outcomes(
-    alloc: Global,
-    outcomes: &Outcomes,
-) -> Result<Memories, OutOfMemory>
-    ensures { IfOk result (λ all. all ≡ map (λ o. o.memory) outcomes.now) }
-{
-    let mut all = Memories::new(alloc);
-    outcomes.copy_memories(&mut all)?;
-    Ok(all)
 }
 
 impl History {
@@ -273,11 +253,13 @@ impl History {
     {
         let run = &self.run;
         let alloc = *run.past.allocator();
-        if is_limit(&run.phase) {
-            memories_of_views(alloc, &run.views)
+        let mut all = Memories::new(alloc);
+        let copied = if is_limit(&run.phase) {
+            add_memories(&mut all, &run.views)
         } else {
-            memories_of_outcomes(alloc, &run.outcomes)
-        }
+            run.outcomes.copy_memories(&mut all)
+        };
+        copied.and(Ok(all))
     }
 
     /// What the run gives to its user, or `OutOfMemory`. It shares the lines and the costs with the history.

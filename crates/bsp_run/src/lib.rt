@@ -4,6 +4,7 @@
 mod copying;
 mod costs;
 mod ending;
+mod extent;
 mod history;
 mod in_order;
 mod keeping;

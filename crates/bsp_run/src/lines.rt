@@ -166,10 +166,17 @@ fn gather(
     let mut lines = PrintedLines::new(alloc);
     for pid in 0..nprocs {
         if !is_taken(before, marks, pid) {
-            take_lines(&mut lines, turns, pid)?;
-            all.put(pid, &lines.as_ref())?;
+            let taken = take_lines(&mut lines, turns, pid);
+            match taken.and(all.put(pid, &lines.as_ref())) {
+                Ok(()) => {}
+                Err(error) => {
+                    drop(lines);
+                    return Err(error);
+                }
+            }
         }
     }
+    drop(lines);
     Ok(())
 }
 
@@ -222,9 +229,17 @@ fn lines_taken(
     }
     let before = before.as_slice();
     let mut all = LineColumn::new(alloc);
-    gather(alloc, &mut all, before, marks, turns, nprocs)?;
+    match gather(alloc, &mut all, before, marks, turns, nprocs) {
+        Ok(()) => {}
+        Err(error) => {
+            drop(all);
+            return Err(error);
+        }
+    }
     let all = Shared::new(alloc, all)?;
-    each_lines(alloc, before, marks, &all, nprocs)
+    let each = each_lines(alloc, before, marks, &all, nprocs);
+    drop(all);
+    each
 }
 
 /// The supersteps of a run in which lines may stand, the one that ended it among them. In the others nobody's lines are looked for.
@@ -266,5 +281,7 @@ pub fn all_lines(
     }
     let turns = printing(alloc, past, last)?;
     let others = mark_others(before.as_slice(), marks, turns.as_slice());
-    Ok(lines_taken(alloc, before, &others, turns.as_slice(), nprocs)?)
+    let lines = lines_taken(alloc, before, &others, turns.as_slice(), nprocs);
+    drop(turns);
+    lines
 }

@@ -1,7 +1,7 @@
 //! Opening a run.
 
 ghost use Rattle.std.specs.Prelude.{◌≡◌, ◌<◌, ◌++◌, ◌∷◌, [], All, IfOk, OnOk, length, map};
-ghost use Rattle.bsp_run.specs.State.{first_cell, no_messages};
+ghost use Rattle.bsp_run.specs.State.{first_cell};
 
 use crate::Arguments;
 use bsp_deliver::Cells;
@@ -34,24 +34,6 @@ fn push_first(
     }
 }
 
-/// Adds the memory and the queue of each process in the first superstep.
-pub fn add_first_cells(
-    alloc: Global,
-    cells: &mut Cells,
-    mems: &[Memory],
-    recording: Recording,
-) -> Result<(), OutOfMemory>
-    requires empty { cells.old ≡ [] }
-    ensures { OnOk result (cells.new ≡ map (λ m. (m, no_messages m)) mems.now) }
-{
-    cells.reserve(mems.len())?;
-    let none = Queue::new(alloc);
-    for memory in mems {
-        push_first(cells, memory, &none, recording)?;
-    }
-    Ok(())
-}
-
 /// The arguments of each process, for views and runs that share them.
 pub fn shared_args(args: &Seq<Words>) -> Result<Arguments, OutOfMemory>
     ensures { IfOk result (λ shared. shared ≡ args.now) }
@@ -64,11 +46,12 @@ pub fn shared_args(args: &Seq<Words>) -> Result<Arguments, OutOfMemory>
 }
 
 /// Adds the memories of some processes in the first superstep, and their queues.
-pub fn add_first_cells_of(
+pub fn add_first_cells(
     alloc: Global,
     cells: &mut Cells,
     mems: &[Memory],
     processes: &[usize],
+    recording: Recording,
 ) -> Result<(), OutOfMemory>
     requires empty { cells.old ≡ [] }
     requires known { All (λ p. p < length mems.now) processes.now }
@@ -77,8 +60,7 @@ pub fn add_first_cells_of(
     cells.reserve(processes.len())?;
     let none = Queue::new(alloc);
     for process in processes {
-        let memory = &mems[*process];
-        cells.push_copy(&memory.as_ref(), &none.as_ref())?;
+        push_first(cells, &mems[*process], &none, recording)?;
     }
     Ok(())
 }

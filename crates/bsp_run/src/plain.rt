@@ -15,9 +15,9 @@ ghost use Rattle.bsp_run.specs.RunErrors.{input_fault_of};
 use crate::numbers::numbers;
 use crate::opening::Recording;
 use crate::tape::checked;
+use crate::turn_rows::turns_by_one;
 use crate::unrecorded::{Unrecorded, all_turns};
-use crate::wide::turns_by_one;
-use crate::{History, Phase, RunError, RunResult, Tape, TurnRows, Views};
+use crate::{History, Phase, RunError, RunResult, Tape, Views};
 use bsp_deliver::{Cells, deliver_some};
 use bsp_model::{Input, OutOfMemory};
 use bsp_pool::{Gate, Open};
@@ -35,20 +35,19 @@ fn plain_outcomes<P: Program>(
     requires processes { processes.now ≡ range_with_len 0 (length (open_views tape.now)) }
     ensures { IfOk result (AreTurnsOf (turn_of (P.acts program.now) (P.ending program.now)) (open_views tape.now)) }
 {
-    let room = tape.outcomes_before().room_for(alloc, processes.len())?;
-    let mut rows = TurnRows {
-        outcomes: room,
-        spare: None,
-    };
+    let mut rows = tape.outcomes_before().room_for(alloc, processes.len())?;
+    let mut spare = None;
     let views = tape.open_views();
-    match turns_by_one(alloc, &mut rows, program, views, processes, &Open) {
+    match turns_by_one(
+        alloc, &mut rows, &mut spare, program, views, processes, &Open,
+    ) {
         Ok(()) => {
-            let TurnRows { outcomes, spare } = rows;
             drop(spare);
-            outcomes.share()
+            rows.share()
         }
         Err(error) => {
             drop(rows);
+            drop(spare);
             Err(error)
         }
     }
@@ -75,17 +74,17 @@ fn plain_superstep<P: Program>(
     alloc: Global,
     program: &P,
     tape: &mut Tape,
+    processes: &[usize],
 ) -> Result<(), OutOfMemory>
     requires open { is_open tape.old.phase ≡ true }
+    requires processes { processes.now ≡ range_with_len 0 (length (open_views tape.old)) }
     ensures { OnOk result (tape.new ≡ advance (turn_of (P.acts program.now) (P.ending program.now)) tape.old) }
 {
-    let processes = numbers(alloc, tape.open_views().len())?;
-    let all = processes.as_slice();
-    let outcomes = plain_outcomes(alloc, program, tape, all)?;
+    let outcomes = plain_outcomes(alloc, program, tape, processes)?;
     if !tape.turned(outcomes)? {
         return Ok(());
     }
-    plain_delivery(alloc, tape, all)
+    plain_delivery(alloc, tape, processes)
 }
 
 /// The history of the run of a lawful input.
@@ -98,8 +97,9 @@ fn plain_history<P: Program>(
     ensures { IfOk result (λ history. history ≡ run (turn_of (P.acts program.now) (P.ending program.now)) input.now) }
 {
     let mut tape = Tape::open_lawful(alloc, input)?;
+    let processes = numbers(input.mems.len());
     while tape.is_open() {
-        match plain_superstep(alloc, program, &mut tape) {
+        match plain_superstep(alloc, program, &mut tape, processes) {
             Ok(()) => {}
             Err(error) => {
                 drop(tape);
@@ -135,8 +135,8 @@ fn unrecorded_turns<P: Program, G: Gate>(
     ensures { (r : Run) → r.phase ≡ Phase.Open → IsUnrecorded r views.now kept.old → IfOk result (λ ends. AreTaken ends
         (after_turns r (map (turn_of (P.acts program.now) (P.ending program.now)) (open_views r))) views.now kept.new) }
 {
-    let processes = kept.processes.as_slice();
-    all_turns(alloc, program, processes, views, &mut kept.taken, gate)?;
+    let taken = &mut kept.taken;
+    all_turns(alloc, program, kept.processes, views, taken, gate)?;
     kept.end = views.end(alloc, &kept.taken.outcomes)?;
     Ok(kept.end.is_some())
 }
@@ -185,7 +185,7 @@ pub fn lawful_result<P: Program, G: Gate>(
     requires lawful { input_fault input.now ≡ None }
     ensures { IfOk result (λ r. r ≡ result_of (run (turn_of (P.acts program.now) (P.ending program.now)) input.now)) }
 {
-    let processes = numbers(alloc, input.mems.len())?;
+    let processes = numbers(input.mems.len());
     let views = Views::first(alloc, input, Recording::None)?;
     let mut kept = Unrecorded::new(alloc, input, processes);
     unrecorded_result(alloc, program, input, views, &mut kept, gate)

@@ -36,9 +36,16 @@ fn gather(
 {
     let mut lines = PrintedLines::new(alloc);
     for pid in 0..nprocs {
-        take_printed(&mut lines, printed, pid)?;
-        all.put(pid, &lines.as_ref())?;
+        let taken = take_printed(&mut lines, printed, pid);
+        match taken.and(all.put(pid, &lines.as_ref())) {
+            Ok(()) => {}
+            Err(error) => {
+                drop(lines);
+                return Err(error);
+            }
+        }
     }
+    drop(lines);
     Ok(())
 }
 

@@ -48,12 +48,22 @@ impl SharedCells {
     pub fn into_room(self, alloc: Global) -> Cells
         ensures { result ≡ [] }
     {
-        match self.cells.try_unwrap() {
+        let SharedCells {
+            cells,
+            apart,
+            others,
+        } = self;
+        drop(apart);
+        drop(others);
+        match cells.try_unwrap() {
             Ok(mut cells) => {
                 cells.clear();
                 cells
             }
-            Err(_) => Cells::new(alloc),
+            Err(shared) => {
+                drop(shared);
+                Cells::new(alloc)
+            }
         }
     }
 
@@ -86,10 +96,10 @@ impl SharedCells {
     {
         let apart = self.apart.as_slice();
         if are_among(apart, processes) {
-            return Ok(self.cells.copy()?);
+            return self.cells.copy();
         }
         let cells: &Cells = &self.cells;
-        Ok(Shared::new(alloc, cells.replaced(alloc, apart, &self.others)?)?)
+        Shared::new(alloc, cells.replaced(alloc, apart, &self.others)?)
     }
 
     /// These cells, but for new ones of some processes, which are in ascending order. Where they are few they lie apart, and the rest is shared.
@@ -104,7 +114,14 @@ impl SharedCells {
         requires count { length new ≡ length processes.items }
         ensures { IfOk result (λ c. c ≡ replaced self.now processes.items new) }
     {
-        let cells = self.cells_below(alloc, processes.as_slice())?;
+        let cells = match self.cells_below(alloc, processes.as_slice()) {
+            Ok(cells) => cells,
+            Err(error) => {
+                drop(processes);
+                drop(new);
+                return Err(error);
+            }
+        };
         if are_few(processes.len(), self.len()) {
             return Ok(SharedCells {
                 cells,
@@ -112,7 +129,10 @@ impl SharedCells {
                 others: new,
             });
         }
-        let all = cells.replaced(alloc, processes.as_slice(), &new)?;
-        SharedCells::new(alloc, all)
+        let all = cells.replaced(alloc, processes.as_slice(), &new);
+        drop(cells);
+        drop(processes);
+        drop(new);
+        SharedCells::new(alloc, all?)
     }
 }

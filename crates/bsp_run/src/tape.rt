@@ -15,13 +15,14 @@ ghost use Rattle.bsp_run.specs.Result.{cost_of_delivery, IsSmall};
 
 use crate::costs::cost_of_delivery;
 use crate::keeping::{keep_superstep, phase_after, phase_at};
-use crate::opening::{Recording, add_first_cells_of};
+use crate::opening::{Recording, add_first_cells};
 use crate::{Arguments, Phase, RunError, Setting, Status, Superstep, Views, ViewsRef};
 use bsp_deliver::Cells;
 use bsp_model::{CostRow, Input, OutOfMemory, Shared, SharedSeq, TryCopy};
 use bsp_step::{Outcomes, View};
 use std::alloc::Global;
 use std::marker::Model;
+use std::mem;
 
 /// A run while it is recorded: the turns and the deliveries are handed in, superstep by superstep.
 #[derive(Drop)]
@@ -102,7 +103,13 @@ impl Tape {
             }
         };
         let mut cells = Cells::new(alloc);
-        match add_first_cells_of(alloc, &mut cells, mems, processes.as_slice()) {
+        match add_first_cells(
+            alloc,
+            &mut cells,
+            mems,
+            processes.as_slice(),
+            Recording::Kept,
+        ) {
             Ok(()) => {
                 let views = like.replaced(alloc, setting, processes, cells)?;
                 Tape::open_with(alloc, input, views)
@@ -192,11 +199,18 @@ impl Tape {
         ensures err { OnErr result (self.new ≡ self.old) }
     {
         let alloc = *self.past.allocator();
-        let end = self.views.end(alloc, &outcomes)?;
-        let goes_on = end.is_none();
-        self.outcomes = outcomes;
-        self.phase = phase_after(end);
-        Ok(goes_on)
+        match self.views.end(alloc, &outcomes) {
+            Ok(end) => {
+                let goes_on = end.is_none();
+                drop(mem::replace(&mut self.outcomes, outcomes));
+                drop(mem::replace(&mut self.phase, phase_after(end)));
+                Ok(goes_on)
+            }
+            Err(error) => {
+                drop(outcomes);
+                Err(error)
+            }
+        }
     }
 
     /// Takes the next memory and queue of each process. The messages that nobody took are discarded with the

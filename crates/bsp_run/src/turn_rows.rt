@@ -1,7 +1,13 @@
-//! What is kept from turn to turn.
+//! Turns one after the other, and what is kept from turn to turn.
 
+ghost use Rattle.std.specs.Prelude.{◌≡◌, ◌<◌, [], All, OnOk, length};
+ghost use Rattle.bsp_step.specs.Turn.{turn_of};
+ghost use Rattle.bsp_run.specs.Shares.{turns_of};
+
+use crate::Views;
 use bsp_model::OutOfMemory;
-use bsp_step::{Outcome, OutcomeRows};
+use bsp_pool::Gate;
+use bsp_step::{Outcome, OutcomeRows, Program, turn_reusing};
 use std::alloc::Global;
 
 /// What whoever takes turns keeps of them.
@@ -19,4 +25,36 @@ pub(crate) fn spare_of(alloc: Global, spare: &mut Option<Outcome>) -> Result<Out
         Some(outcome) => Ok(outcome),
         None => Ok(Outcome::new(alloc)?),
     }
+}
+
+/// The turns of some processes, in the order of the list, by the calling thread, which passes the gate before each. They are gathered in `rows`, in
+/// the lists of the spare outcome that is there.
+pub(crate) fn turns_by_one<P: Program, G: Gate>(
+    alloc: Global,
+    rows: &mut OutcomeRows,
+    spare: &mut Option<Outcome>,
+    program: &P,
+    views: &Views,
+    processes: &[usize],
+    gate: &G,
+) -> Result<(), OutOfMemory>
+    requires processes { All (λ p. p < length views.now) processes.now }
+    requires empty { rows.old ≡ [] }
+    ensures { OnOk result (rows.new
+        ≡ turns_of (turn_of (P.acts program.now) (P.ending program.now)) views.now processes.now) }
+{
+    let mut last = spare_of(alloc, spare)?;
+    for (place, process) in processes.iter().enumerate() {
+        gate.pass(place);
+        last = turn_reusing(alloc, program, &views.get(*process), last)?;
+        match rows.push(&mut last) {
+            Ok(()) => {}
+            Err(error) => {
+                drop(last);
+                return Err(error);
+            }
+        }
+    }
+    spare.insert(last);
+    Ok(())
 }

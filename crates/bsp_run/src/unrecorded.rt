@@ -10,12 +10,13 @@ ghost use Rattle.bsp_run.specs.Result.{result_of};
 ghost use Rattle.bsp_run.specs.Inside.Settings.{AreTurned};
 ghost use Rattle.bsp_run.specs.Inside.IsUnrecorded.{IsUnrecorded, IsUnrecordedIn, HasEnded};
 
-use crate::history::{memories_of_outcomes, memories_of_views};
+use crate::history::add_memories;
 use crate::tally::Tally;
-use crate::wide::{DEPTH_OF_SUPERSTEPS, turns_by_one};
-use crate::{Phase, RunResult, Status, TurnRows, Views};
+use crate::turn_rows::turns_by_one;
+use crate::wide::DEPTH_OF_SUPERSTEPS;
+use crate::{Phase, RunResult, Status, Views};
 use bsp_deliver::deliver_moving;
-use bsp_model::{Input, OutOfMemory};
+use bsp_model::{Input, Memories, OutOfMemory};
 use bsp_pool::Gate;
 use bsp_step::{Outcome, Outcomes, Program};
 use std::alloc::Global;
@@ -31,7 +32,7 @@ pub(crate) struct Taken {
 /// What is kept of a run beside the views: the numbers of the processes, what is added up so far, and the turns that were taken last.
 #[derive(Drop)]
 pub(crate) struct Unrecorded {
-    pub(crate) processes: Vec<usize>,
+    pub(crate) processes: &'static [usize],
     pub(crate) tally: Tally,
     pub(crate) taken: Taken,
     /// How these turns ended the run, if they did.
@@ -53,21 +54,16 @@ pub(crate) fn all_turns<P: Program, G: Gate>(
 {
     gate.enter(DEPTH_OF_SUPERSTEPS, views.setting().step);
     let before = mem::replace(&mut taken.outcomes, Outcomes::new());
-    let room = before.into_room(alloc, processes.len())?;
-    let mut rows = TurnRows {
-        outcomes: room,
-        spare: taken.spare.take(),
-    };
-    match turns_by_one(alloc, &mut rows, program, views, processes, gate) {
+    let mut rows = before.into_room(alloc, processes.len())?;
+    let spare = &mut taken.spare;
+    match turns_by_one(alloc, &mut rows, spare, program, views, processes, gate) {
         Ok(()) => {}
         Err(error) => {
             drop(rows);
             return Err(error);
         }
     }
-    let TurnRows { outcomes, spare } = rows;
-    drop(mem::replace(&mut taken.spare, spare));
-    taken.outcomes = outcomes.share()?;
+    drop(mem::replace(&mut taken.outcomes, rows.share()?));
     Ok(())
 }
 
@@ -103,9 +99,9 @@ fn next_views(
 
 impl Unrecorded {
     /// What is kept before the first superstep, of a run of these processes.
-    pub(crate) fn new(alloc: Global, input: &Input, processes: Vec<usize>) -> Unrecorded
+    pub(crate) fn new(alloc: Global, input: &Input, processes: &'static [usize]) -> Unrecorded
         requires lawful { input_fault input.now ≡ None }
-        requires processes { processes.items ≡ range_with_len 0 (length input.now.mems) }
+        requires processes { processes.now ≡ range_with_len 0 (length input.now.mems) }
         ensures kept { IsUnrecorded (start input.now) (open_views (start input.now)) result }
         ensures end { result.end ≡ None }
     {
@@ -128,8 +124,13 @@ impl Unrecorded {
         ensures end { OnOk result (self.new.end ≡ self.old.end) }
     {
         let taken = &mut self.taken.outcomes;
-        self.tally.add_delivery(alloc, taken)?;
-        next_views(alloc, views, self.processes.as_slice(), taken)
+        match self.tally.add_delivery(alloc, taken) {
+            Ok(()) => next_views(alloc, views, self.processes, taken),
+            Err(error) => {
+                drop(views);
+                Err(error)
+            }
+        }
     }
 
     /// What the run gives that has ended, where the processes see these views. What was added up is handed out.
@@ -137,17 +138,27 @@ impl Unrecorded {
         requires ended { (r : Run) × HasEnded self.old.end r views.now self.old }
         ensures { (r : Run) → HasEnded self.old.end r views.now self.old → IfOk result (λ given. given ≡ result_of r) }
     {
+        let mut memories = Memories::new(alloc);
         match self.end.take() {
             Some(status) => {
                 let outcomes = &self.taken.outcomes;
-                self.tally.add_end(alloc, outcomes)?;
-                let memories = memories_of_outcomes(alloc, outcomes)?;
-                self.tally.take_result(alloc, status, memories)
+                let added = self.tally.add_end(alloc, outcomes);
+                match added.and(outcomes.copy_memories(&mut memories)) {
+                    Ok(()) => self.tally.take_result(alloc, status, memories),
+                    Err(error) => {
+                        drop(status);
+                        drop(memories);
+                        Err(error)
+                    }
+                }
             }
-            None => {
-                let memories = memories_of_views(alloc, views)?;
-                self.tally.take_result(alloc, Status::Limit, memories)
-            }
+            None => match add_memories(&mut memories, views) {
+                Ok(()) => self.tally.take_result(alloc, Status::Limit, memories),
+                Err(error) => {
+                    drop(memories);
+                    Err(error)
+                }
+            },
         }
     }
 }

@@ -14,6 +14,7 @@ ghost use Rattle.bsp_run.specs.Inside.Settings.{IsSettingOf, AreTurned};
 
 use crate::ending::end_of;
 use crate::keeping::next_table;
+use crate::numbers::numbers;
 use crate::opening::{Recording, add_first_cells, shared_args};
 use crate::shared_cells::SharedCells;
 use crate::{Arguments, Setting, Status};
@@ -49,10 +50,13 @@ impl Views {
         requires { CanOpen setting.args (state_of cells setting.table setting.tag_size) }
         ensures { IfOk result (λ v. v ≡ views_of setting.args setting.step (state_of cells setting.table setting.tag_size)) }
     {
-        Ok(Views {
-            setting,
-            cells: SharedCells::new(alloc, cells)?,
-        })
+        match SharedCells::new(alloc, cells) {
+            Ok(cells) => Ok(Views { setting, cells }),
+            Err(error) => {
+                drop(setting);
+                Err(error)
+            }
+        }
     }
 
     /// What the processes see in another setting with the same memories and queues, but for new ones of some processes, which are in ascending order.
@@ -71,10 +75,13 @@ impl Views {
         ensures { IfOk result (λ v. v ≡ views_of setting.args setting.step
             (state_of (replaced (map cell_of self.now) processes.items cells) setting.table setting.tag_size)) }
     {
-        Ok(Views {
-            setting,
-            cells: self.cells.replaced(alloc, processes, cells)?,
-        })
+        match self.cells.replaced(alloc, processes, cells) {
+            Ok(cells) => Ok(Views { setting, cells }),
+            Err(error) => {
+                drop(setting);
+                Err(error)
+            }
+        }
     }
 
     /// What the processes see in superstep 0 of the run of a lawful input.
@@ -89,7 +96,9 @@ impl Views {
         let args = shared_args(&input.args)?;
         let setting = Setting::first(alloc, args, input.mems.len())?;
         let mut cells = Cells::new(alloc);
-        match add_first_cells(alloc, &mut cells, input.mems.as_slice(), recording) {
+        let mems = input.mems.as_slice();
+        let processes = numbers(mems.len());
+        match add_first_cells(alloc, &mut cells, mems, processes, recording) {
             Ok(()) => Views::open(alloc, setting, cells),
             Err(error) => {
                 drop(setting);

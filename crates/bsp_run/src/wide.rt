@@ -16,13 +16,13 @@ use crate::in_order::{Joining, in_order};
 use crate::lightness::is_light;
 use crate::numbers::numbers;
 use crate::tape::checked;
-use crate::turn_rows::spare_of;
+use crate::turn_rows::turns_by_one;
 use crate::works::{Deliveries, Turns};
 use crate::{History, Phase, RunError, Tape, TurnRows, Views};
 use bsp_deliver::{Cells, deliver_some, sort_requests};
 use bsp_model::{Input, OutOfMemory};
 use bsp_pool::{Gate, gather};
-use bsp_step::{Outcomes, Program, turn_reusing};
+use bsp_step::{Outcomes, Program};
 use std::alloc::Global;
 use std::thread::Threads;
 
@@ -31,31 +31,6 @@ pub const DEPTH_OF_RUNS: usize = 0;
 
 /// At this depth a gate is told of a run's supersteps, by their numbers from 0 on.
 pub const DEPTH_OF_SUPERSTEPS: usize = 1;
-
-/// The turns of some processes, in the order of the list, by the calling thread, which passes the gate before each. They are gathered in `rows`.
-pub(crate) fn turns_by_one<P: Program, G: Gate>(
-    alloc: Global,
-    rows: &mut TurnRows,
-    program: &P,
-    views: &Views,
-    processes: &[usize],
-    gate: &G,
-) -> Result<(), OutOfMemory>
-    requires processes { All (λ p. p < length views.now) processes.now }
-    requires empty { rows.old.outcomes ≡ [] }
-    ensures { OnOk result (rows.new.outcomes
-        ≡ turns_of (turn_of (P.acts program.now) (P.ending program.now)) views.now processes.now) }
-{
-    let mut spare = spare_of(alloc, &mut rows.spare)?;
-    for (place, process) in processes.iter().enumerate() {
-        gate.pass(place);
-        let mut outcome = turn_reusing(alloc, program, &views.get(*process), spare)?;
-        rows.outcomes.push(&mut outcome)?;
-        spare = outcome;
-    }
-    rows.spare = Some(spare);
-    Ok(())
-}
 
 /// Gathers the outputs of these inputs in rows that have none yet, in the order of the list, worked by 1 to 16 workers. After `OutOfMemory` some of
 /// them are there.
@@ -103,7 +78,8 @@ pub fn wide_turns<P: Program, G: Gate, R: Threads + Sync>(
 {
     gate.enter(DEPTH_OF_SUPERSTEPS, views.setting().step);
     if workers.min(processes.len()) < 2 {
-        return turns_by_one(alloc, rows, program, views, processes, gate);
+        let TurnRows { outcomes, spare } = rows;
+        return turns_by_one(alloc, outcomes, spare, program, views, processes, gate);
     }
     let turns = Turns { program, views };
     by_workers(rt, alloc, &turns, rows, processes, workers, gate)
@@ -242,20 +218,20 @@ fn wide_superstep<P: Program, G: Gate, R: Threads + Sync>(
     alloc: Global,
     program: &P,
     tape: &mut Tape,
+    processes: &[usize],
     workers: usize,
     gate: &G,
 ) -> Result<(), OutOfMemory>
     requires open { is_open tape.old.phase ≡ true }
+    requires processes { processes.now ≡ range_with_len 0 (length (open_views tape.old)) }
     requires workers { (0 < workers) × (workers ≤ 16) }
     ensures { OnOk result (tape.new ≡ advance (turn_of (P.acts program.now) (P.ending program.now)) tape.old) }
 {
-    let processes = numbers(alloc, tape.open_views().len())?;
-    let all = processes.as_slice();
-    let outcomes = wide_outcomes(rt, alloc, program, tape, all, workers, gate)?;
+    let outcomes = wide_outcomes(rt, alloc, program, tape, processes, workers, gate)?;
     if !tape.turned(outcomes)? {
         return Ok(());
     }
-    wide_delivery(rt, alloc, tape, all, workers, gate)
+    wide_delivery(rt, alloc, tape, processes, workers, gate)
 }
 
 /// The history of the run of a lawful input, by the workers.
@@ -272,8 +248,9 @@ fn wide_history<P: Program, G: Gate, R: Threads + Sync>(
     ensures { IfOk result (λ history. history ≡ run (turn_of (P.acts program.now) (P.ending program.now)) input.now) }
 {
     let mut tape = Tape::open_lawful(alloc, input)?;
+    let processes = numbers(input.mems.len());
     while tape.is_open() {
-        match wide_superstep(rt, alloc, program, &mut tape, workers, gate) {
+        match wide_superstep(rt, alloc, program, &mut tape, processes, workers, gate) {
             Ok(()) => {}
             Err(error) => {
                 drop(tape);

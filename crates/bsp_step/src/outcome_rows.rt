@@ -9,6 +9,7 @@ ghost use Rattle.bsp_step.specs.OutcomeParts.{outcome_of};
 ghost use Rattle.bsp_step.specs.ListKind.{IsWithout};
 
 mod put_rows;
+mod room;
 
 use crate::lists::{Lists, TurnEnd};
 use crate::{ListKind, Outcome, OutcomeRef, Outcomes, TurnLists};
@@ -45,78 +46,19 @@ impl OutcomeRows {
     pub fn new(alloc: Global) -> Result<OutcomeRows, OutOfMemory>
         ensures { IfOk result (λ o. o ≡ []) }
     {
+        let lists = Box::new(alloc, Lists::new(alloc))?;
         Ok(OutcomeRows {
             ends: Vec::new(alloc),
             memories: Memories::new(alloc),
-            lists: Box::new(alloc, Lists::new(alloc))?,
+            lists,
         })
-    }
-
-    /// No outcomes, with room for so many, or `OutOfMemory`.
-    pub fn with_capacity(alloc: Global, count: usize) -> Result<OutcomeRows, OutOfMemory>
-        ensures { IfOk result (λ o. o ≡ []) }
-    {
-        let mut rows = OutcomeRows::new(alloc)?;
-        let reserved = rows.reserve(count);
-        reserved.and(Ok(rows))
-    }
-
-    /// The same, with room in the lists that most turns fill.
-    pub(crate) fn with_room(alloc: Global, count: usize) -> Result<OutcomeRows, OutOfMemory>
-        ensures { IfOk result (λ o. o ≡ []) }
-    {
-        let mut rows = OutcomeRows::with_capacity(alloc, count)?;
-        let reserved = rows.lists.reserve(count);
-        reserved.and(Ok(rows))
-    }
-
-    /// Makes room for so many outcomes more, but not in their lists.
-    fn reserve(&mut self, count: usize) -> Result<(), OutOfMemory>
-        ensures { self.new ≡ self.old }
-    {
-        self.ends.reserve(count)?;
-        self.memories.reserve(count)
-    }
-
-    /// Makes a share of the room that other outcomes take.
-    pub(crate) fn reserve_like(
-        &mut self,
-        like: &OutcomeRows,
-        share: Share,
-    ) -> Result<(), OutOfMemory>
-        ensures { self.new ≡ self.old }
-    {
-        self.ends.reserve(share.part(like.ends.len()))?;
-        self.memories.reserve_like(&like.memories, share)?;
-        self.lists.reserve_like(&like.lists, share)
-    }
-
-    /// Takes all outcomes away. Their room stays.
-    pub(crate) fn clear(&mut self)
-        ensures { self.new ≡ [] }
-    {
-        self.ends.clear();
-        self.memories.clear();
-        self.lists.clear();
-    }
-
-    /// Makes room for a share of the memories of these outcomes.
-    pub(crate) fn reserve_memories(
-        &self,
-        memories: &mut Memories,
-        share: Share,
-    ) -> Result<(), OutOfMemory>
-        ensures { memories.new ≡ memories.old }
-    {
-        memories.reserve_like(&self.memories, share)
     }
 
     /// Makes `memories` copies of all memories, or `OutOfMemory`.
     pub(crate) fn copy_memories(&self, memories: &mut Memories) -> Result<(), OutOfMemory>
         ensures { OnOk result (memories.new ≡ map (λ o. o.memory) self.now) }
     {
-        memories.copy_from(&self.memories)?;
-        Ok(())
+        memories.copy_from(&self.memories)
     }
 
     /// The same, but for those of new outcomes of some processes, which are in ascending order.
@@ -133,8 +75,7 @@ impl OutcomeRows {
     {
         memories.clear();
         memories.reserve_like(&self.memories, Share::whole())?;
-        add_replaced(memories, &self.memories, processes, &new.memories)?;
-        Ok(())
+        add_replaced(memories, &self.memories, processes, &new.memories)
     }
 
     /// Makes the lines of all processes the column `lines`, or `OutOfMemory`.
@@ -142,8 +83,7 @@ impl OutcomeRows {
         ensures { OnOk result ((p : ℕ) → row_at lines.new p ≡ (outcome_of self.now p).lines) }
     {
         let lists: &Lists = &self.lists;
-        lines.take_range(0, &lists.lines, 0, self.len())?;
-        Ok(())
+        lines.take_range(0, &lists.lines, 0, self.len())
     }
 
     /// The allocator that the lists keep.

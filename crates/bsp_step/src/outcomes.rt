@@ -1,11 +1,10 @@
 //! What the turns of several processes leave.
 
-ghost use Rattle.std.specs.Prelude.{◌≡◌, ◌≤◌, ◌<◌, ℕ, [], All, IfOk, length, nat_eq};
+ghost use Rattle.std.specs.Prelude.{◌≡◌, ◌<◌, [], All, IfOk, length, nat_eq};
 ghost use Rattle.std.specs.Bool.{OnTrue};
-ghost use Rattle.bsp_model.specs.PutsTo.{AreToNone};
 ghost use Rattle.bsp_model.specs.Replaced.{replaced, IsAscending};
 ghost use Rattle.bsp_step.specs.OutcomeParts.{IsOutcome, outcome_of};
-ghost use Rattle.bsp_step.specs.Inside.Others.{rows_of, with_others, AreOthers, IsBelow};
+ghost use Rattle.bsp_step.specs.Inside.Others.{rows_of, IsBelow};
 ghost use Rattle.bsp_step.specs.ListKind.{IsWithout};
 
 mod others;
@@ -14,8 +13,8 @@ mod room;
 
 use crate::{ListKind, OutcomeRef, OutcomeRows};
 use bsp_model::{
-    Get, MemoryRef, OutOfMemory, PrintedLinesRef, ProcessSet, PutsRef, SendsRef, Shared, TryCopy,
-    are_few,
+    Get, MemoryRef, OutOfMemory, PrintedLinesRef, PutsRef, SendsRef, Shared, TryCopy, are_among,
+    are_few, place_among,
 };
 use others::Others;
 use std::alloc::Global;
@@ -109,8 +108,11 @@ impl Outcomes {
         ensures there { outcome_of result.0.now result.1 ≡ outcome_of self.now pid }
     {
         let rows = rows_there(&self.rows);
-        match &self.others {
-            Some(others) => others.lists_of(rows, pid),
+        let Some(others) = &self.others else {
+            return (rows, pid);
+        };
+        match place_among(others.processes.as_slice(), pid) {
+            Some(place) => (&others.rows, place),
             None => (rows, pid),
         }
     }
@@ -168,22 +170,8 @@ impl Outcomes {
         ensures { OnTrue result (All (IsWithout kind) self.now) }
     {
         match &self.others {
-            Some(others) => others.is_without(kind) && is_without(&self.rows, kind),
+            Some(others) => others.rows.is_without(kind) && is_without(&self.rows, kind),
             None => is_without(&self.rows, kind),
-        }
-    }
-
-    /// The first process from `from` on whose turn may put something to one of these processes, or the number of processes. None before it does: so
-    /// who looks for puts to few processes goes over few turns.
-    pub fn next_putting_to(&self, targets: &ProcessSet, from: usize) -> usize
-        requires { from ≤ length self.now }
-        ensures later { from ≤ result }
-        ensures before { (p : ℕ) → from ≤ p → p < result → AreToNone targets.now (outcome_of self.now p).puts }
-    {
-        match (&self.rows, &self.others) {
-            (Some(rows), Some(others)) => others.next_putting_to(rows, targets, from),
-            (Some(rows), None) => rows.next_putting_to(targets, from),
-            (None, _) => 0,
         }
     }
 
@@ -209,10 +197,14 @@ impl Outcomes {
         ensures below { IfOk result (λ rows. IsBelow rows self.now processes.now) }
     {
         let rows = rows_there(&self.rows);
-        match &self.others {
-            Some(others) => Ok(others.base_rows(alloc, rows, processes)?),
-            None => Ok(rows.copy()?),
+        let Some(others) = &self.others else {
+            return rows.copy();
+        };
+        let apart = others.processes.as_slice();
+        if are_among(apart, processes) {
+            return rows.copy();
         }
+        Shared::new(alloc, rows.replaced(alloc, apart, &others.rows)?)
     }
 
     /// These outcomes, but for new ones of some processes, which are in ascending order. Where they are few they lie apart, and the rest is shared.
@@ -232,38 +224,25 @@ impl Outcomes {
             drop(new);
             return self.copy();
         }
-        match self.base_rows(alloc, processes.as_slice()) {
-            Ok(rows) => {
-                let others = Others {
-                    processes,
-                    rows: new,
-                };
-                Outcomes::with(alloc, rows, others)
-            }
+        let rows = match self.base_rows(alloc, processes.as_slice()) {
+            Ok(rows) => rows,
             Err(error) => {
                 drop(processes);
                 drop(new);
-                Err(error)
+                return Err(error);
             }
-        }
-    }
-
-    /// The outcomes in `rows`, but for those of `others`. Where these are few they lie apart.
-    fn with(
-        alloc: Global,
-        rows: Shared<OutcomeRows>,
-        others: Others,
-    ) -> Result<Outcomes, OutOfMemory>
-        requires { AreOthers rows others }
-        ensures { IfOk result (λ o. o ≡ with_others rows others) }
-    {
-        let processes = others.processes.as_slice();
+        };
         if !are_few(processes.len(), rows.len()) {
-            let replaced = rows.replaced(alloc, processes, &others.rows);
+            let replaced = rows.replaced(alloc, processes.as_slice(), &new);
             drop(rows);
-            drop(others);
+            drop(processes);
+            drop(new);
             return replaced?.share();
         }
+        let others = Others {
+            processes,
+            rows: new,
+        };
         match Shared::new(alloc, others) {
             Ok(others) => Ok(Outcomes {
                 rows: Some(rows),

@@ -91,12 +91,13 @@ impl TurnLists {
           lines = self.old.lines ++ more.now.lines;
         }) }
     {
-        self.puts.append(&more.puts.as_ref())?;
-        self.gets.append(more.gets.as_slice())?;
-        self.sends.append(&more.sends.as_ref())?;
-        self.pops.append(more.pops.as_slice())?;
-        self.pushes.append(more.pushes.as_slice())?;
-        self.lines.append(&more.lines.as_ref())
+        let puts = self.puts.append(&more.puts.as_ref());
+        let gets = self.gets.append(more.gets.as_slice());
+        let sends = self.sends.append(&more.sends.as_ref());
+        let pops = self.pops.append(more.pops.as_slice());
+        let pushes = self.pushes.append(more.pushes.as_slice());
+        let lines = self.lines.append(&more.lines.as_ref());
+        puts.and(gets).and(sends).and(pops).and(pushes).and(lines)
     }
 }
 

@@ -1,19 +1,12 @@
 -- What private functions compare of two lists of outcomes: no public contract speaks of it.
-use Rattle.std.specs.Prelude.{ℕ, ◌+◌, ◌<◌, ◌≤◌, ◌≡◌, ◌==◌, Bool, true, false, List, filter, map, length, slice_index, slice_index_or}
-use Rattle.bsp_model.specs.declared.request.Get.{Get}
+use Rattle.std.specs.Prelude.{ℕ, ◌<◌, ◌≡◌, ◌==◌, Bool, true, false, List, filter, map, length, slice_index_or}
 use Rattle.bsp_step.specs.OutcomeParts.{OutcomeParts, outcome_of}
 use Rattle.bsp_deliver.specs.Requests.{words_read}
-use Rattle.bsp_deliver.specs.Condition.{sizes_of}
 
 -- one sender puts and sends the same to d
 pub record HasSameParcel (d : ℕ) (old new : OutcomeParts) : Type 0 where
   pub puts : filter (λ p. p.target == d) old.puts ≡ filter (λ p. p.target == d) new.puts
   pub sends : filter (λ m. m.target == d) old.sends ≡ filter (λ m. m.target == d) new.sends
-
--- words that a get reads are there
-pub record IsReadable (os : List OutcomeParts) (g : Get) : Type 0 where
-  pub known : g.owner < length os
-  pub inside : g.start + g.len ≤ slice_index (sizes_of os) g.owner
 
 -- the memory after computing is the same, and so are the gets
 abbrev pub HasSameOwn : OutcomeParts → OutcomeParts → Type 0

@@ -1,7 +1,9 @@
 -- Sums of words, transfer by transfer, which private functions keep: no public contract speaks of them.
-use Rattle.std.specs.Prelude.{ℕ, ◌+◌, ◌*◌, ◌<◌, ◌≤◌, ◌^◌, ◌==◌, if◌then◌else◌, List, [], ◌∷◌, ◌++◌, map, All, slice_index, slice_set, replicate}
+use Rattle.std.specs.Prelude.{ℕ, Bool, true, false, ◌+◌, ◌*◌, ◌<◌, ◌≤◌, ◌^◌, ◌==◌, if◌then◌else◌, List, [], ◌∷◌, ◌++◌, map, All, slice_index, slice_index_or, slice_set, replicate}
 use Rattle.bsp_model.specs.Limits.{most_payload_words, most_processes, most_tag_words}
 use Rattle.bsp_deliver.specs.declared.cost.Sums.{Sums}
+use Rattle.bsp_deliver.specs.declared.cost.Targets.{Targets}
+use Rattle.bsp_deliver.specs.declared.cost.Targets.TheVariants.{Everyone, Members}
 use Rattle.bsp_step.specs.OutcomeParts.{OutcomeParts}
 use Rattle.bsp_deliver.specs.Cost.{Transfer, put_transfer, get_transfer, send_transfer}
 
@@ -14,6 +16,15 @@ abbrev pub counted : Sums → Transfer → Sums
 counted s t =
     if t.source == t.target then s
     else record { sent = raised s.sent t.source t.count; received = raised s.received t.target t.count }
+
+-- the process is among those to which words are counted
+abbrev pub is_target : Targets → ℕ → Bool
+is_target Everyone process = true
+is_target (Members set) process = slice_index_or set process false
+
+-- one transfer more, counted where it is to one of the targets
+abbrev pub counted_to : (ℕ → Bool) → Sums → Transfer → Sums
+counted_to targets s t = if targets t.target then counted s t else s
 
 abbrev pub no_words : Sums
 no_words = record { sent = replicate most_processes 0; received = replicate most_processes 0 }

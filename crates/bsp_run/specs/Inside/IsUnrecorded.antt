@@ -26,7 +26,7 @@ pub record AreKept (r : Run) (ps : List ℕ) (vs : List ViewParts) (sums : Tally
   pub costs : sums.costs ≡ map (cost_of_delivery r.g r.l) (outcomes_of r.past)
 
 abbrev pub IsUnrecorded : Run → List ViewParts → Unrecorded → Type 0
-IsUnrecorded r vs kept = AreKept r kept.processes.items vs kept.tally
+IsUnrecorded r vs kept = AreKept r kept.processes.now vs kept.tally
 
 -- The open superstep of a run, in which the processes see these views, and the outcomes of its turns.
 pub record HaveTurns (r : Run) (vs : List ViewParts) (os : List OutcomeParts) : Type 0 where

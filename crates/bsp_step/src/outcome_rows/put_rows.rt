@@ -3,8 +3,9 @@
 ghost use Rattle.std.specs.Prelude.{◌≡◌, ◌<◌, [], length, map, slice_index_or};
 
 use super::OutcomeRows;
+use crate::Outcomes;
 use crate::lists::{Lists, TurnEnd};
-use bsp_model::{Memories, PutsRef};
+use bsp_model::{Memories, OutOfMemory, PutsRef};
 use std::marker::Model;
 
 /// The puts of the turns of several processes, by process, once the memories that these turns left are handed on.
@@ -57,9 +58,10 @@ impl PutRows {
         lists.puts.get(pid)
     }
 
-    /// No outcomes, in the room of these and of memories that are no longer needed.
-    pub fn into_room(self, memories: Memories) -> OutcomeRows
-        ensures { result ≡ [] }
+    /// Keeps the room of these, and of memories that are no longer needed, in the place of no outcomes.
+    pub fn keep_room(self, memories: Memories, outcomes: &mut Outcomes) -> Result<(), OutOfMemory>
+        requires { outcomes.old ≡ [] }
+        ensures { outcomes.new ≡ [] }
     {
         let PutRows {
             mut ends,
@@ -69,10 +71,10 @@ impl PutRows {
         ends.clear();
         memories.clear();
         lists.clear();
-        OutcomeRows {
+        outcomes.keep_room(OutcomeRows {
             ends,
             memories,
             lists,
-        }
+        })
     }
 }

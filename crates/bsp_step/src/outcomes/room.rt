@@ -1,12 +1,12 @@
 //! Room for the outcomes and the memories of another superstep, and copies of what all turns left.
 
-ghost use Rattle.std.specs.Prelude.{◌≡◌, ◌<◌, ◌++◌, ℕ, [], All, IfErr, IfOk, IfSome, OnOk, length, map};
+ghost use Rattle.std.specs.Prelude.{◌≡◌, ◌<◌, ◌++◌, ℕ, [], All, IfNone, IfOk, IfSome, OnOk, length, map};
 ghost use Rattle.bsp_model.specs.Columns.{row_at};
 ghost use Rattle.bsp_model.specs.Replaced.{IsAscending};
 ghost use Rattle.bsp_step.specs.OutcomeParts.{outcome_of};
 
 use crate::{OutcomeRows, Outcomes, PutRows};
-use bsp_model::{LineColumn, Memories, OutOfMemory, Share};
+use bsp_model::{LineColumn, Memories, OutOfMemory, Share, Shared};
 use std::alloc::Global;
 
 /// Whether lists for so many of all processes begin with their share of room. For very few it is cheaper that the lists that are used grow.
@@ -36,7 +36,8 @@ impl Outcomes {
     pub fn into_room(self, alloc: Global, count: usize) -> Result<OutcomeRows, OutOfMemory>
         ensures { IfOk result (λ o. o ≡ []) }
     {
-        let Outcomes { rows, others: _ } = self;
+        let Outcomes { rows, others } = self;
+        drop(others);
         let Some(rows) = rows else {
             return OutcomeRows::with_room(alloc, count);
         };
@@ -45,27 +46,42 @@ impl Outcomes {
                 rows.clear();
                 Ok(rows)
             }
-            Err(_) => OutcomeRows::with_capacity(alloc, count),
+            Err(shared) => {
+                drop(shared);
+                OutcomeRows::with_capacity(alloc, count)
+            }
         }
     }
 
-    /// The memories and the puts of all processes, where no copy shares these outcomes and none lies apart; else the outcomes as they were.
-    pub fn into_memories(self) -> Result<(Memories, PutRows), Outcomes>
-        ensures memories { IfOk result (λ r. r.0 ≡ map (λ o. o.memory) self) }
-        ensures puts { IfOk result (λ r. r.1 ≡ map (λ o. o.puts) self) }
-        ensures shared { IfErr result (λ outcomes. outcomes ≡ self) }
+    /// Hands out the memories and the puts of all processes, where no copy shares these outcomes and none lies apart: no outcome is left then. Else
+    /// nothing has changed.
+    pub fn take_memories(&mut self) -> Option<(Memories, PutRows)>
+        ensures memories { IfSome result (λ r. r.0 ≡ map (λ o. o.memory) self.old) }
+        ensures puts { IfSome result (λ r. r.1 ≡ map (λ o. o.puts) self.old) }
+        ensures none_left { IfSome result (λ _. self.new ≡ []) }
+        ensures unchanged { IfNone result (self.new ≡ self.old) }
     {
-        let Outcomes { rows, others } = self;
-        match (rows, others) {
-            (Some(rows), None) => match rows.try_unwrap() {
-                Ok(rows) => Ok(rows.into_memories()),
-                Err(rows) => Err(Outcomes {
-                    rows: Some(rows),
-                    others: None,
-                }),
-            },
-            (rows, others) => Err(Outcomes { rows, others }),
+        if self.others.is_some() {
+            return None;
         }
+        match self.rows.take()?.try_unwrap() {
+            Ok(rows) => Some(rows.into_memories()),
+            Err(shared) => {
+                self.rows.insert(shared);
+                None
+            }
+        }
+    }
+
+    /// Keeps lists in which others can be gathered, in the place of no outcomes.
+    pub(crate) fn keep_room(&mut self, room: OutcomeRows) -> Result<(), OutOfMemory>
+        requires none { self.old ≡ [] }
+        requires empty { room ≡ [] }
+        ensures { self.new ≡ [] }
+    {
+        let alloc = room.allocator();
+        self.rows.insert(Shared::new(alloc, room)?);
+        Ok(())
     }
 
     /// Takes all memories away, and makes room for so many. Where these outcomes are as many, or more but not very many more, there is room for the
@@ -101,7 +117,10 @@ impl Outcomes {
         ensures { OnOk result (memories.new ≡ map (λ o. o.memory) self.now) }
     {
         match (&self.rows, &self.others) {
-            (Some(rows), Some(others)) => others.copy_memories(rows, memories),
+            (Some(rows), Some(others)) => {
+                let apart = others.processes.as_slice();
+                rows.copy_memories_replaced(apart, &others.rows, memories)
+            }
             (Some(rows), None) => rows.copy_memories(memories),
             (None, _) => {
                 memories.clear();
@@ -144,8 +163,8 @@ impl Outcomes {
         ensures { IfOk result (λ lines. (p : ℕ) → row_at lines p ≡ (outcome_of self.now p).lines) }
     {
         let mut lines = LineColumn::new(alloc);
-        self.copy_lines(&mut lines)?;
-        Ok(lines)
+        let copied = self.copy_lines(&mut lines);
+        copied.and(Ok(lines))
     }
 
     /// Makes the lines of all processes the column `lines`, or `OutOfMemory`.

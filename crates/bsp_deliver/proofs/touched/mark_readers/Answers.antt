@@ -3,7 +3,8 @@ use Rattle.std.proofs.lemmas.Bool.{false≢true}
 use Rattle.std.proofs.lemmas.List.{get_or_default}
 use Rattle.bsp_model.specs.declared.request.Get.{Get}
 use Rattle.bsp_deliver.specs.Requests.{words_read}
-use Rattle.bsp_deliver.specs.Inside.Comparison.{IsReadable, ReadsSame}
+use Rattle.bsp_deliver.specs.Readable.{IsReadable}
+use Rattle.bsp_deliver.specs.Inside.Comparison.{ReadsSame}
 use Rattle.bsp_deliver.specs.Inside.Marks.{AreMarkedUnless}
 use Rattle.bsp_deliver.proofs.Unmarked.{none_marked, one_marked, mark_stays, marked_more, marked_all}
 use Rattle.bsp_deliver.proofs.SameParts.{readable_of}

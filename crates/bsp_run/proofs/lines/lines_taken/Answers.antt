@@ -22,7 +22,7 @@ returns c =
     let marks = c.args.marks.now in
     let turns : List (List OutcomeParts) = map (λ o. o.now) c.args.turns.now in
     let all : List (List (List ℕ)) = c.gather.new.all in
-    subst (λ (each : List (List (List ℕ))). IfOk c.each_lines.result (λ lines. lines ≡ each)) (ap (λ (old : List (List (List ℕ))). each_below n (lines_from old marks c.in_ok-all.all)) c.as_slice-before.ensures
+    subst (λ (each : List (List (List ℕ))). IfOk c.each_lines-each.result (λ lines. lines ≡ each)) (ap (λ (old : List (List (List ℕ))). each_below n (lines_from old marks c.in_ok-all.all)) c.as_slice-before.ensures
     ∙ ap (λ (column : List (List (List ℕ))). each_below n (lines_from before marks column)) c.in_ok-all.ensures
-    ∙ lines_from_all before marks turns n all c.requires (subst (λ (old : List (List (List ℕ))). AreGathered old marks turns n all) c.as_slice-before.ensures c.in_ok-gather.ensures))
-    c.each_lines.ensures
+    ∙ lines_from_all before marks turns n all c.requires (subst (λ (old : List (List (List ℕ))). AreGathered old marks turns n all) c.as_slice-before.ensures c.in-Ok.ensures))
+    c.each_lines-each.ensures

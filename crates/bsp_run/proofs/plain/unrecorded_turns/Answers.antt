@@ -9,7 +9,7 @@ use Rattle.bsp_run.proofs.plain.unrecorded_turns.Goals as goal
 
 pub all_turns-requires-clause-all : goal.all_turns-requires-clause-all
 all_turns-requires-clause-all g c κs within =
-    c.as_slice-processes.ensures.value ∙ processes_are c.requires.opened.0 c.args.views.now c.args.kept.now c.requires.opened.1.1
+    processes_are c.requires.opened.0 c.args.views.now c.args.kept.now c.requires.opened.1.1
 
 pub end-requires : goal.end-requires
 end-requires g c =

@@ -14,4 +14,4 @@ pub returns : goal.returns
 returns g c =
     let turn = turn_of (g.P.Program.acts c.args.program.now) (g.P.Program.ending c.args.program.now) in
     let views = c.args.views.now in
-    c.in_ok-taken.ensures ∙ c.in-Ok.ensures ∙ ap (turns_of turn views) c.requires.all ∙ turns_of-all turn views
+    c.replace.ensures.after ∙ c.in_ok-share.ensures ∙ c.in-Ok.ensures ∙ ap (turns_of turn views) c.requires.all ∙ turns_of-all turn views

@@ -13,8 +13,7 @@ wide_delivery-requires-clause-turned g c κs within = turned_phase_is _ (sym c.i
 pub wide_delivery-requires-clause-processes : goal.wide_delivery-requires-clause-processes
 wide_delivery-requires-clause-processes g c κs within =
     let turn = turn_of (g.P.Program.acts c.args.program.now) (g.P.Program.ending c.args.program.now) in
-    let all = c.as_slice-all.ensures.value ∙ c.in_ok-processes.ensures ∙ ap (range_with_len 0) (c.len.ensures ∙ ap (λ (vs : List ViewParts). length vs) c.open_views.ensures.views) in
-    all_turned turn c.args.tape.now c.turned.new.self c.in_ok-outcomes.outcomes c.as_slice-all.result.now c.in_ok-turned.ensures.ok c.in_ok-outcomes.ensures all
+    all_turned turn c.args.tape.now c.turned.new.self c.in_ok-outcomes.outcomes c.args.processes.now c.in_ok-turned.ensures.ok c.in_ok-outcomes.ensures c.requires.processes
 
 pub returns-then-not-branch : goal.returns-then-not-branch
 returns-then-not-branch g c =

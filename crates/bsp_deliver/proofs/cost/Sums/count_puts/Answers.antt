@@ -4,7 +4,7 @@ use Rattle.std.proofs.lemmas.List.Elements.{All-take}
 use Rattle.bsp_model.specs.declared.request.Put.{Put}
 use Rattle.bsp_deliver.specs.declared.cost.Sums.{Sums}
 use Rattle.bsp_deliver.specs.Cost.{put_transfer}
-use Rattle.bsp_deliver.specs.Inside.Sums.{HasRoom, IsSmall}
+use Rattle.bsp_deliver.specs.Inside.Sums.{is_target, HasRoom, IsSmall}
 use Rattle.bsp_deliver.proofs.Senders.{item_at}
 use Rattle.bsp_deliver.proofs.Counts.{counted_more, room_next}
 use Rattle.bsp_deliver.proofs.cost.Sums.count_puts.Goals as goal
@@ -15,7 +15,7 @@ count-requires-clause-room c =
     let i = c.loop-place.place in
     let here : i < length xs = omega (arith, c.loop-place-test.true, c.len-place-end.ensures) in
     subst (λ (s : Sums). HasRoom s 1) (sym c.loop-place.invariant)
-    (room_next (put_transfer c.args.sender) (take i xs) c.args.self.now (length xs) 1 (All-take (λ x. IsSmall (put_transfer c.args.sender x)) i xs c.requires.small) (omega (arith, length-take-le i xs (omega arith))) c.requires.room)
+    (room_next (is_target c.args.targets.now) (put_transfer c.args.sender) (take i xs) c.args.self.now (length xs) 1 (All-take (λ x. IsSmall (put_transfer c.args.sender x)) i xs c.requires.small) (omega (arith, length-take-le i xs (omega arith))) c.requires.room)
 
 pub loop-place-preserved : goal.loop-place-preserved
 loop-place-preserved c =
@@ -23,4 +23,4 @@ loop-place-preserved c =
     let i = c.loop-place.place in
     let x : Put = record { target = c.at-put.result.target; start = c.at-put.result.start; words = c.at-put.result.words.now } in
     let here : i < length xs = omega (arith, c.loop-place-test.true, c.len-place-end.ensures) in
-    c.count.ensures ∙ counted_more (put_transfer c.args.sender) c.args.self.now c.loop-place.self xs i x here (item_at xs i x c.at-put.ensures) c.loop-place.invariant
+    c.count.ensures ∙ counted_more (is_target c.args.targets.now) (put_transfer c.args.sender) c.args.self.now c.loop-place.self xs i x here (item_at xs i x c.at-put.ensures) c.loop-place.invariant

@@ -1,7 +1,7 @@
 use Rattle.std.proofs.Common.{◌<◌, length, ◌+◌, ◌*◌, ◌-◌, ap, ◌∙◌, arith, fold, subst, sym}
 use Rattle.bsp_deliver.specs.declared.cost.Sums.{Sums}
 use Rattle.bsp_step.specs.OutcomeParts.{outcome_of}
-use Rattle.bsp_deliver.specs.Inside.Sums.{counted, no_words, transfers_of, HasRoom}
+use Rattle.bsp_deliver.specs.Inside.Sums.{is_target, counted_to, no_words, transfers_of, HasRoom}
 use Rattle.bsp_deliver.proofs.Counts.{transfers_more, less_room, no_words_room}
 use Rattle.bsp_deliver.proofs.cost.Sums.of.Goals as goal
 
@@ -18,7 +18,7 @@ loop-p-preserved c =
     record {
       sums =
           c.count_requests.ensures.sums
-          ∙ ap (λ (s : Sums). fold counted s (transfers_of p (outcome_of c.args.outcomes.now p))) c.loop-p.invariant.sums
-          ∙ transfers_more no_words c.args.outcomes.now p here;
+          ∙ ap (λ (s : Sums). fold (counted_to (is_target c.args.targets.now)) s (transfers_of p (outcome_of c.args.outcomes.now p))) c.loop-p.invariant.sums
+          ∙ transfers_more (is_target c.args.targets.now) no_words c.args.outcomes.now p here;
       room = c.count_requests.ensures.room (1024 * (64 - (p + 1))) (less_room c.loop-p.sums (1024 + 1024 * (64 - (p + 1))) (1024 * (64 - p)) (omega (arith, c.requires.few, here)) c.loop-p.invariant.room);
     }

@@ -10,11 +10,12 @@ use Rattle.bsp_run.proofs.TakingOver.{turned_on}
 use Rattle.bsp_run.proofs.tape.Tape.turned_to_deliver.Goals as goal
 
 -- the fields make the run after these turns
-is_after : (c : goal.Joined-self) → run_of (record c.self.inside { outcomes = c.args.outcomes; phase = Turned }) ≡ after_turns (run_of c.self.inside) c.args.outcomes
+is_after : (c : goal.After-drop-2) → run_of (record c.self.inside { outcomes = c.replace.new.dest; phase = c.replace-2.new.dest }) ≡ after_turns (run_of c.self.inside) c.args.outcomes
 is_after c =
     let r : Run = run_of c.self.inside in
     let os : List OutcomeParts = c.args.outcomes in
-    turned_on r os (subst (λ (x : Run). end_of (length x.past) x.state.table os ≡ None) (sym c.self.view_is) c.requires.delivers)
+    (λ i. record r { outcomes = c.replace.ensures.after i; phase = c.replace-2.ensures.after i })
+    ∙ turned_on r os (subst (λ (x : Run). end_of (length x.past) x.state.table os ≡ None) (sym c.self.view_is) c.requires.delivers)
 
 pub invariant_of-self : goal.invariant_of-self
 invariant_of-self c =

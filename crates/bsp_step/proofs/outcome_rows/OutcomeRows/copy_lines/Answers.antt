@@ -1,4 +1,5 @@
 use Rattle.std.proofs.Common.{◌≡◌, ◌+◌, ◌-◌, ◌∙◌, ℕ, List, [], length, ap, sym, inl, inr, arith}
+use Rattle.std.proofs.lemmas.Result.{on_ok_weaker}
 use Rattle.std.proofs.lemmas.Bool.{cases_lt}
 use Rattle.std.proofs.lemmas.List.{get_or_past}
 use Rattle.bsp_model.specs.Columns.{row_at, AreTaken}
@@ -31,4 +32,6 @@ lines_of_all ends memories lists l now n old new is same many taken p =
 pub returns : goal.returns
 returns c =
     let r = c.self.inside in
-    lines_of_all r.ends.items r.memories r.lists.value c.deref-lists.result.now c.args.self.now c.len.result c.args.lines.now c.take_range.new.self c.self.view_is c.deref-lists.ensures c.len.ensures c.in_ok-take_range.ensures.ok
+    on_ok_weaker c.take_range.result
+    (lines_of_all r.ends.items r.memories r.lists.value c.deref-lists.result.now c.args.self.now c.len.result c.args.lines.now c.take_range.new.self c.self.view_is c.deref-lists.ensures c.len.ensures)
+    c.take_range.ensures.ok

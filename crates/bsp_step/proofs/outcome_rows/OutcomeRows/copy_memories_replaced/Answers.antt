@@ -1,4 +1,5 @@
 use Rattle.std.proofs.Common.{ℕ, ◌≡◌, List, length, map, sym, ap, ◌∙◌, arith}
+use Rattle.std.proofs.lemmas.Result.{on_ok_weaker}
 use Rattle.bsp_model.specs.Replaced.{replaced}
 use Rattle.bsp_model.proofs.Replaced.{map-replaced}
 use Rattle.bsp_step.specs.OutcomeParts.{OutcomeParts}
@@ -31,7 +32,9 @@ returns c =
     let own = c.self.inside in
     let new = c.new.inside in
     let processes = c.args.processes.now in
-    c.in_ok-add_replaced.ensures
+    on_ok_weaker c.add_replaced.result
+    (λ e. e
     ∙ ap (λ (ms : List (List ℕ)). replaced ms processes new.memories) (memories_are own.ends.items own.memories own.lists.value c.args.self.now c.self.invariant.count c.self.view_is)
     ∙ ap (λ (ms : List (List ℕ)). replaced (map (λ (o : OutcomeParts). o.memory) c.args.self.now) processes ms) (memories_are new.ends.items new.memories new.lists.value c.args.new.now c.new.invariant.count c.new.view_is)
-    ∙ sym (map-replaced (λ (o : OutcomeParts). o.memory) c.args.self.now processes c.args.new.now)
+    ∙ sym (map-replaced (λ (o : OutcomeParts). o.memory) c.args.self.now processes c.args.new.now))
+    c.add_replaced.ensures

@@ -1,7 +1,9 @@
-use Rattle.std.proofs.Common.{refl}
+use Rattle.std.proofs.Common.{refl, sym, subst}
+use Rattle.bsp_step.specs.Inside.Others.{AreOthers}
 use Rattle.bsp_step.proofs.Others.{lie_apart}
 use Rattle.bsp_step.proofs.outcomes.Outcomes.replaced.Goals as goal
 
-pub with-requires : goal.with-requires
-with-requires c =
-    lie_apart c.in-Ok.rows c.args.self.now c.args.new c.args.processes.items _ refl refl c.in-Ok.ensures.count c.requires.known c.requires.ascending c.requires.count
+pub invariant_of-result : goal.invariant_of-result
+invariant_of-result c =
+    subst (AreOthers c.in-Ok.rows) (sym c.in-Ok-new.ensures)
+    (lie_apart c.in-Ok.rows c.args.self.now c.args.new c.args.processes.items _ refl refl c.in-Ok.ensures.count c.requires.known c.requires.ascending c.requires.count)
