@@ -3,3 +3,10 @@ pub mod Coalescing
 pub mod Reaching
 pub mod Undone
 pub mod Apart
+pub mod TurnCaused
+pub mod DeliveryCaused
+pub mod Caused
+pub mod RunsWithin
+pub mod PlacesAt
+pub mod Openings
+pub mod AtMost

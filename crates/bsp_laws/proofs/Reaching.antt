@@ -63,7 +63,7 @@ parcel_same : (d : ℕ) (o u : OutcomeParts) → o ≡ u → HasSameParcel d o u
 parcel_same d o u e = record { puts = ap (λ (x : OutcomeParts). filter (λ p. p.target == d) x.puts) e; sends = ap (λ (x : OutcomeParts). filter (λ m. m.target == d) x.sends) e }
 
 -- functions that agree on the items of a list
-map_all : {X Y : Type 0} (f h : X → Y) (xs : List X) → All (λ x. f x ≡ h x) xs → map f xs ≡ map h xs
+pub map_all : {X Y : Type 0} (f h : X → Y) (xs : List X) → All (λ x. f x ≡ h x) xs → map f xs ≡ map h xs
 map_all f h [] same = refl
 map_all f h (x ∷ xs) same = ap (λ y. y ∷ map f xs) (same 0 x (omega arith)) ∙ ap (λ ys. h x ∷ ys) (map_all f h xs (λ k y l. same (suc k) y (omega arith)))
 
