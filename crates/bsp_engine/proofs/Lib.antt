@@ -1,4 +1,6 @@
+pub mod Alone
 pub mod Answering
+pub mod AskedNumbers
 pub mod Beginning
 pub mod Beside
 pub mod Changed
@@ -22,12 +24,14 @@ pub mod ResultsRead
 pub mod SameDocument
 pub mod SameJob
 pub mod SessionOf
+pub mod Showing
 pub mod Optional
 pub mod Telling
 pub mod TooLong
 pub mod Trees
 pub mod Handing
 pub mod LawOfReports
+pub mod UpdateSteps
 pub mod Untouched
 pub mod WholeAgain
 pub mod Walks

@@ -236,9 +236,9 @@ texts_tell_the_rest places n m old new other next is_old is_new is_other is_next
     let run_from = AreFrom-test 11 (codes "run") refl in
     let wholes = same_fields (codes "run") (old.number ∷ []) (other.number ∷ []) _ _ run_from before in
     let changes = same_fields (codes "run") (new.number ∷ []) (next.number ∷ []) _ _ run_from after in
-    let told_before = changes_read (all_of old.result) (all_of other.result) (update_lines places old.update) (update_lines places other.update) (all_few n old.result is_old) (all_few m other.result is_other)
-    (ap (λ t. t ++ update_lines places old.update) (all_told old.result) ∙ wholes.1 ∙ sym (ap (λ t. t ++ update_lines places other.update) (all_told other.result))) in
-    let told = changes_read (changes_of old.result new.result) (changes_of other.result next.result) (update_lines places new.update) (update_lines places next.update) (changes_few n old.result new.result is_new) (changes_few m other.result next.result is_next) changes.1 in
+    let told_before = changes_read (all_of old.result) (all_of other.result) (update_lines places old.more old.update) (update_lines places other.more other.update) (all_few n old.result is_old) (all_few m other.result is_other)
+    (ap (λ t. t ++ update_lines places old.more old.update) (all_told old.result) ∙ wholes.1 ∙ sym (ap (λ t. t ++ update_lines places other.more other.update) (all_told other.result))) in
+    let told = changes_read (changes_of old.result new.result) (changes_of other.result next.result) (update_lines places new.more new.update) (update_lines places next.more next.update) (changes_few n old.result new.result is_new) (changes_few m other.result next.result is_next) changes.1 in
     let alike = nexts_alike n m old.result new.result other.result next.result _ _ is_old is_new is_other is_next (wholes_alike n m old.result other.result _ _ is_old is_other told_before) told in
     λ i. ((codes "run" ++ changes.0 i) ++ 10 ∷ [])
     ++ ((told.status i ++ memories_shown new.result.memories next.result.memories alike.memories i ++ printing_shown new.result.lines next.result.lines alike.lines i

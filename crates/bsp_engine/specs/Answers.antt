@@ -20,8 +20,8 @@ abbrev pub LinesAreBatches : {P : Type 0} → (P → ViewParts → List Act) →
 LinesAreBatches {P} acts ending looks =
     (replying : Replying P) (detail : Detail) (own : List ℕ) (job : Job P) (lines : List (List ℕ)) (batches : List (List Edit)) → AreLiveReplies acts ending looks replying
     → input_fault job.input ≡ None → map asked_of lines ≡ map Batch batches → list_any asks_for_text lines ≡ false
-    → (later : List ℕ) × (text_of detail (replying.job (record job { batches = job.batches ++ batches })) ≡ text_of detail (replying.job job) ++ later)
-    × (due_of acts ending replying detail own job lines ≡ text_of detail (replying.job job) ++ codes "ready\n" ++ later)
+    → (later : List ℕ) × (text_of detail (replying.job detail (record job { batches = job.batches ++ batches })) ≡ text_of detail (replying.job detail job) ++ later)
+    × (due_of acts ending replying detail own job lines ≡ text_of detail (replying.job detail job) ++ codes "ready\n" ++ later)
 
 -- `undo` after an accepted batch leaves the session as it was before: its input, and what else can be taken back. So it is never refused.
 abbrev pub UndoTakesBack : Type 0 → Type 0

@@ -1,7 +1,9 @@
 -- What a line asks of a live session (this profile).
-use Rattle.std.specs.Prelude.{ℕ, Bool, true, false, ◌==◌, ◌&&◌, ◌||◌, not, List, [], ◌∷◌, ◌++◌, length, take, drop, codes, Option, None, Some, nat_lt, if◌then◌else◌}
-use Rattle.std.specs.Str.{bytes_eq}
+use Rattle.std.specs.Prelude.{ℕ, Bool, true, false, ◌==◌, ◌&&◌, ◌||◌, not, List, [], ◌∷◌, ◌++◌, length, take, drop, codes, Option, None, Some, option_and_then, nat_lt, ◌^◌, if◌then◌else◌}
+use Rattle.std.specs.Str.{all_ascii_digits, bytes_eq}
+use Rattle.std.specs.Str.Parse.{digits_value_after}
 use Rattle.toml.specs.Data.{Data, Members, get_member}
+use Rattle.bsp_incr.specs.declared.reply.Place.{Place}
 use Rattle.bsp_engine.specs.declared.asked.Asked.{Asked}
 use Rattle.bsp_engine.specs.declared.asked.Asked.TheVariants.{Batch, Undo, Nothing}
 use Rattle.bsp_engine.specs.declared.asked.Unread.TheVariants.{NotToml, WrongType, BadWord, TooLong}
@@ -62,9 +64,64 @@ is_document line = not (is_long line) && is_word (codes "document") line
 abbrev pub is_help : List ℕ → Bool
 is_help line = not (is_long line) && is_word (codes "help") line
 
--- The line asks for one of the two texts. No run is made for it.
+-- no space, and not the beginning of a comment
+abbrev pub is_in_word : ℕ → Bool
+is_in_word byte = not (is_space byte) && not (byte == 35)
+
+-- the text without the spaces in front of it
+abbrev pub behind_spaces : List ℕ → List ℕ
+behind_spaces [] = []
+behind_spaces (byte ∷ later) = if is_space byte then behind_spaces later else byte ∷ later
+
+-- the word with which a text begins
+abbrev pub first_word : List ℕ → List ℕ
+first_word [] = []
+first_word (byte ∷ later) = if is_in_word byte then byte ∷ first_word later else []
+
+-- what stands behind that word
+abbrev pub behind_word : List ℕ → List ℕ
+behind_word [] = []
+behind_word (byte ∷ later) = if is_in_word byte then behind_word later else byte ∷ later
+
+-- the number that digits write behind those of n, where there are no other bytes, and it has 64 bits
+abbrev pub number_after : ℕ → List ℕ → Option ℕ
+number_after n digits =
+    if all_ascii_digits digits && nat_lt (digits_value_after 10 n digits) (2 ^ 64) then Some (digits_value_after 10 n digits) else None
+
+-- the number of 64 bits that a word writes
+abbrev pub number_of : List ℕ → Option ℕ
+number_of [] = None
+number_of (byte ∷ later) = number_after 0 (byte ∷ later)
+
+abbrev pub place_if : Bool → ℕ → ℕ → Option Place
+place_if true step pid = Some (record { step = step; pid = pid })
+place_if false step pid = None
+
+-- The place that a text names, which begins with a word: two numbers with spaces between them. Spaces may stand behind, and a comment.
+abbrev pub place_at : List ℕ → Option Place
+place_at text =
+    let second = behind_spaces (behind_word text) in
+    option_and_then (λ step. option_and_then (λ pid. place_if (is_blank (behind_word second)) step pid) (number_of (first_word second))) (number_of (first_word text))
+
+-- the first word of a line
+abbrev pub asking_word : List ℕ → List ℕ
+asking_word line = first_word (behind_spaces line)
+
+-- the place that stands behind it
+abbrev pub asked_place : List ℕ → Option Place
+asked_place line = place_at (behind_spaces (behind_word (behind_spaces line)))
+
+-- the line asks what a process saw in a superstep
+abbrev pub is_view : List ℕ → Bool
+is_view line = not (is_long line) && bytes_eq (asking_word line) (codes "view")
+
+-- the line asks what the turn of a process left
+abbrev pub is_turn : List ℕ → Bool
+is_turn line = not (is_long line) && bytes_eq (asking_word line) (codes "turn")
+
+-- The line asks for one of the four texts. No run is made for it.
 abbrev pub asks_for_text : List ℕ → Bool
-asks_for_text line = is_document line || is_help line
+asks_for_text line = is_document line || is_help line || is_view line || is_turn line
 
 -- What a line asks, of which no more is kept than a document may have and one byte.
 unfoldable pub asked_of : List ℕ → Asked

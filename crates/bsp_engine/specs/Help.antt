@@ -9,5 +9,7 @@ help_block =
     ++ codes "            [\"limit\", n] or [\"prices\", g, l]; a blank line is the batch without edits\n"
     ++ codes "undo        takes back the last accepted batch that still stands\n"
     ++ codes "document    writes the input as a document\n"
+    ++ codes "view S P    writes what process P saw in superstep S\n"
+    ++ codes "turn S P    writes what the turn of process P left in superstep S\n"
     ++ codes "help        writes these lines\n"
     ++ codes "end\n"

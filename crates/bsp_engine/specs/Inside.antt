@@ -1,3 +1,4 @@
+pub mod Causes
 pub mod Given
 pub mod Replies
 pub mod Report

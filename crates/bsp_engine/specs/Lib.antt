@@ -21,12 +21,17 @@ pub mod Places
 pub mod ReadsBack
 pub mod Refusal
 pub mod Reported
+pub mod Shown
 pub mod Signs
 pub mod Sizes
 pub mod Talk
 pub mod Text
+pub mod Told
 pub mod Tree
+pub mod TurnLines
 pub mod Values
+pub mod ViewLines
 pub mod Whole
+pub mod WhyLines
 pub mod Inside
 pub mod Untouched

@@ -1,5 +1,5 @@
 -- What the words of the command line ask for (this profile).
-use Rattle.std.specs.Prelude.{ℕ, Bool, true, false, ◌&&◌, nat_le, List, [], ◌∷◌, Option, Some, None, codes, pos, if◌then◌else◌}
+use Rattle.std.specs.Prelude.{ℕ, Bool, true, false, ◌&&◌, ◌||◌, nat_le, List, [], ◌∷◌, Option, Some, None, codes, pos, if◌then◌else◌}
 use Rattle.std.specs.Str.{bytes_eq}
 use Rattle.std.specs.Str.Parse.{digits_value, without_leading_plus}
 use Rattle.clap.specs.ValueTests.{is_numeral}
@@ -29,6 +29,14 @@ places_rule = flag_rule (codes "places")
 abbrev pub changes_rule : Rule
 changes_rule = flag_rule (codes "changes")
 
+-- `--why`
+abbrev pub why_rule : Rule
+why_rule = flag_rule (codes "why")
+
+-- `--update-cost`
+abbrev pub update_cost_rule : Rule
+update_cost_rule = flag_rule (codes "update-cost")
+
 -- `--follow FILE`
 abbrev pub follow_rule : Rule
 follow_rule = record (new_rule (codes "follow")) { long = Some (codes "follow"); value_names = 1 }
@@ -41,11 +49,14 @@ quiet_rule = flag_rule (codes "quiet")
 abbrev pub with_version : App → App
 with_version a = record a { top = record a.top { has_version = true } }
 
--- the command of a tool with this name: its version, and these six options
+-- a command with the options that say what the blocks tell
+abbrev pub with_details : App → App
+with_details a = with_rule (with_rule (with_rule (with_rule a places_rule) changes_rule) why_rule) update_cost_rule
+
+-- the command of a tool with this name: its version, and these eight options
 abbrev pub tool_app : List ℕ → App
 tool_app name =
-    with_rule (with_rule (with_rule (with_rule (with_rule (with_rule (with_version (new_app name)) workers_rule) scratch_rule)
-    places_rule) changes_rule) follow_rule) quiet_rule
+    with_rule (with_rule (with_details (with_rule (with_rule (with_version (new_app name)) workers_rule) scratch_rule)) follow_rule) quiet_rule
 
 -- the number that a text writes
 abbrev pub number_of : Text → ℕ
@@ -65,9 +76,15 @@ abbrev pub is_given : Option Text → Bool
 is_given None = false
 is_given (Some text) = bytes_eq text (codes "true")
 
--- what the blocks are to tell, by the matches of the words
+-- what the blocks are to tell, by the matches of the words: who asks why asks for the places too
 abbrev pub detail_of : List Row → Detail
-detail_of rows = record { places = is_given (one_of (codes "places") rows); changes = is_given (one_of (codes "changes") rows) }
+detail_of rows =
+    record {
+      places = is_given (one_of (codes "places") rows) || is_given (one_of (codes "why") rows);
+      changes = is_given (one_of (codes "changes") rows);
+      why = is_given (one_of (codes "why") rows);
+      update_cost = is_given (one_of (codes "update-cost") rows);
+    }
 
 -- the options that the matches of the words name, 1 and false where absent
 abbrev pub options_of : List Row → Options

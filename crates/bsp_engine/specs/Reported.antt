@@ -16,17 +16,22 @@ use Rattle.bsp_engine.specs.Catalogue.{Meaning}
 use Rattle.bsp_engine.specs.JobOf.{job_of}
 use Rattle.bsp_engine.specs.Limits.{most_document_bytes}
 use Rattle.bsp_engine.specs.Blocks.{text_of}
+use Rattle.bsp_engine.specs.Told.{ToldReply, told_of}
 
 -- The replies to a job are those of a session of its program, by the acts, the endings and the footprints of programs, or of runs made from scratch.
 abbrev pub AreRepliesTo : {P : Type 0} → (P → ViewParts → List Act) → (P → ViewParts → End) → (P → ViewParts → ℕ → Bool) → Bool → Job P → List Reply → Type 0
 AreRepliesTo acts ending looks true job = AreScratchReplies (looks job.program) (turn_of (acts job.program) (ending job.program)) job.input job.batches
 AreRepliesTo acts ending looks false job = AreReplies (looks job.program) (turn_of (acts job.program) (ending job.program)) job.input job.batches
 
+-- what the blocks tell of such replies: each with the lines on its update that are asked for
+abbrev pub told_to : {P : Type 0} → (P → ViewParts → List Act) → (P → ViewParts → End) → (P → ViewParts → ℕ → Bool) → Detail → Job P → List Reply → List ToldReply
+told_to acts ending looks detail job replies = told_of detail (looks job.program) (turn_of (acts job.program) (ending job.program)) job.input job.batches replies
+
 -- the text of such replies
 pub record IsTextFor {P : Type 0} (acts : P → ViewParts → List Act) (ending : P → ViewParts → End) (looks : P → ViewParts → ℕ → Bool) (scratch : Bool) (detail : Detail) (job : Job P) (text : List ℕ) : Type 0 where
   pub replies : List Reply
   pub are : AreRepliesTo acts ending looks scratch job replies
-  pub is : text ≡ text_of detail replies
+  pub is : text ≡ text_of detail (told_to acts ending looks detail job replies)
 
 -- the report of a job, or why there is none
 abbrev pub IsJobReport : {P : Type 0} → (P → ViewParts → List Act) → (P → ViewParts → End) → (P → ViewParts → ℕ → Bool) → Bool → Detail → Result (Job P) JobFault → Result (List ℕ) EngineError → Type 0

@@ -85,10 +85,10 @@ abbrev pub update_places : Bool → Update → List ℕ
 update_places false u = []
 update_places true u = place_lines (codes "turns") u.executed ++ place_lines (codes "deliveries") u.redelivered
 
--- the lists of an update, where they are asked for, and how long they are; nothing where there is no update
-abbrev pub update_lines : Bool → Option Update → List ℕ
-update_lines places None = []
-update_lines places (Some u) = update_places places u ++ counts_line (length u.executed) (length u.redelivered)
+-- the lists of an update and more of it, where they are asked for, and how long they are; nothing where there is no update
+abbrev pub update_lines : Bool → List ℕ → Option Update → List ℕ
+update_lines places more None = []
+update_lines places more (Some u) = update_places places u ++ more ++ counts_line (length u.executed) (length u.redelivered)
 
 -- the faults of an edit, by number
 abbrev pub edit_fault_word : EditFault → List ℕ

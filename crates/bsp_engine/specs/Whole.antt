@@ -9,6 +9,7 @@ use Rattle.bsp_engine.specs.Blocks.{reply_block}
 use Rattle.bsp_engine.specs.Changes.{Changes, changes_of, changes_lines, count_line, other_lines}
 use Rattle.bsp_engine.specs.Lines.{line}
 use Rattle.bsp_engine.specs.Text.{cost_line, memory_line, status_lines}
+use Rattle.bsp_engine.specs.Told.{ToldReply}
 
 -- What the lines of changes say: each names the number of its process or superstep.
 pub record Told : Type 0 where
@@ -83,18 +84,22 @@ pub record ChangesTell (old new : RunResult) : Type 0 where
 abbrev pub ChangesTellTheRest : Type 0
 ChangesTellTheRest = (old new : RunResult) → length old.memories ≡ length new.memories → length old.lines ≡ length new.lines → ChangesTell old new
 
--- A block with a result: its number, the result, and the update of which it tells.
+-- A block with a result: its number, the result, the update of which it tells, and the lines that it has on the update.
 pub record ResultBlock : Type 0 where
   pub number : ℕ
   pub result : RunResult
   pub update : Option Update
+  pub more : List ℕ
+
+abbrev pub told_in : ResultBlock → ToldReply
+told_in b = record { reply = Done b.result b.update; more = b.more }
 
 abbrev pub whole_text : Bool → ResultBlock → List ℕ
-whole_text places b = reply_block places b.number None (Done b.result b.update)
+whole_text places b = reply_block places b.number None (told_in b)
 
 -- the text with changes alone, after a block
 abbrev pub changes_text : Bool → ResultBlock → ResultBlock → List ℕ
-changes_text places before b = reply_block places b.number (Some before.result) (Done b.result b.update)
+changes_text places before b = reply_block places b.number (Some before.result) (told_in b)
 
 -- There are so many processes. They, and the supersteps, have numbers of 64 bits.
 pub record IsCounted (processes : ℕ) (r : RunResult) : Type 0 where

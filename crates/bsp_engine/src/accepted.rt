@@ -7,14 +7,15 @@ ghost use Rattle.bsp_incr.specs.Edits.{edited, refusal_of};
 ghost use Rattle.bsp_incr.specs.Replies.{refusal_in};
 ghost use Rattle.bsp_incr.specs.declared.reply.Reply.TheVariants.{Done};
 ghost use Rattle.bsp_engine.specs.Blocks.{lines_after, reply_lines};
+ghost use Rattle.bsp_engine.specs.Told.{told_by};
 ghost use Rattle.bsp_engine.specs.Inside.Given.{result_if};
 ghost use Rattle.bsp_engine.specs.Inside.Touched.{IsUpdateBetween};
 ghost use Rattle.bsp_engine.specs.Untouched.{AreRunsAround};
 
-use crate::block_lines::push_update;
 use crate::changed_run::push_changed;
 use crate::crew::Crew;
 use crate::options::Detail;
+use crate::update_lines::push_update;
 use crate::whole_run::push_run;
 use bsp_incr::{Edit, EditError, Session, Update};
 use bsp_model::OutOfMemory;
@@ -66,9 +67,10 @@ fn push_history(
 }
 
 /// Appends the lines of the reply to an accepted batch of a session of so many processes.
-pub fn push_accepted(
+pub fn push_accepted<P: Program>(
     text: &mut Vec<u8>,
     detail: Detail,
+    program: &P,
     nprocs: usize,
     old: &History,
     new: &History,
@@ -77,8 +79,9 @@ pub fn push_accepted(
 ) -> Result<(), OutOfMemory>
     requires count { nprocs ≡ length (result_of old.now).memories }
     requires update { IsUpdateBetween old.now batch.now update.now new.now }
-    ensures { OnOk result (text.new.items ≡ text.old.items ++ reply_lines detail.places (result_if detail.changes old.now) (Done (result_of new.now) (Some update.now))) }
+    ensures { OnOk result (text.new.items ≡ text.old.items ++ reply_lines detail.places (result_if detail.changes old.now)
+        (told_by detail (P.looks program.now) (Some old.now) new.now (Done (result_of new.now) (Some update.now)))) }
 {
     push_history(text, detail.changes, nprocs, old, new, batch, update)?;
-    push_update(text, detail.places, update)
+    push_update(text, detail, program, Some(old), new, update)
 }

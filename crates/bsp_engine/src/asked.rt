@@ -5,6 +5,7 @@ ghost use Rattle.toml.specs.View.{table_view};
 ghost use Rattle.bsp_engine.specs.Asked.{asked_at, asked_of, asks_for_text, begins_with_word, document_of, is_blank, is_document, is_help, is_space, is_word, no_edits};
 ghost use Rattle.bsp_engine.specs.Tree.{tree_of};
 
+use crate::asked_place::{is_turn, is_view};
 use crate::errors::JobError;
 use crate::jobs::{ArrayOf, EditForm, fits, has_negative_edit, read_each};
 use crate::limits::MOST_DOCUMENT_BYTES;
@@ -40,14 +41,14 @@ pub enum Unread {
     NothingToUndo,
 }
 
-fn is_space(byte: u8) -> bool
+pub fn is_space(byte: u8) -> bool
     ensures { result ≡ is_space byte }
 {
     byte == b' ' || byte == b'\t' || byte == b'\r'
 }
 
 /// Whether nothing but spaces stands on the line, or a comment alone.
-fn is_blank(line: &[u8]) -> bool
+pub fn is_blank(line: &[u8]) -> bool
     ensures { result ≡ is_blank line.now }
 {
     for byte in line {
@@ -85,7 +86,7 @@ pub fn is_document(line: &[u8]) -> bool
 }
 
 /// Whether the line asks which lines there are.
-fn is_help(line: &[u8]) -> bool
+pub fn is_help(line: &[u8]) -> bool
     ensures { result ≡ is_help line.now }
 {
     line.len() <= MOST_DOCUMENT_BYTES && is_word(b"help", line)
@@ -95,7 +96,7 @@ fn is_help(line: &[u8]) -> bool
 pub fn asks_for_text(line: &[u8]) -> bool
     ensures { result ≡ asks_for_text line.now }
 {
-    is_document(line) || is_help(line)
+    is_document(line) || is_help(line) || is_view(line) || is_turn(line)
 }
 
 /// The key, and the batch of no edit where no other is written.

@@ -28,7 +28,6 @@ use std::thread::Threads;
 /// Who answers the lines of a live session.
 #[derive(Drop)]
 pub struct Attendant<P: Program> {
-    pub places: bool,
     pub live: Live<P>,
     /// The number of the last block.
     pub last: u64,
@@ -54,7 +53,6 @@ pub fn attendant_of<C: Catalogue, R: Threads + Sync, G: Gate>(
     let mut text = Vec::new(crew.alloc);
     let live = begin(crew, detail, job, &mut text, b"ready\n")?;
     Ok(Attendant {
-        places: detail.places,
         live,
         last,
         own,
@@ -69,7 +67,7 @@ fn write_block<P: Program + Drop, R: Threads + Sync, G: Gate>(
     line: &[u8],
 ) -> Result<(), OutOfMemory>
     ensures rest { OnOk result (attendant.new ≡ record attendant.old { live = after attendant.old.live (asked_of line.now); text = attendant.new.text }) }
-    ensures text { OnOk result (attendant.new.text.items ≡ answer_block attendant.old.places attendant.old.last (last_result P.acts P.ending attendant.old.live)
+    ensures text { OnOk result (attendant.new.text.items ≡ answer_block attendant.old.live.detail.places attendant.old.last (last_result P.acts P.ending attendant.old.live)
         (answer_to (live_replying P.acts P.ending P.looks) attendant.old.live (asked_of line.now))) }
 {
     attendant.text.clear();
@@ -77,14 +75,7 @@ fn write_block<P: Program + Drop, R: Threads + Sync, G: Gate>(
     crew.gate.enter(DEPTH_OF_RUNS, number);
     push_line(&mut attendant.text, "run", &[number])?;
     let asked = asked_of(crew.alloc, line)?;
-    let places = attendant.places;
-    push_answer(
-        crew,
-        places,
-        &mut attendant.live,
-        &mut attendant.text,
-        asked,
-    )
+    push_answer(crew, &mut attendant.live, &mut attendant.text, asked)
 }
 
 /// Writes the answer to a line that asks for no text, as the block with the next number.
@@ -119,5 +110,6 @@ pub fn respond<P: Program + Drop, R: Threads + Sync, G: Gate>(
     }
     let own = attendant.own.as_slice();
     let input = attendant.live.input();
-    put_asked_text(&mut attendant.text, own, input, line)
+    let history = attendant.live.history();
+    put_asked_text(&mut attendant.text, own, input, history, line)
 }

@@ -1,9 +1,9 @@
 //! The lines of a block, one function for each kind.
 
-ghost use Rattle.std.specs.Prelude.{◌≡◌, ◌++◌, OnOk, codes};
+ghost use Rattle.std.specs.Prelude.{◌≡◌, ◌++◌, OnOk, codes, length};
 ghost use Rattle.std.specs.List.{flat_map};
 ghost use Rattle.bsp_engine.specs.Lines.{field, line, numbered};
-ghost use Rattle.bsp_engine.specs.Text.{fault_word, process_fault_line, sync_fault_word, status_lines, print_lines, cost_line, update_places, update_lines, edit_fault_word, refusal_line};
+ghost use Rattle.bsp_engine.specs.Text.{fault_word, process_fault_line, sync_fault_word, status_lines, print_lines, cost_line, update_places, counts_line, edit_fault_word, refusal_line};
 
 use crate::lines::{push_field, push_line, push_long_line};
 use crate::places::push_places;
@@ -11,7 +11,7 @@ use bsp_incr::{EditFault, EditRefusal, Update};
 use bsp_model::{CostRow, Fault, OutOfMemory, SyncFault};
 use bsp_run::{Lines, ProcessFault, Status};
 
-fn fault_word(fault: Fault) -> &'static str
+pub fn fault_word(fault: Fault) -> &'static str
     ensures { result.now ≡ fault_word fault }
 {
     match fault {
@@ -132,7 +132,12 @@ pub fn push_cost(text: &mut Vec<u8>, step: u64, row: &CostRow) -> Result<(), Out
     push_line(text, "cost", &[step, row.work, row.h, row.cost])
 }
 
-fn push_update_places(text: &mut Vec<u8>, places: bool, update: &Update) -> Result<(), OutOfMemory>
+/// Appends the places of an update, if they are asked for.
+pub fn push_update_places(
+    text: &mut Vec<u8>,
+    places: bool,
+    update: &Update,
+) -> Result<(), OutOfMemory>
     ensures { OnOk result (text.new.items ≡ text.old.items ++ update_places places update.now) }
 {
     if !places {
@@ -142,11 +147,10 @@ fn push_update_places(text: &mut Vec<u8>, places: bool, update: &Update) -> Resu
     push_places(text, "deliveries", update.redelivered.as_slice())
 }
 
-/// Appends how much was done, with its places if they are asked for.
-pub fn push_update(text: &mut Vec<u8>, places: bool, update: &Update) -> Result<(), OutOfMemory>
-    ensures { OnOk result (text.new.items ≡ text.old.items ++ update_lines places (Some update.now)) }
+/// Appends how much was done.
+pub fn push_counts(text: &mut Vec<u8>, update: &Update) -> Result<(), OutOfMemory>
+    ensures { OnOk result (text.new.items ≡ text.old.items ++ counts_line (length update.now.executed) (length update.now.redelivered)) }
 {
-    push_update_places(text, places, update)?;
     let executed = update.executed.len() as u64;
     let redelivered = update.redelivered.len() as u64;
     push_parted_line(text, "executed", executed, "redelivered", &[redelivered])

@@ -1,13 +1,15 @@
 //! The blocks of a report.
 
-ghost use Rattle.std.specs.Prelude.{◌≡◌, ◌++◌, IfOk, OnOk, option_map};
+ghost use Rattle.std.specs.Prelude.{◌≡◌, ◌++◌, [], IfOk, OnOk, map, option_map};
 ghost use Rattle.bsp_engine.specs.Blocks.{lines_after, reply_block, reply_lines, result_before, text_of};
 ghost use Rattle.bsp_engine.specs.Text.{update_lines};
+ghost use Rattle.bsp_engine.specs.Told.{alone};
 
-use crate::block_lines::{push_refusal, push_update};
+use crate::block_lines::push_refusal;
 use crate::change_lines::push_changes;
 use crate::lines::push_line;
 use crate::options::Detail;
+use crate::update_lines::push_update_alone;
 use crate::whole_run::push_result;
 use bsp_incr::{Reply, Update};
 use bsp_model::OutOfMemory;
@@ -33,10 +35,10 @@ fn push_update_if(
     places: bool,
     update: &Option<Update>,
 ) -> Result<(), OutOfMemory>
-    ensures { OnOk result (text.new.items ≡ text.old.items ++ update_lines places update.now) }
+    ensures { OnOk result (text.new.items ≡ text.old.items ++ update_lines places [] update.now) }
 {
     match update {
-        Some(update) => push_update(text, places, update),
+        Some(update) => push_update_alone(text, places, update),
         None => Ok(()),
     }
 }
@@ -48,7 +50,7 @@ fn push_reply(
     before: Option<&RunResult>,
     reply: &Reply,
 ) -> Result<(), OutOfMemory>
-    ensures { OnOk result (text.new.items ≡ text.old.items ++ reply_lines places (option_map (λ r. r.now) before.entry) reply.now) }
+    ensures { OnOk result (text.new.items ≡ text.old.items ++ reply_lines places (option_map (λ r. r.now) before.entry) (alone reply.now)) }
 {
     match reply {
         Reply::Done {
@@ -70,7 +72,7 @@ fn push_block(
     before: Option<&RunResult>,
     reply: &Reply,
 ) -> Result<(), OutOfMemory>
-    ensures { OnOk result (text.new.items ≡ text.old.items ++ reply_block places number (option_map (λ r. r.now) before.entry) reply.now) }
+    ensures { OnOk result (text.new.items ≡ text.old.items ++ reply_block places number (option_map (λ r. r.now) before.entry) (alone reply.now)) }
 {
     push_line(text, "run", &[number])?;
     push_reply(text, places, before, reply)
@@ -95,7 +97,7 @@ fn result_before<'a>(
 
 /// Appends the text of a report.
 pub fn push_report(text: &mut Vec<u8>, replies: &[Reply], detail: Detail) -> Result<(), OutOfMemory>
-    ensures { OnOk result (text.new.items ≡ text.old.items ++ text_of detail replies.now) }
+    ensures { OnOk result (text.new.items ≡ text.old.items ++ text_of detail (map alone replies.now)) }
 {
     let mut before = None;
     for (number, reply) in replies.iter().enumerate() {
@@ -108,7 +110,7 @@ pub fn push_report(text: &mut Vec<u8>, replies: &[Reply], detail: Detail) -> Res
 /// The text of a report: for each reply a block of lines, which ends with LF. With places each update tells its turns and its deliveries, and with
 /// changes each block after the first only what is another than in the last one before it that has a status.
 pub fn report(alloc: Global, replies: &[Reply], detail: Detail) -> Result<Vec<u8>, OutOfMemory>
-    ensures { IfOk result (λ text. text.items ≡ text_of detail replies.now) }
+    ensures { IfOk result (λ text. text.items ≡ text_of detail (map alone replies.now)) }
 {
     let mut text = Vec::new(alloc);
     let pushed = push_report(&mut text, replies, detail);

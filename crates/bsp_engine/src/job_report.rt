@@ -3,7 +3,7 @@
 ghost use Rattle.std.specs.Prelude.{◌≡◌, IfOk, OnOk, None, false, true};
 ghost use Rattle.bsp_model.specs.Input.{input_fault};
 ghost use Rattle.bsp_engine.specs.Blocks.{text_of};
-ghost use Rattle.bsp_engine.specs.Inside.Replies.{replies_of};
+ghost use Rattle.bsp_engine.specs.Inside.Replies.{job_told, replies_of};
 
 use crate::blocks::push_report;
 use crate::crew::Crew;
@@ -50,7 +50,7 @@ fn put_scratch_report<P: Program + Drop, R, G: Gate>(
     text: &mut Vec<u8>,
 ) -> Result<(), OutOfMemory>
     requires lawful { input_fault job.input ≡ None }
-    ensures { OnOk result (text.new.items ≡ text_of detail (replies_of P.acts P.ending P.looks true job)) }
+    ensures { OnOk result (text.new.items ≡ text_of detail (job_told P.acts P.ending P.looks true detail job)) }
 {
     let replies = scratch_replies(crew, job)?;
     text.clear();
@@ -67,7 +67,7 @@ fn put_session_report<P: Program + Drop, R: Threads + Sync, G: Gate>(
     text: &mut Vec<u8>,
 ) -> Result<(), OutOfMemory>
     requires lawful { input_fault job.input ≡ None }
-    ensures { OnOk result (text.new.items ≡ text_of detail (replies_of P.acts P.ending P.looks false job)) }
+    ensures { OnOk result (text.new.items ≡ text_of detail (job_told P.acts P.ending P.looks false detail job)) }
 {
     text.clear();
     match begin(crew, detail, job, text, b"") {
@@ -88,7 +88,7 @@ pub fn put_report<P: Program + Drop, R: Threads + Sync, G: Gate>(
     text: &mut Vec<u8>,
 ) -> Result<(), OutOfMemory>
     requires lawful { input_fault job.input ≡ None }
-    ensures { OnOk result (text.new.items ≡ text_of detail (replies_of P.acts P.ending P.looks scratch job)) }
+    ensures { OnOk result (text.new.items ≡ text_of detail (job_told P.acts P.ending P.looks scratch detail job)) }
 {
     if scratch {
         put_scratch_report(crew, detail, job, text)

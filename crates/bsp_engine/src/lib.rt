@@ -3,6 +3,7 @@
 
 mod accepted;
 mod asked;
+mod asked_place;
 mod asked_text;
 mod attendant;
 mod block_lines;
@@ -31,11 +32,16 @@ mod places;
 mod progress;
 mod reading;
 mod session_document;
+mod shown;
 mod terminal;
 mod tool;
 pub mod tree;
+mod turn_lines;
 mod unread;
+mod update_lines;
+mod view_lines;
 mod whole_run;
+mod why_lines;
 mod writing;
 
 pub use blocks::report;

@@ -96,7 +96,7 @@ fn push_few(text: &mut Vec<u8>, numbers: &[u64]) -> Result<(), OutOfMemory>
 }
 
 /// Appends each number after a space.
-fn push_fields(text: &mut Vec<u8>, numbers: &[u64]) -> Result<(), OutOfMemory>
+pub fn push_fields(text: &mut Vec<u8>, numbers: &[u64]) -> Result<(), OutOfMemory>
     ensures { OnOk result (text.new.items ≡ text.old.items ++ fields numbers.now) }
 {
     let mut at = 0;
@@ -124,7 +124,7 @@ fn push_in_pieces(
 }
 
 /// Appends a line: a word, numbers, more numbers, and LF.
-fn push_parts(
+pub fn push_parts(
     text: &mut Vec<u8>,
     word: &[u8],
     numbers: &[u64],
@@ -163,6 +163,23 @@ pub fn push_long_line(
     push_parts(text, word.as_bytes(), &[first], others)
 }
 
+/// Appends a line of any length: a word, the numbers of three lists, and LF.
+pub fn push_joined_line(
+    text: &mut Vec<u8>,
+    word: &str,
+    first: &[u64],
+    second: &[u64],
+    third: &[u64],
+) -> Result<(), OutOfMemory>
+    ensures { OnOk result (text.new.items ≡ text.old.items ++ line word.now (first.now ++ second.now ++ third.now)) }
+{
+    text.extend_from_slice(word.as_bytes())?;
+    push_fields(text, first)?;
+    push_fields(text, second)?;
+    push_fields(text, third)?;
+    text.extend_from_slice(b"\n")
+}
+
 /// Appends each word of a memory after a space.
 fn push_memory(text: &mut Vec<u8>, memory: &MemoryRef<'_>) -> Result<(), OutOfMemory>
     ensures { OnOk result (text.new.items ≡ text.old.items ++ fields memory.now) }
@@ -187,6 +204,19 @@ pub fn push_words_line(
 {
     text.extend_from_slice(word.as_bytes())?;
     push_field(text, number)?;
+    push_memory(text, memory)?;
+    text.extend_from_slice(b"\n")
+}
+
+/// Appends a line: a word, the words of a memory, and LF.
+pub fn push_memory_line(
+    text: &mut Vec<u8>,
+    word: &str,
+    memory: &MemoryRef<'_>,
+) -> Result<(), OutOfMemory>
+    ensures { OnOk result (text.new.items ≡ text.old.items ++ line word.now memory.now) }
+{
+    text.extend_from_slice(word.as_bytes())?;
     push_memory(text, memory)?;
     text.extend_from_slice(b"\n")
 }

@@ -8,17 +8,18 @@ ghost use Rattle.bsp_incr.specs.Edits.{refusal_of};
 ghost use Rattle.bsp_incr.specs.Inside.Changes.{update_of};
 ghost use Rattle.bsp_engine.specs.Blocks.{blocks_after, reply_lines, text_of};
 ghost use Rattle.bsp_engine.specs.Inside.LiveReplies.{advanced, live_replies, live_reply, live_replying, opening_block};
-ghost use Rattle.bsp_engine.specs.Inside.Replies.{replies_of};
-ghost use Rattle.bsp_engine.specs.Live.{after, after_batch, after_batches, answer_lines, answer_to, last_result, opened, undos_after};
+ghost use Rattle.bsp_engine.specs.Inside.Replies.{job_told};
+ghost use Rattle.bsp_engine.specs.Live.{after, after_batch, after_batches, answer_lines, answer_to, last_result, opened, run_of, undos_after};
 
 use crate::accepted::{apply, push_accepted};
 use crate::asked::{Asked, Unread};
-use crate::block_lines::{push_refusal, push_update};
+use crate::block_lines::push_refusal;
 use crate::crew::Crew;
 use crate::jobs::Job;
 use crate::lines::push_line;
 use crate::options::Detail;
 use crate::unread::push_unread;
+use crate::update_lines::push_update;
 use crate::whole_run::push_run;
 use bsp_incr::{Batch, Edit, EditError, Session, Update};
 use bsp_model::{Input, OutOfMemory};
@@ -34,8 +35,8 @@ use std::thread::Threads;
 #[derive(Drop)]
 pub struct Live<P: Program> {
     session: Session<P>,
-    /// Whether the blocks tell changes alone.
-    changes: bool,
+    /// What the blocks tell.
+    detail: Detail,
     /// The batches that take the accepted ones back that still stand, the newest first.
     undos: VecDeque<Batch>,
 }
@@ -45,7 +46,7 @@ impl<P: Program> Model for Live<P> {
 
     ghost Value = { LiveParts P };
 
-    ghost view = { λ l. record { program = l.session.program; input = l.session.input; undos = l.undos.items; changes = l.changes } };
+    ghost view = { λ l. record { program = l.session.program; input = l.session.input; undos = l.undos.items; detail = l.detail } };
 }
 
 impl<P: Program + Drop> Live<P> {
@@ -55,24 +56,33 @@ impl<P: Program + Drop> Live<P> {
     {
         self.session.input()
     }
+
+    /// The history, which is the run of the input as it is now.
+    pub fn history(&self) -> &History
+        ensures { result.now ≡ run_of P.acts P.ending self.now }
+    {
+        // That the input is lawful is known where it is read.
+        let _input = self.session.input();
+        self.session.history()
+    }
 }
 
 /// The session of a lawful input, and what was done for it.
 fn open<P: Program + Drop, R: Threads + Sync, G: Gate>(
     crew: &Crew<'_, R, G>,
-    changes: bool,
+    detail: Detail,
     program: P,
     input: Input,
 ) -> Result<(Live<P>, Update), OutOfMemory>
     requires lawful { input_fault input ≡ None }
-    ensures live { IfOk result (λ r. r.0 ≡ opened changes program input) }
+    ensures live { IfOk result (λ r. r.0 ≡ opened detail program input) }
     ensures update { IfOk result (λ r. r.1 ≡ update_of (P.looks program) None (run (turn_of (P.acts program) (P.ending program)) input)) }
 {
     match Session::open(crew.rt, crew.alloc, program, input, crew.workers, crew.gate) {
         Ok((session, update)) => {
             let live = Live {
                 session,
-                changes,
+                detail,
                 undos: VecDeque::new(crew.alloc),
             };
             Ok((live, update))
@@ -84,20 +94,26 @@ fn open<P: Program + Drop, R: Threads + Sync, G: Gate>(
 
 /// Appends the block of the opening, for which this was done.
 fn push_opening<P: Program + Drop>(
-    places: bool,
     live: &Live<P>,
     update: &Update,
     text: &mut Vec<u8>,
 ) -> Result<(), OutOfMemory>
     requires { update.now ≡ update_of (P.looks live.now.program) None (run (turn_of (P.acts live.now.program) (P.ending live.now.program)) live.now.input) }
-    ensures { OnOk result (text.new.items ≡ text.old.items ++ opening_block P.acts P.ending P.looks places live.now.program live.now.input) }
+    ensures { OnOk result (text.new.items ≡ text.old.items ++ opening_block P.acts P.ending P.looks live.now.detail live.now.program live.now.input) }
 {
     // That the input is lawful, and the history its run, is known where they are read.
     let _input = live.session.input();
     let history = live.session.history();
     push_line(text, "run", &[0])?;
     push_run(text, history)?;
-    push_update(text, places, update)
+    push_update(
+        text,
+        live.detail,
+        live.session.program(),
+        None,
+        history,
+        update,
+    )
 }
 
 /// Keeps what takes a batch back, unless the batch is refused.
@@ -118,28 +134,25 @@ fn keep_undo<P: Program + Drop>(
 /// Applies a batch of edits, and appends the lines of its reply. The history that it replaced, if it replaced one, goes to `before`.
 fn advance_keeping<P: Program + Drop, R: Threads + Sync, G: Gate>(
     crew: &Crew<'_, R, G>,
-    places: bool,
     live: &mut Live<P>,
     text: &mut Vec<u8>,
     batch: &[Edit],
     before: &mut Option<History>,
 ) -> Result<(), OutOfMemory>
     ensures after { OnOk result (live.new ≡ advanced live.old batch.now) }
-    ensures text { OnOk result (text.new.items ≡ text.old.items ++ reply_lines places (last_result P.acts P.ending live.old) (live_reply P.acts P.ending P.looks live.old batch.now)) }
+    ensures text { OnOk result (text.new.items ≡ text.old.items ++ reply_lines live.old.detail.places (last_result P.acts P.ending live.old) (live_reply P.acts P.ending P.looks live.old batch.now)) }
 {
     let update = match apply(crew, &mut live.session, batch, before) {
         Ok(update) => update,
         Err(EditError::Refused(refusal)) => return push_refusal(text, refusal),
         Err(EditError::OutOfMemory) => return Err(AllocError),
     };
-    let detail = Detail {
-        places,
-        changes: live.changes,
-    };
+    let detail = live.detail;
+    let program = live.session.program();
     let nprocs = live.session.input().mems.len();
     let new = live.session.history();
     let old = before.as_ref().unwrap_or(new);
-    let pushed = push_accepted(text, detail, nprocs, old, new, batch, &update);
+    let pushed = push_accepted(text, detail, program, nprocs, old, new, batch, &update);
     drop(update);
     pushed
 }
@@ -147,16 +160,15 @@ fn advance_keeping<P: Program + Drop, R: Threads + Sync, G: Gate>(
 /// Applies a batch of edits, and appends the lines of its reply.
 fn advance<P: Program + Drop, R: Threads + Sync, G: Gate>(
     crew: &Crew<'_, R, G>,
-    places: bool,
     live: &mut Live<P>,
     text: &mut Vec<u8>,
     batch: &[Edit],
 ) -> Result<(), OutOfMemory>
     ensures after { OnOk result (live.new ≡ advanced live.old batch.now) }
-    ensures text { OnOk result (text.new.items ≡ text.old.items ++ reply_lines places (last_result P.acts P.ending live.old) (live_reply P.acts P.ending P.looks live.old batch.now)) }
+    ensures text { OnOk result (text.new.items ≡ text.old.items ++ reply_lines live.old.detail.places (last_result P.acts P.ending live.old) (live_reply P.acts P.ending P.looks live.old batch.now)) }
 {
     let mut before = None;
-    let advanced = advance_keeping(crew, places, live, text, batch, &mut before);
+    let advanced = advance_keeping(crew, live, text, batch, &mut before);
     drop(before);
     advanced
 }
@@ -164,34 +176,31 @@ fn advance<P: Program + Drop, R: Threads + Sync, G: Gate>(
 /// Makes a batch, and appends the lines of its reply. What takes it back is kept, unless it is refused.
 fn make<P: Program + Drop, R: Threads + Sync, G: Gate>(
     crew: &Crew<'_, R, G>,
-    places: bool,
     live: &mut Live<P>,
     text: &mut Vec<u8>,
     batch: &[Edit],
 ) -> Result<(), OutOfMemory>
     ensures after { OnOk result (live.new ≡ after_batch live.old batch.now) }
-    ensures text { OnOk result (text.new.items ≡ text.old.items ++ reply_lines places (last_result P.acts P.ending live.old) (live_reply P.acts P.ending P.looks live.old batch.now)) }
+    ensures text { OnOk result (text.new.items ≡ text.old.items ++ reply_lines live.old.detail.places (last_result P.acts P.ending live.old) (live_reply P.acts P.ending P.looks live.old batch.now)) }
 {
     keep_undo(crew.alloc, live, batch)?;
-    advance(crew, places, live, text, batch)
+    advance(crew, live, text, batch)
 }
 
 /// Makes batches, and appends the block of each; the first has the number 1.
 fn make_all<P: Program + Drop, R: Threads + Sync, G: Gate>(
     crew: &Crew<'_, R, G>,
-    detail: Detail,
     live: &mut Live<P>,
     text: &mut Vec<u8>,
     batches: &[Batch],
 ) -> Result<(), OutOfMemory>
-    requires { live.old.changes ≡ detail.changes }
     ensures live { OnOk result (live.new ≡ after_batches live.old batches.now) }
-    ensures text { OnOk result (text.new.items ≡ text.old.items ++ blocks_after detail 1 (last_result P.acts P.ending live.old) (live_replies P.acts P.ending P.looks live.old batches.now)) }
+    ensures text { OnOk result (text.new.items ≡ text.old.items ++ blocks_after live.old.detail 1 (last_result P.acts P.ending live.old) (live_replies P.acts P.ending P.looks live.old batches.now)) }
 {
     for (index, batch) in batches.iter().enumerate() {
         crew.gate.enter(DEPTH_OF_RUNS, index as u64 + 1);
         push_line(text, "run", &[index as u64 + 1])?;
-        make(crew, detail.places, live, text, batch.as_slice())?;
+        make(crew, live, text, batch.as_slice())?;
     }
     Ok(())
 }
@@ -199,7 +208,6 @@ fn make_all<P: Program + Drop, R: Threads + Sync, G: Gate>(
 /// Appends the report of a job whose session was opened with this update, and then the end.
 fn tell_all<P: Program + Drop, R: Threads + Sync, G: Gate>(
     crew: &Crew<'_, R, G>,
-    detail: Detail,
     live: &mut Live<P>,
     update: &Update,
     batches: &[Batch],
@@ -207,13 +215,12 @@ fn tell_all<P: Program + Drop, R: Threads + Sync, G: Gate>(
     end: &[u8],
 ) -> Result<(), OutOfMemory>
     requires update { update.now ≡ update_of (P.looks live.old.program) None (run (turn_of (P.acts live.old.program) (P.ending live.old.program)) live.old.input) }
-    requires changes { live.old.changes ≡ detail.changes }
     ensures live { OnOk result (live.new ≡ after_batches live.old batches.now) }
-    ensures text { OnOk result (text.new.items ≡ text.old.items ++ opening_block P.acts P.ending P.looks detail.places live.old.program live.old.input
-        ++ blocks_after detail 1 (last_result P.acts P.ending live.old) (live_replies P.acts P.ending P.looks live.old batches.now) ++ end.now) }
+    ensures text { OnOk result (text.new.items ≡ text.old.items ++ opening_block P.acts P.ending P.looks live.old.detail live.old.program live.old.input
+        ++ blocks_after live.old.detail 1 (last_result P.acts P.ending live.old) (live_replies P.acts P.ending P.looks live.old batches.now) ++ end.now) }
 {
-    push_opening(detail.places, live, update, text)?;
-    make_all(crew, detail, live, text, batches)?;
+    push_opening(live, update, text)?;
+    make_all(crew, live, text, batches)?;
     text.extend_from_slice(end)
 }
 
@@ -226,25 +233,17 @@ pub fn begin<P: Program + Drop, R: Threads + Sync, G: Gate>(
     end: &[u8],
 ) -> Result<Live<P>, OutOfMemory>
     requires lawful { input_fault job.input ≡ None }
-    ensures live { IfOk result (λ live. live ≡ after_batches (opened detail.changes job.program job.input) job.batches) }
-    ensures text { OnOk result (text.new.items ≡ text.old.items ++ text_of detail (replies_of P.acts P.ending P.looks false job) ++ end.now) }
+    ensures live { IfOk result (λ live. live ≡ after_batches (opened detail job.program job.input) job.batches) }
+    ensures text { OnOk result (text.new.items ≡ text.old.items ++ text_of detail (job_told P.acts P.ending P.looks false detail job) ++ end.now) }
 {
     let Job {
         program,
         input,
         batches,
     } = job;
-    match open(crew, detail.changes, program, input) {
+    match open(crew, detail, program, input) {
         Ok((mut live, update)) => {
-            let told = tell_all(
-                crew,
-                detail,
-                &mut live,
-                &update,
-                batches.as_slice(),
-                text,
-                end,
-            );
+            let told = tell_all(crew, &mut live, &update, batches.as_slice(), text, end);
             drop(update);
             drop(batches);
             told.and(Ok(live))
@@ -259,16 +258,15 @@ pub fn begin<P: Program + Drop, R: Threads + Sync, G: Gate>(
 /// Takes the last accepted batch back that still stands, and appends what is answered.
 fn undo<P: Program + Drop, R: Threads + Sync, G: Gate>(
     crew: &Crew<'_, R, G>,
-    places: bool,
     live: &mut Live<P>,
     text: &mut Vec<u8>,
 ) -> Result<(), OutOfMemory>
     ensures after { OnOk result (live.new ≡ after live.old Asked.Undo) }
-    ensures text { OnOk result (text.new.items ≡ text.old.items ++ answer_lines places (last_result P.acts P.ending live.old) (answer_to (live_replying P.acts P.ending P.looks) live.old Asked.Undo)) }
+    ensures text { OnOk result (text.new.items ≡ text.old.items ++ answer_lines live.old.detail.places (last_result P.acts P.ending live.old) (answer_to (live_replying P.acts P.ending P.looks) live.old Asked.Undo)) }
 {
     match live.undos.pop_front() {
         Some(undo) => {
-            let advanced = advance(crew, places, live, text, undo.as_slice());
+            let advanced = advance(crew, live, text, undo.as_slice());
             drop(undo);
             advanced
         }
@@ -279,21 +277,20 @@ fn undo<P: Program + Drop, R: Threads + Sync, G: Gate>(
 /// Does what a line asks, and appends what is answered.
 pub fn push_answer<P: Program + Drop, R: Threads + Sync, G: Gate>(
     crew: &Crew<'_, R, G>,
-    places: bool,
     live: &mut Live<P>,
     text: &mut Vec<u8>,
     asked: Asked,
 ) -> Result<(), OutOfMemory>
     ensures after { OnOk result (live.new ≡ after live.old asked) }
-    ensures text { OnOk result (text.new.items ≡ text.old.items ++ answer_lines places (last_result P.acts P.ending live.old) (answer_to (live_replying P.acts P.ending P.looks) live.old asked)) }
+    ensures text { OnOk result (text.new.items ≡ text.old.items ++ answer_lines live.old.detail.places (last_result P.acts P.ending live.old) (answer_to (live_replying P.acts P.ending P.looks) live.old asked)) }
 {
     match asked {
         Asked::Batch(batch) => {
-            let made = make(crew, places, live, text, batch.as_slice());
+            let made = make(crew, live, text, batch.as_slice());
             drop(batch);
             made
         }
-        Asked::Undo => undo(crew, places, live, text),
+        Asked::Undo => undo(crew, live, text),
         Asked::Nothing(unread) => push_unread(text, unread),
     }
 }

@@ -1,8 +1,8 @@
 //! The words of the command line.
 
-ghost use Rattle.std.specs.Prelude.{◌≡◌, ◌≢◌, ◌≤◌, IfOk, IfErr, codes, true, false, map, option_map};
+ghost use Rattle.std.specs.Prelude.{◌≡◌, ◌≢◌, ◌≤◌, ◌||◌, IfOk, IfErr, codes, true, false, map, option_map};
 ghost use Rattle.clap.specs.Words.{FailsBy, app_of, fault_of, first_of, found_of, kind_of, matches_of, new_app, one_text, rows_of, rule_of, takes, with_rule};
-ghost use Rattle.bsp_engine.specs.Options.{detail_of, flag_rule, follow_rule, is_given, options_of, scratch_rule, tool_app, with_version, workers_of, workers_rule};
+ghost use Rattle.bsp_engine.specs.Options.{detail_of, flag_rule, follow_rule, is_given, options_of, scratch_rule, tool_app, with_details, with_version, workers_of, workers_rule};
 ghost use Rattle.bsp_engine.specs.Inside.Options.{number_or_1};
 
 use clap::error::ErrorKind;
@@ -19,6 +19,10 @@ pub struct Detail {
     pub places: bool,
     /// Whether each block after the first tells its changes against the last block with a status before it.
     pub changes: bool,
+    /// Whether they tell of each place why its turn was taken or its delivery made again.
+    pub why: bool,
+    /// Whether they tell the cost of each update.
+    pub update_cost: bool,
 }
 
 /// What the words ask for.
@@ -107,6 +111,10 @@ const PLACES_HELP: &str = "Lists the places of turns and deliveries, by superste
 const CHANGES_HELP: &str =
     "Reports each run after the first as its changes against the previous run";
 
+const WHY_HELP: &str = "Lists the places too, and why each turn and delivery was made again";
+
+const UPDATE_COST_HELP: &str = "Reports the cost of each update, superstep by superstep";
+
 const QUIET_HELP: &str = "Shows no progress on a terminal";
 
 fn workers_arg<'a>(alloc: Global) -> Arg<'a>
@@ -158,12 +166,21 @@ fn running_command<'a>(alloc: Global, tool: &Tool) -> Result<Command<'a>, AllocE
         ))
 }
 
-fn command<'a>(alloc: Global, tool: &Tool) -> Result<Command<'a>, AllocError>
-    ensures { IfOk result (λ c. app_of c ≡ tool_app tool.now.name.now) }
+/// The same command with the options that say what the blocks tell.
+fn telling_command<'a>(alloc: Global, tool: &Tool) -> Result<Command<'a>, AllocError>
+    ensures { IfOk result (λ c. app_of c ≡ with_details (with_rule (with_rule (with_version (new_app tool.now.name.now)) workers_rule) scratch_rule)) }
 {
     running_command(alloc, tool)?
         .arg(flag_arg(alloc, "places", PLACES_HELP))?
         .arg(flag_arg(alloc, "changes", CHANGES_HELP))?
+        .arg(flag_arg(alloc, "why", WHY_HELP))?
+        .arg(flag_arg(alloc, "update-cost", UPDATE_COST_HELP))
+}
+
+fn command<'a>(alloc: Global, tool: &Tool) -> Result<Command<'a>, AllocError>
+    ensures { IfOk result (λ c. app_of c ≡ tool_app tool.now.name.now) }
+{
+    telling_command(alloc, tool)?
         .arg(follow_arg(alloc))?
         .arg(flag_arg(alloc, "quiet", QUIET_HELP))
 }
@@ -198,12 +215,25 @@ fn follow_in<'a>(matches: &ArgMatches<'a>) -> Option<&'a str>
     matches.get_str("follow")
 }
 
+fn either(one: bool, other: bool) -> bool
+    ensures { result ≡ one || other }
+{
+    one || other
+}
+
 fn detail_in(matches: &ArgMatches<'_>) -> Detail
     ensures { result ≡ detail_of (rows_of (found_of matches.now)) }
 {
     let places = is_given(matches, "places");
     let changes = is_given(matches, "changes");
-    Detail { places, changes }
+    let why = is_given(matches, "why");
+    let update_cost = is_given(matches, "update-cost");
+    Detail {
+        places: either(places, why),
+        changes,
+        why,
+        update_cost,
+    }
 }
 
 fn options_in(matches: &ArgMatches<'_>) -> Options

@@ -197,19 +197,43 @@ fn run_shown<
     status
 }
 
+/// An option that asks of a session for more than a run from scratch has, if one was given.
+fn option_of_sessions(options: Options, path: Option<&str>) -> Option<&'static str> {
+    if path.is_some() {
+        return Some("--follow <FILE>");
+    }
+    if options.detail.why {
+        return Some("--why");
+    }
+    if options.detail.update_cost {
+        return Some("--update-cost");
+    }
+    None
+}
+
+/// Runs a job, unless the options do not go together.
+fn run_options<
+    C: Catalogue,
+    R: Alloc<A = Global> + Files + Input + Print + Eprint + Watched + Threads + Clock + Sync,
+>(rt: &R, options: Options, path: Option<&str>) -> ExitCode
+    requires workers { (0 < options.workers) × (options.workers ≤ 16) }
+{
+    match option_of_sessions(options, path) {
+        Some(option) if options.scratch => {
+            let _ = eprintln!(rt; "error: the argument '{option}' cannot be used with '--scratch'");
+            ExitCode::from(2)
+        }
+        _ => run_shown::<C, R>(rt, options, path),
+    }
+}
+
 /// Does what the words ask for; the first word is the program's name.
 fn run_words<
     C: Catalogue,
     R: Alloc<A = Global> + Files + Input + Print + Eprint + Watched + Threads + Clock + Sync,
 >(rt: &R, tool: &Tool, words: &[&str]) -> ExitCode {
     match read_options(rt.alloc(), tool, words) {
-        Ok((options, Some(_))) if options.scratch => {
-            let _ = eprintln!(rt;
-                "error: the argument '--follow <FILE>' cannot be used with '--scratch'"
-            );
-            ExitCode::from(2)
-        }
-        Ok((options, path)) => run_shown::<C, R>(rt, options, path),
+        Ok((options, path)) => run_options::<C, R>(rt, options, path),
         Err(error) => {
             let status = refused(rt, &error);
             drop(error);

@@ -10,7 +10,7 @@ use Rattle.bsp_engine.specs.Inside.LiveReplies.{live_replying}
 
 -- where an open session is
 unfoldable pub due_at : {P : Type 0} → (P → ViewParts → List Act) → (P → ViewParts → End) → (P → ViewParts → ℕ → Bool) → Attendant P → List (List ℕ) → List ℕ
-due_at acts ending looks a lines = blocks acts ending (live_replying acts ending looks) a.own.items a.places (a.last + 1) a.live lines
+due_at acts ending looks a lines = blocks acts ending (live_replying acts ending looks) a.own.items (a.last + 1) a.live lines
 
 -- the same after what is to be said next
 abbrev pub due_from : {P : Type 0} → (P → ViewParts → List Act) → (P → ViewParts → End) → (P → ViewParts → ℕ → Bool) → Attendant P → Due

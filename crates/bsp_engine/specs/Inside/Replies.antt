@@ -8,6 +8,9 @@ use Rattle.bsp_incr.specs.Replies.{without_update}
 use Rattle.bsp_incr.specs.Inside.Replies.{replies}
 use Rattle.bsp_incr.specs.declared.reply.Reply.{Reply}
 use Rattle.bsp_engine.specs.declared.jobs.Job.{Job}
+use Rattle.bsp_engine.specs.declared.options.Detail.{Detail}
+use Rattle.bsp_engine.specs.Told.{ToldReply}
+use Rattle.bsp_engine.specs.Reported.{told_to}
 
 -- The replies of a session of the job's program, by the acts, the endings and the footprints of programs: to its input, and then one to each batch.
 -- Runs made from scratch have no updates.
@@ -15,3 +18,7 @@ unfoldable pub replies_of : {P : Type 0} → (P → ViewParts → List Act) → 
 replies_of acts ending looks scratch job =
     let all = replies (looks job.program) (turn_of (acts job.program) (ending job.program)) job.input job.batches in
     if scratch then map without_update all else all
+
+-- the same as the blocks of a report tell them
+abbrev pub job_told : {P : Type 0} → (P → ViewParts → List Act) → (P → ViewParts → End) → (P → ViewParts → ℕ → Bool) → Bool → Detail → Job P → List ToldReply
+job_told acts ending looks scratch detail job = told_to acts ending looks detail job (replies_of acts ending looks scratch job)

@@ -11,12 +11,12 @@ use Rattle.bsp_engine.specs.declared.options.Detail.{Detail}
 use Rattle.bsp_engine.specs.Catalogue.{Meaning}
 use Rattle.bsp_engine.specs.JobOf.{job_of}
 use Rattle.bsp_engine.specs.Reported.{is_too_long}
-use Rattle.bsp_engine.specs.Inside.Replies.{replies_of}
+use Rattle.bsp_engine.specs.Inside.Replies.{job_told}
 use Rattle.bsp_engine.specs.Blocks.{text_of}
 
 -- the text of the replies to a job
 abbrev pub job_report : {P : Type 0} → (P → ViewParts → List Act) → (P → ViewParts → End) → (P → ViewParts → ℕ → Bool) → Bool → Detail → Result (Job P) JobFault → Result (List ℕ) EngineError
-job_report acts ending looks scratch detail (Ok job) = Ok (text_of detail (replies_of acts ending looks scratch job))
+job_report acts ending looks scratch detail (Ok job) = Ok (text_of detail (job_told acts ending looks scratch detail job))
 job_report acts ending looks scratch detail (Err fault) = Err (Refused fault)
 
 -- The report of a document, with or without updates, its blocks in this detail, or why it has none: it is too long, or the first of J1 to J7. The catalogue's

@@ -58,6 +58,8 @@ pub const ONE_WORKER: Options = Options {
     detail: Detail {
         places: false,
         changes: false,
+        why: false,
+        update_cost: false,
     },
     quiet: true,
 };

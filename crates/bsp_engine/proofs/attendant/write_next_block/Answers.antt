@@ -7,5 +7,5 @@ pub returns : goal.returns
 returns g c =
     told_both c.write_block.result _ _ _
     (λ rest text. attendant_next g.P.Program.acts g.P.Program.ending g.P.Program.looks c.args.attendant.now c.write_block.new.attendant c.args.line.now c.write_block.new.attendant.text.items c.in-Some.number c.requires c.in-Some.ensures.1
-    (ap (λ a. a.last) rest) (ap (λ a. a.places) rest) (ap (λ a. a.own.items) rest) text (ap (λ a. a.live) rest))
+    (ap (λ a. a.last) rest) (ap (λ a. a.own.items) rest) text (ap (λ a. a.live) rest))
     c.write_block.ensures.rest c.write_block.ensures.text

@@ -9,4 +9,6 @@ returns c =
     let found = found_of c.args.matches.now in
     let places = c.is_given-places.ensures ∙ ap is_given (one_text-rows found (codes "places")) in
     let changes = c.is_given-changes.ensures ∙ ap is_given (one_text-rows found (codes "changes")) in
-    rw (places, changes)
+    let why = c.is_given-why.ensures ∙ ap is_given (one_text-rows found (codes "why")) in
+    let update_cost = c.is_given-update_cost.ensures ∙ ap is_given (one_text-rows found (codes "update-cost")) in
+    rw (c.either.ensures, places, changes, why, update_cost)
