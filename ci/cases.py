@@ -9,6 +9,15 @@ ROOT = os.path.dirname(os.path.dirname(os.path.realpath(__file__)))
 EXAMPLES_OF = "bsp_tool"
 SECONDS = 120
 WORKERS = ("1", "3", "16")
+# The lists of options with which a document is run besides, where the model says the report.
+OPTIONS = (
+    ("--places",),
+    ("--places", "--changes"),
+    ("--scratch", "--changes"),
+    ("--why", "--update-cost"),
+    ("--why", "--changes"),
+    ("--update-cost", "--changes"),
+)
 
 
 @dataclass
@@ -52,11 +61,6 @@ def without_updates(report):
     return b"".join(line for line in report.splitlines(True) if not line.startswith(b"executed "))
 
 
-def without_places(report):
-    """The report of the same document without --places."""
-    return b"".join(line for line in report.splitlines(True) if not line.startswith((b"turns ", b"deliveries ")))
-
-
 def built_program(crate, *of_tests):
     """The path of the program of a crate, or with "tests" of its tests, which is built where it is absent or older than its sources. None where it can't
     be built."""
@@ -68,19 +72,14 @@ def given_words(case, report, *words):
     return replace(case, name=" ".join([case.name, *words]), report=report, words=words)
 
 
-def with_words(case, placed=None, changed=None):
-    """A case that has no words of its own, with each number of workers and with --scratch too; with --places, and with --places and --changes, where
-    these reports are known, and then with --scratch and --changes too."""
+def with_words(case, reports):
+    """A case that has no words of its own, with each number of workers and with --scratch too, and with each list of options of which the report is
+    known."""
     if isinstance(case, str) or case.words:
         return [case]
     cases = [case, *(given_words(case, case.report, "--workers", count) for count in WORKERS)]
     cases.append(given_words(case, without_updates(case.report), "--scratch"))
-    if placed is not None:
-        cases.append(given_words(case, placed, "--places"))
-    if changed is not None:
-        cases.append(given_words(case, changed, "--places", "--changes"))
-        cases.append(given_words(case, without_updates(without_places(changed)), "--scratch", "--changes"))
-    return cases
+    return cases + [given_words(case, report, *words) for words, report in reports.items()]
 
 
 def run(program, case):

@@ -76,12 +76,13 @@ class Live(InAPlace):
 
     FLAWS = {
         "late": (0, "line 0"),
-        "unread_edits": (5, "in place of"),
+        "unread_edits": (3, "in place of"),
         "mute": (0, "on standard error"),
         "blames": (0, "on standard error"),
-        "undoes_refused": (12, "undo"),
-        "numbers": (10, "b'run "),
+        "undoes_refused": (4, "undo"),
+        "numbers": (1, "b'run "),
         "forgets": (2, "its first lines"),
+        "looks_back": (0, "view"),
         "stays": (0, "no end after"),
         "unheard": (0, "a client that dies"),
     }

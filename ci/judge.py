@@ -1,16 +1,19 @@
 """What a live session has to answer to lines, by the plain model of ci/model.py."""
 import json
 import re
+from dataclasses import replace
 from itertools import groupby
 
 from cases import difference
-from model import TOOLS, line, report_of
+from model import TOOLS, replies_to, report_of
 from modelled.documents import Job, Refused, job_of, tree_of
 from modelled.lines import HELP, bytes_reason, refusal_reason, value_reason
-from modelled.runs import Input
+from modelled.runs import Input, run
 from modelled.sessions import Edit
+from modelled.shown import shown
+from modelled.texts import line, text_of
 
-UPDATE = ("turns", "deliveries", "executed")  # the lines of an update
+UPDATE = ("turns", "deliveries", "why", "update", "executed")  # the lines of an update
 
 
 def blocks_of(report):
@@ -73,12 +76,12 @@ class Judge:
     """The session of a document after some lines: its input, and for each accepted batch that stands the edits that
     take it back; and the patterns of the lines that were to be said on standard error."""
 
-    def __init__(self, tool, document, places, changes):
+    def __init__(self, tool, document, options):
         self.catalogue = TOOLS[tool]
         job = job_of(self.catalogue, document)
         self.program, self.input, self.batches = job.program, job.input, job.batches
         self.at_key = tree_of(document)[self.catalogue.key]
-        self.places, self.changes = places, changes
+        self.whole, self.changes = replace(options, changes=False), options.changes
         self.number = 0
         self.undos = []
         self.errors = []
@@ -86,12 +89,15 @@ class Judge:
 
     def text(self, lines):
         self.number += 1
-        return "".join(f"{each}\n" for each in [line("run", self.number - 1), *lines])
+        return text_of([line("run", self.number - 1), *lines])
+
+    def blocks(self, batches):
+        """The whole blocks of the input as it is, and of batches on it."""
+        return blocks_of(report_of(replies_to(Job(self.program, self.input, batches)), self.whole))
 
     def replied(self, edits):
         """The block of the model for edits of the input as it is, and whether they were accepted."""
-        job = Job(self.program, self.input, [edits])
-        block = blocks_of(report_of(job, False, self.places))[1]
+        block = self.blocks([edits])[1]
         is_accepted = block[0].startswith("status ")
         before = self.last
         if is_accepted:
@@ -109,14 +115,16 @@ class Judge:
 
     def opening(self):
         """What is written before a line is read."""
-        self.last = blocks_of(report_of(Job(self.program, self.input, []), False, self.places))[0]
+        self.last = self.blocks([])[0]
         first = self.text(self.last)
         return first + "".join(self.batch(edits) for edits in self.batches) + "ready\n"
 
     def answer(self, ask):
         """The answer to a line, which does not ask for the document."""
         if ask.is_help:
-            return "".join(f"{each}\n" for each in HELP)
+            return text_of(HELP)
+        if ask.is_shown:
+            return text_of(shown(run(self.program, self.input), ask.word, ask.place))
         if ask.unread:
             self.errors += [unread_reason(ask.line, ask.unread)] if ask.unread != "long" else []
             return self.text([line("unread", ask.unread)])
@@ -129,8 +137,7 @@ class Judge:
 
     def of_scratch(self):
         """The report of the input as it is, with --scratch."""
-        lines = ["run 0", *(each for each in self.last if not each.startswith(UPDATE))]
-        return "".join(f"{each}\n" for each in lines)
+        return text_of(["run 0", *(each for each in self.last if not each.startswith(UPDATE))])
 
     def document_start(self):
         """The first lines of the document: the input. The keys of the catalogue's own come after them."""

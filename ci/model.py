@@ -1,7 +1,7 @@
 #!/usr/bin/env python3
 """A plain model of the programs, written from docs/ and the definitions of specs/ alone, with which ci/random compares what was built.
 
-usage: ci/model.py TOOL [--workers N] [--scratch] [--places] [--changes] < DOCUMENT
+usage: ci/model.py TOOL [--workers N] [--scratch] [--places] [--changes] [--why] [--update-cost] < DOCUMENT
 
 TOOL is bsp_tool, heat, oddeven, samplesort, collectives or bsp_script. Report, fault line and exit status are those of the program of that name; the number of
 workers counts for nothing, and the line that says where a document's fault is can't be had here. Every process of every superstep is run, what is
@@ -13,33 +13,42 @@ times without seconds) is refused here and not by the programs.
 from __future__ import annotations
 
 import sys
-from dataclasses import dataclass
+from dataclasses import dataclass, fields
+from functools import cached_property
 
 sys.dont_write_bytecode = True
 
+from modelled.causes import Place, why_lines  # noqa: E402
+from modelled.costs import cost_rows, update_cost_lines  # noqa: E402
 from modelled.documents import TOOLS, Job, Refused, job_of  # noqa: E402
-from modelled.runs import Input, Run, Superstep, h_relation, run  # noqa: E402
-from modelled.sessions import places_executed, places_redelivered  # noqa: E402
+from modelled.runs import Input, Run, run  # noqa: E402
+from modelled.sessions import Edit, places_executed, places_redelivered  # noqa: E402
+from modelled.texts import line, text_of  # noqa: E402
 from modelled.turns import Program  # noqa: E402
 
 MOST_BYTES = 16_777_216  # of a document
 
 
-def cost_row(superstep: Superstep, given: Input) -> tuple[int, int, int]:
-    """Work, h and cost of a superstep."""
-    work = max(o.work for o in superstep.outcomes)
-    if not superstep.is_delivered:
-        return work, 0, work
-    h = h_relation(superstep.outcomes)
-    return work, h, work + h * given.g + given.l
+@dataclass(frozen=True)
+class Options:
+    """What the command line asks for."""
 
+    scratch: bool = False
+    places: bool = False
+    changes: bool = False
+    why: bool = False
+    update_cost: bool = False
 
-def line(*fields) -> str:
-    return " ".join(str(each) for each in fields)
+    @classmethod
+    def words(cls) -> list[str]:
+        return [f"--{each.name.replace('_', '-')}" for each in fields(cls)]
 
+    @classmethod
+    def of(cls, words) -> Options:
+        return cls(*(word in words for word in cls.words()))
 
-def cost_rows(made: Run) -> list[tuple[int, int, int]]:
-    return [cost_row(superstep, made.input) for superstep in made.supersteps]
+    def are_refused(self) -> bool:
+        return self.scratch and (self.why or self.update_cost)
 
 
 def total_line(made: Run) -> str:
@@ -74,38 +83,72 @@ def changed_lines(old: Run, new: Run) -> list[str]:
     return [*lines, total_line(new)]
 
 
-def place_lines(word: str, places: list[tuple[int, int]]) -> list[str]:
+def place_lines(word: str, places: list[Place]) -> list[str]:
     """A line for each superstep in which there is a place, with its processes."""
     steps = sorted({step for step, _ in places})
     return [line(word, step, *sorted(pid for at, pid in places if at == step)) for step in steps]
 
 
-def update_lines(program: Program, old: Run | None, new: Run, places: bool) -> list[str]:
-    """What a run was made anew, against the run before."""
-    executed, redelivered = places_executed(program, old, new), places_redelivered(old, new)
-    told = place_lines("turns", executed) + place_lines("deliveries", redelivered) if places else []
-    return [*told, line("executed", len(executed), "redelivered", len(redelivered))]
+@dataclass(frozen=True)
+class Reply:
+    """A run, and the run before it, if there was one."""
+
+    program: Program
+    old: Run | None
+    new: Run
+
+    @cached_property
+    def executed(self) -> list[Place]:
+        return places_executed(self.program, self.old, self.new)
+
+    @cached_property
+    def redelivered(self) -> list[Place]:
+        return places_redelivered(self.old, self.new)
+
+    def update_lines(self, options: Options) -> list[str]:
+        """What of the run was made anew."""
+        executed, redelivered, told = self.executed, self.redelivered, []
+        if options.places or options.why:
+            told += place_lines("turns", executed) + place_lines("deliveries", redelivered)
+        if options.why:
+            told += why_lines(self.program, self.old, self.new, executed, redelivered)
+        if options.update_cost:
+            told += update_cost_lines(self.new, executed, redelivered)
+        return [*told, line("executed", len(executed), "redelivered", len(redelivered))]
+
+    def lines(self, options: Options) -> list[str]:
+        told = changed_lines(self.old, self.new) if options.changes and self.old else result_lines(self.new)
+        return told if options.scratch else [*told, *self.update_lines(options)]
 
 
-def report_of(job: Job, scratch: bool, places: bool, changes: bool = False) -> str:
-    """The reply to the input, and then one to each batch, which is made on what the accepted batches before it left."""
+def refusal(batch: list[Edit], given: Input) -> list[str]:
+    """The line of a batch that is refused; none where it is accepted."""
+    refusals = [(edit.fault(given), place) for place, edit in enumerate(batch) if edit.fault(given)]
+    return [line("refused", refusals[0][0], "at", refusals[0][1])] if refusals else []
+
+
+def replies_to(job: Job) -> list[Reply | list[str]]:
+    """The reply to the input, and then one to each batch, which is made on what the accepted batches before it left; or the line of its refusal."""
     made: Run | None = None
     given = job.input
-    lines = []
-    for number, batch in enumerate([[], *job.batches]):
-        lines.append(line("run", number))
-        refusals = [(edit.fault(given), place) for place, edit in enumerate(batch) if edit.fault(given)]
-        if refusals:
-            lines.append(line("refused", refusals[0][0], "at", refusals[0][1]))
+    replies: list[Reply | list[str]] = []
+    for batch in [[], *job.batches]:
+        refused = refusal(batch, given)
+        if refused:
+            replies.append(refused)
             continue
         for edit in batch:
             given = edit.make(given)
         old, made = made, run(job.program, given)
         job.program.check(made)
-        lines += changed_lines(old, made) if changes and old else result_lines(made)
-        if not scratch:
-            lines += update_lines(job.program, old, made, places)
-    return "".join(f"{each}\n" for each in lines)
+        replies.append(Reply(job.program, old, made))
+    return replies
+
+
+def report_of(replies: list[Reply | list[str]], options: Options) -> str:
+    """A block for each reply."""
+    blocks = [reply.lines(options) if isinstance(reply, Reply) else reply for reply in replies]
+    return "".join(text_of([line("run", number), *block]) for number, block in enumerate(blocks))
 
 
 @dataclass(frozen=True)
@@ -117,21 +160,34 @@ class Answer:
     status: int
 
 
-def answer(tool: str, document: bytes, scratch: bool = False, places: bool = False, changes: bool = False) -> Answer:
+def answers(tool: str, document: bytes, options: list[Options]) -> list[Answer]:
+    """The answer with each of these options, which are not refused."""
     if len(document) > MOST_BYTES:
-        return Answer("", "fault long\n", 3)
+        return [Answer("", "fault long\n", 3)] * len(options)
     try:
-        return Answer(report_of(job_of(TOOLS[tool], document), scratch, places, changes), "", 0)
+        replies = replies_to(job_of(TOOLS[tool], document))
     except Refused as fault:
-        return Answer("", f"fault {fault}\n", 3)
+        return [Answer("", f"fault {fault}\n", 3)] * len(options)
+    return [Answer(report_of(replies, each), "", 0) for each in options]
+
+
+def answer(tool: str, document: bytes, **options: bool) -> Answer:
+    """The answer with these of Options."""
+    return answers(tool, document, [Options(**options)])[0]
+
+
+def reports_with(tool: str, document: bytes, lists) -> dict[tuple[str, ...], bytes]:
+    """The report with each of these lists of words of Options."""
+    given = answers(tool, document, [Options.of(words) for words in lists])
+    return {tuple(words): each.report.encode() for words, each in zip(lists, given)}
 
 
 def main(words: list[str]) -> int:
-    if not words or words[0] not in TOOLS:
+    options = Options.of(words)
+    if not words or words[0] not in TOOLS or options.are_refused():
         print(__doc__, end="", file=sys.stderr)
         return 2
-    options = [word in words for word in ("--scratch", "--places", "--changes")]
-    given = answer(words[0], sys.stdin.buffer.read(), *options)
+    given = answer(words[0], sys.stdin.buffer.read(), **vars(options))
     sys.stdout.write(given.report)
     sys.stderr.write(given.error)
     return given.status

@@ -1,12 +1,17 @@
-"""Shows that the pages of the repository have short sentences and name files that are there, and that wrong pages are found: tests of ci/test_gate."""
+"""Shows that the pages of the repository have short sentences, name files that are there and tell updates as they are, and that wrong pages are found: tests
+of ci/test_gate."""
 import os
+import re
 import shutil
 import subprocess
 import tempfile
 import unittest
 
 from cases import ROOT
-from pages import MOST_WORDS, long_sentences, missing_files
+from pages import MOST_WORDS, long_sentences, missing_files, text_of
+
+
+UPDATE = re.compile(r"(?:^|`)((?:turns|deliveries|why turn|why delivery|update|executed) [\w ]*\d[\w ]*)(?:$|`)", re.M)
 
 
 def words(count):
@@ -40,6 +45,14 @@ class Pages(unittest.TestCase):
 
     def test_files_that_pages_name_are_there(self):
         self.assertEqual(list(missing_files(ROOT)), [])
+
+    def test_updates_are_told_as_in_stored_reports(self):
+        """Each line of an update on docs/updates.md stands in a report that the page is about."""
+        reports = ("bsp_tool/why_prefix_of_eight", "heat/why_a_cell_that_rounding_absorbs")
+        stored = "".join(text_of(f"{ROOT}/cases/{name}.txt") for name in reports).splitlines()
+        told = UPDATE.findall(text_of(f"{ROOT}/docs/updates.md"))
+        self.assertGreater(len(told), 25)
+        self.assertEqual([line for line in told if line not in stored], [])
 
     def test_a_long_sentence_is_found_everywhere(self):
         most, long = words(MOST_WORDS), words(MOST_WORDS + 1)

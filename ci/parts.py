@@ -15,9 +15,9 @@ def live(count):
     return Part(("ci/live", str(count), "--changes"), 6 * (count + 2))
 
 
-DOCUMENTS = Part(("ci/documents",), 6_800)
-FIRST = (Part(("ci/test_gate",), 89), Part(("ci/statement",), 2), Part(("ci/python",), 64))  # before anything is proved
-PROOFS = Part(("rt", "ci"), 103)  # 23 crates and 80 must-fail edits
+DOCUMENTS = Part(("ci/documents",), 9_100)
+FIRST = (Part(("ci/test_gate",), 92), Part(("ci/statement",), 2), Part(("ci/python",), 77))  # before anything is proved
+PROOFS = Part(("rt", "ci"), 104)  # 24 crates and 80 must-fail edits
 LAST = (
     DOCUMENTS,
     Part(("ci/random", "300"), 1_800),

@@ -5,13 +5,12 @@ import subprocess
 import tempfile
 import unittest
 
-from cases import ROOT, without_places, without_updates
-from model import answer
+from cases import OPTIONS, ROOT, without_updates
+from model import answer, reports_with
 
 JOB = b'program = "heat"\nlimit = 9\ng = 1\nl = 1\nmemory = [[0, 8, 0]]\nargs = [[1]]\nbatches = [[["word", 0, 1, 4]]]\n'
 REPORT = answer("heat", JOB).report.encode()
-PLACED = answer("heat", JOB, places=True).report.encode()
-CHANGED = answer("heat", JOB, places=True, changes=True).report.encode()
+REPORTS = reports_with("heat", JOB, OPTIONS)
 ENVIRONMENT = {name: value for name, value in os.environ.items() if not name.startswith(("GIT_", "RT_", "STUB_"))}
 ENVIRONMENT["GIT_CONFIG_GLOBAL"] = os.devnull
 
@@ -20,7 +19,7 @@ PROGRAM = """here=$(dirname "$0")
 size=$(wc -c 2> /dev/null) || { echo fault read >&2; exit 1; }
 [ "$size" -lt 1000000 ] || { echo fault memory >&2; exit 1; }
 name=report
-for word; do case $word in --scratch | --places | --changes) name=$name-${word#--};; esac; done
+for word; do case $word in --scratch | --places | --changes | --why | --update-cost) name=$name-${word#--};; esac; done
 cat "$here/$name" 2> /dev/null || { echo fault write >&2; exit 1; }"""
 
 # Writes STUB_BEGIN and STUB_END, and makes allocations in between: 16 for each byte of the document where STUB_ALLOCATES is `bytes`, so many for each as it
@@ -84,9 +83,8 @@ class Place:
         self.script(f"crates/{crate}/out/{crate}", *(lines or [PROGRAM]))
         self.write(f"crates/{crate}/out/report", REPORT)
         self.write(f"crates/{crate}/out/report-scratch", without_updates(REPORT))
-        self.write(f"crates/{crate}/out/report-places", PLACED)
-        self.write(f"crates/{crate}/out/report-places-changes", CHANGED)
-        self.write(f"crates/{crate}/out/report-scratch-changes", without_updates(without_places(CHANGED)))
+        for words, report in REPORTS.items():
+            self.write(f"crates/{crate}/out/report{''.join(word.removeprefix('-') for word in words)}", report)
 
     def case(self, path, document=JOB, report=REPORT, status=b"0\n"):
         for ending, content in (("toml", document), ("txt", report), ("status", status)):

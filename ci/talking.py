@@ -10,13 +10,14 @@ import time
 from cases import difference
 from drawn import Draw, drawn_document
 from judge import Judge
-from model import answer
+from model import Options, answer
 from modelled.documents import TOOLS, job_of
 from talks import Ask, draw_ask, long_lines, word_ask
 
 SECONDS = float(os.environ.get("LIVE_SECONDS") or 60)  # that an answer may take
 LINES = 14  # of a talk
 WORKERS = (1, 3, 16)
+CONFLICT = b"error: the argument '%s' cannot be used with '--scratch'\n"
 
 
 class Wrong(Exception):
@@ -215,17 +216,18 @@ class Talk:
 
 def words_of(seed, changes):
     """The options of a seed."""
-    places = ["--places"] if seed // 3 % 2 else []
-    return ["--workers", str(WORKERS[seed % 3]), *places, *(["--changes"] if changes and seed // 6 % 2 else [])]
+    draw = Draw(f"words {seed}")
+    words = ("--places", "--why", "--update-cost", *(["--changes"] if changes else []))
+    return ["--workers", str(WORKERS[seed % 3]), *(word for word in words if draw.happens(0.5))]
 
 
 def random_talk(crate, command, room, options, seed):
     """What differs in the talk of a seed."""
     draw = Draw(f"live {crate} {seed}")
     document = drawn_job(crate, draw)
-    rates = {"undo": draw.choice((0.1, 0.3)), "document": 0.08, "help": 0.04}
+    rates = {"undo": draw.choice((0.1, 0.3)), "document": 0.08, "help": 0.04, "shown": 0.2}
     words, path = words_of(seed, "--changes" in options), f"{room}/{crate} {seed}.toml"
-    judge = Judge(crate, document, "--places" in words, "--changes" in words)
+    judge = Judge(crate, document, Options.of(words))
     try:
         with opened(command, path, document, *words) as client:
             Talk(draw, client, judge, command, path).go(drawn_asks(draw, crate, document, rates))
@@ -239,7 +241,7 @@ def dying_talk(crate, command, room, seed):
     block."""
     draw = Draw(f"dying {crate} {seed}")
     document = drawn_job(crate, draw)
-    judge = Judge(crate, document, False, False)
+    judge = Judge(crate, document, Options())
     try:
         with opened(command, f"{room}/{crate} {seed} dying.toml", document, *words_of(seed, False)[:2]) as client:
             client.expect("the first blocks", judge.opening())
@@ -257,7 +259,7 @@ def dying_talk(crate, command, room, seed):
 def long_talk(crate, command, room):
     """What differs where lines are as long as they may be, and longer."""
     document = drawn_job(crate, Draw(f"long {crate}"))
-    judge = Judge(crate, document, False, False)
+    judge = Judge(crate, document, Options())
     try:
         with opened(command, f"{room}/{crate} long.toml", document) as client:
             client.expect("the first blocks", judge.opening())
@@ -293,6 +295,8 @@ def faulty_starts(crate, command, room):
         "no document": (b"limit = 1\n", ["--follow", path], 3, b"fault J2\n"),
         "no TOML": (b"]", ["--follow", path], 3, b"fault J1\n"),
         "from scratch": (document, ["--follow", path, "--scratch"], 2, b""),
+        "causes from scratch": (document, ["--why", "--scratch"], 2, CONFLICT % b"--why"),
+        "costs from scratch": (document, ["--update-cost", "--scratch"], 2, CONFLICT % b"--update-cost"),
         "no name": (document, ["--follow"], 2, b""),
     }
     found = []

@@ -3,6 +3,7 @@ import json
 from dataclasses import dataclass
 
 from drawn import draw_batch
+from modelled.shown import WORDS
 
 MOST_BYTES = 16_777_216  # of a line, without its end
 
@@ -15,6 +16,9 @@ UNREAD = (
     (b"help me", "J1"),
     (b"Help", "J1"),
     (b"documents", "J1"),
+    (b"views 0 0", "J1"),
+    (b"View 0 0", "J1"),
+    (b"turn0 0", "J1"),
     (b"\xff", "J1"),
     (b"\x00", "J1"),
     (b'"""', "J1"),
@@ -46,17 +50,21 @@ UNREAD = (
     (b'[["limit", 1], ["prices", 1, -1]]', "J7"),
 )
 BLANK = (b"", b" ", b" \t ", b"# why", b'  # [["limit", 1]]', b"#undo")
+# What may stand behind `view` or `turn` and is no place.
+NO_PLACES = ("", " 0", " 0 0 0", " 0 x", " x 0", " -1 0", " +0 0", " 0 -1", " 0.0 0", ' "0" 0', " [0, 0]", " 0, 0", " 0 # 0", "#0 0", " 0\u00a00", " 0x0 0")
+TOO_LARGE = (f" {2**64} 0", f" 0 {2**64}", f" 0 {2**64 - 1}", f" {2**64 - 1} 0", f" {10**30} 0")
 
 
 @dataclass(frozen=True)
 class Ask:
-    """A line without its end, and what it asks: a batch of edits, that the last one be taken back, that the input or
-    the lines that there are be written, or nothing that is read."""
+    """A line without its end, and what it asks: a batch of edits, that the last one be taken back, that the input, the
+    lines that there are, or the view or the turn of a place be written, or nothing that is read."""
 
     line: bytes
     batch: list | None = None
     unread: str = ""
     word: str = ""
+    place: tuple | None = None
 
     @property
     def is_undo(self):
@@ -70,12 +78,32 @@ class Ask:
     def is_help(self):
         return self.word == "help"
 
+    @property
+    def is_shown(self):
+        return self.word in WORDS
 
-def word_ask(draw, word):
-    """A line with this word. Spaces may stand around it, and a comment behind it."""
+
+def word_text(draw, text):
+    """A text around which spaces may stand, and a comment behind it."""
     before = draw.choice(("", "", "", " ", "\t", " \t "))
     after = draw.choice(("", "", "", " ", "\t", "# why", " #undo", " \t# document"))
-    return Ask(f"{before}{word}{after}".encode(), word=word)
+    return f"{before}{text}{after}".encode()
+
+
+def word_ask(draw, word):
+    """A line with this word."""
+    return Ask(word_text(draw, word), word=word)
+
+
+def shown_ask(draw, count):
+    """A line that asks for the view or the turn of a place, which is there mostly, where there are so many processes."""
+    word = draw.choice(WORDS)
+    if draw.happens(0.2):
+        return Ask(f"{word}{draw.choice(NO_PLACES + TOO_LARGE)}".encode(), word=word)
+    step = draw.choice((5, 64, 1023, 2**63, 2**64 - 1)) if draw.happens(0.05) else draw.randrange(5)
+    place = step, count if draw.happens(0.05) else draw.randrange(count)
+    gaps = [draw.choice((" ", " ", "  ", "\t", " 0", " \t 00")) for _ in place]
+    return Ask(word_text(draw, word + "".join(f"{gap}{number}" for gap, number in zip(gaps, place))), word=word, place=place)
 
 
 def number_text(draw, number):
@@ -95,13 +123,15 @@ def batch_text(draw, batch):
 
 
 def draw_ask(draw, memories, args, rates):
-    """A line: mostly a batch. `rates` gives how often it is an `undo`, a `document` and a `help`."""
+    """A line: mostly a batch. `rates` gives how often it is an `undo`, a `document`, a `help`, and a `view` or a `turn`."""
+    if draw.happens(rates.get("shown", 0)):
+        return shown_ask(draw, len(memories))
     kind = draw.random()
     if kind < rates["undo"]:
         return word_ask(draw, "undo")
     if kind < rates["undo"] + rates["document"]:
         return word_ask(draw, "document")
-    if kind < sum(rates.values()):
+    if kind < rates["undo"] + rates["document"] + rates.get("help", 0):
         return word_ask(draw, "help")
     if kind > 0.9:
         line, why = draw.choice(UNREAD)

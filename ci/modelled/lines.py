@@ -12,6 +12,8 @@ HELP = [
     '            ["limit", n] or ["prices", g, l]; a blank line is the batch without edits',
     "undo        takes back the last accepted batch that still stands",
     "document    writes the input as a document",
+    "view S P    writes what process P saw in superstep S",
+    "turn S P    writes what the turn of process P left in superstep S",
     "help        writes these lines",
     "end",
 ]

@@ -83,9 +83,9 @@ def transfers(outcomes: list[Outcome]):
         yield from ((pid, send.target, len(send.message.tag) + len(send.message.words)) for send in o.sends)
 
 
-def h_relation(outcomes: list[Outcome]) -> int:
-    """The largest number of words that a process sends to others or receives from others."""
-    moved = [transfer for transfer in transfers(outcomes) if transfer[0] != transfer[1]]
+def h_relation(outcomes: list[Outcome], targets) -> int:
+    """The largest number of words that a process sends to others or receives from others, of what goes to these processes."""
+    moved = [transfer for transfer in transfers(outcomes) if transfer[0] != transfer[1] and transfer[1] in targets]
     sent = [sum(count for source, _, count in moved if source == pid) for pid in range(len(outcomes))]
     received = [sum(count for _, target, count in moved if target == pid) for pid in range(len(outcomes))]
     return max(sent + received)
@@ -109,12 +109,14 @@ class Superstep:
 
 @dataclass(frozen=True)
 class Run:
-    """The supersteps of a run, the lines of the report that tell how it ended, and the memories at its end."""
+    """The supersteps of a run, the lines of the report that tell how it ended, the memories at its end, and the views of a superstep that was opened and
+    whose turns were not taken."""
 
     input: Input
     supersteps: list[Superstep]
     status: list[str]
     memories: list[Words]
+    opened: list[View]
 
 
 @dataclass
@@ -157,6 +159,6 @@ def run(program: Program, given: Input) -> Run:
         status = end_of(step, outcomes, state.table)
         supersteps.append(Superstep(views, outcomes, not status))
         if status:
-            return Run(given, supersteps, status, [o.memory for o in outcomes])
+            return Run(given, supersteps, status, [o.memory for o in outcomes], [])
         state = state.after(outcomes)
-    return Run(given, supersteps, ["status limit"], state.memories)
+    return Run(given, supersteps, ["status limit"], state.memories, state.views(given.limit, given.args))

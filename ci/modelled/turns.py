@@ -77,6 +77,7 @@ class Outcome:
     fault: str | None
     syncs: bool
     memory: Words
+    stores: list[tuple[int, int]]  # addresses and words, in order
     puts: list[Put]
     gets: list[Get]
     sends: list[Send]
@@ -101,6 +102,7 @@ class Context:
     def __init__(self, view: View):
         self.view = view
         self.memory = list(view.memory)
+        self.stores: list[tuple[int, int]] = []
         self.left = list(view.queue)
         self.puts: list[Put] = []
         self.gets: list[Get] = []
@@ -149,6 +151,7 @@ class Context:
     def store(self, address: int, value: int) -> None:
         self.check(address < len(self.memory), "F5")
         self.memory[address] = value
+        self.stores.append((address, value))
 
     def charge(self, amount: int) -> None:
         self.check(self.work + amount <= MOST_WORK, "F9")
@@ -225,4 +228,4 @@ def turn(program: Program, view: View) -> Outcome:
     except Abort as abort:
         fault = f"F1 {abort}"
     c = context
-    return Outcome(fault, syncs, tuple(c.memory), c.puts, c.gets, c.sends, c.pops, c.pushes, c.tag, c.lines, c.work)
+    return Outcome(fault, syncs, tuple(c.memory), c.stores, c.puts, c.gets, c.sends, c.pops, c.pushes, c.tag, c.lines, c.work)
