@@ -1,8 +1,8 @@
 """usage: python3 -m fannulavo pictures REPORT OUT.svg
 
-Draws the last report of the file REPORT, or of standard input where that is `-`: its costs, its reach where the tool
-had `--places`, and the comparison with the report before. The picture is written to OUT.svg; with the ending .png or
-.pdf it is one of these.
+Draws the last report of the file REPORT, or of standard input where that is `-`: its costs, what its update cost where
+the tool had `--update-cost`, its reach where it had `--places`, with the causes where it had `--why`, and the comparison
+with the report before. The picture is written to OUT.svg; with the ending .png or .pdf it is one of these.
 """
 
 from __future__ import annotations

@@ -39,6 +39,10 @@ class NothingToUndo(NotRead):
     """No accepted batch is left that stands."""
 
 
+class NoSuchPlace(NotRead):
+    """The run has no such view, or no such turn."""
+
+
 class SessionClosed(Error):
     """The session is over: it was closed, or its tool has ended."""
 

@@ -2,11 +2,12 @@
 
 from __future__ import annotations
 
-from collections.abc import Iterable, Sequence
+from collections.abc import Iterable, Iterator, Sequence
 from dataclasses import dataclass
-from enum import IntFlag
+from enum import Enum, IntFlag
 from itertools import groupby, zip_longest
 
+from fannulavo.causes import Causes, DeliveryCauses, TurnCauses
 from fannulavo.edits import Prices
 from fannulavo.reports import Cost, Place, Report
 
@@ -42,6 +43,45 @@ class Stretch:
     superstep: int
     count: int
     cell: Cell
+
+
+class Part(Enum):
+    """Through what a turn or a delivery depends on what was made anew before it."""
+
+    WORDS = "words of the view"
+    QUEUE = "messages of the view"
+    ARGS = "arguments"
+    MEMORY = "own memory"
+    GETS = "gets"
+    READ = "words read"
+    PUTS = "puts"
+    SENDS = "messages sent"
+
+
+@dataclass(frozen=True)
+class Step:
+    """A turn or a delivery that was made anew."""
+
+    place: Place
+    is_delivery: bool
+
+
+@dataclass(frozen=True)
+class Arrow:
+    """That one step was made anew since another was, or, where there is none before it, since the input was edited."""
+
+    source: Step | None
+    target: Step
+    part: Part
+
+
+@dataclass(frozen=True)
+class StepCost:
+    """What a superstep costs in a run and in the update that made the run."""
+
+    superstep: int
+    run: int
+    update: int
 
 
 @dataclass(frozen=True)
@@ -133,6 +173,66 @@ def stretches(cells: Sequence[Cell]) -> list[Stretch]:
         found.append(Stretch(superstep, count, cell))
         superstep += count
     return found
+
+
+def _causes(report: Report) -> Causes:
+    if report.causes is None:
+        raise ValueError(f"report {report.run} doesn't tell the causes: run the tool with --why")
+    return report.causes
+
+
+class _Reach:
+    """The steps of a report, each of which can be traced back to those before it."""
+
+    def __init__(self, causes: Causes):
+        self.causes = causes
+
+    def delivered(self, place: Place) -> Step | None:
+        """The delivery that the view of a place comes from. None in superstep 0, whose views come from the input."""
+        superstep, process = place
+        return Step(Place(superstep - 1, process), True) if superstep else None
+
+    def computed(self, superstep: int, process: int) -> Step | None:
+        """The step from which the memory after computing comes: the turn, where that was taken, else the delivery
+        before it."""
+        place = Place(superstep, process)
+        return Step(place, False) if place in self.causes.turns else self.delivered(place)
+
+    def into_turn(self, place: Place, causes: TurnCauses) -> Iterator[Arrow]:
+        parts = {Part.WORDS: bool(causes.words), Part.QUEUE: causes.queue, Part.ARGS: causes.args}
+        for part in (part for part, is_cause in parts.items() if is_cause):
+            yield Arrow(None if part is Part.ARGS else self.delivered(place), Step(place, False), part)
+
+    def into_delivery(self, place: Place, causes: DeliveryCauses) -> Iterator[Arrow]:
+        superstep, process = place
+        own = {Part.MEMORY: causes.memory, Part.GETS: causes.gets}
+        others = {Part.READ: causes.read, Part.PUTS: causes.puts, Part.SENDS: causes.sends}
+        sources = [(part, process) for part, is_cause in own.items() if is_cause]
+        sources += [(part, other) for part, processes in others.items() for other in processes]
+        for part, source in sources:
+            yield Arrow(self.computed(superstep, source), Step(place, True), part)
+
+
+def arrows(report: Report) -> list[Arrow]:
+    """From where each turn and each delivery got what was another: from a delivery or a turn that was made anew, or
+    from the edit. New ones, and tables and tag sizes, which all processes make together, have no arrow.
+
+    `ValueError` where the report doesn't tell the causes, as with `--why` it does.
+    """
+    causes = _causes(report)
+    reach = _Reach(causes)
+    turns = [arrow for told in causes.turns.items() for arrow in reach.into_turn(*told)]
+    return turns + [arrow for told in causes.deliveries.items() for arrow in reach.into_delivery(*told)]
+
+
+def step_costs(report: Report) -> list[StepCost]:
+    """What each superstep costs in a run, and in the update that made it. `ValueError` where the report doesn't tell
+    what the update cost, as with `--update-cost` it does."""
+    if report.update_cost is None:
+        raise ValueError(f"report {report.run} doesn't tell what the update cost: run the tool with --update-cost")
+    updated = report.update_cost.costs
+    rows = enumerate(_rows(report))
+    return [StepCost(step, row.cost, updated[step].cost if step in updated else 0) for step, row in rows]
 
 
 def cost_changes(before: Report, after: Report) -> list[CostChange]:

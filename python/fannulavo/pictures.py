@@ -7,15 +7,15 @@ picture gives the same bytes each time.
 from __future__ import annotations
 
 import os
-from collections.abc import Iterable, Sequence
+from collections.abc import Callable, Iterable, Sequence
 from typing import Any
 
 from matplotlib import rc_context
 from matplotlib.axes import Axes
 from matplotlib.figure import Figure
 from matplotlib.patches import Patch
-from matplotlib.ticker import MaxNLocator, StrMethodFormatter
 
+from fannulavo.drawing import MANY, blocks_on, fit, legend, make_room, name_axes
 from fannulavo.edits import Prices
 from fannulavo.measures import (
     Cell,
@@ -24,10 +24,12 @@ from fannulavo.measures import (
     lines_changed,
     prices_of,
     reach_cells,
+    step_costs,
     stretches,
     words_changed,
 )
 from fannulavo.reports import Block, Report
+from fannulavo.traces import MOST_PROCESSES, draw_causes
 
 # After the palette of Okabe and Ito. Those of one picture differ in lightness too, so that they can be told apart with
 # any colour blindness, and in grey.
@@ -46,62 +48,14 @@ _CELLS = {
     Cell.BOTH: (_BLUE, "both"),
 }
 _WIDTH, _COSTS, _COMPARISON = 10.0, 3.6, [3.2, 2.6, 2.6]  # inches: of each picture the width, and of these the heights
-_MANY = 80  # supersteps from which on bars touch one another
+_UPDATE_COST = 2.4
 _MOST_SHAPES = 8_000  # of a picture that is drawn in lines, and not in pixels
-
-
-def _name(axes: Axes, title: str, x: str, y: str) -> None:
-    """The title, above a row for the legend, and the names of the axes, which have integers."""
-    axes.set_title(f"{title}\n", loc="left", fontsize=11)
-    axes.set_xlabel(x)
-    axes.set_ylabel(y)
-    axes.spines[["top", "right"]].set_visible(False)
-    for axis in (axes.xaxis, axes.yaxis):
-        axis.set_major_locator(MaxNLocator(integer=True, steps=[1, 2, 5, 10], min_n_ticks=1))
-        axis.set_major_formatter(StrMethodFormatter("{x:,.0f}"))
-
-
-def _legend(axes: Axes, handles: Sequence[Any] | None = None) -> None:
-    """A legend in one row above the axes, on the right."""
-    more = {"handles": handles} if handles is not None else {}
-    axes.legend(
-        loc="lower right",
-        bbox_to_anchor=(1.0, 0.995),
-        ncols=4,
-        frameon=False,
-        fontsize=9,
-        borderaxespad=0.1,
-        **more,
-    )
-
-
-def _blocks(
-    axes: Axes, heights: Sequence[float], below: Sequence[float], colour: str, label: str | None = None
-) -> None:
-    """A block for each height, which stands on another height: bars with gaps, or where there are many one area."""
-    if len(heights) < _MANY:
-        axes.bar(range(len(heights)), heights, bottom=below, width=0.8, color=colour, label=label)
-        return
-    edges = [at - 0.5 for at in range(len(heights) + 1)]
-    tops = [low + height for low, height in zip(below, heights)]
-    axes.stairs(tops, edges, baseline=below, fill=True, color=colour, label=label, linewidth=0)
-
-
-def _fit(axes: Axes, count: int) -> None:
-    """So many supersteps or processes, from the one edge to the other."""
-    axes.set_xlim(-0.5, max(count, 1) - 0.5)
-
-
-def _raise(axes: Axes, most: int) -> None:
-    """Room for a height of 1 where all heights are 0."""
-    if not most:
-        axes.set_ylim(0, 1.25)
 
 
 def _draw_costs(axes: Axes, report: Report, prices: Prices | None) -> None:
     bars = cost_bars(report, prices)
     title = f"Run {report.run}, {report.status}: cost of each superstep, {report.total:,} in total"
-    _name(axes, title, "superstep", "cost (units of work)")
+    name_axes(axes, title, "superstep", "cost (units of work)")
     is_split = prices is not None or prices_of(report) is not None
     parts = [
         (_WORK, "work w", [bar.work for bar in bars]),
@@ -110,18 +64,18 @@ def _draw_costs(axes: Axes, report: Report, prices: Prices | None) -> None:
     ]
     below = [0] * len(bars)
     for colour, name, heights in parts[: 3 if is_split else 2]:
-        _blocks(axes, heights, below, colour, f"{name}: {sum(heights):,}")
+        blocks_on(axes, heights, below, colour, f"{name}: {sum(heights):,}")
         below = [low + height for low, height in zip(below, heights)]
-    _fit(axes, len(bars))
-    _raise(axes, report.total)
-    _legend(axes)
+    fit(axes, len(bars))
+    make_room(axes, report.total)
+    legend(axes)
 
 
 def _draw_reach(axes: Axes, report: Report) -> None:
     cells = reach_cells(report)
     count = len(report.costs)
     turns = f"{report.executed_count:,} of {len(cells) * count:,} turns taken"
-    _name(axes, f"Run {report.run}: {turns}, {report.redelivered_count:,} deliveries made", "superstep", "process")
+    name_axes(axes, f"Run {report.run}: {turns}, {report.redelivered_count:,} deliveries made", "superstep", "process")
     rows = [(process, stretches(row)) for process, row in enumerate(cells)]
     in_pixels = sum(len(row) for _, row in rows) > _MOST_SHAPES
     is_fine = count > 500  # a cell may be less than a pixel
@@ -136,9 +90,9 @@ def _draw_reach(axes: Axes, report: Report) -> None:
                 axes.broken_barh(spans, low, **how)
     if count <= 64 and len(cells) <= 64:
         axes.vlines([at - 0.5 for at in range(1, count)], -0.5, len(cells) - 0.5, colors="white", linewidth=0.6)
-    _fit(axes, count)
+    fit(axes, count)
     axes.set_ylim(len(cells) - 0.5, -0.5)
-    _legend(
+    legend(
         axes,
         [Patch(facecolor=colour, edgecolor="#999999", linewidth=0.5, label=name) for colour, name in _CELLS.values()],
     )
@@ -147,35 +101,35 @@ def _draw_reach(axes: Axes, report: Report) -> None:
 def _draw_both_costs(axes: Axes, before: Report, after: Report) -> None:
     changes = cost_changes(before, after)
     totals = f"total {before.total:,}, then {after.total:,} ({after.total - before.total:+,})"
-    _name(axes, f"Run {before.run} and run {after.run}: {totals}", "superstep", "cost (units of work)")
-    _blocks(axes, [each.after or 0 for each in changes], [0] * len(changes), _SKY, f"run {after.run}")
+    name_axes(axes, f"Run {before.run} and run {after.run}: {totals}", "superstep", "cost (units of work)")
+    blocks_on(axes, [each.after or 0 for each in changes], [0] * len(changes), _SKY, f"run {after.run}")
     edges = [at - 0.5 for at in range(len(changes) + 1)]
-    width = 1.0 if len(changes) < _MANY else 0.4
+    width = 1.0 if len(changes) < MANY else 0.4
     axes.stairs([each.before or 0 for each in changes], edges, color=_BLACK, linewidth=width, label=f"run {before.run}")
-    _fit(axes, len(changes))
-    _raise(axes, before.total + after.total)
-    _legend(axes)
+    fit(axes, len(changes))
+    make_room(axes, before.total + after.total)
+    legend(axes)
 
 
 def _draw_difference(axes: Axes, before: Report, after: Report) -> None:
     differences = [each.difference for each in cost_changes(before, after)]
     changed = sum(each != 0 for each in differences)
     title = f"{changed:,} of {len(differences):,} supersteps cost otherwise"
-    _name(axes, title, "superstep", "difference (units of work)")
+    name_axes(axes, title, "superstep", "difference (units of work)")
     zeros = [0] * len(differences)
-    _blocks(axes, [max(each, 0) for each in differences], zeros, _RED, "dearer")
-    _blocks(axes, [min(each, 0) for each in differences], zeros, _GREEN, "cheaper")
+    blocks_on(axes, [max(each, 0) for each in differences], zeros, _RED, "dearer")
+    blocks_on(axes, [min(each, 0) for each in differences], zeros, _GREEN, "cheaper")
     axes.axhline(0, color=_BLACK, linewidth=0.6)
     if not changed:
         axes.set_ylim(-1, 1)
-    _fit(axes, len(differences))
-    _legend(axes)
+    fit(axes, len(differences))
+    legend(axes)
 
 
 def _draw_words(axes: Axes, before: Report, after: Report) -> None:
     words, printed = words_changed(before, after), lines_changed(before, after)
     title = f"{sum(words):,} words of {sum(map(bool, words)):,} processes differ at the end"
-    _name(axes, title, "process", "words that differ")
+    name_axes(axes, title, "process", "words that differ")
     axes.bar(range(len(words)), words, width=0.8, color=_BLUE, label="words of memory")
     if printed:
         top = max(max(words), 1) * 1.12
@@ -188,9 +142,23 @@ def _draw_words(axes: Axes, before: Report, after: Report) -> None:
             color=_RED,
             label="printed lines differ",
         )
-    _raise(axes, sum(words))
-    _fit(axes, len(words))
-    _legend(axes)
+    make_room(axes, sum(words))
+    fit(axes, len(words))
+    legend(axes)
+
+
+def _draw_update_cost(axes: Axes, report: Report) -> None:
+    steps = step_costs(report)
+    cost = sum(step.update for step in steps)
+    title = f"Run {report.run}: its update costs {cost:,}, the run {report.total:,}"
+    name_axes(axes, title, "superstep", "cost (units of work)")
+    blocks_on(axes, [step.update for step in steps], [0] * len(steps), _BLUE, "update")
+    edges = [at - 0.5 for at in range(len(steps) + 1)]
+    width = 1.0 if len(steps) < MANY else 0.4
+    axes.stairs([step.run for step in steps], edges, color=_BLACK, linewidth=width, label="run")
+    fit(axes, len(steps))
+    make_room(axes, report.total)
+    legend(axes)
 
 
 def _figure(heights: Sequence[float]) -> tuple[Figure, Sequence[Axes]]:
@@ -202,6 +170,19 @@ def _figure(heights: Sequence[float]) -> tuple[Figure, Sequence[Axes]]:
 def _reach_height(report: Report) -> float:
     """Inches in which each process can be told from the next."""
     return 1.6 + max(1.5, 0.075 * len(report.memories))
+
+
+def _causes_height(report: Report) -> float:
+    return 1.4 + max(1.2, 0.42 * len(report.memories))
+
+
+def _draw_causes(axes: Axes, report: Report) -> None:
+    turns = f"{report.executed_count:,} turns taken, {report.redelivered_count:,} deliveries made"
+    name_axes(axes, f"Run {report.run}: {turns}", "superstep", "process")
+    handles = draw_causes(axes, report)
+    fit(axes, len(report.costs))
+    axes.set_ylim(len(report.memories) - 0.4, -0.6)
+    legend(axes, handles, len(handles))
 
 
 def _draw_comparison(axes: Sequence[Axes], before: Report, after: Report) -> None:
@@ -227,6 +208,28 @@ def reach(report: Report) -> Figure:
     return figure
 
 
+def causes(report: Report) -> Figure:
+    """Where a turn was taken again and where a delivery was made again, with an arrow from what each of them got
+    something else from. Of a report with causes, of at most 16 processes."""
+    figure, axes = _figure([_causes_height(report)])
+    _draw_causes(axes[0], report)
+    return figure
+
+
+def update_costs(reports: Iterable[Report]) -> Figure:
+    """What each superstep costs in a run, and in the update that made the run: a picture for each of these reports, on
+    one scale."""
+    told = list(reports)
+    figure, axes = _figure([_UPDATE_COST] * len(told))
+    for at, report in enumerate(told):
+        _draw_update_cost(axes[at], report)
+    for limits in ("xlim", "ylim"):
+        ends = [getattr(each, f"get_{limits}")() for each in axes]
+        for each in axes:
+            getattr(each, f"set_{limits}")(min(low for low, _ in ends), max(high for _, high in ends))
+    return figure
+
+
 def compare(before: Report, after: Report) -> Figure:
     """What each superstep costs in two runs, the difference, and in which processes memories and lines differ at the
     end."""
@@ -245,17 +248,23 @@ def _whole(blocks: Iterable[Block]) -> list[Report]:
 
 
 def page(blocks: Iterable[Block]) -> Figure:
-    """All pictures of the last report among these blocks that they allow: its costs, its reach where its places are
-    told, and the comparison with the report before. `ValueError` where there is no report."""
+    """All pictures of the last report among these blocks that they allow: its costs, what its update cost, its reach
+    where its places are told, with arrows where its causes are told, and the comparison with the report before.
+    `ValueError` where there is no report."""
     reports = _whole(blocks)
     if not reports:
         raise ValueError("there is no report to be drawn")
     last = reports[-1]
-    places = [] if last.executed is None or last.redelivered is None else [_reach_height(last)]
-    figure, axes = _figure([_COSTS, *places, *(_COMPARISON if len(reports) > 1 else [])])
-    _draw_costs(axes[0], last, None)
-    if places:
-        _draw_reach(axes[1], last)
+    drawn: list[tuple[float, Callable[[Axes], None]]] = [(_COSTS, lambda axes: _draw_costs(axes, last, None))]
+    if last.update_cost is not None:
+        drawn.append((_UPDATE_COST, lambda axes: _draw_update_cost(axes, last)))
+    if last.executed is not None and last.redelivered is not None:
+        drawn.append((_reach_height(last), lambda axes: _draw_reach(axes, last)))
+    if last.causes is not None and len(last.memories) <= MOST_PROCESSES:
+        drawn.append((_causes_height(last), lambda axes: _draw_causes(axes, last)))
+    figure, axes = _figure([*(height for height, _ in drawn), *(_COMPARISON if len(reports) > 1 else [])])
+    for each, (_, draw) in zip(axes, drawn):
+        draw(each)
     if len(reports) > 1:
         _draw_comparison(axes[-3:], *reports[-2:])
     return figure

@@ -6,10 +6,11 @@ import re
 from dataclasses import replace
 from typing import Any
 
+from fannulavo.causes import Causes, Cost, DeliveryCauses, Place, Told, TurnCauses, UpdateCost
 from fannulavo.errors import MalformedReport
 from fannulavo.later import Later, LaterTuple, Rows, unread
 from fannulavo.lines import Line, Lines
-from fannulavo.reports import Block, Cost, Place, Refusal, Report, Status, Unread
+from fannulavo.reports import Block, Refusal, Report, Status, Unread
 
 _NUMBER = "(0|[1-9][0-9]*)"
 _STATUS = re.compile(f"(halted|limit)|(faulted) {_NUMBER}|(syncfault) {_NUMBER} (S[1-5])")
@@ -17,6 +18,13 @@ _FAULT = re.compile(f"{_NUMBER} (F[123] {_NUMBER}|F[4-9]|F1[0-2])")
 _REFUSED = re.compile(f"(E[1-5]) at {_NUMBER}")
 _COUNTS = re.compile(f"{_NUMBER} redelivered {_NUMBER}")
 _COST = re.compile(f"^cost {_NUMBER} {_NUMBER} {_NUMBER} {_NUMBER}\n".encode(), re.MULTILINE)
+_UPDATE = re.compile(f"total {_NUMBER}|{_NUMBER} {_NUMBER} {_NUMBER} {_NUMBER}")
+_NUMBERS = "((?: (?:0|[1-9][0-9]*))+)"
+# A part of a view or of a delivery stands behind a space: so there is one at least.
+_VIEW = f"(?= )( args)?( queue)?( table)?( tagsize)?(?: word{_NUMBERS})?"
+_TURN = re.compile(f"turn {_NUMBER} {_NUMBER}(?:( new)|{_VIEW})")
+_PARTS = f"(?= )( memory)?( gets)?(?: read{_NUMBERS})?(?: puts{_NUMBERS})?(?: sends{_NUMBERS})?"
+_DELIVERY = re.compile(f"delivery {_NUMBER} {_NUMBER}(?:( new)|{_PARTS})")
 
 
 def _status(line: Line) -> Status:
@@ -74,13 +82,50 @@ def _placed(lines: Lines) -> tuple[Place, ...]:
     return tuple(Place(superstep, process) for superstep, *processes in rows for process in processes)
 
 
+def _numbers(text: str | None) -> tuple[int, ...]:
+    return tuple(map(int, (text or "").split()))
+
+
+def _causes(turns: Lines, deliveries: Lines, lines: Lines) -> Told:
+    """The causes of the turns and of the deliveries in these places, in their order."""
+    told: Told = ({}, {})
+    told_of_turns, told_of_deliveries = told
+    rows = iter(lines)
+    for place, line in zip(_placed(turns), rows):
+        at, process, new, args, queue, table, tag_size, words = line.match(_TURN, "a turn and its causes").groups()
+        if place != (int(at), int(process)):
+            raise line.wrong("the turns in their order")
+        told_of_turns[place] = TurnCauses(*map(bool, (new, args, queue, table, tag_size)), _numbers(words))
+    for place, line in zip(_placed(deliveries), rows):
+        at, process, new, memory, gets, *more = line.match(_DELIVERY, "a delivery and its causes").groups()
+        if place != (int(at), int(process)):
+            raise line.wrong("the deliveries in their order")
+        told_of_deliveries[place] = DeliveryCauses(*map(bool, (new, memory, gets)), *map(_numbers, more))
+    return told
+
+
+def _update_cost(lines: Lines) -> UpdateCost | None:
+    """What an update cost: a line for each superstep, and one with the sum."""
+    costs: dict[int, Cost] = {}
+    for line in lines.all_of(b"update"):
+        total, *row = line.match(_UPDATE, "a superstep and its cost, or the sum").groups()
+        if total is not None:
+            return UpdateCost(costs, int(total))
+        superstep, work, h, cost = map(int, row)
+        costs[superstep] = Cost(work, h, cost)
+    if costs:
+        raise lines.wrong("a line 'update total'")
+    return None
+
+
 def _told(lines: Lines) -> dict[str, Any]:
     """What the last lines of a report tell of what was made anew. That there was nothing is told by its count too."""
-    turns, deliveries = lines.part_of(b"turns"), lines.part_of(b"deliveries")
+    turns, deliveries, causes = lines.part_of(b"turns"), lines.part_of(b"deliveries"), lines.part_of(b"why")
     are_told = not (turns.is_over() and deliveries.is_over())
+    cost = _update_cost(lines)
     line = lines.next_if(b"executed")
     if line is None:
-        if are_told:
+        if are_told or cost or not causes.is_over():
             raise lines.wrong("a line 'executed'")
         return {}
     executed, redelivered = map(int, line.match(_COUNTS, "the counts of turns and deliveries").groups())
@@ -88,11 +133,17 @@ def _told(lines: Lines) -> dict[str, Any]:
         for part in (turns, deliveries):
             _placed(part)  # a line of theirs that does not fit comes before the counts
         raise line.wrong("as many places as are counted")
+    have_causes = not causes.is_over()
+    if have_causes and (not are_told or causes.count(b"\n") != executed + redelivered):
+        raise line.wrong("as many causes as are counted, and their places")
+    told = Causes(Later(_causes, turns, deliveries, causes))
     return {
         "executed_count": executed,
         "redelivered_count": redelivered,
         "executed": LaterTuple(executed, Later(_placed, turns)) if are_told or not executed else None,
         "redelivered": LaterTuple(redelivered, Later(_placed, deliveries)) if are_told or not redelivered else None,
+        "causes": told if have_causes or not executed + redelivered else None,
+        "update_cost": cost,
     }
 
 

@@ -5,25 +5,9 @@ from __future__ import annotations
 from collections import deque
 from collections.abc import Mapping, Sequence
 from dataclasses import dataclass, replace
-from typing import NamedTuple
 
+from fannulavo.causes import Causes, Cost, Place, UpdateCost
 from fannulavo.later import Rows, unread
-
-
-class Place(NamedTuple):
-    """A process in a superstep, both from 0."""
-
-    superstep: int
-    process: int
-
-
-class Cost(NamedTuple):
-    """A superstep's cost: the largest work of a process, the h-relation in words, and w + h*g + l, or w alone where
-    no delivery ends it."""
-
-    work: int
-    h: int
-    cost: int
 
 
 @dataclass(frozen=True)
@@ -70,6 +54,10 @@ class Report:
     """Which turns were taken, ascending; None where that is not told."""
     redelivered: Sequence[Place] | None = None
     """Which deliveries were made, ascending; None where that is not told."""
+    causes: Causes | None = None
+    """Why these turns were taken and these deliveries made; None where that is not told."""
+    update_cost: UpdateCost | None = None
+    """What these turns and deliveries cost; None where that is not told."""
     is_whole: bool = True
     supersteps: int | None = None
     """Of a report that is not whole: the number of supersteps where that changed."""
@@ -101,7 +89,8 @@ class Report:
     def read(self) -> None:
         """Reads all that is told, so that nothing is left to be read later. `MalformedReport` where a line does not
         fit."""
-        for told in (self.memories.values(), self.lines.values(), self.executed or (), self.redelivered or ()):
+        causes = self.causes.turns if self.causes else ()
+        for told in (self.memories.values(), self.lines.values(), self.executed or (), self.redelivered or (), causes):
             deque(told, 0)
 
 

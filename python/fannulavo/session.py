@@ -7,12 +7,14 @@ import re
 import tempfile
 import weakref
 from collections.abc import Callable, Iterable, Sequence
+from operator import index
 from pathlib import Path
 from types import TracebackType
 from typing import TypeVar
 
 from fannulavo.edits import Edit, batch_text
-from fannulavo.errors import Error, MalformedReport, NothingToUndo, NotRead, Refused, SessionClosed
+from fannulavo.errors import Error, MalformedReport, NoSuchPlace, NothingToUndo, NotRead, Refused, SessionClosed
+from fannulavo.places import Turn, View, turn_in, view_in
 from fannulavo.reading import blocks_in, whole
 from fannulavo.reports import Block, Refusal, Report, Unread
 from fannulavo.tools import Tool, stop
@@ -23,25 +25,32 @@ Command = str | os.PathLike[str] | Sequence[str | os.PathLike[str]]
 # The last line of an answer, behind the end of the line before.
 _READY = re.compile(rb"\nready\n")
 _BLOCK = re.compile(rb"\n(?:executed|refused|unread) [^\n]*\n")
-_DOCUMENT = re.compile(rb"\nend\n|" + _BLOCK.pattern)
+_TEXT = re.compile(rb"\nend\n|" + _BLOCK.pattern)
 
 _BEFORE, _AFTER = b"document\n", b"end\n"  # the lines around a document
+_NO_PLACE = b"unread place\n"  # in the place of a view or a turn
+_UNREAD = {"undo": NothingToUndo, "place": NoSuchPlace}
 T = TypeVar("T")
 
 
-def _words(command: Command, path: str, workers: int) -> list[str]:
+def _words(command: Command, path: str, options: Sequence[str]) -> list[str]:
+    program = [command] if isinstance(command, (str, os.PathLike)) else command
+    return [*(os.fspath(word) for word in program), "--follow", path, "--places", "--changes", *options]
+
+
+def _options(workers: int, why: bool, update_cost: bool) -> list[str]:
     if not 1 <= workers <= 16:
         raise ValueError(f"{workers} workers, and not 1 to 16")
-    program = [command] if isinstance(command, (str, os.PathLike)) else command
-    options = ["--follow", path, "--places", "--changes", "--workers", str(workers)]
-    return [*(os.fspath(word) for word in program), *options]
+    options = ["--workers", str(workers)]
+    options += ["--why"] if why else []
+    return options + (["--update-cost"] if update_cost else [])
 
 
 def _fault_of(block: Refusal | Unread) -> Error:
     """What a block tells that has no report."""
     if isinstance(block, Refusal):
         return Refused(block.place, block.fault)
-    return NothingToUndo(block.reason) if block.reason == "undo" else NotRead(block.reason)
+    return _UNREAD.get(block.reason, NotRead)(block.reason)
 
 
 def _first_line(answer: bytearray) -> str:
@@ -56,20 +65,30 @@ class Session:
     `Interrupted`, `MalformedReport`) ends the tool and the session. It is for one thread.
     """
 
-    def __init__(self, command: Command, document: str | os.PathLike[str] | bytes, workers: int = 1):
+    def __init__(
+        self,
+        command: Command,
+        document: str | os.PathLike[str] | bytes,
+        workers: int = 1,
+        *,
+        why: bool = False,
+        update_cost: bool = False,
+    ):
         """Starts a tool, and waits until it has run the document and its batches.
 
         `command` is a built tool, or the words with which it is started. `document` is the path of a document, or
-        its text as bytes. Up to `workers` threads share the work, 1 to 16. `ToolEnded` where the tool refuses the
+        its text as bytes. Up to `workers` threads share the work, 1 to 16. With `why` and `update_cost` the tool has
+        these options too, and the reports have `causes` and `update_cost`. `ToolEnded` where the tool refuses the
         document, or its options; `OSError` where it can't be started.
         """
+        options = _options(workers, why, update_cost)
         if isinstance(document, bytes):
             with tempfile.NamedTemporaryFile(suffix=".toml") as file:
                 file.write(document)
                 file.flush()
-                self._open(_words(command, file.name, workers))
+                self._open(_words(command, file.name, options))
         else:
-            self._open(_words(command, os.fspath(Path(document)), workers))
+            self._open(_words(command, os.fspath(Path(document)), options))
 
     def _open(self, words: list[str]) -> None:
         self._tool = Tool(words)
@@ -146,10 +165,43 @@ class Session:
     def document(self) -> str:
         """The input as it is now, as the text of a document without batches, of which `Session` opens another session.
         Nothing changes. `NotRead` where the tool knows no line `document`."""
-        said = self._exchange("document", _DOCUMENT, self._document_in)
+        said = self._exchange("document", _TEXT, self._document_in)
         if not isinstance(said, str):
             raise _fault_of(said)
         return said
+
+    def _place(self, word: str, place: tuple[int, int], read: Callable[[bytearray, tuple[int, int]], T]) -> T:
+        """What the tool answers to a word and a place."""
+
+        def place_in(answer: bytearray) -> T | Refusal | Unread:
+            if answer == _NO_PLACE:
+                return Unread(self._report.run, "place")
+            if not answer.startswith(b"run "):
+                return read(answer, place)
+            block = self._block_in(answer)
+            if isinstance(block, Report):
+                raise MalformedReport(1, _first_line(answer), f"the line '{word}'")
+            return block
+
+        said = self._exchange(f"{word} {place[0]} {place[1]}", _TEXT, place_in)
+        if isinstance(said, (Refusal, Unread)):
+            raise _fault_of(said)
+        return said
+
+    def view(self, superstep: int, process: int) -> View:
+        """What a process saw in a superstep of the run of the input as it is now. Nothing changes.
+
+        `NoSuchPlace` where the run has not opened that superstep, or has no such process. `NotRead` where the tool
+        knows no line `view`.
+        """
+        return self._place("view", (index(superstep), index(process)), view_in)
+
+    def turn(self, superstep: int, process: int) -> Turn:
+        """What the turn of a process in a superstep of that run left. Nothing changes.
+
+        `NoSuchPlace` where the run has no such turn. `NotRead` where the tool knows no line `turn`.
+        """
+        return self._place("turn", (index(superstep), index(process)), turn_in)
 
     def close(self) -> None:
         """Ends the session and its tool. `ToolEnded` where that ended with another status than 0. Closing once more

@@ -2,7 +2,7 @@
 
 from __future__ import annotations
 
-from collections.abc import Iterable, Iterator
+from collections.abc import Iterable, Iterator, Mapping
 from itertools import groupby
 
 from fannulavo.reports import Block, Place, Refusal, Report, Unread
@@ -16,6 +16,10 @@ def _places(word: str, places: Iterable[Place] | None) -> Iterator[str]:
     """A line for each superstep with a place."""
     for superstep, group in groupby(places or (), key=lambda place: place.superstep):
         yield _line(word, superstep, *(place.process for place in group))
+
+
+def _causes(what: str, causes: Mapping[Place, object]) -> Iterator[str]:
+    return (_line("why", what, *place, told) for place, told in causes.items())
 
 
 def _prints(report: Report) -> Iterator[str]:
@@ -36,6 +40,12 @@ def _report(report: Report) -> Iterator[str]:
     yield _line("total", report.total)
     yield from _places("turns", report.executed)
     yield from _places("deliveries", report.redelivered)
+    if report.causes is not None:
+        yield from _causes("turn", report.causes.turns)
+        yield from _causes("delivery", report.causes.deliveries)
+    if report.update_cost is not None:
+        yield from (_line("update", superstep, *cost) for superstep, cost in report.update_cost.costs.items())
+        yield _line("update", "total", report.update_cost.total)
     if report.executed_count is not None:
         yield _line("executed", report.executed_count, "redelivered", report.redelivered_count)
 

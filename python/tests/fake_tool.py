@@ -1,7 +1,7 @@
 #!/usr/bin/env python3
 """A tool that answers by the plain model of ci/, with which clients are tested where no built tool is at hand.
 
-usage: fake_tool.py TOOL [--workers N] [--scratch] [--places] [--changes] [--follow FILE] [--flaw NAME]
+usage: fake_tool.py TOOL [--workers N] [--scratch] [--places] [--changes] [--why] [--update-cost] [--follow FILE] [--flaw NAME]
 
 TOOL is bsp_tool, heat, collectives or bsp_script. All is as with the program of that name, but that it is slow, that no line says
 where a document's fault is, or where a line is no TOML, and that the words are not checked. With a flaw it is wrong in one way (FLAWS), so that
@@ -12,6 +12,7 @@ from __future__ import annotations
 import errno
 import json
 import os
+import re
 import signal
 import sys
 import time
@@ -20,11 +21,13 @@ ROOT = os.path.dirname(os.path.dirname(os.path.dirname(os.path.realpath(__file__
 sys.path.insert(0, f"{ROOT}/ci")
 sys.dont_write_bytecode = True
 
-from model import MOST_BYTES, answer, changed_lines, line, result_lines, update_lines  # noqa: E402
+from model import MOST_BYTES, Options, Reply, answer  # noqa: E402
 from modelled.documents import TOOLS, Refused, job_of, tree_of  # noqa: E402
 from modelled.lines import HELP, bytes_reason, form_reason, refusal_reason, value_reason  # noqa: E402
 from modelled.runs import Input, Run, run  # noqa: E402
 from modelled.sessions import Edit  # noqa: E402
+from modelled.shown import WORDS, shown  # noqa: E402
+from modelled.texts import line, text_of  # noqa: E402
 
 FLAWS = {
     "dies": "it is killed in the middle of block 2",
@@ -40,6 +43,8 @@ FLAWS = {
     "undoes_once": "a second `undo` takes the first back",
     "unread_edits": "a line with a negative number sets the limit to 1",
     "forgets": "`document` has the first limit",
+    "looks_back": "`view` and `turn` are those before the last batch",
+    "older": "it knows no `view` and no `turn`",
     "ends_badly": "at the end of input the status is 1",
     "stays": "it does not end at the end of its input",
     "unheard": "it ends well though nobody reads its answers any more",
@@ -56,7 +61,7 @@ class Live:
         self.inputs: list[Input] = [job.input]
         self.made: Run | None = None
         self.number = 0
-        self.places, self.changes = "--places" in words, "--changes" in words
+        self.options = Options.of(words)
         self.flaw = words[words.index("--flaw") + 1] if "--flaw" in words else ""
         self.was_refused = False
         self.why = ""  # what is said of the last line on standard error
@@ -68,8 +73,7 @@ class Live:
     def run_again(self) -> list[str]:
         """The block of the input as it is now."""
         old, self.made = self.made, run(self.program, self.inputs[-1])
-        told = changed_lines(old, self.made) if self.changes and old else result_lines(self.made)
-        return self.block(told + update_lines(self.program, old, self.made, self.places))
+        return self.block(Reply(self.program, old, self.made).lines(self.options))
 
     def batch(self, batch: list[Edit]) -> list[str]:
         given = self.inputs[-1]
@@ -112,6 +116,14 @@ class Live:
         self.number += self.flaw == "numbers"
         return HELP
 
+    def shown(self, word: str, behind: list[str]) -> list[str]:
+        """The view or the turn of the place that stands behind the word."""
+        numbers = [int(each) for each in behind if re.fullmatch("[0-9]+", each) and int(each) < 2**64]
+        is_place = len(numbers) == len(behind) == 2
+        if self.flaw == "looks_back" and len(self.inputs) > 1:
+            return shown(run(self.program, self.inputs[-2]), word, tuple(numbers) if is_place else None)
+        return shown(self.made, word, tuple(numbers) if is_place else None)
+
     def answer(self, text: bytes) -> list[str]:
         """The answer to a line."""
         text = text.removesuffix(b"\n")
@@ -119,8 +131,11 @@ class Live:
         if len(text) > MOST_BYTES:
             return self.block(["unread long"])
         word = text.partition(b"#")[0].strip(b" \t\r").decode(errors="replace")
+        first, *behind = re.split("[ \t\r]+", word)
         if word in ("undo", "document", "help"):
             return getattr(self, word)()
+        if first in WORDS and self.flaw != "older":
+            return self.shown(first, behind)
         try:
             batch = batch_of(text if word else b"[] " + text)
         except Unread as unread:
@@ -151,7 +166,7 @@ def batch_of(text: bytes) -> list[Edit]:
 
 
 def say(lines: list[str]) -> None:
-    sys.stdout.write("".join(f"{each}\n" for each in lines))
+    sys.stdout.write(text_of(lines))
     sys.stdout.flush()
 
 
@@ -214,8 +229,10 @@ def main(words: list[str]) -> int:
         if not path or "--scratch" in words:
             return ended("error: the option --follow wants FILE, and no --scratch beside it", 2)
         return follow(tool, path[0], words)
-    options = [word in words for word in ("--scratch", "--places", "--changes")]
-    given = answer(tool, sys.stdin.buffer.read(), *options)
+    for word in ("--why", "--update-cost"):
+        if word in words and "--scratch" in words:
+            return ended(f"error: the argument '{word}' cannot be used with '--scratch'", 2)
+    given = answer(tool, sys.stdin.buffer.read(), **vars(Options.of(words)))
     sys.stdout.write(given.report)
     sys.stderr.write(given.error)
     return given.status

@@ -10,19 +10,23 @@ import tempfile
 import unittest
 from dataclasses import replace
 
-from stored import HEAT, ROOT, fake, stored
+from stored import HEAT, ROOT, fake, stored, text_of
 
 from fannulavo import Cost, Limit, Place, Prices, Report, Session, Status, Word, read_report
 from fannulavo.measures import (
     Bar,
     Cell,
     CostChange,
+    Part,
+    Step,
     Stretch,
+    arrows,
     cost_bars,
     cost_changes,
     lines_changed,
     prices_of,
     reach_cells,
+    step_costs,
     stretches,
     words_changed,
 )
@@ -33,6 +37,10 @@ def report_of(rows: list[tuple[int, int, int]], kind: str = "halted", **more: ob
     costs = {superstep: Cost(*row) for superstep, row in enumerate(rows)}
     total = sum(row[2] for row in rows)
     return Report(0, Status(kind), {}, {0: (1,), 1: ()}, {0: (), 1: ()}, costs, total, **more)  # type: ignore[arg-type]
+
+
+def step(superstep: int, process: int, is_delivery: bool) -> Step:
+    return Step(Place(superstep, process), is_delivery)
 
 
 def tool_of(path: str) -> str:
@@ -112,6 +120,67 @@ class Cells(unittest.TestCase):
 
     def test_places_that_are_not_told(self) -> None:
         self.assertRaises(ValueError, reach_cells, report_of([(5, 0, 5)]))
+
+
+class Traces(unittest.TestCase):
+    def trace(self, report: Report, *wanted: tuple[tuple[int, int, bool] | None, tuple[int, int, bool], Part]) -> None:
+        found = [(arrow.source, arrow.target, arrow.part) for arrow in arrows(report)]
+        steps = [(source and step(*source), step(*target), part) for source, target, part in wanted]
+        self.assertEqual(found, steps)
+
+    def test_words_that_are_put(self) -> None:
+        """The first words of an edit of heat: into the delivery, the turn, and the deliveries of the next superstep."""
+        with Session(fake("heat"), HEAT, why=True) as session:
+            report = session.apply([Word(0, 1, 80), Limit(2)])
+        self.trace(
+            report,
+            ((0, 0, True), (1, 0, False), Part.WORDS),
+            (None, (0, 0, True), Part.MEMORY),
+            ((1, 0, False), (1, 0, True), Part.MEMORY),
+            ((1, 0, False), (1, 1, True), Part.PUTS),
+        )
+
+    def test_other_parts(self) -> None:
+        """A case that is worked by hand: an owner alone changes, and then an argument and a list of gets."""
+        path = f"{ROOT}/cases/bsp_script/why_a_get_of_which_the_owner_alone_changes.txt"
+        _, first, _, third = read_report(text_of(path))
+        assert isinstance(first, Report) and isinstance(third, Report)
+        self.trace(
+            first,
+            ((1, 1, True), (2, 1, False), Part.WORDS),
+            (None, (0, 0, True), Part.MEMORY),
+            ((0, 0, True), (1, 0, True), Part.MEMORY),
+            ((0, 0, True), (1, 1, True), Part.READ),
+        )
+        self.trace(
+            third,
+            (None, (0, 1, False), Part.ARGS),
+            (None, (1, 1, False), Part.ARGS),
+            ((1, 1, True), (2, 1, False), Part.WORDS),
+            (None, (2, 1, False), Part.ARGS),
+            ((1, 1, False), (1, 1, True), Part.GETS),
+        )
+
+    def test_each_comes_from_a_step_that_was_made_anew(self) -> None:
+        for path, text, _ in stored():
+            for report in (each for each in read_report(text) if isinstance(each, Report) and each.causes):
+                with self.subTest(path.removeprefix(ROOT), run=report.run):
+                    steps = {step(*place, False) for place in report.executed or ()}
+                    steps |= {step(*place, True) for place in report.redelivered or ()}
+                    for arrow in arrows(report):
+                        self.assertIn(arrow.target, steps)
+                        self.assertIn(arrow.source, steps | {None})
+
+    def test_costs(self) -> None:
+        with Session(fake("heat"), HEAT, update_cost=True) as session:
+            report = session.apply([Word(2, 1, 8)])
+        self.assertEqual([each.run for each in step_costs(report)], [row.cost for row in report.costs.values()])
+        self.assertEqual(sum(each.update for each in step_costs(report)), report.update_cost.total)
+        self.assertTrue(all(each.update <= each.run for each in step_costs(report)))
+
+    def test_what_is_not_told(self) -> None:
+        for measure in (arrows, step_costs):
+            self.assertRaises(ValueError, measure, report_of([(5, 0, 5)]))
 
 
 class Changes(unittest.TestCase):

@@ -12,7 +12,21 @@ from stored import ROOT, stored
 
 from drawn import drawn_document
 from fake_tool import Live
-from fannulavo import Cost, MalformedReport, Place, Refusal, Report, Status, Unread, read_report, write_report
+from fannulavo import (
+    Causes,
+    Cost,
+    DeliveryCauses,
+    MalformedReport,
+    Place,
+    Refusal,
+    Report,
+    Status,
+    TurnCauses,
+    Unread,
+    UpdateCost,
+    read_report,
+    write_report,
+)
 from model import answer
 
 LEAST = 230  # of the reports that are stored
@@ -32,6 +46,17 @@ turns 1 0 1
 deliveries 0 0
 executed 4 redelivered 1
 """
+WHY = """why turn 0 0 new
+why turn 0 1 args queue table tagsize word 0 3
+why turn 1 0 word 2
+why turn 1 1 tagsize
+why delivery 0 0 memory read 0 1 puts 1 sends 0 1
+"""
+COST = """update 0 3 0 13
+update 1 4 0 4
+update total 17
+"""
+ALL = BLOCK.replace("executed", f"{WHY}{COST}executed")
 
 
 def jobs(tool: str, count: int) -> list[bytes]:
@@ -58,7 +83,8 @@ class Drawn(unittest.TestCase):
     def test_from_scratch_and_with_places(self) -> None:
         for tool in ("bsp_tool", "heat", "collectives", "bsp_script"):
             for document in jobs(tool, 10):
-                for options in ({"scratch": True}, {"places": True}):
+                told = {"why": True, "update_cost": True}
+                for options in ({"scratch": True}, {"places": True}, told, {"update_cost": True}):
                     text = answer(tool, document, **options).report
                     self.assertEqual(write_report(read_report(text)), text)
 
@@ -102,11 +128,58 @@ class Blocks(unittest.TestCase):
         self.assertEqual(read_report(BLOCK), [wanted])
         self.assertEqual(write_report([wanted]), BLOCK)
 
+    def test_causes_and_costs(self) -> None:
+        (report,) = read_report(ALL)
+        turns = {
+            Place(0, 0): TurnCauses(is_new=True),
+            Place(0, 1): TurnCauses(args=True, queue=True, table=True, tag_size=True, words=(0, 3)),
+            Place(1, 0): TurnCauses(words=(2,)),
+            Place(1, 1): TurnCauses(tag_size=True),
+        }
+        deliveries = {Place(0, 0): DeliveryCauses(memory=True, read=(0, 1), puts=(1,), sends=(0, 1))}
+        self.assertEqual(report.causes, Causes.of(turns, deliveries))
+        self.assertEqual(report.update_cost, UpdateCost({0: Cost(3, 0, 13), 1: Cost(4, 0, 4)}, 17))
+        self.assertEqual(write_report([report]), ALL)
+        (report,) = read_report(ALL.replace("memory read 0 1", "gets"))
+        self.assertEqual(report.causes.deliveries[0, 0], DeliveryCauses(gets=True, puts=(1,), sends=(0, 1)))
+
+    def test_causes_or_costs_alone(self) -> None:
+        for part, absent in ((WHY, "update_cost"), (COST, "causes")):
+            text = BLOCK.replace("executed", f"{part}executed")
+            (report,) = read_report(text)
+            self.assertIsNone(getattr(report, absent))
+            self.assertEqual(write_report([report]), text)
+
+    def test_causes_and_costs_that_are_none(self) -> None:
+        wrong = [
+            ("why turn 0 0 new", "why turn 0 0"),
+            ("why turn 0 0 new", "why turn 0 0 new args"),
+            ("why turn 0 0 new", "why turn 0 1 new"),
+            ("why turn 0 0 new", "why delivery 0 0 new"),
+            ("why turn 0 0 new\n", ""),
+            ("word 0 3", "word"),
+            ("args queue", "queue args"),
+            ("read 0 1", "read 01"),
+            ("memory read", "memory  read"),
+            ("sends 0 1", "sends 0 1 "),
+            ("turns 0 0 1\nturns 1 0 1\ndeliveries 0 0\n", ""),
+            ("update 1 4 0 4", "update 1 4 0"),
+            ("update total 17\n", ""),
+            ("update total 17", "update total"),
+            ("update total 17\n", "update total 17\nupdate total 17\n"),
+            (COST, COST.replace("update total 17\n", "") + WHY + "update total 17\n"),
+        ]
+        for right, other in wrong:
+            with self.subTest(other):
+                self.assertIn(right, ALL)
+                self.assertRaises(MalformedReport, read_report, ALL.replace(right, other))
+
     def test_copies(self) -> None:
-        (report,) = read_report(BLOCK)
+        (report,) = read_report(ALL)
         for copied in (pickle.loads(pickle.dumps(report)), copy.deepcopy(report), replace(report)):
             self.assertEqual(copied, report)
-        self.assertEqual(repr(report), repr(read_report(BLOCK)[0]))
+        self.assertEqual(repr(report), repr(read_report(ALL)[0]))
+        self.assertEqual(hash(report.causes), hash(read_report(ALL)[0].causes))
         self.assertEqual(repr(report.memories), "{0: (1, 2), 1: ()}")
         self.assertEqual(hash(report.redelivered), hash((Place(0, 0),)))
         self.assertEqual((report.executed[1:3], report.executed[-1]), ((Place(0, 1), Place(1, 0)), Place(1, 1)))
@@ -185,8 +258,8 @@ class Blocks(unittest.TestCase):
         self.assertRaises(MalformedReport, read_report, BLOCK[:-1])
 
     def test_each_beginning_is_no_report_or_written_back(self) -> None:
-        for end in range(len(BLOCK)):
+        for end in range(len(ALL)):
             try:
-                self.assertEqual(write_report(read_report(BLOCK[:end])), BLOCK[:end])
+                self.assertEqual(write_report(read_report(ALL[:end])), ALL[:end])
             except MalformedReport:
                 pass

@@ -21,22 +21,36 @@ from stored import FAKE, HEAT, fake
 
 from drawn import Draw, draw_batch, draw_heat
 from fannulavo import (
+    Area,
     Argument,
     Block,
+    Causes,
+    Cost,
+    DeliveryCauses,
     Edit,
     Interrupted,
     Limit,
     MalformedReport,
+    Message,
+    NoSuchPlace,
     NothingToUndo,
     NotRead,
+    Place,
     Prices,
+    Put,
     Refusal,
     Refused,
     Report,
+    Send,
     Session,
     SessionClosed,
+    Store,
     ToolEnded,
+    Turn,
+    TurnCauses,
     Unread,
+    UpdateCost,
+    View,
     Word,
     read_report,
     write_report,
@@ -47,7 +61,7 @@ from talks import Ask
 
 KINDS = {"word": Word, "arg": Argument, "limit": Limit, "prices": Prices}
 EDIT = [Word(0, 1, 5)]
-RATES = {"undo": 0.25, "document": 0.08}  # of the lines of a talk
+RATES = {"undo": 0.25, "document": 0.08, "shown": 0.2}  # of the lines of a talk
 
 
 def edits_of(rows: list[list]) -> list[Edit]:
@@ -77,6 +91,45 @@ def said_to(session: Session, ask: Ask, number: int) -> Block:
         with patch("fannulavo.session.batch_text", lambda _: ask.line.decode()):
             return answer_to(session, number, [])
     return answer_to(session, number, edits_of(ask.batch))
+
+
+def row(word: str, *numbers: object) -> str:
+    return " ".join(map(str, (word, *numbers))) + "\n"
+
+
+def tagged(message: Message | Send) -> tuple[int, ...]:
+    return (len(message.tag), *message.tag, *message.payload)
+
+
+def text_of_view(view: View) -> str:
+    rows = [row("args", *view.args), row("memory", *view.memory)]
+    rows += [row("message", *tagged(message)) for message in view.queue]
+    rows += [row("slot", slot, *area) for slot, area in enumerate(view.slots)]
+    return "".join([*rows, row("tagsize", view.tag_size)])
+
+
+def text_of_turn(turn: Turn) -> str:
+    rows = [row("ended", turn.ended) if turn.ended else row("fault", turn.fault)]
+    rows += [row("store", address, *words) for address, words in turn.stores]
+    rows += [row("put", target, address, *words) for target, address, words in turn.puts]
+    rows += [row("get", *get) for get in turn.gets]
+    rows += [row("send", send.target, *tagged(send)) for send in turn.sends]
+    rows += [row("push", *area) for area in turn.pushes] + [row("pop", slot) for slot in turn.pops]
+    rows += [row("tagsize", turn.tag_size)] if turn.tag_size is not None else []
+    rows += [row("print", *words) for words in turn.lines]
+    return "".join([*rows, row("work", turn.work)])
+
+
+def text_of_place(session: Session, ask: Ask) -> str:
+    """What the tool says to a line that asks for a view or a turn, by what the session makes of it. A place that is
+    none can't be asked for, so one that there is not stands for it."""
+    place = ask.place or (0, 64)
+    try:
+        if ask.word == "view":
+            return row("view", *place) + text_of_view(session.view(*place)) + "end\n"
+        return row("turn", *place) + text_of_turn(session.turn(*place)) + "end\n"
+    except NoSuchPlace:
+        return "unread place\n"
 
 
 def results(report: Block) -> tuple:
@@ -117,19 +170,25 @@ class Batches(unittest.TestCase):
 
     def same_as_whole(self, name: str, seed: int) -> None:
         """Sees that the reports of a session are those of the whole blocks that the same tool writes to the same
-        lines. Every other session is over before they are read in full."""
+        lines. Every other session is over before they are read in full, and every other pair tells causes and costs."""
         draw = Draw(f"whole {name} {seed}")
         document = drawn_job(name, draw)
         asks = [ask for ask in drawn_asks(draw, name, document, RATES) if ask.line.isascii()]
         pairs: list[tuple[Sequence[Block], bytes]] = []
         tool, workers = self.tool(name), WORKERS[seed % 3]
-        with Session(tool, document, workers) as session, Pipe(tool, document, "--places") as pipe:
+        told = bool(seed // 2 % 2)
+        options = ["--places", *(["--why", "--update-cost"] if told else [])]
+        opened = Session(tool, document, workers, why=told, update_cost=told)
+        with opened as session, Pipe(tool, document, *options) as pipe:
             pairs.append((session.opening, pipe.opening.removesuffix(b"ready\n")))
             number = len(session.opening)
             for ask in asks:
                 answer = pipe.ask(ask.line)
                 if ask.is_document:
                     self.assertEqual(f"document\n{session.document()}end\n", answer.decode())
+                    continue
+                if ask.is_shown:
+                    self.assertEqual(text_of_place(session, ask), answer.decode())
                     continue
                 pairs.append(([said_to(session, ask, number)], answer))
                 number += 1
@@ -197,6 +256,54 @@ class Calls(unittest.TestCase):
             self.assertEqual((third.run, third.memories, third.costs), (3, first.memories, first.costs))
             self.assertEqual(tomllib.loads(session.document()), tomllib.loads(HEAT.decode()))
             self.assertEqual(session.apply([]).executed, ())
+
+    def test_causes_and_costs(self) -> None:
+        with Session(fake("heat"), HEAT, why=True, update_cost=True) as session:
+            opened = session.report
+            self.assertEqual(list(opened.causes.turns), list(opened.executed))
+            self.assertEqual(set(opened.causes.deliveries.values()), {DeliveryCauses(is_new=True)})
+            self.assertEqual(opened.update_cost, UpdateCost(opened.costs, opened.total))
+            report = session.apply([Word(0, 1, 80)])
+            self.assertEqual(report.causes.turns[Place(1, 0)], TurnCauses(words=(1,)))
+            self.assertEqual(report.causes.deliveries[1, 1], DeliveryCauses(puts=(0,)))
+            self.assertEqual(str(report.causes.deliveries[2, 0]), "memory puts 1")
+            self.assertEqual(report.update_cost.costs[1], Cost(0, 2, 4))
+            nothing = session.apply([])
+            self.assertEqual((nothing.causes, nothing.update_cost), (Causes.of({}, {}), UpdateCost({}, 0)))
+
+    def test_causes_and_costs_that_are_not_asked_for(self) -> None:
+        with Session(fake("heat"), HEAT) as session:
+            report = session.apply([Word(0, 1, 80)])
+            self.assertEqual((report.causes, report.update_cost), (None, None))
+
+    def test_a_view_and_a_turn(self) -> None:
+        with Session(fake("heat"), HEAT) as session:
+            session.apply([Word(0, 1, 80)])
+            view = View((2,), (80, 4, 0), (), (Area(0, 1), Area(2, 1)), 0)
+            self.assertEqual(session.view(2, 1), view)
+            turn = session.turn(2, 1)
+            self.assertEqual((turn.ended, turn.fault, turn.stores), ("sync", None, (Store(1, (22,)),)))
+            self.assertEqual((turn.puts, turn.work), ((Put(0, 2, (22,)), Put(2, 0, (22,))), 1))
+            for place in ((4, 0), (0, 3), (-1, 0), (2**64, 0)):
+                for ask in (session.view, session.turn):
+                    with self.assertRaises(NoSuchPlace) as raised:
+                        ask(*place)
+                    self.assertEqual(raised.exception.reason, "place")
+            self.assertRaises(TypeError, session.view, "0", 0)
+            self.assertEqual(session.apply([]).run, 2)
+
+    def test_the_view_after_the_last_superstep(self) -> None:
+        with Session(fake("heat"), HEAT) as session:
+            session.apply([Limit(1)])
+            self.assertEqual(session.view(1, 0).memory, (0, 8, 0))
+            self.assertRaises(NoSuchPlace, session.turn, 1, 0)
+
+    def test_a_tool_that_knows_no_views(self) -> None:
+        with Session(fake("heat", "older"), HEAT) as session:
+            for ask in (session.view, session.turn):
+                with self.assertRaises(NotRead) as raised:
+                    ask(0, 0)
+                self.assertEqual(raised.exception.reason, "J1")
 
     def test_the_document_opens_a_session_of_its_own(self) -> None:
         with Session(fake("heat"), HEAT) as session:
