@@ -1,6 +1,6 @@
 -- What workers keep of the numbers that they draw, step by step.
 use Rattle.std.proofs.Common.{take, ◌+◌, ◌-◌, ◌≡◌, ℕ, ◌<◌, ◌≤◌, List, [], ◌∷◌, ◌++◌, length, Bool, true, false, refl, sym, ap, ◌∙◌, subst, arith, inl, inr, ⊎_elim, zero, suc}
-use Rattle.std.specs.Prelude.{All, ◌||◌, ◌⊎◌}
+use Rattle.std.specs.Prelude.{All, Some, ◌||◌, ◌⊎◌, map, slice_get}
 use Rattle.std.specs.List.{list_any}
 use Rattle.std.proofs.lemmas.Bool.Decides.{nat_tests}
 use Rattle.std.proofs.Math.Bool.{or-false}
@@ -157,14 +157,12 @@ hand_past {Rows = Rows} deck outputs outs old new end n h is same past share =
     hand_after deck outputs outs old new n h is (subst (IsShare outputs outs) (sym share) (record { in_order = h.share.in_order }))
     (subst P (sym share) (tells_past (length outs) old.pass.numbers old.share.numbers.items old.share.gave_up old.share.past_end n h.tells (omega arith)))
 
-pub hand_gave_up : {Rows T : Type 0} (deck : TableId) (outputs : Rows → List T) (outs : List T) (old new : Hand Rows) (worked : Share Rows) (n : ℕ) → IsHand deck outputs outs old → new.pass ≡ drawn old.pass n → IsShare outputs outs worked
-    → worked.numbers.items ≡ old.share.numbers.items → worked.past_end ≡ old.share.past_end → new.share ≡ record worked { gave_up = true } → IsHand deck outputs outs new
-hand_gave_up {Rows = Rows} deck outputs outs old new worked n h is own numbers past share =
-    let P : Share Rows → Type 0 = λ s. Tells (length outs) (old.pass.numbers ++ n ∷ []) s.numbers.items s.gave_up s.past_end in
-    hand_after deck outputs outs old new n h is (subst (IsShare outputs outs) (sym share) (record { in_order = own.in_order }))
-    (subst P (sym share)
-    (same_tells (length outs) (old.pass.numbers ++ n ∷ []) old.share.numbers.items worked.numbers.items true true old.share.past_end worked.past_end numbers refl past
-    (tells_given_up (length outs) old.pass.numbers old.share.numbers.items old.share.gave_up old.share.past_end n h.tells)))
+pub hand_gave_up : {Rows T : Type 0} (deck : TableId) (outputs : Rows → List T) (outs : List T) (old new : Hand Rows) (n : ℕ) → IsHand deck outputs outs old → new.pass ≡ drawn old.pass n → new.share.numbers.items ≡ old.share.numbers.items
+    → outputs new.share.rows ≡ outputs old.share.rows → new.share.gave_up ≡ true → new.share.past_end ≡ old.share.past_end → IsHand deck outputs outs new
+hand_gave_up deck outputs outs old new n h is numbers rows gave_up past =
+    hand_after deck outputs outs old new n h is (record { in_order = ap (map (slice_get outs)) numbers ∙ (h.share.in_order ∙ sym (ap (map Some) rows)) })
+    (same_tells (length outs) (old.pass.numbers ++ n ∷ []) old.share.numbers.items new.share.numbers.items true new.share.gave_up old.share.past_end new.share.past_end numbers gave_up past
+    (tells_given_up (length outs) old.pass.numbers old.share.numbers.items old.share.gave_up old.share.past_end n h.tells))
 
 pub hand_kept : {Rows T : Type 0} (deck : TableId) (outputs : Rows → List T) (outs : List T) (old new : Hand Rows) (n : ℕ) → IsHand deck outputs outs old → new.pass ≡ drawn old.pass n → IsShare outputs outs new.share
     → new.share.numbers.items ≡ old.share.numbers.items ++ n ∷ [] → new.share.gave_up ≡ old.share.gave_up → new.share.past_end ≡ old.share.past_end → IsHand deck outputs outs new

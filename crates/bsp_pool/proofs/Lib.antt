@@ -1,7 +1,3 @@
 pub mod ClaimSteps
 pub mod ShareLists
 pub mod HandSteps
-pub mod TurnLists
-pub mod KeptLists
-pub mod RoundSteps
-pub mod EventLaws

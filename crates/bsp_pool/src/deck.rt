@@ -91,14 +91,6 @@ impl Deck {
         self.table.shared.fetch_add::<Draw>(&mut pass.seat, 0, 1)
     }
 
-    /// The number that is drawn next, unless other workers draw it first. It changes nothing.
-    pub(crate) fn next_number(&self, pass: &mut Pass) -> u64
-        requires { pass.old.deck ≡ self.now }
-        ensures { pass.new ≡ pass.old }
-    {
-        self.table.shared.load::<Look>(&mut pass.seat, 0)
-    }
-
     /// Takes in the numbers and units of another pass. No number stands in both.
     pub fn join(&self, pass: &mut Pass, other: Pass)
         requires deck { pass.old.deck ≡ self.now }

@@ -1,29 +1,20 @@
 //! A worker pool over one claim word.
 //!
-//! `phase` works a list of inputs by 1 to 16 threads and gives the outputs in the order of the inputs. Its workers
-//! draw the numbers of the inputs from a `Deck`, each with a `Pass`. `gather` hands over what each worker has
-//! gathered. `Core` is the same pool as a machine on one thread, event by event.
+//! `gather` works a list of inputs by 1 to 16 threads, and hands over what each worker has gathered. Its workers draw
+//! the numbers of the inputs from a `Deck`, each with a `Pass`. `run_from` finds consecutive outputs in their shares.
 #![tactic(auto)]
 
 mod claim;
 mod coordinator;
 mod deck;
-mod event;
-mod machine;
 mod pass_view;
-mod round;
-mod row;
 mod share;
-mod turning;
 mod watch;
 mod work;
 mod worker;
 
-pub use coordinator::{gather, phase};
+pub use coordinator::gather;
 pub use deck::{Deck, Pass};
-pub use event::{CoreRefusal, Event};
-pub use machine::Core;
-pub use row::Row;
 pub use share::{Run, Share, run_from};
 pub use std::alloc::AllocError as OutOfMemory;
-pub use work::{Gate, Gathering, Open, Timed, Work};
+pub use work::{Gate, Gathering, Open, Timed};

@@ -6,29 +6,6 @@ use crate::OutOfMemory;
 use std::alloc::Global;
 use std::time::{Clock, Instant};
 
-/// A function of one input, which several threads may call at once.
-pub trait Work: Sync {
-    /// What a job is given.
-    type In: Sync + Drop;
-
-    /// What a job gives.
-    type Out: Send + Drop;
-
-    /// The inputs that `work` takes: the condition of its call.
-    ghost accepts: { Self → Self.In → Type 0 };
-
-    /// The output of an input.
-    ghost does: { Self → Self.In → Self.Out };
-
-    /// The output of this input, the same at each call.
-    ///
-    /// # Errors
-    /// `OutOfMemory` where memory is refused. The next call with the same input may succeed.
-    fn work(&self, alloc: Global, input: &Self::In) -> Result<Self::Out, OutOfMemory>
-        requires { accepts self.now input.now }
-        ensures { IfOk result (λ out. out ≡ does self.now input.now) };
-}
-
 /// A function of one input whose outputs are gathered in rows, where contracts see each output by itself. Several threads may call it at
 /// once, each with rows of its own.
 pub trait Gathering: Sync {
@@ -65,33 +42,6 @@ pub trait Gathering: Sync {
         requires { accepts self.now input.now }
         ensures ok { OnOk result (outputs self.now rows.new ≡ outputs self.now rows.old ++ does self.now input.now ∷ []) }
         ensures err { OnErr result (outputs self.now rows.new ≡ outputs self.now rows.old) };
-}
-
-/// A work is gathered in lists of its outputs.
-impl<W: Work> Gathering for W {
-    ghost use Rattle.bsp_pool.specs.Inside.Lists.{items_of};
-
-    type In = W::In;
-
-    type Out = W::Out;
-
-    type Rows = Vec<W::Out>;
-
-    ghost accepts = { λ work input. W.accepts work input };
-
-    ghost does = { λ work input. W.does work input };
-
-    ghost outputs = { λ _ rows. items_of rows };
-
-    fn begin(&self, alloc: Global) -> Result<Vec<W::Out>, OutOfMemory> {
-        Ok(Vec::new(alloc))
-    }
-
-    fn add(&self, alloc: Global, rows: &mut Vec<W::Out>, input: &W::In) -> Result<(), OutOfMemory> {
-        let output = self.work(alloc, input)?;
-        rows.push(output)?;
-        Ok(())
-    }
 }
 
 /// A place that a worker passes between drawing a job and working it, as to hold it there in a test.

@@ -1,17 +1,16 @@
 //! The workers of a phase. Each has a pass of its own, made of the first one, and the passes are joined once all have
 //! left.
 
-ghost use Rattle.std.specs.Prelude.{◌≡◌, ◌+◌, ◌<◌, ◌≤◌, ◌++◌, ◌∷◌, [], All, IfNone, IfSome, OnErr, OnOk, ◌-◌, ◌^◌, length, map, max, vec_len};
+ghost use Rattle.std.specs.Prelude.{◌≡◌, ◌+◌, ◌<◌, ◌≤◌, [], All, IfNone, IfSome, ◌-◌, ◌^◌, length, map, max, vec_len};
 ghost use Rattle.std.specs.Vec.{vec_capacity};
 ghost use Rattle.bsp_pool.specs.Numbers.{all_units};
 ghost use Rattle.bsp_pool.specs.Passes.{pass_of};
-ghost use Rattle.bsp_pool.specs.Shares.{IsShare};
 ghost use Rattle.bsp_pool.specs.Inside.Hands.{HasUnits, IsHand, IsReady, IsNew, IsSplit, IsGathered};
 
 use crate::share::Share;
 use crate::watch::Watch;
 use crate::work::{Gate, Gathering};
-use crate::{Deck, OutOfMemory, Pass};
+use crate::{Deck, Pass};
 use std::alloc::Global;
 use std::thread::{Threads, for_each_mut};
 
@@ -19,7 +18,7 @@ use std::thread::{Threads, for_each_mut};
 #[derive(Drop)]
 pub(crate) struct Jobs<'a, W: Gathering, G: Gate> {
     pub(crate) alloc: Global,
-    pub(crate) deck: &'a Deck,
+    pub(crate) deck: Deck,
     pub(crate) work: &'a W,
     pub(crate) inputs: &'a [W::In],
     pub(crate) gate: &'a G,
@@ -36,38 +35,14 @@ pub(crate) struct Hand<Rows> {
 /// its unit.
 const MOST_DRAWS: u64 = 2147483648;
 
-/// Works the input of this number, and keeps its output in the share. After `OutOfMemory` the share has what it had.
-fn work_into<W: Gathering, G: Gate>(
-    jobs: &Jobs<W, G>,
-    share: &mut Share<W::Rows>,
-    number: usize,
-) -> Result<(), OutOfMemory>
-    requires number { number < length jobs.now.inputs.now }
-    requires accepts { All (W.accepts jobs.now.work.now) jobs.now.inputs.now }
-    requires share { IsShare (W.outputs jobs.now.work.now)
-        (map (W.does jobs.now.work.now) jobs.now.inputs.now) share.old }
-    ensures share { IsShare (W.outputs jobs.now.work.now)
-        (map (W.does jobs.now.work.now) jobs.now.inputs.now) share.new }
-    ensures ok { OnOk result (share.new.numbers.items ≡ share.old.numbers.items ++ number ∷ []) }
-    ensures err { OnErr result (share.new.numbers.items ≡ share.old.numbers.items) }
-    ensures gave_up { share.new.gave_up ≡ share.old.gave_up }
-    ensures past_end { share.new.past_end ≡ share.old.past_end }
-{
-    share.numbers.reserve(1)?;
-    jobs.work
-        .add(jobs.alloc, &mut share.rows, &jobs.inputs[number])?;
-    share.numbers.push_reserved(number);
-    Ok(())
-}
-
 /// Draws a number and works its input into the share. It answers whether the worker stays: it leaves where the number
 /// is past the end, or is given up for want of memory.
 fn draw_one<W: Gathering, G: Gate>(jobs: &Jobs<W, G>, hand: &mut Hand<W::Rows>) -> bool
     requires accepts { All (W.accepts jobs.now.work.now) jobs.now.inputs.now }
     requires room { length hand.old.pass.numbers < 2 ^ 32 }
-    requires hand { IsHand jobs.now.deck.now (W.outputs jobs.now.work.now)
+    requires hand { IsHand jobs.now.deck (W.outputs jobs.now.work.now)
         (map (W.does jobs.now.work.now) jobs.now.inputs.now) hand.old }
-    ensures hand { IsHand jobs.now.deck.now (W.outputs jobs.now.work.now)
+    ensures hand { IsHand jobs.now.deck (W.outputs jobs.now.work.now)
         (map (W.does jobs.now.work.now) jobs.now.inputs.now) hand.new }
     ensures drawn { length hand.new.pass.numbers ≡ length hand.old.pass.numbers + 1 }
 {
@@ -78,21 +53,26 @@ fn draw_one<W: Gathering, G: Gate>(jobs: &Jobs<W, G>, hand: &mut Hand<W::Rows>) 
     }
     let number = number as usize;
     jobs.gate.pass(number);
-    match work_into(jobs, &mut hand.share, number) {
-        Ok(()) => true,
-        Err(_) => {
-            hand.share.gave_up = true;
-            false
-        }
+    // The room is made first, since an output can't be taken back.
+    if hand.share.numbers.reserve(1).is_err()
+        || jobs
+            .work
+            .add(jobs.alloc, &mut hand.share.rows, &jobs.inputs[number])
+            .is_err()
+    {
+        hand.share.gave_up = true;
+        return false;
     }
+    hand.share.numbers.push_reserved(number);
+    true
 }
 
 /// Draws numbers and works their inputs until the worker leaves, the watch calls others, or `MOST_DRAWS` numbers are drawn.
 fn draw_all<W: Gathering, G: Gate>(jobs: &Jobs<W, G>, hand: &mut Hand<W::Rows>, watch: &mut Watch)
     requires accepts { All (W.accepts jobs.now.work.now) jobs.now.inputs.now }
-    requires hand { IsReady jobs.now.deck.now (W.outputs jobs.now.work.now)
+    requires hand { IsReady jobs.now.deck (W.outputs jobs.now.work.now)
         (map (W.does jobs.now.work.now) jobs.now.inputs.now) hand.old }
-    ensures hand { IsHand jobs.now.deck.now (W.outputs jobs.now.work.now)
+    ensures hand { IsHand jobs.now.deck (W.outputs jobs.now.work.now)
         (map (W.does jobs.now.work.now) jobs.now.inputs.now) hand.new }
     ensures drawn { length hand.new.pass.numbers ≤ length hand.old.pass.numbers + 2 ^ 31 }
 {
@@ -107,11 +87,11 @@ fn draw_all<W: Gathering, G: Gate>(jobs: &Jobs<W, G>, hand: &mut Hand<W::Rows>, 
 
 /// What a worker holds that has drawn nothing yet. `None` where there is no memory for its rows.
 fn begin<W: Gathering, G: Gate>(jobs: &Jobs<W, G>, pass: &mut Pass) -> Option<Hand<W::Rows>>
-    requires { HasUnits jobs.now.deck.now 2 pass.old }
+    requires { HasUnits jobs.now.deck 2 pass.old }
     ensures some { IfSome result (λ hand. pass.new ≡ pass_of pass.old.deck (pass.old.units - 1) []) }
     ensures none { IfNone result (pass.new ≡ pass.old) }
     ensures hand { IfSome result
-        (IsNew jobs.now.deck.now (W.outputs jobs.now.work.now) (map (W.does jobs.now.work.now) jobs.now.inputs.now)) }
+        (IsNew jobs.now.deck (W.outputs jobs.now.work.now) (map (W.does jobs.now.work.now) jobs.now.inputs.now)) }
 {
     let Ok(rows) = jobs.work.begin(jobs.alloc) else {
         return None;
@@ -127,33 +107,6 @@ fn begin<W: Gathering, G: Gate>(jobs: &Jobs<W, G>, pass: &mut Pass) -> Option<Ha
     })
 }
 
-/// All of these workers draw, each in a thread of its own where threads can be made.
-fn draw_together<W: Gathering, G: Gate, R: Threads + Sync>(
-    rt: &R,
-    jobs: &Jobs<W, G>,
-    hands: &mut [Hand<W::Rows>],
-)
-    requires accepts { All (W.accepts jobs.now.work.now) jobs.now.inputs.now }
-    requires hands { All (IsReady jobs.now.deck.now (W.outputs jobs.now.work.now)
-        (map (W.does jobs.now.work.now) jobs.now.inputs.now)) hands.old }
-    ensures { All (IsHand jobs.now.deck.now (W.outputs jobs.now.work.now)
-        (map (W.does jobs.now.work.now) jobs.now.inputs.now)) hands.new }
-{
-    let threads = hands.len().max(1);
-    for_each_mut(
-        rt,
-        hands,
-        threads,
-        &|_place: usize, hand: &mut Hand<W::Rows>|
-            requires accepts { All (W.accepts jobs.now.work.now) jobs.now.inputs.now }
-            requires hand { IsReady jobs.now.deck.now (W.outputs jobs.now.work.now)
-                (map (W.does jobs.now.work.now) jobs.now.inputs.now) hand.now }
-            ensures { IsHand jobs.entry.now.deck.now (W.outputs jobs.entry.now.work.now)
-                (map (W.does jobs.entry.now.work.now) jobs.entry.now.inputs.now) hand.exit.now }
-        { draw_all(jobs, hand, &mut Watch::new(jobs.gate, 1)) },
-    );
-}
-
 /// Further workers, up to so many, as long as there is memory for their rows.
 fn begin_more<W: Gathering, G: Gate>(
     jobs: &Jobs<W, G>,
@@ -163,11 +116,11 @@ fn begin_more<W: Gathering, G: Gate>(
 )
     requires workers { workers ≤ 16 }
     requires room { workers ≤ vec_capacity hands.old }
-    requires split { IsSplit jobs.now.deck.now pass.old (vec_len hands.old) }
-    requires ready { All (IsReady jobs.now.deck.now (W.outputs jobs.now.work.now)
+    requires split { IsSplit jobs.now.deck pass.old (vec_len hands.old) }
+    requires ready { All (IsReady jobs.now.deck (W.outputs jobs.now.work.now)
         (map (W.does jobs.now.work.now) jobs.now.inputs.now)) hands.old.items }
-    ensures split { IsSplit jobs.now.deck.now pass.new (vec_len hands.new) }
-    ensures ready { All (IsReady jobs.now.deck.now (W.outputs jobs.now.work.now)
+    ensures split { IsSplit jobs.now.deck pass.new (vec_len hands.new) }
+    ensures ready { All (IsReady jobs.now.deck (W.outputs jobs.now.work.now)
         (map (W.does jobs.now.work.now) jobs.now.inputs.now)) hands.new.items }
     ensures len { vec_len hands.new ≤ max (vec_len hands.old) workers }
 {
@@ -179,7 +132,8 @@ fn begin_more<W: Gathering, G: Gate>(
     }
 }
 
-/// Where there are to be several workers, the others begin, and all draw.
+/// Where there are to be several workers, the others begin, and all draw, each in a thread of its own where threads can
+/// be made.
 fn draw_beside<W: Gathering, G: Gate, R: Threads + Sync>(
     rt: &R,
     jobs: &Jobs<W, G>,
@@ -190,11 +144,11 @@ fn draw_beside<W: Gathering, G: Gate, R: Threads + Sync>(
     requires accepts { All (W.accepts jobs.now.work.now) jobs.now.inputs.now }
     requires workers { workers ≤ 16 }
     requires room { workers ≤ vec_capacity hands.old }
-    requires split { IsSplit jobs.now.deck.now pass.old (vec_len hands.old) }
-    requires ready { All (IsReady jobs.now.deck.now (W.outputs jobs.now.work.now)
+    requires split { IsSplit jobs.now.deck pass.old (vec_len hands.old) }
+    requires ready { All (IsReady jobs.now.deck (W.outputs jobs.now.work.now)
         (map (W.does jobs.now.work.now) jobs.now.inputs.now)) hands.old.items }
-    ensures split { IsSplit jobs.now.deck.now pass.new (vec_len hands.new) }
-    ensures hands { All (IsHand jobs.now.deck.now (W.outputs jobs.now.work.now)
+    ensures split { IsSplit jobs.now.deck pass.new (vec_len hands.new) }
+    ensures hands { All (IsHand jobs.now.deck (W.outputs jobs.now.work.now)
         (map (W.does jobs.now.work.now) jobs.now.inputs.now)) hands.new.items }
     ensures len { vec_len hands.new ≤ max (vec_len hands.old) workers }
 {
@@ -202,7 +156,19 @@ fn draw_beside<W: Gathering, G: Gate, R: Threads + Sync>(
         return;
     }
     begin_more(jobs, pass, hands, workers);
-    draw_together(rt, jobs, hands.as_mut_slice());
+    let threads = hands.len().max(1);
+    for_each_mut(
+        rt,
+        hands.as_mut_slice(),
+        threads,
+        &|_place: usize, hand: &mut Hand<W::Rows>|
+            requires accepts { All (W.accepts jobs.now.work.now) jobs.now.inputs.now }
+            requires hand { IsReady jobs.now.deck (W.outputs jobs.now.work.now)
+                (map (W.does jobs.now.work.now) jobs.now.inputs.now) hand.now }
+            ensures { IsHand jobs.entry.now.deck (W.outputs jobs.entry.now.work.now)
+                (map (W.does jobs.entry.now.work.now) jobs.entry.now.inputs.now) hand.exit.now }
+        { draw_all(jobs, hand, &mut Watch::new(jobs.gate, 1)) },
+    );
 }
 
 /// Joins the passes of these workers to `pass`, and puts their shares behind `shares`.
@@ -214,10 +180,10 @@ fn hand_over<W: Gathering, G: Gate>(
 )
     requires empty { shares.old.items ≡ [] }
     requires room { vec_len hands ≤ vec_capacity shares.old }
-    requires split { IsSplit jobs.now.deck.now pass.old (vec_len hands) }
-    requires hands { All (IsHand jobs.now.deck.now (W.outputs jobs.now.work.now)
+    requires split { IsSplit jobs.now.deck pass.old (vec_len hands) }
+    requires hands { All (IsHand jobs.now.deck (W.outputs jobs.now.work.now)
         (map (W.does jobs.now.work.now) jobs.now.inputs.now)) hands.items }
-    ensures { IsGathered jobs.now.deck.now (W.outputs jobs.now.work.now)
+    ensures { IsGathered jobs.now.deck (W.outputs jobs.now.work.now)
         (map (W.does jobs.now.work.now) jobs.now.inputs.now)
         pass.new shares.new.items }
 {
@@ -239,10 +205,10 @@ pub(crate) fn run_workers<W: Gathering, G: Gate, R: Threads + Sync>(
 )
     requires workers { (0 < workers) × (workers ≤ 16) }
     requires accepts { All (W.accepts jobs.now.work.now) jobs.now.inputs.now }
-    requires pass { pass.old ≡ pass_of jobs.now.deck.now all_units [] }
+    requires pass { pass.old ≡ pass_of jobs.now.deck all_units [] }
     requires empty { shares.old.items ≡ [] }
     requires room { workers ≤ vec_capacity shares.old }
-    ensures { IsGathered jobs.now.deck.now (W.outputs jobs.now.work.now)
+    ensures { IsGathered jobs.now.deck (W.outputs jobs.now.work.now)
         (map (W.does jobs.now.work.now) jobs.now.inputs.now)
         pass.new shares.new.items }
 {

@@ -1,4 +1,5 @@
-//! Tests of the worker pool. They stand beside it, since a crate with tests is proved twice.
+//! Tests of the worker pool, its phases and its round machine. They stand in a crate of their own, since a crate with
+//! tests is proved twice.
 #![tactic(auto)]
 
 #[cfg(test)]

@@ -11,9 +11,9 @@ invariant-loop-hand g l =
     let outs = map (g.W.Gathering.does l.fn.jobs.work.now) l.fn.jobs.inputs.now in
     let outputs = g.W.Gathering.outputs l.fn.jobs.work.now in
     record {
-      of_deck : l.pass.deck ≡ l.fn.jobs.deck.now;
+      of_deck : l.pass.deck ≡ l.fn.jobs.deck;
       units : l.pass.units + vec_len l.hands ≡ all_units;
-      hands : All (IsHand l.fn.jobs.deck.now outputs outs) l.hands.items;
+      hands : All (IsHand l.fn.jobs.deck outputs outs) l.hands.items;
       room : vec_len l.shares + vec_len l.hands ≤ vec_capacity l.shares;
       shares : AreShares outputs outs l.shares.items;
       tells : Tells (length outs) l.pass.numbers (numbers_of l.shares.items) (list_any (λ s. s.gave_up) l.shares.items) (list_any (λ s. s.past_end) l.shares.items);

@@ -1,0 +1,4 @@
+pub mod TurnLists
+pub mod KeptLists
+pub mod RoundSteps
+pub mod EventLaws

@@ -1,0 +1,11 @@
+use Rattle.std.proofs.Common.{List, vec_len}
+use Rattle.bsp_pool.specs.Shares.{AreShares}
+use Rattle.bsp_rounds.specs.Inside.Kept.{AreKept}
+use Rattle.bsp_rounds.specs.Inside.Lists.{items_of}
+use Rattle.bsp_rounds.proofs.phases.keep_all.Given as goal
+
+abbrev pub invariant-loop-share : goal.invariant-loop-share
+invariant-loop-share g l = (outs : List g.row.T.Denot) → AreShares items_of outs l.fn.shares.items → AreKept outs l.initial.kept.items → record { shares : AreShares items_of outs l.shares.items; kept : AreKept outs l.kept.items }
+
+abbrev pub decreases-loop-share : goal.decreases-loop-share
+decreases-loop-share g l = vec_len l.shares

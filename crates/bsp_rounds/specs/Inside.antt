@@ -1,0 +1,4 @@
+pub mod Turning
+pub mod Lists
+pub mod Holding
+pub mod Kept

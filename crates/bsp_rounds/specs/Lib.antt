@@ -1,0 +1,4 @@
+pub mod Rounds
+pub mod Machine
+pub mod EventLists
+pub mod Inside
