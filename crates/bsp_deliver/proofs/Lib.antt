@@ -1,7 +1,6 @@
 pub mod AllProcesses
 pub mod Writes
 pub mod Senders
-pub mod Queues
 pub mod EndTests
 pub mod Counts
 pub mod Comparing

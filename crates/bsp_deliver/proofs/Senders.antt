@@ -3,8 +3,8 @@ use Rattle.std.proofs.Common.{◌≡◌, ℕ, ◌+◌, ◌<◌, ◌≤◌, ◌==
 use Rattle.std.specs.Prelude.{slice_get}
 use Rattle.std.specs.Bool.{OnTrue}
 use Rattle.std.proofs.lemmas.Option.{get_or_from_slice_get}
-use Rattle.std.proofs.lemmas.List.{take_more, map-append, get_or-map, get_or_default, length-map}
-use Rattle.std.proofs.lemmas.List.Elements.{filter_more, filter-append, filter_passes, All-nil, All-append, All-map, All-head, All-tail, All-filter}
+use Rattle.std.proofs.lemmas.List.{take_more, get_or-map, get_or_default, length-map}
+use Rattle.std.proofs.lemmas.List.Elements.{filter_more, filter_passes, All-nil, All-append, All-map, All-head, All-tail, All-filter}
 use Rattle.std.proofs.lemmas.Bool.{eqb-true, OnTrue_at}
 use Rattle.std.proofs.lemmas.Grind.{common_steps}
 use Rattle.bsp_model.specs.declared.request.Put.{Put}
@@ -42,18 +42,6 @@ filter_more_no p xs i x l e t =
     filter_more p xs i x l ∙ ap (λ y. filter p (take i xs) ++ cond (p y) (y ∷ []) []) (sym e) ∙ ap (λ b. filter p (take i xs) ++ cond b (x ∷ []) []) t
     ∙ append-nil (filter p (take i xs))
 
--- what is made of those that pass, at the end of a list, with one element more
-pub added_yes : {X Y : Type 0} (f : X → Y) (p : X → Bool) (xs : List X) (i : ℕ) (x : X) (first ys : List Y) → i < length xs → x ≡ get_or xs i x → p x ≡ true → ys ≡ first ++ map f (filter p (take i xs))
-    → ys ++ f x ∷ [] ≡ first ++ map f (filter p (take (i + 1) xs))
-added_yes f p xs i x first ys l e t h =
-    ap (λ zs. zs ++ f x ∷ []) h
-    ∙ append_assoc first (map f (filter p (take i xs))) (f x ∷ [])
-    ∙ ap (λ zs. first ++ zs) (sym (map-append f (filter p (take i xs)) (x ∷ [])) ∙ ap (map f) (sym (filter_more_yes p xs i x l e t)))
-
-pub added_no : {X Y : Type 0} (f : X → Y) (p : X → Bool) (xs : List X) (i : ℕ) (x : X) (first ys : List Y) → i < length xs → x ≡ get_or xs i x → p x ≡ false → ys ≡ first ++ map f (filter p (take i xs))
-    → ys ≡ first ++ map f (filter p (take (i + 1) xs))
-added_no f p xs i x first ys l e t h = h ∙ ap (λ zs. first ++ map f zs) (sym (filter_more_no p xs i x l e t))
-
 -- one sender more adds its requests
 pub requests_from-more : {R : Type 0} (of : OutcomeParts → List R) (n m : ℕ) (os : List OutcomeParts) (o : OutcomeParts) → m ≡ n + length os
     → requests_from of n (os ++ o ∷ []) ≡ requests_from of n os ++ map (λ r. (m, r)) (of o)
@@ -80,36 +68,11 @@ requests_of-more of os i o l e =
     let long : i ≡ 0 + length (take i os) = grind (arith, common_steps) in
     ap (requests_from of 0) (take_more os i o l ∙ ap (λ y. take i os ++ y ∷ []) (sym e)) ∙ requests_from-more of 0 i (take i os) o long
 
--- what passes among them
-pub addressed_more : {R : Type 0} (of : OutcomeParts → List R) (p : R → Bool) (os : List OutcomeParts) (i : ℕ) (o : OutcomeParts) → i < length os → o ≡ get_or os i o
-    → filter (λ (s : ℕ × R). p s.1) (requests_from of 0 (take (i + 1) os)) ≡ filter (λ (s : ℕ × R). p s.1) (requests_from of 0 (take i os)) ++ map (λ r. (i, r)) (filter p (of o))
-addressed_more {R = R} of p os i o l e =
-    let F : List (ℕ × R) → List (ℕ × R) = filter (λ (s : ℕ × R). p s.1) in
-    ap F (requests_of-more of os i o l e)
-    ∙ filter-append (λ (s : ℕ × R). p s.1) (requests_from of 0 (take i os)) (map (λ r. (i, r)) (of o))
-    ∙ ap (λ ys. F (requests_from of 0 (take i os)) ++ ys) (passing_pairs i p (of o))
-
--- and what is made of the request alone
-pub passing_more : {R X : Type 0} (of : OutcomeParts → List R) (p : R → Bool) (f : R → X) (os : List OutcomeParts) (i : ℕ) (o : OutcomeParts) → i < length os → o ≡ get_or os i o
-    → map (λ (s : ℕ × R). f s.1) (filter (λ (s : ℕ × R). p s.1) (requests_from of 0 (take (i + 1) os))) ≡ map (λ (s : ℕ × R). f s.1) (filter (λ (s : ℕ × R). p s.1) (requests_from of 0 (take i os))) ++ map f (filter p (of o))
-passing_more {R = R} of p f os i o l e =
-    let F : List (ℕ × R) → List _ = map (λ (s : ℕ × R). f s.1) in
-    let before = filter (λ (s : ℕ × R). p s.1) (requests_from of 0 (take i os)) in
-    ap F (addressed_more of p os i o l e)
-    ∙ map-append (λ (s : ℕ × R). f s.1) before (map (λ r. (i, r)) (filter p (of o)))
-    ∙ ap (λ ys. F before ++ ys) (sym (map_twice (λ (s : ℕ × R). f s.1) (λ r. (i, r)) (filter p (of o))))
-
-pub sizes-get_or : (os : List OutcomeParts) (d : ℕ) (o : OutcomeParts) → d < length os → o ≡ get_or os d o → get_or (sizes_of os) d 0 ≡ length o.memory
-sizes-get_or os d o l e = get_or-map (λ (x : OutcomeParts). length x.memory) os d o 0 l ∙ ap (λ (x : OutcomeParts). length x.memory) (sym e)
-
 pub sizes-outcome_of : (os : List OutcomeParts) (d : ℕ) → d < length os → get_or (sizes_of os) d 0 ≡ length (outcome_of os d).memory
 sizes-outcome_of os d l = get_or-map (λ (x : OutcomeParts). length x.memory) os d no_outcome 0 l
 
 pub length-sizes_of : (os : List OutcomeParts) → length (sizes_of os) ≡ length os
 length-sizes_of os = length-map os (λ (x : OutcomeParts). length x.memory)
-
-pub outcome_of-item : (os : List OutcomeParts) (d : ℕ) (o : OutcomeParts) → d < length os → o ≡ get_or os d o → outcome_of os d ≡ o
-outcome_of-item os d o l e = get_or_default os d no_outcome o l ∙ sym e
 
 -- an outcome, as what stands at its place
 pub outcome_at : (os : List OutcomeParts) (d : ℕ) → d < length os → outcome_of os d ≡ get_or os d (outcome_of os d)

@@ -1,4 +1,3 @@
-pub mod Inbox
 pub mod Sums
 pub mod Comparison
 pub mod SameDelivery

@@ -1,6 +1,5 @@
 pub mod Requests
 pub mod Delivery
-pub mod Inbox
 pub mod Condition
 pub mod Readable
 pub mod SyncFault

@@ -38,8 +38,11 @@ pub(crate) fn queues_after(
     Ok(())
 }
 
-/// Makes `cells` what `deliver` answers for each of these processes, in the order of the list. The list is ascending. For no process it takes no memory,
-/// and else the requests are gone over once.
+/// Makes `cells` the next memory and queue of each of these processes, in the order of the list. The list is ascending. All gets read the owners'
+/// memories as they are after computing; then all puts are written, so a put wins over a get, and the last put wins by sender, then by issue (Hill
+/// et al. 1998; ties: this profile).
+///
+/// For no process it takes no memory, and else the requests are gone over once.
 pub fn deliver_some(
     alloc: Global,
     outcomes: &Outcomes,

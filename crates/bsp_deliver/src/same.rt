@@ -1,16 +1,12 @@
-//! Whether a delivery depends on the same as another.
+//! Whether requests, and the words that they read, are the same as others.
 
-ghost use Rattle.std.specs.Prelude.{◌≡◌, ℕ, ◌+◌, ◌<◌, ◌≤◌, ◌==◌, ◌↔◌, IsTrue, filter, drop, map, length, true, All, slice_index, slice_index_or};
+ghost use Rattle.std.specs.Prelude.{◌≡◌, ℕ, ◌+◌, ◌<◌, ◌≤◌, ◌==◌, ◌↔◌, IsTrue, filter, drop, length, true, slice_index, slice_index_or};
 ghost use Rattle.bsp_deliver.specs.Requests.{each_below, words_read};
-ghost use Rattle.bsp_deliver.specs.Delivery.{delivery_parts};
-ghost use Rattle.bsp_deliver.specs.Condition.{AreDeliverable};
 ghost use Rattle.bsp_deliver.specs.Readable.{IsReadable};
-ghost use Rattle.bsp_deliver.specs.Inside.Comparison.{HasSameParcel};
 
 use crate::addressed::Addressed;
-use crate::touched::read_same_words;
 use bsp_model::limits::MOST_MEMORY_WORDS;
-use bsp_model::{Get, MemoryRef, ProcessSet, Put, Send, are_same};
+use bsp_model::{Get, MemoryRef, Put, Send};
 use bsp_step::{OutcomeRef, Outcomes};
 
 /// The place of the next request to `d`, or the number of requests.
@@ -73,26 +69,6 @@ pub fn are_same_sends(old: &OutcomeRef<'_>, new: &OutcomeRef<'_>, d: u64) -> boo
     are_same_to::<Send>(old, new, 0, d)
 }
 
-/// Whether one sender puts and sends the same to `d`.
-fn is_same_parcel(old: &OutcomeRef<'_>, new: &OutcomeRef<'_>, d: u64) -> bool
-    ensures { IsTrue result ↔ HasSameParcel d old.now new.now }
-{
-    are_same_puts(old, new, d) && are_same_sends(old, new, d)
-}
-
-/// Whether the puts and the sends to `d` are equal lists, senders kept. It takes no memory.
-pub fn parcel_same(old: &Outcomes, new: &Outcomes, d: usize) -> bool
-    requires as_many { length old.now ≡ length new.now }
-    ensures { IsTrue result ↔ ((delivery_parts old.now d).puts ≡ (delivery_parts new.now d).puts) × ((delivery_parts old.now d).sends ≡ (delivery_parts new.now d).sends) }
-{
-    for sender in 0..old.len() {
-        if !is_same_parcel(&old.get(sender), &new.get(sender), d as u64) {
-            return false;
-        }
-    }
-    true
-}
-
 /// Whether the words of two memories from an address on are equal.
 fn are_same_words(old: &MemoryRef<'_>, new: &MemoryRef<'_>, start: u64, len: u64) -> bool
     requires old { start + len ≤ length old.now }
@@ -120,18 +96,4 @@ pub fn is_same_answer(old: &Outcomes, new: &Outcomes, get: &Get) -> bool
     let earlier = old.get(owner);
     let later = new.get(owner);
     are_same_words(&earlier.memory, &later.memory, get.start, get.len)
-}
-
-/// Whether the gets of `d` are equal lists, and the words that they read are equal. It takes no memory.
-pub fn answers_same(old: &Outcomes, new: &Outcomes, d: usize) -> bool
-    requires known { d < length old.now }
-    requires as_many { length old.now ≡ length new.now }
-    requires old { AreDeliverable old.now }
-    requires new { AreDeliverable new.now }
-    ensures { IsTrue result ↔ ((delivery_parts old.now d).gets ≡ (delivery_parts new.now d).gets) }
-{
-    let before = old.get(d);
-    let after = new.get(d);
-    are_same(before.gets, after.gets)
-        && read_same_words(old, new, &ProcessSet::all(new.len()), before.gets)
 }

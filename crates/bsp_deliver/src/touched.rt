@@ -29,12 +29,7 @@ fn reads_same_words(old: &Outcomes, new: &Outcomes, changed: &ProcessSet, get: &
 }
 
 /// Whether gets read the words that they read before.
-pub(crate) fn read_same_words(
-    old: &Outcomes,
-    new: &Outcomes,
-    changed: &ProcessSet,
-    gets: &[Get],
-) -> bool
+fn read_same_words(old: &Outcomes, new: &Outcomes, changed: &ProcessSet, gets: &[Get]) -> bool
     requires marks { length changed.now ≡ length new.now }
     requires before { All (IsReadable old.now) gets.now }
     requires after { All (IsReadable new.now) gets.now }

@@ -2,12 +2,12 @@
 
 ghost use Rattle.std.specs.Prelude.{◌≡◌, ◌+◌, ◌<◌, ◌≤◌, ◌++◌, ◌∷◌, [], All, IfOk, OnOk, length, map, fold, slice_index, slice_index_or, slice_set, true, false};
 ghost use Rattle.bsp_deliver.specs.Requests.{all_puts, each_below, words_read};
-ghost use Rattle.bsp_deliver.specs.Delivery.{get_write, delivery_parts, next_memory};
+ghost use Rattle.bsp_deliver.specs.Delivery.{get_write, written, delivery_parts, next_memory};
 ghost use Rattle.bsp_deliver.specs.Inside.Gathering.{overlay, put_at, ArePlaces, AreTargets};
 ghost use Rattle.bsp_deliver.specs.Condition.{AreDeliverable, AreRequestsInside, IsAscending, IsGetInside, sizes_of};
 
 use bsp_model::limits::{MOST_MEMORY_WORDS, MOST_PROCESSES};
-use bsp_model::{Get, Memories, OutOfMemory, ProcessSet, PutsRef};
+use bsp_model::{Get, Memories, Memory, OutOfMemory, ProcessSet, PutsRef};
 use bsp_step::{ListKind, Outcomes};
 use std::alloc::Global;
 
@@ -57,11 +57,7 @@ fn write_gets(
 }
 
 /// Adds the memory of process `d` after computing, with the words over it that its gets read.
-pub(crate) fn add_memory(
-    memories: &mut Memories,
-    d: usize,
-    outcomes: &Outcomes,
-) -> Result<(), OutOfMemory>
+fn add_memory(memories: &mut Memories, d: usize, outcomes: &Outcomes) -> Result<(), OutOfMemory>
     requires known { d < length outcomes.now }
     requires deliverable { AreDeliverable outcomes.now }
     ensures { OnOk result (memories.new ≡ memories.old ++ overlay (delivery_parts outcomes.now d).memory (map get_write (delivery_parts outcomes.now d).gets) ∷ []) }
@@ -70,6 +66,25 @@ pub(crate) fn add_memory(
     let place = memories.len();
     memories.push_copy(&own.memory)?;
     write_gets(memories, place, own.gets, outcomes)
+}
+
+/// The memory of process `d`, counted from 0, after computing, with the words over it that its gets read: the last get that covers a word wins.
+///
+/// # Errors
+/// `OutOfMemory` where there is none for the memory.
+pub fn memory_with_gets(alloc: Global, d: usize, outcomes: &Outcomes) -> Result<Memory, OutOfMemory>
+    requires known { d < length outcomes.now }
+    requires deliverable { AreDeliverable outcomes.now }
+    ensures { IfOk result (λ memory. memory ≡ each_below (length (delivery_parts outcomes.now d).memory) (λ a.
+        written (map get_write (delivery_parts outcomes.now d).gets) a (slice_index (delivery_parts outcomes.now d).memory a))) }
+{
+    let mut memories = Memories::new(alloc);
+    let memory = match add_memory(&mut memories, d, outcomes) {
+        Ok(()) => memories.get(0).to_memory(),
+        Err(error) => Err(error),
+    };
+    drop(memories);
+    memory
 }
 
 /// Makes `memories` those of these processes after computing, with the words over each that its gets read.

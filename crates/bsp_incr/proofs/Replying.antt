@@ -24,10 +24,6 @@ use Rattle.bsp_incr.proofs.Lawful.{edited_lawful}
 done_is : (looks : ViewParts → ℕ → Bool) (old : Option Run) (r : Run) (u : Update) → IsExact looks old r u → Done (result_of r) (Some u) ≡ done looks old r
 done_is looks old r u exact = ap (λ (v : Update). Done (result_of r) (Some v)) (update_of_exact looks old r u exact)
 
--- the opening's reply
-pub opened_is : (looks : ViewParts → ℕ → Bool) (turn : ViewParts → OutcomeParts) (input : Input) (r : Run) (u : Update) → input_fault input ≡ None → IsBspRun turn input r → IsExact looks None r u → Done (result_of r) (Some u) ≡ done looks None (run turn input)
-opened_is looks turn input r u lawful law exact = done_is looks None r u exact ∙ ap (done looks None) ((one_run turn input r lawful).0 law)
-
 -- the reply to an accepted batch
 pub replied_is : (looks : ViewParts → ℕ → Bool) (turn : ViewParts → OutcomeParts) (input : Input) (batch : List Edit) (old new : Run) (u : Update) → input_fault input ≡ None → refusal_of input batch ≡ None
     → IsBspRun turn input old → IsBspRun turn (edited input batch) new → IsExact looks (Some old) new u → Done (result_of new) (Some u) ≡ reply_to looks turn input batch

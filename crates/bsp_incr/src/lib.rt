@@ -10,4 +10,4 @@ mod superstep;
 
 pub use edit::{Batch, Edit, EditError, EditFault, EditRefusal};
 pub use reply::{Place, Reply, Update};
-pub use session::{Session, scratch_run, scratch_run_behind, session_run};
+pub use session::{Session, scratch_run_behind};

@@ -10,7 +10,7 @@ use bsp_model::{Input, OutOfMemory};
 use bsp_pool::Gate;
 use bsp_run::{History, RunError};
 use bsp_step::Program;
-pub use replies::{scratch_run, scratch_run_behind, session_run};
+pub use replies::scratch_run_behind;
 use std::alloc::Global;
 use std::marker::Model;
 use std::thread::Threads;

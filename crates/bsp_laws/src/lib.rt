@@ -1,10 +1,11 @@
-//! Laws of edits and updates, of their reach, their causes and their costs, and calls on batches that keep them.
+//! Laws of runs, of edits and updates, of their reach, their causes and their costs, and calls on batches that keep them.
 #![tactic(auto)]
 
 mod batches;
 mod causes;
 mod costs;
 mod reach;
+mod runs;
 mod updates;
 
 pub use batches::{
@@ -16,6 +17,7 @@ pub use costs::{nothing_costs_nothing, openings_cost_the_run, updates_cost_at_mo
 pub use reach::{
     no_turn_without_a_cause, out_of_reach_sees_the_same, tables_stay, updates_are_within_reach,
 };
+pub use runs::one_run;
 pub use updates::{
     limits_and_prices_go_on, lower_limits_do_nothing, no_turn_serves_more,
     nothing_for_the_same_run, turns_are_reused,

@@ -8,8 +8,9 @@ ghost use Rattle.bsp_run.specs.RunErrors.{input_fault_of};
 
 use bsp_incr::Session;
 use bsp_model::Input;
-use bsp_run::{History, RunError, run_plain};
+use bsp_run::{History, RunError};
 use bsp_step::Program;
+use bsp_whole::run_plain;
 use std::alloc::Global;
 
 /// A program of which it is proved what its runs compute.

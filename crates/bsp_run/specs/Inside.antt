@@ -10,4 +10,3 @@ pub mod Lines
 pub mod SharedCells
 pub mod Views
 pub mod ViewsRef
-pub mod Turns

@@ -49,27 +49,19 @@ impl Model for Tape {
     ghost invariant = { IsLawful };
 }
 
-pub(crate) fn checked(input: &Input) -> Result<(), RunError>
-    ensures ok { OnOk result (input_fault input.now ≡ None) }
-    ensures err { IfErr result (λ e. input_fault input.now ≡ input_fault_of e) }
-{
-    match input.check() {
-        Ok(()) => Ok(()),
-        Err(fault) => Err(RunError::Input(fault)),
-    }
-}
-
 impl Tape {
     /// A run of the input whose superstep 0 is open, without outcomes. `Input(f)` exactly where the input's check answers f, or `OutOfMemory`.
     pub fn open(alloc: Global, input: &Input) -> Result<Tape, RunError>
         ensures ok { IfOk result (λ tape. (input_fault input.now ≡ None) × (tape ≡ start input.now)) }
         ensures input { IfErr result (λ e. input_fault input.now ≡ input_fault_of e) }
     {
-        checked(input)?;
-        Ok(Tape::open_lawful(alloc, input)?)
+        match input.check() {
+            Ok(()) => Ok(Tape::open_lawful(alloc, input)?),
+            Err(fault) => Err(RunError::Input(fault)),
+        }
     }
 
-    /// The same, where the input is known to be lawful.
+    /// A run of a lawful input whose superstep 0 is open, without outcomes. Or `OutOfMemory`.
     pub fn open_lawful(alloc: Global, input: &Input) -> Result<Tape, OutOfMemory>
         requires lawful { input_fault input.now ≡ None }
         ensures { IfOk result (λ tape. tape ≡ start input.now) }

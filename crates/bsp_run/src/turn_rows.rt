@@ -27,9 +27,12 @@ pub(crate) fn spare_of(alloc: Global, spare: &mut Option<Outcome>) -> Result<Out
     }
 }
 
-/// The turns of some processes, in the order of the list, by the calling thread, which passes the gate before each. They are gathered in `rows`, in
-/// the lists of the spare outcome that is there.
-pub(crate) fn turns_by_one<P: Program, G: Gate>(
+/// The turns of some processes, in the order of the list, by the calling thread. `processes` are places in `views`. The gate is passed before each turn,
+/// with its place in the list, counted from 0. The turns are gathered in `rows`, in the lists of the spare outcome that is there.
+///
+/// # Errors
+/// `OutOfMemory` where the calling thread is refused memory for a turn. Those before it are then in `rows`, and there is no spare outcome.
+pub fn turns_by_one<P: Program, G: Gate>(
     alloc: Global,
     rows: &mut OutcomeRows,
     spare: &mut Option<Outcome>,

@@ -14,8 +14,8 @@ ghost use Rattle.bsp_run.specs.Inside.Settings.{IsSettingOf, AreTurned};
 
 use crate::ending::end_of;
 use crate::keeping::next_table;
-use crate::numbers::numbers;
 use crate::opening::{Recording, add_first_cells, shared_args};
+use crate::process_numbers::numbers;
 use crate::shared_cells::SharedCells;
 use crate::{Arguments, Setting, Status};
 use bsp_deliver::{Cells, next_tag_size};

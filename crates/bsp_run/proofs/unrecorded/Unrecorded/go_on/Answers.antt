@@ -1,4 +1,4 @@
-use Rattle.std.proofs.Common.{◌≡◌, ◌∙◌, refl, arith}
+use Rattle.std.proofs.Common.{◌≡◌, refl, arith}
 use Rattle.bsp_run.specs.declared.phase.Phase.TheVariants.{Turned}
 use Rattle.std.proofs.lemmas.Result.{IfOk-weaker}
 use Rattle.bsp_run.specs.Run.{Run}

@@ -1,4 +1,4 @@
-use Rattle.std.proofs.Common.{◌≡◌, ◌∙◌, ◌<◌, ℕ, List, [], All, IfOk, ap, length, map, sym, subst, arith}
+use Rattle.std.proofs.Common.{◌≡◌, ◌∙◌, ◌<◌, ℕ, List, [], All, IfOk, ap, length, sym, subst, arith}
 use Rattle.std.specs.List.{range_with_len}
 use Rattle.bsp_step.specs.ViewParts.{ViewParts}
 use Rattle.bsp_model.proofs.Inputs.{lawful_input}

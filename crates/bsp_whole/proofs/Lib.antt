@@ -1,0 +1,3 @@
+mod AddressedRequests
+mod Queues
+mod Supersteps

@@ -1,0 +1,27 @@
+use Rattle.std.proofs.Common.{◌∙◌, List, length, ap, sym, subst}
+use Rattle.bsp_step.specs.OutcomeParts.{OutcomeParts}
+use Rattle.bsp_deliver.specs.Condition.{IsAscending}
+use Rattle.bsp_run.specs.Run.{Run}
+use Rattle.bsp_run.specs.Condition.{deliveries_of}
+use Rattle.bsp_run.proofs.Lists.{range_ascending}
+use Rattle.bsp_run.proofs.Runs.{outcomes_shown-turned}
+use Rattle.bsp_run.proofs.Shares.{deliveries_made}
+use Rattle.bsp_whole.proofs.Supersteps.{are_known}
+use Rattle.bsp_whole.proofs.wide.wide_delivery.Goals as goal
+
+pub wide_deliveries-requires-clause-processes : goal.wide_deliveries-requires-clause-processes
+wide_deliveries-requires-clause-processes g c κs within =
+    let r : Run = c.args.tape.now in
+    let kept = c.outcomes-outcomes.ensures.outcomes ∙ outcomes_shown-turned r c.requires.turned in
+    are_known c.args.processes.now (length r.outcomes) c.outcomes-outcomes.result.now c.requires.processes (ap (λ (os : List OutcomeParts). length os) kept)
+
+pub wide_deliveries-requires-clause-ascending : goal.wide_deliveries-requires-clause-ascending
+wide_deliveries-requires-clause-ascending g c κs within =
+    let r : Run = c.args.tape.now in
+    subst IsAscending (sym c.requires.processes) (range_ascending (length r.outcomes))
+
+pub delivered-requires-clause-cells : goal.delivered-requires-clause-cells
+delivered-requires-clause-cells g c =
+    let r : Run = c.args.tape.now in
+    let kept = c.outcomes-outcomes.ensures.outcomes ∙ outcomes_shown-turned r c.requires.turned in
+    deliveries_made c.outcomes-outcomes.result.now (length r.outcomes) c.args.processes.now c.wide_deliveries.new.cells (ap (λ (os : List OutcomeParts). length os) kept) c.requires.processes c.in-Ok.ensures ∙ ap deliveries_of kept

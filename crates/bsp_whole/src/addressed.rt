@@ -1,0 +1,83 @@
+//! The requests that are addressed to a process.
+
+ghost use Rattle.std.specs.Prelude.{◌≡◌, ◌≤◌, ◌++◌, ◌==◌, length, map, filter, IfOk, OnOk};
+ghost use Rattle.bsp_step.specs.ViewParts.{IsQueue};
+ghost use Rattle.bsp_deliver.specs.Requests.{all_puts, all_sends};
+ghost use Rattle.bsp_deliver.specs.Delivery.{delivery_parts, message_of};
+ghost use Rattle.bsp_whole.specs.Inbox.{inbox_of};
+
+use crate::Inbox;
+use bsp_model::limits::MOST_PROCESSES;
+use bsp_model::{OutOfMemory, Put, PutsRef, Send, SendsRef, Seq};
+use bsp_step::Outcomes;
+use std::alloc::Global;
+
+/// Adds one sender's puts to `d`, in issue order.
+fn add_puts(
+    list: &mut Seq<(u64, Put)>,
+    sender: u64,
+    d: u64,
+    puts: &PutsRef<'_>,
+) -> Result<(), OutOfMemory>
+    ensures { OnOk result (list.new ≡ list.old ++ map (λ p. (sender, p)) (filter (λ p. p.target == d) puts.now)) }
+{
+    for place in 0..puts.len() {
+        if puts.at(place).target == d {
+            list.push((sender, puts.copy_at(list.allocator(), place)?))?;
+        }
+    }
+    Ok(())
+}
+
+/// Adds one sender's messages to `d`, in issue order.
+fn add_sends(
+    list: &mut Seq<(u64, Send)>,
+    sender: u64,
+    d: u64,
+    sends: &SendsRef<'_>,
+) -> Result<(), OutOfMemory>
+    ensures { OnOk result (list.new ≡ list.old ++ map (λ m. (sender, m)) (filter (λ m. m.target == d) sends.now)) }
+{
+    for place in 0..sends.len() {
+        if sends.at(place).target == d {
+            list.push((sender, sends.copy_at(list.allocator(), place)?))?;
+        }
+    }
+    Ok(())
+}
+
+/// The puts to `d`, each with its sender.
+fn puts_to(alloc: Global, d: u64, outcomes: &Outcomes) -> Result<Seq<(u64, Put)>, OutOfMemory>
+    ensures { IfOk result (λ puts. puts ≡ filter (λ p. p.1.target == d) (all_puts outcomes.now)) }
+{
+    let mut puts = Seq::new(alloc);
+    for sender in 0..outcomes.len() {
+        let outcome = outcomes.get(sender);
+        add_puts(&mut puts, sender as u64, d, &outcome.puts)?;
+    }
+    Ok(puts)
+}
+
+/// The messages to `d`, each with its sender.
+fn sends_to(alloc: Global, d: u64, outcomes: &Outcomes) -> Result<Seq<(u64, Send)>, OutOfMemory>
+    requires { length outcomes.now ≤ MOST_PROCESSES }
+    ensures sends { IfOk result (λ sends. sends ≡ filter (λ m. m.1.target == d) (all_sends outcomes.now)) }
+    ensures limits { IfOk result (λ sends. IsQueue (map (λ m. message_of m.1) sends)) }
+{
+    let mut sends = Seq::new(alloc);
+    for sender in 0..outcomes.len() {
+        let outcome = outcomes.get(sender);
+        add_sends(&mut sends, sender as u64, d, &outcome.sends)?;
+    }
+    Ok(sends)
+}
+
+/// The inbox of process `d`: copies of all puts and messages to it, each with its sender, by sender, then by issue. There are at most `MOST_PROCESSES` outcomes.
+pub fn inbox(alloc: Global, d: usize, outcomes: &Outcomes) -> Result<Inbox, OutOfMemory>
+    requires { length outcomes.now ≤ MOST_PROCESSES }
+    ensures { IfOk result (λ inbox. inbox ≡ inbox_of (delivery_parts outcomes.now d)) }
+{
+    let puts = puts_to(alloc, d as u64, outcomes)?;
+    let sends = sends_to(alloc, d as u64, outcomes)?;
+    Ok(Inbox { puts, sends })
+}

@@ -1,0 +1,18 @@
+//! Whole deliveries, runs and sessions, in one call each.
+#![tactic(auto)]
+
+mod addressed;
+mod delivery;
+mod inboxes;
+mod parcels;
+mod plain;
+mod sessions;
+mod wide;
+
+pub use addressed::inbox;
+pub use delivery::{deliver, deliver_inbox};
+pub use inboxes::Inbox;
+pub use parcels::{answers_same, parcel_same};
+pub use plain::{run_plain, run_result};
+pub use sessions::{scratch_run, session_run};
+pub use wide::run_wide;
