@@ -1,5 +1,5 @@
 -- Replies without updates, of which no more is told.
-use Rattle.std.proofs.Common.{◌≡◌, List, [], ◌∷◌, map, Option, true, refl, ap, ℕ, Bool}
+use Rattle.std.proofs.Common.{◌≡◌, List, [], ◌∷◌, map, true, refl, ap, ℕ, Bool}
 use Rattle.bsp_model.specs.declared.input.Input.{Input}
 use Rattle.bsp_model.specs.declared.fault.End.{End}
 use Rattle.bsp_step.specs.ViewParts.{ViewParts}
@@ -12,8 +12,8 @@ use Rattle.bsp_incr.specs.declared.reply.Reply.TheVariants.{Done, Refused}
 use Rattle.bsp_incr.specs.Replies.{input_after, without_update}
 use Rattle.bsp_incr.specs.Inside.Replies.{replies}
 use Rattle.bsp_engine.specs.declared.jobs.Job.{Job}
-use Rattle.bsp_engine.specs.declared.options.Detail.{Detail}
-use Rattle.bsp_engine.specs.Told.{ToldReply, alone, told_after, told_of}
+use Rattle.bsp_options.specs.declared.options.Detail.{Detail}
+use Rattle.bsp_engine.specs.Told.{alone, told_after, told_of}
 use Rattle.bsp_engine.specs.Inside.Replies.{job_told, replies_of}
 
 told_alone-after : (detail : Detail) (looks : ViewParts → ℕ → Bool) (turn : ViewParts → OutcomeParts) (input : Input) (batches : List (List Edit)) (replies : List Reply)

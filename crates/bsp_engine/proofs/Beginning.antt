@@ -19,7 +19,7 @@ use Rattle.bsp_incr.specs.Replies.{input_if}
 use Rattle.bsp_incr.specs.Inside.Replies.{done, reply_if, replies_from}
 use Rattle.bsp_engine.specs.declared.errors.JobFault.{JobFault}
 use Rattle.bsp_engine.specs.declared.jobs.Job.{Job}
-use Rattle.bsp_engine.specs.declared.options.Detail.{Detail}
+use Rattle.bsp_options.specs.declared.options.Detail.{Detail}
 use Rattle.bsp_engine.specs.Asked.{asked_of, asks_for_text}
 use Rattle.bsp_engine.specs.declared.attendant.Attendant.{Attendant}
 use Rattle.bsp_engine.specs.Inside.DueAt.{due_at, due_from}

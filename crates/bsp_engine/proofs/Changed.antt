@@ -4,9 +4,9 @@ use Rattle.std.specs.Bool.{Decides}
 use Rattle.std.proofs.lemmas.List.{append-nil, length-take-le, take_all, take_more}
 use Rattle.std.proofs.lemmas.Option.{slice_get_cases}
 use Rattle.bsp_engine.specs.Changes.{other, others, piece_if}
-use Rattle.bsp_engine.specs.Lines.{numbered}
+use Rattle.bsp_text.specs.Lines.{numbered}
 use Rattle.bsp_engine.specs.Inside.Touched.{piece_of, piece_there}
-use Rattle.bsp_engine.proofs.Numbering.{numbered-snoc}
+use Rattle.bsp_text.proofs.Numbering.{numbered-snoc}
 
 -- one item, where a test tells whether it is the same
 pub other_same : {A : Type 0} (same : A → A → Bool) (old new : A) → Decides (same old new) (old ≡ new) → old ≡ new → None ≡ other same (Some old) new

@@ -2,7 +2,7 @@
 use Rattle.std.proofs.Common.{◌≡◌, ◌<◌, ◌≤◌, ◌+◌, ◌==◌, ◌^◌, ℕ, zero, suc, true, false, cond, List, [], ◌∷◌, ◌++◌, drop, length, Option, None, Some, refl, sym, ◌∙◌, subst, arith, append_assoc}
 use Rattle.std.specs.List.{AllZip}
 use Rattle.bsp_engine.specs.Changes.{piece_if}
-use Rattle.bsp_engine.specs.Lines.{numbered}
+use Rattle.bsp_text.specs.Lines.{numbered}
 use Rattle.bsp_engine.specs.Whole.{first_of, items_with, numbers_of}
 
 -- the text does not begin with a piece for item n

@@ -16,7 +16,7 @@ use Rattle.bsp_engine.specs.declared.errors.EngineError.{EngineError}
 use Rattle.bsp_engine.specs.declared.errors.EngineError.TheVariants.{TooLong}
 use Rattle.bsp_engine.specs.declared.jobs.Job.{Job}
 use Rattle.bsp_engine.specs.Answer.{Answers}
-use Rattle.bsp_engine.specs.declared.options.Detail.{Detail}
+use Rattle.bsp_options.specs.declared.options.Detail.{Detail}
 use Rattle.bsp_engine.specs.Catalogue.{Meaning}
 use Rattle.bsp_engine.specs.JobOf.{job_with, job_named, job_unless, job_of_tree, job_of}
 use Rattle.bsp_engine.specs.Keys.{key_fault}

@@ -17,15 +17,12 @@ pub mod LiveLaws
 pub mod LookUps
 pub mod Logs
 pub mod Made
-pub mod Numbering
 pub mod OwnKeys
 pub mod ReadAgain
 pub mod ResultsRead
 pub mod SameDocument
 pub mod SameJob
 pub mod SessionOf
-pub mod Showing
-pub mod Optional
 pub mod Telling
 pub mod TooLong
 pub mod Trees

@@ -6,7 +6,7 @@ use Rattle.std.specs.Fmt.{digits, digits_onto, digit_glyph}
 use Rattle.std.proofs.lemmas.Bool.{and_parts}
 use Rattle.std.proofs.lemmas.Bool.Decides.{nat_tests}
 use Rattle.std.proofs.lemmas.List.{append_cancel_left}
-use Rattle.bsp_engine.specs.Lines.{fields, line}
+use Rattle.bsp_text.specs.Lines.{fields, line}
 
 -- all characters are this large
 abbrev pub AreFrom : ℕ → List ℕ → Type 0

@@ -12,8 +12,9 @@ use Rattle.bsp_run.specs.declared.result.ProcessFault.{ProcessFault}
 use Rattle.bsp_run.specs.declared.result.Status.{Status}
 use Rattle.bsp_run.specs.declared.result.Status.TheVariants.{Halted, Limit, Faulted, SyncFaulted}
 use Rattle.bsp_engine.specs.Changes.{other_lines, piece_if}
-use Rattle.bsp_engine.specs.Lines.{field, fields, line, numbered}
-use Rattle.bsp_engine.specs.Text.{cost_line, fault_numbers, fault_word, memory_line, print_lines, process_fault_line, status_lines, sync_fault_word}
+use Rattle.bsp_text.specs.Lines.{field, fields, line, numbered}
+use Rattle.bsp_text.specs.FaultWords.{fault_numbers, fault_word}
+use Rattle.bsp_engine.specs.Text.{cost_line, memory_line, print_lines, process_fault_line, status_lines, sync_fault_word}
 use Rattle.bsp_engine.proofs.LineEnds.{AreFrom, AreFrom-append, AreFrom-test, fields_from, same_fields, same_line, same_numbers}
 use Rattle.bsp_engine.proofs.ItemsRead.{AreRead, IsPast}
 

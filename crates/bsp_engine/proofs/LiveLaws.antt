@@ -29,7 +29,7 @@ use Rattle.bsp_engine.specs.Inside.Replies.{job_told, replies_of}
 use Rattle.bsp_engine.specs.Reported.{told_to}
 use Rattle.bsp_engine.specs.Told.{ToldReply, told_by}
 use Rattle.bsp_engine.specs.Blocks.{blocks_after, reply_block, text_of}
-use Rattle.bsp_engine.specs.declared.options.Detail.{Detail}
+use Rattle.bsp_options.specs.declared.options.Detail.{Detail}
 use Rattle.bsp_engine.proofs.Beginning.{blocks-batch, report_is}
 
 module _ {P : Type 0} (acts : P → ViewParts → List Act) (ending : P → ViewParts → End) (looks : P → ViewParts → ℕ → Bool) where

@@ -6,7 +6,6 @@ use Rattle.bsp_model.specs.declared.fault.End.{End}
 use Rattle.bsp_step.specs.ViewParts.{ViewParts}
 use Rattle.bsp_step.specs.Act.{Act}
 use Rattle.bsp_step.specs.Turn.{turn_of}
-use Rattle.bsp_run.specs.declared.result.RunResult.{RunResult}
 use Rattle.bsp_run.specs.Run.{Run, run}
 use Rattle.bsp_run.specs.Result.{result_of}
 use Rattle.bsp_run.proofs.OneRun.{one_run}
@@ -22,8 +21,8 @@ use Rattle.bsp_incr.specs.declared.reply.Reply.TheVariants.{Done}
 use Rattle.bsp_incr.specs.declared.reply.Update.{Update}
 use Rattle.bsp_incr.specs.Inside.Replies.{done, reply_if, reply_to}
 use Rattle.bsp_incr.proofs.Replying.{replied_is}
-use Rattle.bsp_engine.specs.declared.options.Detail.{Detail}
-use Rattle.bsp_engine.specs.Lines.{line}
+use Rattle.bsp_options.specs.declared.options.Detail.{Detail}
+use Rattle.bsp_text.specs.Lines.{line}
 use Rattle.bsp_engine.specs.Blocks.{reply_lines, blocks_after}
 use Rattle.bsp_engine.specs.Text.{refusal_line}
 use Rattle.bsp_engine.specs.Told.{told_by}

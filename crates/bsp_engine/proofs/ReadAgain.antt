@@ -14,8 +14,8 @@ use Rattle.toml.specs.Text.{IsValueText, IsItemsText, IsLineText, IsLinesText, I
 use Rattle.toml.proofs.Turns.{lines_more, lines_refused}
 use Rattle.toml.proofs.Blanks.{skip_newline, skip_within}
 use Rattle.toml.proofs.ReadLines.{run, AllPrinted, line_turn, read_lines}
-use Rattle.bsp_engine.specs.Document.{entry, array_text}
-use Rattle.bsp_engine.specs.Lines.{numbered}
+use Rattle.bsp_text.specs.DocumentText.{entry, array_text}
+use Rattle.bsp_text.specs.Lines.{numbered}
 
 -- ---- which lines are printed for a table
 

@@ -23,10 +23,11 @@ use Rattle.bsp_model.specs.declared.input.Input.{Input}
 use Rattle.bsp_model.specs.Input.{input_fault}
 use Rattle.bsp_engine.specs.declared.jobs.Job.{Job}
 use Rattle.bsp_engine.specs.Catalogue.{Meaning, AgreeOnKeys, ReadsOwnKeys}
-use Rattle.bsp_engine.specs.Document.{IsPrinted, array_text, comma, document_text, entry, own_members, rows_line, words_text}
+use Rattle.bsp_text.specs.DocumentText.{array_text, comma, document_text, entry, rows_line, words_text}
+use Rattle.bsp_engine.specs.Document.{IsPrinted, own_members}
 use Rattle.bsp_engine.specs.JobOf.{job_of, job_of_tree}
 use Rattle.bsp_engine.specs.Keys.{HasKeysApart, common_keys, has_known_keys}
-use Rattle.bsp_engine.specs.Lines.{field, fields, line, numbered}
+use Rattle.bsp_text.specs.Lines.{field, fields, line, numbered}
 use Rattle.bsp_engine.specs.ReadsBack.{DocumentsReadBack, can_be_written}
 use Rattle.bsp_engine.specs.Tree.{tree_of}
 use Rattle.bsp_engine.proofs.Beside.{AllOwn, IsBeside, keeps_fill}

@@ -6,7 +6,7 @@ use Rattle.bsp_run.specs.Run.{Run}
 use Rattle.bsp_run.specs.Result.{status_of, memories_of, lines_of, result_of}
 use Rattle.bsp_engine.specs.Inside.Touched.{cost_changes}
 use Rattle.bsp_engine.specs.Changes.{changes_lines, changes_of, other_lines, others, piece_if, same_lines, same_row, same_words}
-use Rattle.bsp_engine.specs.Lines.{line, numbered}
+use Rattle.bsp_text.specs.Lines.{line, numbered}
 use Rattle.bsp_engine.specs.Text.{cost_line, memory_line, print_lines, result_lines, status_lines}
 use Rattle.bsp_engine.proofs.Changed.{all_told}
 

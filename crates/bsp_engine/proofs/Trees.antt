@@ -15,6 +15,7 @@ use Rattle.toml.specs.declared.value.Value.{Value}
 use Rattle.bsp_engine.specs.Catalogue.{Meaning}
 use Rattle.bsp_engine.specs.Tree.{list_of, elements, begins_with, tree_of}
 use Rattle.bsp_engine.specs.Keys.{is_integer, is_array_of, is_form, is_known_key, has_known_keys}
+use Rattle.bsp_engine.specs.Values.{args_of, row_of}
 
 pub list_of-items_of : (ds : List Data) → list_of (items_of ds) ≡ ds
 list_of-items_of [] = refl
@@ -36,6 +37,11 @@ any_viewed test (v ∷ vs) ds e = ap (λ b. test (view v) || b) (any_viewed test
 pub map_viewed : {A : Type 0} (f : Data → A) (vs : List Value) → map (λ v. f (view v)) vs ≡ map f (map view vs)
 map_viewed f [] = refl
 map_viewed f (v ∷ vs) = ap (λ l. f (view v) ∷ l) (map_viewed f vs)
+
+-- the arguments of processes that have none
+pub no_words : (ds : List Data) → args_of None (map row_of ds) ≡ map (λ d. []) ds
+no_words [] = refl
+no_words (d ∷ ds) = ap (λ l. [] ∷ l) (no_words ds)
 
 -- an array, where all its elements pass the test
 pub array_viewed : (test : Data → Bool) (d : Data) (is_array all : Bool) → is_array ≡ is_some (as_array d) → is_array ≡ true → all ≡ list_all test (elements d) → all ≡ is_array_of test d

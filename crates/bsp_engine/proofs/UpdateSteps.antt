@@ -11,7 +11,7 @@ use Rattle.bsp_step.specs.OutcomeParts.{OutcomeParts}
 use Rattle.bsp_run.specs.declared.superstep.Superstep.{Superstep}
 use Rattle.bsp_run.specs.Run.{Run}
 use Rattle.bsp_run.specs.Supersteps.{no_superstep, superstep_at, supersteps_of}
-use Rattle.bsp_run.specs.Law.{IsBspRun, outcomes_in}
+use Rattle.bsp_run.specs.Law.{IsBspRun}
 use Rattle.bsp_run.proofs.OneRun.{front}
 use Rattle.bsp_run.proofs.Records.{count-outcomes_in}
 use Rattle.bsp_incr.specs.declared.edit.Edit.{Edit}
@@ -23,7 +23,6 @@ use Rattle.bsp_incr.specs.Inside.Changes.{update_of}
 use Rattle.bsp_incr.proofs.Exactness.{exact_of}
 use Rattle.bsp_incr.proofs.Lawful.{edited_count}
 use Rattle.bsp_causes.specs.DeliveryCauses.{HaveAsMany}
-use Rattle.bsp_engine.specs.Untouched.{AreRunsAround}
 use Rattle.bsp_engine.specs.Inside.Causes.{IsUpdateTo}
 use Rattle.bsp_engine.specs.Inside.Touched.{IsUpdateBetween}
 

@@ -9,7 +9,7 @@ use Rattle.bsp_incr.specs.declared.edit.Edit.{Edit}
 use Rattle.bsp_incr.specs.Edits.{refusal_of}
 use Rattle.bsp_engine.specs.declared.asked.Asked.TheVariants.{Batch, Undo}
 use Rattle.bsp_engine.specs.declared.jobs.Job.{Job}
-use Rattle.bsp_engine.specs.declared.options.Detail.{Detail}
+use Rattle.bsp_options.specs.declared.options.Detail.{Detail}
 use Rattle.bsp_engine.specs.Asked.{asked_of, asks_for_text}
 use Rattle.bsp_engine.specs.Blocks.{text_of}
 use Rattle.bsp_engine.specs.Live.{AreLiveReplies, LiveParts, Replying, after, after_batch, due_of}

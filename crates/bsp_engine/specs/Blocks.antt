@@ -3,9 +3,9 @@ use Rattle.std.specs.Prelude.{ℕ, ◌+◌, Bool, List, [], ◌∷◌, ◌++◌,
 use Rattle.bsp_run.specs.declared.result.RunResult.{RunResult}
 use Rattle.bsp_incr.specs.declared.reply.Reply.{Reply}
 use Rattle.bsp_incr.specs.declared.reply.Reply.TheVariants.{Done, Refused}
-use Rattle.bsp_engine.specs.declared.options.Detail.{Detail}
+use Rattle.bsp_options.specs.declared.options.Detail.{Detail}
 use Rattle.bsp_engine.specs.Changes.{changes_of, changes_lines}
-use Rattle.bsp_engine.specs.Lines.{line}
+use Rattle.bsp_text.specs.Lines.{line}
 use Rattle.bsp_engine.specs.Told.{ToldReply}
 use Rattle.bsp_engine.specs.Text.{result_lines, update_lines, refusal_line}
 

@@ -4,7 +4,7 @@ use Rattle.std.specs.Cmp.Lexicographic.{pointwise}
 use Rattle.bsp_model.specs.declared.cost.CostRow.{CostRow}
 use Rattle.bsp_run.specs.declared.result.RunResult.{RunResult}
 use Rattle.bsp_run.specs.declared.result.Status.{Status}
-use Rattle.bsp_engine.specs.Lines.{line, numbered}
+use Rattle.bsp_text.specs.Lines.{line, numbered}
 use Rattle.bsp_engine.specs.Text.{status_lines, memory_line, print_lines, cost_line}
 
 -- the item, unless it is the same as before

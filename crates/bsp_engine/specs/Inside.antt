@@ -5,7 +5,6 @@ pub mod Report
 pub mod LiveReplies
 pub mod DueAt
 pub mod Flow
-pub mod Options
 pub mod Places
 pub mod Refusal
 pub mod Talk

@@ -13,10 +13,8 @@ pub mod Help
 pub mod JobOf
 pub mod Keys
 pub mod Limits
-pub mod Lines
 pub mod Live
 pub mod Naming
-pub mod Options
 pub mod Places
 pub mod ReadsBack
 pub mod Refusal
@@ -28,9 +26,7 @@ pub mod Talk
 pub mod Text
 pub mod Told
 pub mod Tree
-pub mod TurnLines
 pub mod Values
-pub mod ViewLines
 pub mod Whole
 pub mod WhyLines
 pub mod Inside

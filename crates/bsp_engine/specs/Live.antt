@@ -21,11 +21,11 @@ use Rattle.bsp_engine.specs.declared.asked.Asked.TheVariants.{Batch, Undo, Nothi
 use Rattle.bsp_engine.specs.declared.asked.Unread.{Unread}
 use Rattle.bsp_engine.specs.declared.asked.Unread.TheVariants.{NotToml, WrongType, BadWord, TooLong, NothingToUndo}
 use Rattle.bsp_engine.specs.declared.jobs.Job.{Job}
-use Rattle.bsp_engine.specs.declared.options.Detail.{Detail}
+use Rattle.bsp_options.specs.declared.options.Detail.{Detail}
 use Rattle.bsp_engine.specs.Asked.{asked_of, asked_place, asks_for_text, is_document, is_help, is_view}
-use Rattle.bsp_engine.specs.Document.{document_block}
+use Rattle.bsp_text.specs.DocumentText.{document_block}
 use Rattle.bsp_engine.specs.Help.{help_block}
-use Rattle.bsp_engine.specs.Lines.{line}
+use Rattle.bsp_text.specs.Lines.{line}
 use Rattle.bsp_engine.specs.Reported.{AreRepliesTo, told_to}
 use Rattle.bsp_engine.specs.Shown.{turn_text, view_text}
 use Rattle.bsp_engine.specs.Told.{ToldReply, told_by}

@@ -2,7 +2,7 @@
 use Rattle.std.specs.Prelude.{ℕ, ◌==◌, List, [], ◌∷◌, if◌then◌else◌}
 use Rattle.std.specs.List.{flat_map}
 use Rattle.bsp_incr.specs.declared.reply.Place.{Place}
-use Rattle.bsp_engine.specs.Lines.{line}
+use Rattle.bsp_text.specs.Lines.{line}
 
 -- a superstep, and processes
 pub record StepPids : Type 0 where

@@ -6,7 +6,8 @@ use Rattle.bsp_model.specs.declared.input.Input.{Input}
 use Rattle.bsp_model.specs.Input.{input_fault}
 use Rattle.bsp_engine.specs.declared.jobs.Job.{Job}
 use Rattle.bsp_engine.specs.Catalogue.{Meaning}
-use Rattle.bsp_engine.specs.Document.{IsPrinted, document_text, most_depth, own_members}
+use Rattle.bsp_text.specs.DocumentText.{document_text}
+use Rattle.bsp_engine.specs.Document.{IsPrinted, most_depth, own_members}
 use Rattle.bsp_engine.specs.JobOf.{job_of}
 use Rattle.bsp_engine.specs.Tree.{tree_of}
 

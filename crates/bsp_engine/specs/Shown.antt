@@ -5,8 +5,8 @@ use Rattle.bsp_step.specs.OutcomeParts.{OutcomeParts}
 use Rattle.bsp_run.specs.Run.{Run}
 use Rattle.bsp_run.specs.Supersteps.{outcomes_of, supersteps_of, supersteps_opened}
 use Rattle.bsp_incr.specs.declared.reply.Place.{Place}
-use Rattle.bsp_engine.specs.TurnLines.{turn_block}
-use Rattle.bsp_engine.specs.ViewLines.{view_block}
+use Rattle.bsp_text.specs.TurnLines.{turn_block}
+use Rattle.bsp_text.specs.ViewLines.{view_block}
 
 -- The view of a process in a superstep that was opened: at the limit also in the one after the last.
 abbrev pub view_at : Run → Place → Option ViewParts

@@ -2,8 +2,6 @@
 use Rattle.std.specs.Prelude.{ℕ, Bool, true, false, List, [], ◌∷◌, ◌++◌, length, codes, Option, None, Some}
 use Rattle.std.specs.List.{flat_map}
 use Rattle.bsp_model.specs.declared.cost.CostRow.{CostRow}
-use Rattle.bsp_model.specs.declared.fault.Fault.{Fault}
-use Rattle.bsp_model.specs.declared.fault.Fault.TheVariants.{Abort, BadPid, NotRegistered, OutOfArea, BadLocal, TagLength, EmptyQueue, TooManyRequests, WorkLimit, LineLimit, TooLong, BadTagSize}
 use Rattle.bsp_model.specs.declared.fault.SyncFault.{SyncFault}
 use Rattle.bsp_model.specs.declared.fault.SyncFault.TheVariants.{MixedEnd, TagMismatch, PopMismatch, PushMismatch, TooManySlots}
 use Rattle.bsp_run.specs.declared.result.ProcessFault.{ProcessFault}
@@ -14,30 +12,9 @@ use Rattle.bsp_incr.specs.declared.edit.EditFault.{EditFault}
 use Rattle.bsp_incr.specs.declared.edit.EditFault.TheVariants.{NoSuchProcess, NoSuchWord, NoSuchArg, BadLimit, BadPrice}
 use Rattle.bsp_incr.specs.declared.edit.EditRefusal.{EditRefusal}
 use Rattle.bsp_incr.specs.declared.reply.Update.{Update}
-use Rattle.bsp_engine.specs.Lines.{field, line, numbered}
+use Rattle.bsp_text.specs.FaultWords.{fault_numbers, fault_word}
+use Rattle.bsp_text.specs.Lines.{field, line, numbered}
 use Rattle.bsp_engine.specs.Places.{place_lines}
-
--- the faults of a process, by number
-abbrev pub fault_word : Fault → List ℕ
-fault_word (Abort code) = codes "F1"
-fault_word (BadPid pid) = codes "F2"
-fault_word (NotRegistered start) = codes "F3"
-fault_word OutOfArea = codes "F4"
-fault_word BadLocal = codes "F5"
-fault_word TagLength = codes "F6"
-fault_word EmptyQueue = codes "F7"
-fault_word TooManyRequests = codes "F8"
-fault_word WorkLimit = codes "F9"
-fault_word LineLimit = codes "F10"
-fault_word TooLong = codes "F11"
-fault_word BadTagSize = codes "F12"
-
--- the number that belongs to a fault: a code, a process or an address
-abbrev pub fault_numbers : Fault → List ℕ
-fault_numbers (Abort code) = code ∷ []
-fault_numbers (BadPid pid) = pid ∷ []
-fault_numbers (NotRegistered start) = start ∷ []
-fault_numbers _ = []
 
 -- `fault P Fn`, and for some the number that belongs to it
 abbrev pub process_fault_line : ProcessFault → List ℕ

@@ -9,7 +9,7 @@ use Rattle.bsp_incr.specs.declared.reply.Reply.{Reply}
 use Rattle.bsp_incr.specs.declared.reply.Reply.TheVariants.{Done, Refused}
 use Rattle.bsp_incr.specs.declared.reply.Update.{Update}
 use Rattle.bsp_incr.specs.Replies.{input_after}
-use Rattle.bsp_engine.specs.declared.options.Detail.{Detail}
+use Rattle.bsp_options.specs.declared.options.Detail.{Detail}
 use Rattle.bsp_engine.specs.WhyLines.{more_lines}
 
 -- a reply, and the lines on its update that are asked for beside its places

@@ -7,7 +7,7 @@ use Rattle.bsp_incr.specs.declared.reply.Reply.TheVariants.{Done}
 use Rattle.bsp_incr.specs.declared.reply.Update.{Update}
 use Rattle.bsp_engine.specs.Blocks.{reply_block}
 use Rattle.bsp_engine.specs.Changes.{Changes, changes_of, changes_lines, count_line, other_lines}
-use Rattle.bsp_engine.specs.Lines.{line}
+use Rattle.bsp_text.specs.Lines.{line}
 use Rattle.bsp_engine.specs.Text.{cost_line, memory_line, status_lines}
 use Rattle.bsp_engine.specs.Told.{ToldReply}
 

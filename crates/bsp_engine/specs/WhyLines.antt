@@ -14,8 +14,8 @@ use Rattle.bsp_causes.specs.declared.costs.UpdateCost.{UpdateCost}
 use Rattle.bsp_causes.specs.DeliveryCauses.{delivery_causes}
 use Rattle.bsp_causes.specs.TurnCauses.{turn_causes}
 use Rattle.bsp_causes.specs.UpdateCost.{update_cost}
-use Rattle.bsp_engine.specs.declared.options.Detail.{Detail}
-use Rattle.bsp_engine.specs.Lines.{field, fields, line}
+use Rattle.bsp_options.specs.declared.options.Detail.{Detail}
+use Rattle.bsp_text.specs.Lines.{field, fields, line}
 
 -- a cause without numbers, where it is one
 abbrev pub cause : List ℕ → Bool → List ℕ

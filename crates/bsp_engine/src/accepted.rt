@@ -14,11 +14,11 @@ ghost use Rattle.bsp_engine.specs.Untouched.{AreRunsAround};
 
 use crate::changed_run::push_changed;
 use crate::crew::Crew;
-use crate::options::Detail;
 use crate::update_lines::push_update;
 use crate::whole_run::push_run;
 use bsp_incr::{Edit, EditError, Session, Update};
 use bsp_model::OutOfMemory;
+use bsp_options::Detail;
 use bsp_pool::Gate;
 use bsp_run::History;
 use bsp_step::Program;

@@ -6,10 +6,10 @@ ghost use Rattle.bsp_engine.specs.Live.{asked_text};
 
 use crate::asked::{is_document, is_help};
 use crate::asked_place::{asked_place, is_view};
-use crate::session_document::put_document;
 use crate::shown::{push_turn_text, push_view_text};
 use bsp_model::{Input, OutOfMemory};
 use bsp_run::History;
+use bsp_text::put_document;
 
 /// The lines that there are, between the lines `help` and `end`.
 #[tactic(auto, unfolding(crate::specs::Help::help_block))]

@@ -15,13 +15,13 @@ use crate::catalogue::Catalogue;
 use crate::crew::Crew;
 use crate::errors::JobError;
 use crate::jobs::read_job_and_keys;
-use crate::lines::push_line;
 use crate::live::{Live, begin, push_answer};
-use crate::options::Detail;
 use bsp_model::OutOfMemory;
+use bsp_options::Detail;
 use bsp_pool::Gate;
 use bsp_run::DEPTH_OF_RUNS;
 use bsp_step::Program;
+use bsp_text::push_line;
 use std::alloc::AllocError;
 use std::thread::Threads;
 

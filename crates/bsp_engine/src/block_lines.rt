@@ -2,33 +2,14 @@
 
 ghost use Rattle.std.specs.Prelude.{◌≡◌, ◌++◌, OnOk, codes, length};
 ghost use Rattle.std.specs.List.{flat_map};
-ghost use Rattle.bsp_engine.specs.Lines.{field, line, numbered};
-ghost use Rattle.bsp_engine.specs.Text.{fault_word, process_fault_line, sync_fault_word, status_lines, print_lines, cost_line, update_places, counts_line, edit_fault_word, refusal_line};
+ghost use Rattle.bsp_text.specs.Lines.{field, line, numbered};
+ghost use Rattle.bsp_engine.specs.Text.{process_fault_line, sync_fault_word, status_lines, print_lines, cost_line, update_places, counts_line, edit_fault_word, refusal_line};
 
-use crate::lines::{push_field, push_line, push_long_line};
 use crate::places::push_places;
 use bsp_incr::{EditFault, EditRefusal, Update};
-use bsp_model::{CostRow, Fault, OutOfMemory, SyncFault};
+use bsp_model::{CostRow, OutOfMemory, SyncFault};
 use bsp_run::{Lines, ProcessFault, Status};
-
-pub fn fault_word(fault: Fault) -> &'static str
-    ensures { result.now ≡ fault_word fault }
-{
-    match fault {
-        Fault::Abort(_) => "F1",
-        Fault::BadPid(_) => "F2",
-        Fault::NotRegistered(_) => "F3",
-        Fault::OutOfArea => "F4",
-        Fault::BadLocal => "F5",
-        Fault::TagLength => "F6",
-        Fault::EmptyQueue => "F7",
-        Fault::TooManyRequests => "F8",
-        Fault::WorkLimit => "F9",
-        Fault::LineLimit => "F10",
-        Fault::TooLong => "F11",
-        Fault::BadTagSize => "F12",
-    }
-}
+use bsp_text::{push_fault, push_field, push_joined_line, push_line};
 
 /// Appends a line of two parts: a word and a number, and then a word and numbers.
 fn push_parted_line(
@@ -46,24 +27,21 @@ fn push_parted_line(
     push_line(text, second, numbers)
 }
 
-/// Appends the line of a process's fault, with the number that belongs to the fault.
-fn push_fault(text: &mut Vec<u8>, fault: ProcessFault) -> Result<(), OutOfMemory>
+/// Appends the line of a process's fault.
+fn push_process_fault(text: &mut Vec<u8>, fault: ProcessFault) -> Result<(), OutOfMemory>
     ensures { OnOk result (text.new.items ≡ text.old.items ++ process_fault_line fault) }
 {
-    let word = fault_word(fault.fault);
-    match fault.fault {
-        Fault::Abort(number) | Fault::BadPid(number) | Fault::NotRegistered(number) => {
-            push_parted_line(text, "fault", fault.pid, word, &[number])
-        }
-        _ => push_parted_line(text, "fault", fault.pid, word, &[]),
-    }
+    text.extend_from_slice(b"fault")?;
+    push_field(text, fault.pid)?;
+    text.push(b' ')?;
+    push_fault(text, fault.fault)
 }
 
 fn push_faults(text: &mut Vec<u8>, faults: &[ProcessFault]) -> Result<(), OutOfMemory>
     ensures { OnOk result (text.new.items ≡ text.old.items ++ flat_map process_fault_line faults.now) }
 {
     for fault in faults {
-        push_fault(text, *fault)?;
+        push_process_fault(text, *fault)?;
     }
     Ok(())
 }
@@ -111,7 +89,7 @@ pub fn push_lines(text: &mut Vec<u8>, pid: u64, lines: &Lines) -> Result<(), Out
     ensures { OnOk result (text.new.items ≡ text.old.items ++ print_lines pid lines.now) }
 {
     for place in 0..lines.len() {
-        push_long_line(text, "print", pid, lines.row(place))?;
+        push_joined_line(text, "print", &[pid], &[], lines.row(place))?;
     }
     Ok(())
 }

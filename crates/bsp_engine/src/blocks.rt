@@ -7,13 +7,13 @@ ghost use Rattle.bsp_engine.specs.Told.{alone};
 
 use crate::block_lines::push_refusal;
 use crate::change_lines::push_changes;
-use crate::lines::push_line;
-use crate::options::Detail;
 use crate::update_lines::push_update_alone;
 use crate::whole_run::push_result;
 use bsp_incr::{Reply, Update};
 use bsp_model::OutOfMemory;
+use bsp_options::Detail;
 use bsp_run::RunResult;
+use bsp_text::push_line;
 use std::alloc::Global;
 
 /// Appends all of a result, or what of it is another than in a result before.

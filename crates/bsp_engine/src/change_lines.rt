@@ -2,13 +2,13 @@
 
 ghost use Rattle.std.specs.Prelude.{◌≡◌, ◌++◌, [], Some, false, OnOk, IfOk, option_map, slice_get, unwrap_or};
 ghost use Rattle.bsp_engine.specs.Changes.{changes_lines, changes_of, count_line, other, other_lines, other_number, others, piece_if, same_lines, same_row, same_words};
-ghost use Rattle.bsp_engine.specs.Lines.{numbered};
+ghost use Rattle.bsp_text.specs.Lines.{numbered};
 ghost use Rattle.bsp_engine.specs.Text.{cost_line, memory_line};
 
 use crate::block_lines::{push_cost, push_lines, push_status};
-use crate::lines::{push_line, push_words_line};
 use bsp_model::{CostRow, Memories, MemoryRef, OutOfMemory, Same};
 use bsp_run::{Lines, RunResult};
+use bsp_text::{push_line, push_memory_line};
 
 /// The item at a place, if there is one.
 fn item_at<T>(items: &[T], at: usize) -> Option<&T>
@@ -33,7 +33,7 @@ pub fn push_other_memory<'a>(
             return Ok(());
         }
     }
-    push_words_line(text, "memory", pid, new)
+    push_memory_line(text, &[pid], new)
 }
 
 /// The memory of a process, if there is one.

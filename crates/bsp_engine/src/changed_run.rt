@@ -3,7 +3,7 @@
 ghost use Rattle.std.specs.Prelude.{◌≡◌, ◌++◌, false, length, IfOk, OnOk, slice_get};
 ghost use Rattle.bsp_run.specs.Result.{lines_of, memories_of, result_of};
 ghost use Rattle.bsp_engine.specs.Changes.{changes_lines, changes_of, other_lines, others, piece_if, same_lines, same_words};
-ghost use Rattle.bsp_engine.specs.Lines.{numbered};
+ghost use Rattle.bsp_text.specs.Lines.{numbered};
 ghost use Rattle.bsp_engine.specs.Text.{memory_line};
 ghost use Rattle.bsp_engine.specs.Inside.Touched.{AreSameUnflagged, IsUpdateBetween, cost_changes, flags_of, piece_there};
 ghost use Rattle.bsp_engine.specs.Untouched.{at_limit, end_alike};
@@ -13,10 +13,10 @@ use crate::change_lines::{
     push_other_costs, push_other_count, push_other_lines, push_other_memory,
 };
 use crate::flags::flag_touched;
-use crate::lines::push_line;
 use bsp_incr::{Edit, Update};
 use bsp_model::OutOfMemory;
 use bsp_run::{History, Status};
+use bsp_text::push_line;
 use std::alloc::Global;
 
 fn is_at_limit(status: &Status) -> bool

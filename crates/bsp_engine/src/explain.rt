@@ -28,41 +28,29 @@ fn push_escaped(line: &mut String, text: &str) -> Result<(), OutOfMemory> {
     Ok(())
 }
 
-/// Appends what is wrong with a document that is TOML, and where.
-fn explain_table<C: Catalogue>(table: &Table, line: &mut String) -> Result<(), OutOfMemory> {
-    match check::<C>(table) {
-        Ok(()) => Ok(()),
-        Err(wrong) => push_fault(line, table, &wrong, C::names()),
-    }
-}
-
-/// Appends what is wrong with a document that is UTF-8, and where.
-fn explain_text<C: Catalogue>(
+/// The table of a document that is these written bytes, or that has words before them and an LF behind them; or appends where in the written bytes it
+/// is no TOML.
+fn read_table(
     alloc: Global,
-    text: &str,
+    document: &[u8],
+    written: &[u8],
     line: &mut String,
-) -> Result<(), OutOfMemory> {
+) -> Result<Option<Table>, OutOfMemory> {
+    let skipped = document.len().saturating_sub(written.len() + 1);
+    let text = match std::str::from_utf8(document) {
+        Ok(text) => text,
+        Err(error) => {
+            let place = error.valid_up_to().saturating_sub(skipped);
+            push_numbered(line, "byte ", place)?;
+            return line.push_str(": not UTF-8").and(Ok(None));
+        }
+    };
     match toml::table_from_str(alloc, text) {
-        Ok(table) => {
-            let explained = explain_table::<C>(&table, line);
-            drop(table);
-            explained
-        }
+        Ok(table) => Ok(Some(table)),
         Err(error) => {
-            let explained = push_syntax_error(line, text.as_bytes(), 0, &error);
+            let explained = push_syntax_error(line, written, skipped, &error);
             drop(error);
-            explained
-        }
-    }
-}
-
-/// Appends where bytes are no UTF-8.
-fn explain_bytes(bytes: &[u8], line: &mut String) -> Result<(), OutOfMemory> {
-    match std::str::from_utf8(bytes) {
-        Ok(_) => Ok(()),
-        Err(error) => {
-            let place = error.valid_up_to();
-            write!(line, "byte {place}: not UTF-8")
+            explained.and(Ok(None))
         }
     }
 }
@@ -73,10 +61,15 @@ pub fn explain<C: Catalogue>(
     document: &[u8],
     line: &mut String,
 ) -> Result<(), OutOfMemory> {
-    match std::str::from_utf8(document) {
-        Ok(text) => explain_text::<C>(alloc, text, line),
-        Err(_) => explain_bytes(document, line),
-    }
+    let Some(table) = read_table(alloc, document, document, line)? else {
+        return Ok(());
+    };
+    let explained = match check::<C>(&table) {
+        Ok(()) => Ok(()),
+        Err(wrong) => push_fault(line, &table, &wrong, C::names()),
+    };
+    drop(table);
+    explained
 }
 
 /// Whether the answer to a line is that the line was not read as a batch, or that its batch was refused.
@@ -88,32 +81,6 @@ fn is_without_effect(answer: &[u8]) -> bool {
         }
     }
     false
-}
-
-/// Appends what is wrong with the document that has the batch of a line, which begins after so many bytes.
-fn explain_batch(
-    alloc: Global,
-    document: &str,
-    line: &[u8],
-    input: &Input,
-    why: &mut String,
-) -> Result<(), OutOfMemory> {
-    let skipped = document.len().saturating_sub(line.len()).saturating_sub(1);
-    match toml::table_from_str(alloc, document) {
-        Ok(table) => {
-            let explained = match value_at(&table, "batch") {
-                Some(value) => put_batch_fault(alloc, why, value, input),
-                None => Ok(()),
-            };
-            drop(table);
-            explained
-        }
-        Err(error) => {
-            let explained = push_syntax_error(why, line, skipped, &error);
-            drop(error);
-            explained
-        }
-    }
 }
 
 /// Makes an empty text what is wrong with a line of a live session, without an LF, where the answer to it and the input after it are these. Of a
@@ -129,10 +96,30 @@ pub fn explain_line(
         return Ok(());
     }
     let document = document_of(alloc, line)?;
-    match std::str::from_utf8(document.as_slice()) {
-        Ok(text) => explain_batch(alloc, text, line, input, why),
-        Err(_) => explain_bytes(line, why),
-    }
+    let Some(table) = read_table(alloc, document.as_slice(), line, why)? else {
+        return Ok(());
+    };
+    let explained = match value_at(&table, "batch") {
+        Some(value) => put_batch_fault(alloc, why, value, input),
+        None => Ok(()),
+    };
+    drop(table);
+    explained
+}
+
+/// Appends words, and then a number.
+fn push_numbered(line: &mut String, words: &str, number: usize) -> Result<(), OutOfMemory> {
+    write!(line, "{words}{number}")
+}
+
+/// Appends a number that is past its limits, and the limits.
+fn push_limits<N: Display + Copy>(
+    line: &mut String,
+    number: N,
+    least: u64,
+    most: u64,
+) -> Result<(), OutOfMemory> {
+    write!(line, "{number}, not {least} to {most}")
 }
 
 /// Appends that a file was not read, and why.

@@ -16,16 +16,16 @@ use crate::asked::{Asked, Unread};
 use crate::block_lines::push_refusal;
 use crate::crew::Crew;
 use crate::jobs::Job;
-use crate::lines::push_line;
-use crate::options::Detail;
 use crate::unread::push_unread;
 use crate::update_lines::push_update;
 use crate::whole_run::push_run;
 use bsp_incr::{Batch, Edit, EditError, Session, Update};
 use bsp_model::{Input, OutOfMemory};
+use bsp_options::Detail;
 use bsp_pool::Gate;
 use bsp_run::{DEPTH_OF_RUNS, History, RunError};
 use bsp_step::Program;
+use bsp_text::push_line;
 use std::alloc::{AllocError, Global};
 use std::collections::VecDeque;
 use std::marker::Model;
@@ -131,32 +131,6 @@ fn keep_undo<P: Program + Drop>(
     }
 }
 
-/// Applies a batch of edits, and appends the lines of its reply. The history that it replaced, if it replaced one, goes to `before`.
-fn advance_keeping<P: Program + Drop, R: Threads + Sync, G: Gate>(
-    crew: &Crew<'_, R, G>,
-    live: &mut Live<P>,
-    text: &mut Vec<u8>,
-    batch: &[Edit],
-    before: &mut Option<History>,
-) -> Result<(), OutOfMemory>
-    ensures after { OnOk result (live.new ≡ advanced live.old batch.now) }
-    ensures text { OnOk result (text.new.items ≡ text.old.items ++ reply_lines live.old.detail.places (last_result P.acts P.ending live.old) (live_reply P.acts P.ending P.looks live.old batch.now)) }
-{
-    let update = match apply(crew, &mut live.session, batch, before) {
-        Ok(update) => update,
-        Err(EditError::Refused(refusal)) => return push_refusal(text, refusal),
-        Err(EditError::OutOfMemory) => return Err(AllocError),
-    };
-    let detail = live.detail;
-    let program = live.session.program();
-    let nprocs = live.session.input().mems.len();
-    let new = live.session.history();
-    let old = before.as_ref().unwrap_or(new);
-    let pushed = push_accepted(text, detail, program, nprocs, old, new, batch, &update);
-    drop(update);
-    pushed
-}
-
 /// Applies a batch of edits, and appends the lines of its reply.
 fn advance<P: Program + Drop, R: Threads + Sync, G: Gate>(
     crew: &Crew<'_, R, G>,
@@ -168,9 +142,26 @@ fn advance<P: Program + Drop, R: Threads + Sync, G: Gate>(
     ensures text { OnOk result (text.new.items ≡ text.old.items ++ reply_lines live.old.detail.places (last_result P.acts P.ending live.old) (live_reply P.acts P.ending P.looks live.old batch.now)) }
 {
     let mut before = None;
-    let advanced = advance_keeping(crew, live, text, batch, &mut before);
+    let update = match apply(crew, &mut live.session, batch, &mut before) {
+        Ok(update) => update,
+        Err(EditError::Refused(refusal)) => {
+            drop(before);
+            return push_refusal(text, refusal);
+        }
+        Err(EditError::OutOfMemory) => {
+            drop(before);
+            return Err(AllocError);
+        }
+    };
+    let detail = live.detail;
+    let program = live.session.program();
+    let nprocs = live.session.input().mems.len();
+    let new = live.session.history();
+    let old = before.as_ref().unwrap_or(new);
+    let pushed = push_accepted(text, detail, program, nprocs, old, new, batch, &update);
+    drop(update);
     drop(before);
-    advanced
+    pushed
 }
 
 /// Makes a batch, and appends the lines of its reply. What takes it back is kept, unless it is refused.

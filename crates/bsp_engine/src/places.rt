@@ -1,13 +1,13 @@
 //! The places of an update, by superstep.
 
 ghost use Rattle.std.specs.Prelude.{◌≡◌, ◌++◌, OnOk};
-ghost use Rattle.bsp_engine.specs.Lines.{field};
+ghost use Rattle.bsp_text.specs.Lines.{field};
 ghost use Rattle.bsp_engine.specs.Places.{place_lines};
 ghost use Rattle.bsp_engine.specs.Inside.Places.{place_after};
 
-use crate::lines::push_field;
 use bsp_incr::Place;
 use bsp_model::OutOfMemory;
+use bsp_text::push_field;
 
 /// Begins the line of a superstep.
 fn begin_line(text: &mut Vec<u8>, word: &str, step: u64) -> Result<(), OutOfMemory>

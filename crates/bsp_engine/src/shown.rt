@@ -3,11 +3,10 @@
 ghost use Rattle.std.specs.Prelude.{◌≡◌, ◌++◌, OnOk};
 ghost use Rattle.bsp_engine.specs.Shown.{turn_text, unread_place, view_text};
 
-use crate::turn_lines::push_turn;
-use crate::view_lines::push_view;
 use bsp_incr::Place;
 use bsp_model::OutOfMemory;
 use bsp_run::History;
+use bsp_text::{push_turn, push_view};
 
 /// Appends that there is no such place.
 fn push_unread_place(text: &mut Vec<u8>) -> Result<(), OutOfMemory>

@@ -5,6 +5,7 @@ ghost use Rattle.bsp_engine.specs.Talk.{Event, Fails, Goes, heard, said};
 
 use crate::explain::explain_line;
 use crate::flow::Failed;
+use crate::tool::say;
 use bsp_model::Input;
 use std::alloc::Global;
 use std::io::{Read, Write};
@@ -71,8 +72,8 @@ impl<'a, E: Alloc<A = Global> + Eprint, R: Read, W: Write> Terminal for Console<
 
     fn answered(&mut self, line: &[u8], answer: &[u8], input: &Input) {
         let mut why = String::new(self.rt.alloc());
-        if explain_line(self.rt.alloc(), line, answer, input, &mut why).is_ok() && !why.is_empty() {
-            let _ = eprintln!(self.rt; "{why}");
-        }
+        let explained = explain_line(self.rt.alloc(), line, answer, input, &mut why);
+        say(self.rt, explained, why.as_str());
+        drop(why);
     }
 }

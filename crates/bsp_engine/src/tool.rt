@@ -11,10 +11,10 @@ use crate::documents::engine;
 use crate::errors::EngineError;
 use crate::explain::{explain, explain_file};
 use crate::following::follow;
-use crate::options::{Options, Tool, read_options, words_status};
 use crate::progress::{Progress, Watched};
 use crate::terminal::Console;
 use bsp_model::OutOfMemory;
+use bsp_options::{Options, Tool, read_options, words_status};
 use bsp_pool::Gate;
 use std::alloc::Global;
 use std::env::Env;
@@ -39,9 +39,16 @@ fn texts_of(alloc: Global, words: &[String]) -> Result<Vec<&str>, OutOfMemory> {
     Ok(texts)
 }
 
+/// Says on standard error what was told in a line, unless there is nothing to tell, or memory for it was refused.
+pub fn say<R: Eprint>(rt: &R, told: Result<(), OutOfMemory>, line: &str) {
+    if told.is_ok() && !line.is_empty() {
+        let _ = eprintln!(rt; "{line}");
+    }
+}
+
 /// Says on standard error why there is no report, or not all of it.
 fn failed<R: Eprint>(rt: &R, error: EngineError) -> ExitCode {
-    let _ = eprintln!(rt; "{}", error.line());
+    say(rt, Ok(()), error.line());
     ExitCode::from(error.status())
 }
 
@@ -81,9 +88,9 @@ fn ended<C: Catalogue, R: Alloc<A = Global> + Eprint>(
         return status;
     }
     let mut line = String::new(rt.alloc());
-    if explain::<C>(rt.alloc(), document, &mut line).is_ok() && !line.is_empty() {
-        let _ = eprintln!(rt; "{line}");
-    }
+    let explained = explain::<C>(rt.alloc(), document, &mut line);
+    say(rt, explained, line.as_str());
+    drop(line);
     status
 }
 
@@ -95,11 +102,14 @@ fn name_file<R: Alloc<A = Global> + Files + Eprint>(rt: &R, path: &str) {
             drop(file);
             explain_file(path, &"it can't be read", &mut line)
         }
-        Err(error) => explain_file(path, &error, &mut line),
+        Err(error) => {
+            let explained = explain_file(path, &error, &mut line);
+            drop(error);
+            explained
+        }
     };
-    if explained.is_ok() {
-        let _ = eprintln!(rt; "{line}");
-    }
+    say(rt, explained, line.as_str());
+    drop(line);
 }
 
 /// Runs the job of the document on standard input.
@@ -169,6 +179,7 @@ fn follow_file<
     let mut source = Counted::new(file);
     let outcome = follow_source::<C, R, _>(rt, options, &mut source, document, progress);
     *is_unread = source.has_failed();
+    drop(source);
     outcome
 }
 
@@ -191,6 +202,8 @@ fn run_shown<
     };
     progress.leave();
     let status = ended::<C, R>(rt, outcome, document.as_slice());
+    drop(document);
+    drop(progress);
     if is_unread {
         name_file(rt, path.unwrap_or(""));
     }
@@ -250,7 +263,9 @@ fn run_given<
     let Ok(texts) = texts_of(rt.alloc(), words) else {
         return failed(rt, EngineError::OutOfMemory);
     };
-    run_words::<C, R>(rt, tool, texts.as_slice())
+    let status = run_words::<C, R>(rt, tool, texts.as_slice());
+    drop(texts);
+    status
 }
 
 /// All that a tool does: it reads the words of its command line, and then runs the job of the document on standard input, of which the report

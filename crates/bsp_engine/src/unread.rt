@@ -4,8 +4,8 @@ ghost use Rattle.std.specs.Prelude.{◌≡◌, ◌++◌, OnOk, codes};
 ghost use Rattle.bsp_engine.specs.Live.{unread_line, unread_word};
 
 use crate::asked::Unread;
-use crate::lines::push_line;
 use bsp_model::OutOfMemory;
+use bsp_text::push_line;
 
 fn unread_words(unread: Unread) -> &'static str
     ensures { result.now ≡ codes "unread " ++ unread_word unread }

@@ -9,14 +9,14 @@ ghost use Rattle.bsp_engine.specs.Text.{update_lines};
 ghost use Rattle.bsp_engine.specs.WhyLines.{more_lines, step_cost_line, update_cost_lines};
 
 use crate::block_lines::{push_counts, push_update_places};
-use crate::lines::push_line;
-use crate::options::Detail;
 use crate::why_lines::push_why;
 use bsp_causes::{StepCost, UpdateCost, update_cost};
 use bsp_incr::Update;
 use bsp_model::OutOfMemory;
+use bsp_options::Detail;
 use bsp_run::History;
 use bsp_step::Program;
+use bsp_text::push_line;
 
 fn push_step_costs(text: &mut Vec<u8>, rows: &[StepCost]) -> Result<(), OutOfMemory>
     ensures { OnOk result (text.new.items ≡ text.old.items ++ flat_map step_cost_line rows.now) }

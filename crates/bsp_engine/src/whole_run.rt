@@ -6,9 +6,9 @@ ghost use Rattle.bsp_engine.specs.Text.{result_lines};
 
 use crate::block_lines::{push_all_lines, push_status};
 use crate::change_lines::{push_other_costs, push_other_memories};
-use crate::lines::push_line;
 use bsp_model::OutOfMemory;
 use bsp_run::{History, RunResult};
+use bsp_text::push_line;
 
 /// Appends all of a result.
 pub fn push_result(text: &mut Vec<u8>, run: &RunResult) -> Result<(), OutOfMemory>

@@ -8,12 +8,12 @@ ghost use Rattle.bsp_causes.specs.DeliveryCauses.{HaveAsMany};
 ghost use Rattle.bsp_engine.specs.Inside.Causes.{IsUpdateTo};
 ghost use Rattle.bsp_engine.specs.WhyLines.{cause, named_cause, delivery_cause_words, step_words, turn_cause_words, why_delivery_line, why_lines, why_turn_line};
 
-use crate::lines::{push_field, push_fields};
 use bsp_causes::{DeliveryCauses, TurnCauses, delivery_causes, turn_causes};
 use bsp_incr::{Place, Update};
 use bsp_model::OutOfMemory;
 use bsp_run::History;
 use bsp_step::Program;
+use bsp_text::{push_field, push_fields};
 
 /// Appends a cause that has no numbers, if it is one.
 fn push_cause(text: &mut Vec<u8>, word: &str, is: bool) -> Result<(), OutOfMemory>

@@ -14,7 +14,7 @@ use Rattle.bsp_engine.specs.Blocks.{reply_block}
 use Rattle.bsp_engine.specs.Live.{LiveParts, Replying, after_batch}
 use Rattle.bsp_engine.specs.Told.{ToldReply, told_by}
 use Rattle.bsp_engine.specs.Inside.Replies.{job_told}
-use Rattle.bsp_engine.specs.declared.options.Detail.{Detail}
+use Rattle.bsp_options.specs.declared.options.Detail.{Detail}
 
 -- the reply to the opening
 abbrev pub opening_reply : {P : Type 0} → (P → ViewParts → List Act) → (P → ViewParts → End) → (P → ViewParts → ℕ → Bool) → P → Input → Reply

@@ -8,7 +8,7 @@ use Rattle.bsp_incr.specs.Replies.{without_update}
 use Rattle.bsp_incr.specs.Inside.Replies.{replies}
 use Rattle.bsp_incr.specs.declared.reply.Reply.{Reply}
 use Rattle.bsp_engine.specs.declared.jobs.Job.{Job}
-use Rattle.bsp_engine.specs.declared.options.Detail.{Detail}
+use Rattle.bsp_options.specs.declared.options.Detail.{Detail}
 use Rattle.bsp_engine.specs.Told.{ToldReply}
 use Rattle.bsp_engine.specs.Reported.{told_to}
 

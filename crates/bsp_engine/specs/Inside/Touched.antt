@@ -5,12 +5,12 @@ use Rattle.bsp_step.specs.ViewParts.{ViewParts}
 use Rattle.bsp_step.specs.OutcomeParts.{OutcomeParts}
 use Rattle.bsp_run.specs.declared.result.RunResult.{RunResult}
 use Rattle.bsp_run.specs.Run.{Run}
-use Rattle.bsp_run.specs.Result.{costs_of, lines_of, memories_of, total_of}
+use Rattle.bsp_run.specs.Result.{costs_of, total_of}
 use Rattle.bsp_incr.specs.declared.edit.Edit.{Edit}
 use Rattle.bsp_incr.specs.declared.reply.Update.{Update}
-use Rattle.bsp_engine.specs.Changes.{count_line, other, other_lines, other_number, others, piece_if, same_lines, same_row, same_words}
-use Rattle.bsp_engine.specs.Lines.{line, numbered}
-use Rattle.bsp_engine.specs.Text.{cost_line, memory_line}
+use Rattle.bsp_engine.specs.Changes.{count_line, other, other_number, others, piece_if, same_row}
+use Rattle.bsp_text.specs.Lines.{line, numbered}
+use Rattle.bsp_engine.specs.Text.{cost_line}
 use Rattle.bsp_engine.specs.Untouched.{touched, end_alike, AreRunsAround}
 
 -- A run before the batch, the run after it, and what was done for that.

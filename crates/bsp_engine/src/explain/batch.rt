@@ -1,6 +1,6 @@
 //! What is wrong with the value on a line of a live session, in words: it is no batch, or its batch was refused.
 
-use super::push_escaped;
+use super::{push_escaped, push_limits, push_numbered};
 use crate::jobs::{ArrayOf, Described, Each, EditForm, NotNegative, Shape};
 use crate::tree::elements;
 use bsp_incr::Edit;
@@ -25,7 +25,8 @@ fn push_edit(why: &mut String, edits: &[Value], place: usize) -> Result<(), OutO
         push_escaped(why, word)?;
         why.push_str(", ")?;
     }
-    write!(why, "edit {place}: ")
+    push_numbered(why, "edit ", place)?;
+    why.push_str(": ")
 }
 
 /// Which form the value has not.
@@ -58,37 +59,34 @@ fn push_count(
     write!(why, "process {pid} has {count} {kind}")
 }
 
+/// Appends how many processes there are.
+fn push_processes(why: &mut String, input: &Input) -> Result<(), OutOfMemory> {
+    push_numbered(why, "there are ", input.mems.len())?;
+    why.push_str(" processes")
+}
+
 /// Appends a number that is past its limits.
 fn push_number(why: &mut String, number: u64, least: u64, most: u64) -> Result<(), OutOfMemory> {
     if least <= number && number <= most {
         return Ok(());
     }
-    write!(why, "{number}, not {least} to {most}")
+    push_limits(why, number, least, most)
 }
 
 /// Appends why the edit is refused, if it is.
 fn push_refusal(why: &mut String, input: &Input, edit: Edit) -> Result<(), OutOfMemory> {
-    let processes = input.mems.len();
     match edit {
-        Edit::Word {
-            pid,
-            addr,
-            value: _,
-        } => match input.mems.as_slice().get(pid as usize) {
+        Edit::Word { pid, addr, .. } => match input.mems.as_slice().get(pid as usize) {
             Some(memory) => push_count(why, pid, "words", memory.len(), addr),
-            None => write!(why, "there are {processes} processes"),
+            None => push_processes(why, input),
         },
-        Edit::Arg {
-            pid,
-            index,
-            value: _,
-        } => match input.args.as_slice().get(pid as usize) {
+        Edit::Arg { pid, index, .. } => match input.args.as_slice().get(pid as usize) {
             Some(args) => push_count(why, pid, "arguments", args.len(), index),
-            None => write!(why, "there are {processes} processes"),
+            None => push_processes(why, input),
         },
         Edit::Limit(n) => push_number(why, n, 1, MOST_SUPERSTEPS),
-        Edit::Prices { g, l } if g > HIGHEST_PRICE => push_number(why, g, 0, HIGHEST_PRICE),
-        Edit::Prices { g: _, l } => push_number(why, l, 0, HIGHEST_PRICE),
+        Edit::Prices { g, .. } if g > HIGHEST_PRICE => push_limits(why, g, 0, HIGHEST_PRICE),
+        Edit::Prices { l, .. } => push_number(why, l, 0, HIGHEST_PRICE),
     }
 }
 

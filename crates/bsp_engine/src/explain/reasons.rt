@@ -1,7 +1,7 @@
 //! What is wrong with a document that is TOML, in words.
 
-use super::push_escaped;
-use crate::errors::JobFault;
+use super::{push_escaped, push_limits, push_numbered};
+use crate::errors::{EngineError, JobFault};
 use crate::jobs::{Wrong, count_of_args};
 use crate::tree::{elements, elements_at, integer_at};
 use bsp_model::limits::{
@@ -10,20 +10,6 @@ use bsp_model::limits::{
 use bsp_model::{InputFault, OutOfMemory};
 use toml::Table;
 
-/// Which fault of the input J6 stands for.
-fn number_of(fault: JobFault) -> &'static str {
-    match fault {
-        JobFault::Input(InputFault::NoProcess) => "I1, ",
-        JobFault::Input(InputFault::TooMany) => "I2, ",
-        JobFault::Input(InputFault::LengthsDiffer) => "I3, ",
-        JobFault::Input(InputFault::MemoryTooLong) => "I4, ",
-        JobFault::Input(InputFault::ArgsTooLong) => "I5, ",
-        JobFault::Input(InputFault::BadLimit) => "I6, ",
-        JobFault::Input(InputFault::BadPrice) => "I7, ",
-        _ => "",
-    }
-}
-
 /// Appends the key, and where in its value the fault is. Batches count from 1, as their blocks do.
 fn push_place(line: &mut String, wrong: &Wrong<'_>) -> Result<(), OutOfMemory> {
     push_escaped(line, wrong.key)?;
@@ -31,12 +17,11 @@ fn push_place(line: &mut String, wrong: &Wrong<'_>) -> Result<(), OutOfMemory> {
         return Ok(());
     };
     if wrong.key != "batches" {
-        return write!(line, ", process {outer}");
+        return push_numbered(line, ", process ", outer);
     }
-    let batch = outer.saturating_add(1);
-    write!(line, ", batch {batch}")?;
+    push_numbered(line, ", batch ", outer.saturating_add(1))?;
     match wrong.path.inner {
-        Some(edit) => write!(line, ", edit {edit}"),
+        Some(edit) => push_numbered(line, ", edit ", edit),
         None => Ok(()),
     }
 }
@@ -69,18 +54,6 @@ fn push_words(
     write!(line, "{words} words, at most {most}")
 }
 
-/// Appends a number that is past its limits.
-fn push_number(
-    line: &mut String,
-    table: &Table,
-    wrong: &Wrong<'_>,
-    least: u64,
-    most: u64,
-) -> Result<(), OutOfMemory> {
-    let number = integer_at(table, wrong.key).unwrap_or(0);
-    write!(line, "{number}, not {least} to {most}")
-}
-
 /// Appends which size or number of the described input is past its limit.
 fn push_size(
     line: &mut String,
@@ -88,6 +61,7 @@ fn push_size(
     wrong: &Wrong<'_>,
     fault: InputFault,
 ) -> Result<(), OutOfMemory> {
+    let number = integer_at(table, wrong.key).unwrap_or(0);
     let processes = elements_at(table, "memory").len();
     let lists = count_of_args(table, processes);
     match fault {
@@ -96,8 +70,8 @@ fn push_size(
         InputFault::LengthsDiffer => write!(line, "{lists} lists for {processes} processes"),
         InputFault::MemoryTooLong => push_words(line, table, wrong, MOST_MEMORY_WORDS),
         InputFault::ArgsTooLong => push_words(line, table, wrong, MOST_ARGUMENTS),
-        InputFault::BadLimit => push_number(line, table, wrong, 1, MOST_SUPERSTEPS),
-        InputFault::BadPrice => push_number(line, table, wrong, 0, HIGHEST_PRICE),
+        InputFault::BadLimit => push_limits(line, number, 1, MOST_SUPERSTEPS),
+        InputFault::BadPrice => push_limits(line, number, 0, HIGHEST_PRICE),
     }
 }
 
@@ -107,7 +81,8 @@ fn push_names(line: &mut String, names: &str) -> Result<(), OutOfMemory> {
     if names.is_empty() {
         return Ok(());
     }
-    write!(line, "; this tool has {names}")
+    line.push_str("; this tool has ")?;
+    line.push_str(names)
 }
 
 /// Appends the place of what is wrong, and the reason. The programs have these names.
@@ -117,7 +92,10 @@ pub fn push_fault(
     wrong: &Wrong<'_>,
     names: &str,
 ) -> Result<(), OutOfMemory> {
-    line.push_str(number_of(wrong.fault))?;
+    if let Some((_, number)) = EngineError::Job(wrong.fault).line().split_once("J6 ") {
+        line.push_str(number)?;
+        line.push_str(", ")?;
+    }
     push_place(line, wrong)?;
     line.push_str(": ")?;
     match wrong.fault {

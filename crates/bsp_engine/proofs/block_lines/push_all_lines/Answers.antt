@@ -1,5 +1,5 @@
 use Rattle.bsp_engine.specs.Text.{print_lines}
-use Rattle.bsp_engine.proofs.Numbering.{numbered_grows}
+use Rattle.bsp_text.proofs.Numbering.{numbered_grows}
 use Rattle.bsp_engine.proofs.block_lines.push_all_lines.Goals as goal
 
 pub loop-pid-preserved : goal.loop-pid-preserved

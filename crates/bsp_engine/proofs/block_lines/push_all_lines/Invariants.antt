@@ -1,5 +1,5 @@
 use Rattle.std.proofs.Common.{◌≡◌, ◌++◌, take}
-use Rattle.bsp_engine.specs.Lines.{numbered}
+use Rattle.bsp_text.specs.Lines.{numbered}
 use Rattle.bsp_engine.specs.Text.{print_lines}
 use Rattle.bsp_engine.proofs.block_lines.push_all_lines.Given as goal
 

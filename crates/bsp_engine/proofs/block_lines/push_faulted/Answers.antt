@@ -1,8 +1,8 @@
 use Rattle.std.proofs.Common.{codes, ◌∷◌, []}
 use Rattle.std.specs.List.{flat_map}
-use Rattle.bsp_engine.specs.Lines.{line}
+use Rattle.bsp_text.specs.Lines.{line}
 use Rattle.bsp_engine.specs.Text.{process_fault_line}
-use Rattle.bsp_engine.proofs.Numbering.{two_pieces}
+use Rattle.bsp_text.proofs.Numbering.{two_pieces}
 use Rattle.bsp_engine.proofs.block_lines.push_faulted.Goals as goal
 
 pub returns : goal.returns

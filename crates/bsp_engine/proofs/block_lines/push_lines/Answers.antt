@@ -1,8 +1,8 @@
 use Rattle.std.proofs.Common.{◌<◌, ◌++◌, ◌∷◌, [], ℕ, List, length, get_or, ap, ◌∙◌, arith}
 use Rattle.std.specs.Prelude.{codes}
 use Rattle.std.proofs.lemmas.List.{get_or_default}
-use Rattle.bsp_engine.specs.Lines.{line}
-use Rattle.bsp_engine.proofs.Numbering.{pieces_grow}
+use Rattle.bsp_text.specs.Lines.{line}
+use Rattle.bsp_text.proofs.Numbering.{pieces_grow}
 use Rattle.bsp_engine.proofs.block_lines.push_lines.Goals as goal
 
 pub loop-place-preserved : goal.loop-place-preserved
@@ -13,4 +13,4 @@ loop-place-preserved c =
     let printed : List ℕ → List ℕ = λ words. line (codes "print") (c.args.pid ∷ words) in
     let within : place < length lines = omega arith in
     pieces_grow printed c.args.text.now.items _ _ lines place (get_or lines place []) within (get_or_default lines place [] _ within) c.loop-place.invariant
-    (c.in_ok-push_long_line.ensures ∙ ap (λ words. text ++ printed words) c.row.ensures)
+    (c.in_ok-push_joined_line.ensures ∙ ap (λ words. text ++ printed words) c.row.ensures)

@@ -1,5 +1,5 @@
 use Rattle.std.proofs.Common.{◌≡◌, ◌++◌, take}
-use Rattle.bsp_engine.specs.Lines.{numbered}
+use Rattle.bsp_text.specs.Lines.{numbered}
 use Rattle.bsp_engine.specs.Changes.{other_lines, others, piece_if, same_lines}
 use Rattle.bsp_engine.proofs.change_lines.push_all_other_lines.Given as goal
 

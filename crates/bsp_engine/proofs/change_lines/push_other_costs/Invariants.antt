@@ -1,5 +1,5 @@
 use Rattle.std.proofs.Common.{◌≡◌, ◌++◌, take}
-use Rattle.bsp_engine.specs.Lines.{numbered}
+use Rattle.bsp_text.specs.Lines.{numbered}
 use Rattle.bsp_engine.specs.Changes.{others, piece_if, same_row}
 use Rattle.bsp_engine.specs.Text.{cost_line}
 use Rattle.bsp_engine.proofs.change_lines.push_other_costs.Given as goal

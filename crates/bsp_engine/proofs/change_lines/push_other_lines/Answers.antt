@@ -1,6 +1,6 @@
-use Rattle.std.proofs.Common.{◌≡◌, ◌∙◌, ◌++◌, ℕ, List, OnOk, Option, Some, ap, sym, subst}
+use Rattle.std.proofs.Common.{◌≡◌, ◌∙◌, ◌++◌, ℕ, List, OnOk, Option, sym, subst}
 use Rattle.std.proofs.lemmas.Bool.{false≢true}
-use Rattle.bsp_engine.specs.Changes.{other, other_lines, piece_if, same_lines}
+use Rattle.bsp_engine.specs.Changes.{other_lines, piece_if, same_lines}
 use Rattle.bsp_engine.proofs.Changed.{untold_item, other_another}
 use Rattle.bsp_engine.proofs.WholeAgain.{Decides-lines}
 use Rattle.bsp_engine.proofs.change_lines.push_other_lines.Goals as goal

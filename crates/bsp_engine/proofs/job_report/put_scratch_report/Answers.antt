@@ -1,4 +1,4 @@
-use Rattle.std.proofs.Common.{◌≡◌, ◌++◌, ◌∙◌, List, ap, map, sym}
+use Rattle.std.proofs.Common.{◌++◌, ◌∙◌, List, ap, map, sym}
 use Rattle.bsp_incr.specs.declared.reply.Reply.{Reply}
 use Rattle.bsp_engine.specs.Blocks.{text_of}
 use Rattle.bsp_engine.specs.Told.{ToldReply, alone}

@@ -2,12 +2,12 @@ use Rattle.std.proofs.Common.{◌++◌, ◌∙◌, ◌∷◌, [], None, Some, ap
 use Rattle.bsp_run.specs.Run.{Run}
 use Rattle.bsp_incr.specs.Inside.Changes.{update_of}
 use Rattle.bsp_run.specs.Result.{result_of}
-use Rattle.bsp_engine.specs.Lines.{line}
+use Rattle.bsp_text.specs.Lines.{line}
 use Rattle.bsp_engine.specs.Text.{result_lines, update_lines}
 use Rattle.bsp_engine.specs.WhyLines.{more_lines}
 use Rattle.bsp_engine.proofs.Beginning.{opened_run, opening_told}
 use Rattle.bsp_engine.proofs.Handing.{told}
-use Rattle.bsp_engine.proofs.Numbering.{three_parts}
+use Rattle.bsp_text.proofs.Numbering.{three_parts}
 use Rattle.bsp_engine.proofs.UpdateSteps.{opening_steps}
 use Rattle.bsp_engine.proofs.live.push_opening.Goals as goal
 

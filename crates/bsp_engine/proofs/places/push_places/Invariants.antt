@@ -1,6 +1,6 @@
 use Rattle.std.proofs.Common.{◌≡◌, ◌++◌, ◌∷◌, List, ℕ, drop}
 use Rattle.bsp_incr.specs.declared.reply.Place.{Place}
-use Rattle.bsp_engine.specs.Lines.{fields}
+use Rattle.bsp_text.specs.Lines.{fields}
 use Rattle.bsp_engine.specs.Places.{pids_first, steps_past, by_superstep, step_lines, place_lines}
 use Rattle.bsp_engine.proofs.places.push_places.Given as goal
 

@@ -1,8 +1,8 @@
-use Rattle.std.proofs.Common.{◌<◌, get_or, length, option_map, arith}
+use Rattle.std.proofs.Common.{◌<◌, get_or, length, option_map}
 use Rattle.std.proofs.lemmas.List.{get_or_default}
 use Rattle.bsp_incr.specs.declared.reply.Place.{Place}
 use Rattle.bsp_engine.specs.WhyLines.{why_delivery_line}
-use Rattle.bsp_engine.proofs.Numbering.{pieces_grow}
+use Rattle.bsp_text.proofs.Numbering.{pieces_grow}
 use Rattle.bsp_engine.proofs.why_lines.push_why_deliveries.Goals as goal
 
 pub loop-place-preserved : goal.loop-place-preserved

@@ -1,7 +1,7 @@
 use Rattle.std.proofs.Common.{◌∷◌, [], ◌++◌, ◌∙◌, ap, codes}
 use Rattle.bsp_engine.specs.WhyLines.{turn_cause_words, step_words}
 use Rattle.bsp_engine.proofs.Handing.{where_ok}
-use Rattle.bsp_engine.proofs.Numbering.{three_pieces}
+use Rattle.bsp_text.proofs.Numbering.{three_pieces}
 use Rattle.bsp_engine.proofs.why_lines.push_why_turn.Goals as goal
 
 pub returns : goal.returns

@@ -1,0 +1,213 @@
+//! The lines of a report.
+
+ghost use Rattle.std.specs.Prelude.{◌≡◌, ◌+◌, ◌++◌, ◌*◌, ◌≤◌, OnOk, codes, drop, length};
+ghost use Rattle.bsp_text.specs.Lines.{field, fields, line};
+
+use bsp_model::{MemoryRef, OutOfMemory};
+use itoa::write_digits;
+
+/// The most bytes of a number of 64 bits, with the space before it.
+const FIELD: usize = 21;
+
+/// So many numbers are appended at once.
+const FEW: usize = 16;
+
+/// The numbers of most lines are no more than these.
+const FEWER: usize = 4;
+
+/// The most bytes of a line's word and its LF, where the line is appended at once.
+const FRAME: usize = 17;
+
+/// Writes numbers into a room, each after a space, so that the last ends at `end`. Answers where they begin.
+fn write_fields(room: &mut [u8], end: usize, numbers: &[u64]) -> usize
+    requires inside { end ≤ length room.old }
+    requires fits { 21 * length numbers.now ≤ end }
+    ensures before { result ≤ end }
+    ensures short { end ≤ result + 21 * length numbers.now }
+    ensures written { drop result room.new ≡ fields numbers.now ++ drop end room.old }
+{
+    let mut at = end;
+    let mut left = numbers.len();
+    while left > 0 {
+        left -= 1;
+        at = write_digits(numbers[left], room, at) - 1;
+        room[at] = b' ';
+    }
+    at
+}
+
+/// Writes bytes into a room, so that the last ends at `end`. Answers where they begin.
+fn write_bytes(room: &mut [u8], end: usize, bytes: &[u8]) -> usize
+    requires inside { end ≤ length room.old }
+    requires fits { length bytes.now ≤ end }
+    ensures before { result + length bytes.now ≡ end }
+    ensures written { drop result room.new ≡ bytes.now ++ drop end room.old }
+{
+    let start = end - bytes.len();
+    room[start..end].copy_from_slice(bytes);
+    start
+}
+
+/// Writes a line to the end of a room: a word, numbers, more numbers, and LF. Answers where it begins.
+fn write_line(room: &mut [u8], word: &[u8], numbers: &[u64], more: &[u64]) -> usize
+    requires { length word.now + 1 + 21 * (length numbers.now + length more.now) ≤ length room.old }
+    ensures within { result ≤ length room.old }
+    ensures written { drop result room.new ≡ line word.now (numbers.now ++ more.now) }
+{
+    let end = room.len();
+    let end = write_bytes(room, end, b"\n");
+    let end = write_fields(room, end, more);
+    let end = write_fields(room, end, numbers);
+    write_bytes(room, end, word)
+}
+
+/// Appends a line that is written into this room first.
+fn push_written(
+    text: &mut Vec<u8>,
+    room: &mut [u8],
+    word: &[u8],
+    numbers: &[u64],
+    more: &[u64],
+) -> Result<(), OutOfMemory>
+    requires { length word.now + 1 + 21 * (length numbers.now + length more.now) ≤ length room.old }
+    ensures { OnOk result (text.new.items ≡ text.old.items ++ line word.now (numbers.now ++ more.now)) }
+{
+    let start = write_line(room, word, numbers, more);
+    text.extend_from_slice(&room[start..])
+}
+
+/// Appends a number after a space.
+pub fn push_field(text: &mut Vec<u8>, number: u64) -> Result<(), OutOfMemory>
+    ensures { OnOk result (text.new.items ≡ text.old.items ++ field number) }
+{
+    let mut room = [0; FIELD];
+    let start = write_fields(&mut room, FIELD, &[number]);
+    text.extend_from_slice(&room[start..])
+}
+
+/// Appends each of a few numbers after a space.
+fn push_few(text: &mut Vec<u8>, numbers: &[u64]) -> Result<(), OutOfMemory>
+    requires { length numbers.now ≤ 16 }
+    ensures { OnOk result (text.new.items ≡ text.old.items ++ fields numbers.now) }
+{
+    let mut room = [0; FIELD * FEW];
+    let start = write_fields(&mut room, FIELD * FEW, numbers);
+    text.extend_from_slice(&room[start..])
+}
+
+/// Appends each number after a space.
+pub fn push_fields(text: &mut Vec<u8>, numbers: &[u64]) -> Result<(), OutOfMemory>
+    ensures { OnOk result (text.new.items ≡ text.old.items ++ fields numbers.now) }
+{
+    let mut at = 0;
+    while at < numbers.len() {
+        let count = (numbers.len() - at).min(FEW);
+        push_few(text, &numbers[at..at + count])?;
+        at += count;
+    }
+    Ok(())
+}
+
+/// Appends a line of any length: a word, numbers, more numbers, and LF.
+fn push_in_pieces(
+    text: &mut Vec<u8>,
+    word: &[u8],
+    numbers: &[u64],
+    more: &[u64],
+) -> Result<(), OutOfMemory>
+    ensures { OnOk result (text.new.items ≡ text.old.items ++ line word.now (numbers.now ++ more.now)) }
+{
+    text.extend_from_slice(word)?;
+    push_fields(text, numbers)?;
+    push_fields(text, more)?;
+    text.extend_from_slice(b"\n")
+}
+
+/// Appends a line: a word, numbers, more numbers, and LF.
+fn push_parts(
+    text: &mut Vec<u8>,
+    word: &[u8],
+    numbers: &[u64],
+    more: &[u64],
+) -> Result<(), OutOfMemory>
+    ensures { OnOk result (text.new.items ≡ text.old.items ++ line word.now (numbers.now ++ more.now)) }
+{
+    let count = numbers.len() + more.len();
+    if word.len() >= FRAME || count > FEW {
+        return push_in_pieces(text, word, numbers, more);
+    }
+    if count > FEWER {
+        let mut room = [0; FRAME + FIELD * FEW];
+        return push_written(text, &mut room, word, numbers, more);
+    }
+    let mut room = [0; FRAME + FIELD * FEWER];
+    push_written(text, &mut room, word, numbers, more)
+}
+
+/// Appends a line: a word, numbers, and LF.
+#[inline]
+pub fn push_line(text: &mut Vec<u8>, word: &str, numbers: &[u64]) -> Result<(), OutOfMemory>
+    ensures { OnOk result (text.new.items ≡ text.old.items ++ line word.now numbers.now) }
+{
+    push_parts(text, word.as_bytes(), &[], numbers)
+}
+
+/// Appends a line: a word, the numbers of three lists, and LF.
+#[inline]
+pub fn push_joined_line(
+    text: &mut Vec<u8>,
+    word: &str,
+    first: &[u64],
+    second: &[u64],
+    third: &[u64],
+) -> Result<(), OutOfMemory>
+    ensures { OnOk result (text.new.items ≡ text.old.items ++ line word.now (first.now ++ second.now ++ third.now)) }
+{
+    if second.is_empty() {
+        return push_parts(text, word.as_bytes(), first, third);
+    }
+    text.extend_from_slice(word.as_bytes())?;
+    push_fields(text, first)?;
+    push_fields(text, second)?;
+    push_fields(text, third)?;
+    text.extend_from_slice(b"\n")
+}
+
+/// Appends each word of a memory after a space.
+fn push_memory(text: &mut Vec<u8>, memory: &MemoryRef<'_>) -> Result<(), OutOfMemory>
+    ensures { OnOk result (text.new.items ≡ text.old.items ++ fields memory.now) }
+{
+    let mut address = 0;
+    while address < memory.len() {
+        let page = memory.words_from(address as u64);
+        push_fields(text, page)?;
+        address += page.len();
+    }
+    Ok(())
+}
+
+/// Appends each number after a space. Most lines of memories have one.
+#[inline(always)]
+fn push_numbers(text: &mut Vec<u8>, numbers: &[u64]) -> Result<(), OutOfMemory>
+    ensures { OnOk result (text.new.items ≡ text.old.items ++ fields numbers.now) }
+{
+    if let [number] = numbers {
+        return push_field(text, *number);
+    }
+    push_fields(text, numbers)
+}
+
+/// Appends a line: the word `memory`, numbers, the words of a memory, and LF.
+#[inline]
+pub fn push_memory_line(
+    text: &mut Vec<u8>,
+    numbers: &[u64],
+    memory: &MemoryRef<'_>,
+) -> Result<(), OutOfMemory>
+    ensures { OnOk result (text.new.items ≡ text.old.items ++ line (codes "memory") (numbers.now ++ memory.now)) }
+{
+    text.extend_from_slice(b"memory")?;
+    push_numbers(text, numbers)?;
+    push_memory(text, memory)?;
+    text.extend_from_slice(b"\n")
+}

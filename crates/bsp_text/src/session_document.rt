@@ -1,0 +1,114 @@
+//! The input of a live session as a document without batches.
+
+ghost use Rattle.std.specs.Prelude.{◌≡◌, ◌++◌, ◌∷◌, [], OnOk, codes};
+ghost use Rattle.bsp_text.specs.Lines.{numbered};
+ghost use Rattle.bsp_text.specs.DocumentText.{array_text, comma, document_block, document_text, entry};
+
+use crate::lines::push_line;
+use bsp_model::{Input, Memory, OutOfMemory, Seq};
+use itoa::Buffer;
+
+/// A value that stands in a document at a key, or in an array.
+trait Written {
+    ghost use Rattle.std.specs.Prelude.{ℕ, List};
+
+    // The text of a value.
+    ghost written: { Self → List ℕ };
+
+    /// Appends the text of the value.
+    fn push_to(&self, text: &mut Vec<u8>) -> Result<(), OutOfMemory>
+        ensures { OnOk result (text.new.items ≡ text.old.items ++ written self.now) };
+}
+
+impl Written for u64 {
+    ghost use Rattle.std.specs.Prelude.{decimal};
+
+    ghost written = { decimal };
+
+    fn push_to(&self, text: &mut Vec<u8>) -> Result<(), OutOfMemory> {
+        let mut buffer = Buffer::new();
+        text.extend_from_slice(buffer.format(*self).as_bytes())
+    }
+}
+
+impl Written for Memory {
+    ghost use Rattle.bsp_text.specs.DocumentText.{words_text};
+
+    ghost written = { words_text };
+
+    fn push_to(&self, text: &mut Vec<u8>) -> Result<(), OutOfMemory> {
+        let mut words = Vec::from_elem(*text.allocator(), 0, self.len())?;
+        self.read(0, words.as_mut_slice());
+        push_array(text, words.as_slice())
+    }
+}
+
+impl<T: Written> Written for Seq<T> {
+    ghost use Rattle.bsp_text.specs.DocumentText.{array_text};
+
+    ghost written = { array_text T.written };
+
+    fn push_to(&self, text: &mut Vec<u8>) -> Result<(), OutOfMemory> {
+        push_array(text, self.as_slice())
+    }
+}
+
+/// What stands before the item of this number of an array.
+fn comma(number: usize) -> &'static [u8]
+    ensures { result.now ≡ comma number }
+{
+    if number == 0 { b"" } else { b", " }
+}
+
+/// Appends the items of an array.
+fn push_items<T: Written>(text: &mut Vec<u8>, items: &[T]) -> Result<(), OutOfMemory>
+    ensures { OnOk result (text.new.items ≡ text.old.items ++ numbered (entry T.written) 0 items.now) }
+{
+    for (number, item) in items.iter().enumerate() {
+        text.extend_from_slice(comma(number))?;
+        item.push_to(text)?;
+    }
+    Ok(())
+}
+
+/// Appends the array of these items.
+fn push_array<T: Written>(text: &mut Vec<u8>, items: &[T]) -> Result<(), OutOfMemory>
+    ensures { OnOk result (text.new.items ≡ text.old.items ++ array_text T.written items.now) }
+{
+    text.extend_from_slice(b"[")?;
+    push_items(text, items)?;
+    text.extend_from_slice(b"]")
+}
+
+/// Appends the line of a key.
+fn push_key<T: Written>(text: &mut Vec<u8>, key: &str, value: &T) -> Result<(), OutOfMemory>
+    ensures { OnOk result (text.new.items ≡ text.old.items ++ (key.now ++ codes " = " ++ T.written value.now ++ 10 ∷ [])) }
+{
+    text.extend_from_slice(key.as_bytes())?;
+    text.extend_from_slice(b" = ")?;
+    value.push_to(text)?;
+    text.extend_from_slice(b"\n")
+}
+
+/// Appends the document of an input, with this text of the keys that are the catalogue's own.
+#[tactic(auto, unfolding(crate::specs::DocumentText::document_text))]
+fn push_document(text: &mut Vec<u8>, own: &[u8], input: &Input) -> Result<(), OutOfMemory>
+    ensures { OnOk result (text.new.items ≡ text.old.items ++ document_text own.now input.now) }
+{
+    push_line(text, "limit =", &[input.limit])?;
+    push_line(text, "g =", &[input.g])?;
+    push_line(text, "l =", &[input.l])?;
+    push_key(text, "memory", &input.mems)?;
+    push_key(text, "args", &input.args)?;
+    text.extend_from_slice(own)
+}
+
+/// Leaves nothing in a text but the document of an input, between the lines `document` and `end`.
+pub fn put_document(text: &mut Vec<u8>, own: &[u8], input: &Input) -> Result<(), OutOfMemory>
+    ensures { OnOk result (text.new.items ≡ document_block own.now input.now) }
+{
+    text.clear();
+    text.extend_from_slice(b"document\n")?;
+    push_document(text, own, input)?;
+    text.extend_from_slice(b"end\n")
+}
