@@ -1,4 +1,5 @@
 pub mod BlocksOf
+pub mod Changes
 pub mod HeadsTo
 pub mod Inputs
 pub mod MadeAgain

@@ -1,14 +1,13 @@
 -- The words of pages, each of 64 words, and the words behind them.
-use Rattle.std.proofs.Common.{◌≡◌, ◌≢◌, ◌≤◌, ◌<◌, ℕ, zero, suc, ◌+◌, ◌*◌, ◌/◌, ◌%◌, ◌-◌, List, [], ◌∷◌, ◌++◌, length, get_or, take, drop, refl, sym, ap, ◌∙◌, arith, nat_lt, true, false}
+use Rattle.std.proofs.Common.{◌≡◌, ◌≤◌, ◌<◌, ℕ, zero, suc, ◌+◌, ◌*◌, ◌/◌, ◌%◌, ◌-◌, List, [], ◌∷◌, ◌++◌, length, get_or, take, drop, refl, sym, ap, ◌∙◌, arith, nat_lt, true, false}
 use Rattle.std.specs.List.{slice_get}
-use Rattle.std.specs.Prelude.{slice_set, None, Some}
+use Rattle.std.specs.Prelude.{None, Some}
 use Rattle.std.specs.Simd.{first_chunks}
-use Rattle.std.proofs.Math.ListN.{set, length-set}
 use Rattle.std.proofs.Math.Seq.{get_or-append_seam}
-use Rattle.std.proofs.lemmas.Bool.{cases_eq, cases_lt}
+use Rattle.std.proofs.lemmas.Bool.{cases_lt}
 use Rattle.std.proofs.lemmas.Bool.Decides.{nat_tests}
 use Rattle.std.proofs.lemmas.Option.{slice_get-get_or, slice_get_past}
-use Rattle.std.proofs.lemmas.List.{get_or-set_same, get_or-set_other, get_or_append_left, get_or_default, get_or-take, get_or-drop, drop-drop, ext_get_or}
+use Rattle.std.proofs.lemmas.List.{get_or_append_left, get_or_default, get_or-take, get_or-drop, drop-drop, ext_get_or}
 use Rattle.std.proofs.lemmas.List.FromFn.{length-map-range_with_len, get_or-map-range_with_len, fill_by_all}
 use mathlib.Core.Logic.{inl, inr}
 use Rattle.bsp_model.specs.Inside.Pages.{paged_word, word_in, words_of, HasPages}
@@ -91,77 +90,6 @@ loaded_last full last words len a r e at within =
 
 pub loaded_past : (full : List (List ℕ)) (last words : List ℕ) (len a : ℕ) → words_of full last len ≡ words → len ≤ a → None ≡ slice_get words a
 loaded_past full last words len a e h = sym (slice_get_past words a (omega (arith, words_len full last len words e)))
-
--- a store
-
--- one word is set, and no other
-words_of-set : (full full' : List (List ℕ)) (last last' words : List ℕ) (len a v : ℕ) → words_of full last len ≡ words → a < len → word_in full' last' a ≡ v → ((i : ℕ) → i ≢ a → word_in full' last' i ≡ word_in full last i) → words_of full' last' len ≡ set words a v
-words_of-set full full' last last' words len a v e within now other =
-    let long = words_len full last len words e in
-    words_of-each full' last' len (set words a v) (length-set words a v ∙ sym long)
-    (λ i hi.
-    elim (cases_eq i a) as (λ _. word_in full' last' i ≡ get_or (set words a v) i 0) [
-      | inl same ↦ ap (word_in full' last') same ∙ now ∙ sym (ap (λ (j : ℕ). get_or (set words a v) j 0) same ∙ get_or-set_same words a v 0 (omega (arith, long)))
-      | inr apart ↦ other i apart ∙ sym (word_at full last len i words e hi) ∙ sym (get_or-set_other words a i v 0 apart)
-    ])
-
--- one word of one page is set
-set_elsewhere : (pages : List (List ℕ)) (page : List ℕ) (a q r v i : ℕ) → a ≡ 64 * q + r → r < 64 → q < length pages → get_or pages q [] ≡ page → i ≢ a → paged_word (set pages q (set page r v)) i ≡ paged_word pages i
-set_elsewhere pages page a q r v i e hr hq here apart =
-    let new = set pages q (set page r v) in
-    paged_word_at new i (i / 64) (i % 64) (parts i) (place_below i)
-    ∙ elim (cases_eq (i / 64) q) as (λ _. get_or (get_or new (i / 64) []) (i % 64) 0 ≡ paged_word pages i) [
-      | inl near ↦
-          ap (λ (n : ℕ). get_or (get_or new n []) (i % 64) 0) near
-          ∙ ap (λ (p : List ℕ). get_or p (i % 64) 0) (get_or-set_same pages q (set page r v) [] hq)
-          ∙ get_or-set_other page r (i % 64) v 0 (omega (arith, parts i))
-          ∙ ap (λ (p : List ℕ). get_or p (i % 64) 0) (sym here)
-          ∙ sym (paged_word_at pages i q (i % 64) (omega (arith, parts i)) (place_below i))
-      | inr far ↦
-          ap (λ (p : List ℕ). get_or p (i % 64) 0) (get_or-set_other pages q (i / 64) (set page r v) [] far)
-          ∙ sym (paged_word_at pages i (i / 64) (i % 64) (parts i) (place_below i))
-    ]
-
-pub stored_full : (full new : List (List ℕ)) (page page' last words : List ℕ) (len a v : ℕ) → words_of full last len ≡ words → a < len → a / 64 < length full → page ≡ get_or full (a / 64) page → length page ≡ 64 → page' ≡ slice_set page (a % 64) v → new ≡ slice_set full (a / 64) page' → words_of new last len ≡ slice_set words a v
-stored_full full new page page' last words len a v e h hq here whole there put =
-    let q = a / 64 in
-    let r = a % 64 in
-    let p : get_or full q [] ≡ page = sym (here ∙ get_or_default full q page [] hq) in
-    let is : new ≡ set full q (set page r v) = put ∙ ap (set full q) there in
-    let long : length new ≡ length full = ap length put ∙ length-set full q page' in
-    words_of-set full new last last words len a v e h
-    (in_full new last a (omega (arith, parts a, long))
-    ∙ paged_word_at new a q r (parts a) (place_below a)
-    ∙ ap (λ (ps : List (List ℕ)). get_or (get_or ps q []) r 0) is
-    ∙ ap (λ (p : List ℕ). get_or p r 0) (get_or-set_same full q (set page r v) [] hq)
-    ∙ get_or-set_same page r v 0 (omega (arith, whole, place_below a)))
-    (λ i apart.
-    elim (cases_lt i (64 * length full)) as (λ _. word_in new last i ≡ word_in full last i) [
-      | inl front ↦
-          in_full new last i (omega (arith, long))
-          ∙ ap (λ (ps : List (List ℕ)). paged_word ps i) is
-          ∙ set_elsewhere full page a q r v i (parts a) (place_below a) hq p apart
-          ∙ sym (in_full full last i front)
-      | inr behind ↦
-          let k = i - 64 * length full in
-          in_last new last i k (omega (arith, long)) ∙ sym (in_last full last i k (omega arith))
-    ])
-
-pub stored_last : (full : List (List ℕ)) (last last' words : List ℕ) (len a r v : ℕ) → words_of full last len ≡ words → HasPages full last len → a < len → a ≡ 64 * length full + r → last' ≡ slice_set last r v → words_of full last' len ≡ slice_set words a v
-stored_last full last last' words len a r v e pages h at there =
-    let count = pages.count in
-    words_of-set full full last last' words len a v e h
-    (in_last full last' a r at ∙ ap (λ (ws : List ℕ). get_or ws r 0) there ∙ get_or-set_same last r v 0 (omega arith))
-    (λ i apart.
-    elim (cases_lt i (64 * length full)) as (λ _. word_in full last' i ≡ word_in full last i) [
-      | inl front ↦ in_full full last' i front ∙ sym (in_full full last i front)
-      | inr behind ↦
-          let k = i - 64 * length full in
-          in_last full last' i k (omega arith)
-          ∙ ap (λ (ws : List ℕ). get_or ws k 0) there
-          ∙ get_or-set_other last r k v 0 (omega arith)
-          ∙ sym (in_last full last i k (omega arith))
-    ])
 
 -- the pages of given words
 

@@ -1,6 +1,7 @@
 -- The words that were stored, where they are kept and where they stand in a memory.
 use Rattle.std.proofs.Common.{◌≡◌, ◌≢◌, ◌<◌, ◌≤◌, ◌+◌, ◌-◌, ℕ, true, List, [], ◌∷◌, ◌++◌, length, get_or, take, drop, nat_le, refl, sym, ap, ◌∙◌, subst, arith, add-zero, zero-add, append_assoc, take-append-drop, append-nil}
-use Rattle.std.specs.Prelude.{◌==◌}
+use Rattle.std.specs.Prelude.{◌==◌, Bool}
+use Rattle.std.specs.Bool.{OnTrue}
 use Rattle.std.proofs.lemmas.Bool.Decides.{nat_tests}
 use Rattle.std.proofs.lemmas.List.{map-append, length-append, length-map, length-take, length-take-le, length-drop, nil_from_length, take_all, take-take, take-append-le, drop-append-le, drop-drop, drop-take}
 use Rattle.bsp_model.specs.declared.request.Store.{Store}
@@ -187,6 +188,11 @@ stored-on ranges ranges' values memory memory' words start on some inside are mo
     let there : words_beside ranges' values memory' ≡ words_beside (longer ranges start (length words)) values (memory_written memory start words) =
     ap (λ (rs : List Range). words_beside rs values memory') more ∙ ap (λ (m : List ℕ). words_beside (longer ranges start (length words)) values m) written in
     stores-more ranges ranges' (words_beside ranges values memory) (words_beside ranges' values memory') words start some are more (there ∙ beside-longer ranges values memory words start on are inside some)
+
+-- a test that says so
+pub goes_on : (ranges ranges' : List Range) (values values' : List ℕ) (start : ℕ) (go : Bool) → ranges' ≡ ranges → values' ≡ values → go ≡ true → OnTrue go (GoOn ranges' values' start) → GoOn ranges values start
+goes_on ranges ranges' values values' start go same kept is_on goes =
+    subst (λ (rs : List Range). GoOn rs values start) same (subst (λ (vs : List ℕ). GoOn ranges' vs start) kept (subst (λ (b : Bool). OnTrue b (GoOn ranges' values' start)) is_on goes))
 
 pub last_len-on : (ranges : List Range) (values memory words : List ℕ) (start : ℕ) → GoOn ranges values start → 0 < length words → length words ≤ length memory - start → last_len ranges + length words ≤ length memory
 last_len-on [] [] memory words start on some inside = omega arith

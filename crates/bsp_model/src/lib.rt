@@ -4,6 +4,7 @@
 mod block;
 mod blocks;
 mod by_process;
+mod change;
 mod columns;
 mod copying;
 mod cost;
@@ -33,6 +34,7 @@ mod words;
 pub use block::{Block, LineHead, MessageHead, PutHead, SendHead};
 pub use blocks::{Blocks, BlocksRef, MessageView, PutView, SendView};
 pub use by_process::{ByProcess, add_replaced};
+pub use change::Change;
 pub use columns::{BlockColumn, Column, SharedColumn, StoreColumn};
 pub use copying::{Same, TryCopy};
 pub use cost::CostRow;

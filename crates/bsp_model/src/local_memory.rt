@@ -1,6 +1,6 @@
 //! The memory of a process while it computes.
 
-ghost use Rattle.std.specs.Prelude.{◌≡◌, ◌-◌, ◌^◌, ◌<◌, ◌≤◌, ◌++◌, ◌∷◌, [], ℕ, List, length, OnOk, OnErr};
+ghost use Rattle.std.specs.Prelude.{◌≡◌, ◌+◌, ◌-◌, ◌^◌, ◌<◌, ◌≤◌, ◌++◌, ◌∷◌, [], true, false, ℕ, List, length, take, drop, IfOk, OnOk, OnErr};
 ghost use Rattle.std.specs.Bool.{OnTrue};
 ghost use Rattle.bsp_model.specs.Memory.{memory_written};
 ghost use Rattle.bsp_model.specs.Stores.{records};
@@ -9,7 +9,7 @@ ghost use Rattle.bsp_model.specs.Inside.Ranges.{longer, AreRanges, GoOn};
 
 use crate::range::{Range, add_words};
 use crate::stores_ref::range_beside;
-use crate::{Memories, Memory, MemoryRef, OutOfMemory, StoresRef, TryCopy};
+use crate::{Change, Memories, Memory, MemoryRef, OutOfMemory, StoresRef, TryCopy};
 use std::alloc::Global;
 use std::marker::Model;
 
@@ -174,6 +174,41 @@ impl LocalMemory {
         self.memory.write(start, words)?;
         add_words(&mut self.ranges, start, words.len());
         Ok(())
+    }
+
+    /// Makes the change in the `len` words from `start` on where they lie, and keeps the words that it makes as stores. False, and nothing changes,
+    /// where they lie in several pieces, or the words of earlier stores are kept. After `OutOfMemory` nothing has changed.
+    #[inline]
+    pub fn change<C: Change>(
+        &mut self,
+        start: u64,
+        len: usize,
+        change: &C,
+    ) -> Result<bool, OutOfMemory>
+        requires inside { start + len ≤ length self.old.memory }
+        requires short { length self.old.memory < 2 ^ 64 }
+        ensures made { let words = C.makes change.now (take len (drop start self.old.memory)) in
+            IfOk result (λ made. made ≡ true → self.new ≡ record {
+              memory = memory_written self.old.memory start words;
+              stores = self.old.stores ++ records start words;
+            }) }
+        ensures count { let words = C.makes change.now (take len (drop start self.old.memory)) in
+            IfOk result (λ made. made ≡ true → length words ≡ len) }
+        ensures left { IfOk result (λ made. made ≡ false → self.new ≡ self.old) }
+        ensures err { OnErr result (self.new ≡ self.old) }
+    {
+        if len == 0 {
+            return Ok(false);
+        }
+        if !go_on(self.ranges.as_slice(), self.values.as_slice(), start) {
+            return Ok(false);
+        }
+        self.ranges.reserve(1)?;
+        if !self.memory.change(start as usize, len, change)? {
+            return Ok(false);
+        }
+        add_words(&mut self.ranges, start, len);
+        Ok(true)
     }
 
     /// Adds the memory to those of other processes, and takes its words and the stores away. After `OutOfMemory` the others have not changed, and

@@ -1,15 +1,17 @@
 //! The memory of a process.
 
-ghost use Rattle.std.specs.Prelude.{◌≡◌, ◌+◌, ◌-◌, ◌/◌, ◌++◌, [], length, IfOk, nat_lt, nat_le, slice_set, slice_get, take, drop, OnErr, OnOk};
+ghost use Rattle.std.specs.Prelude.{◌≡◌, ◌≤◌, ◌+◌, ◌-◌, ◌/◌, ◌++◌, [], true, false, length, IfOk, nat_lt, nat_le, slice_set, slice_get, take, drop, OnErr, OnOk};
 ghost use Rattle.std.specs.Bool.{OnTrue, OnFalse};
 ghost use Rattle.bsp_model.specs.Memory.{memory_written};
 
+use crate::change::change_part;
 use crate::page::{Page, WORDS_OF_A_PAGE};
 use crate::paging::{cut_write, full_pages, is_within, load_pages, write_pages};
 use crate::seq::{append_items, replace_items};
-use crate::{MemoryRef, OutOfMemory, Same, TryCopy};
+use crate::{Change, MemoryRef, OutOfMemory, Same, TryCopy};
 use std::alloc::Global;
 use std::marker::Model;
+use std::slice;
 
 /// The memory of a process: a list of 64-bit words at the addresses 0, 1, .. Its copies share the pages that are full.
 #[derive(Drop)]
@@ -156,17 +158,37 @@ impl Memory {
         ensures stored { IfOk result (λ found. self.new ≡ slice_set self.old address value) }
         ensures err { OnErr result (self.new ≡ self.old) }
     {
-        if address >= self.len as u64 {
-            return Ok(false);
-        }
+        self.write(address, slice::from_ref(&value))
+    }
+
+    /// Makes the change in the `len` words from `start` on where they lie. False, and nothing changes, where they lie in several full pages; after
+    /// `OutOfMemory` nothing has changed.
+    #[inline]
+    pub(crate) fn change<C: Change>(
+        &mut self,
+        start: usize,
+        len: usize,
+        change: &C,
+    ) -> Result<bool, OutOfMemory>
+        requires { start + len ≤ length self.old }
+        ensures made { let changed = C.makes change.now (take len (drop start self.old)) in
+            IfOk result (λ made. made ≡ true → self.new ≡ memory_written self.old start changed) }
+        ensures count { IfOk result (λ made. made ≡ true → length (C.makes change.now (take len (drop start self.old))) ≡ len) }
+        ensures left { IfOk result (λ made. made ≡ false → self.new ≡ self.old) }
+        ensures err { OnErr result (self.new ≡ self.old) }
+    {
         let full = self.len - self.last.len();
-        if address >= full as u64 {
-            self.last[address as usize - full] = value;
+        if start >= full {
+            change_part(self.last.as_mut_slice(), start - full, len, change);
             return Ok(true);
         }
+        let place = start % WORDS_OF_A_PAGE;
+        if len > WORDS_OF_A_PAGE - place {
+            return Ok(false);
+        }
         let alloc = *self.pages.allocator();
-        let page = &mut self.pages[address as usize / WORDS_OF_A_PAGE];
-        page.store(alloc, address as usize % WORDS_OF_A_PAGE, value)?;
+        let page = &mut self.pages[start / WORDS_OF_A_PAGE];
+        page.change(alloc, place, len, change)?;
         Ok(true)
     }
 

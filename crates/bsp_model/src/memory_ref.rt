@@ -1,6 +1,6 @@
 //! A memory that is read where it lies.
 
-ghost use Rattle.std.specs.Prelude.{◌≡◌, ◌+◌, ◌^◌, ◌<◌, ◌≤◌, ◌↔◌, [], length, IfOk, IsTrue, nat_le, slice_get, take, drop};
+ghost use Rattle.std.specs.Prelude.{◌≡◌, ◌+◌, ◌-◌, ◌^◌, ◌<◌, ◌≤◌, ◌↔◌, [], length, IfOk, IsTrue, nat_le, slice_get, take, drop};
 ghost use Rattle.std.specs.Bool.{OnTrue, OnFalse};
 ghost use Rattle.bsp_model.specs.Memory.{rest_of_page};
 
@@ -126,6 +126,15 @@ impl<'a> MemoryRef<'a> {
     {
         let words = self.piece_from(address);
         &words[..words.len().min(most)]
+    }
+
+    /// The number of words from `address` on that lie in one piece: all of them, or as many as the page has from there on. It may differ between
+    /// memories of the same words.
+    pub fn piece_len(&self, address: u64) -> usize
+        ensures some { address < length self.now → 0 < result }
+        ensures inside { result ≤ length self.now - address }
+    {
+        self.piece(address, self.len()).len()
     }
 
     /// Copies the words from `start` on to `words`. False, and nothing is copied, where they pass the end.

@@ -2,8 +2,9 @@
 
 ghost use Rattle.std.specs.Prelude.{◌≡◌, ◌+◌, ◌≤◌, ◌<◌, ◌++◌, ◌↔◌, IsTrue, IfOk, OnOk, OnErr, length, take, drop, slice_index, slice_set};
 
+use crate::change::change_part;
 use crate::seq::replace_items;
-use crate::{OutOfMemory, TryCopy, are_same_words};
+use crate::{Change, OutOfMemory, TryCopy, are_same_words};
 use std::alloc::{AllocError, Global};
 use std::marker::Model;
 use std::sync::Arc;
@@ -77,18 +78,6 @@ impl Page {
         &self.as_slice()[place..]
     }
 
-    /// A page of these words, but for one.
-    #[inline(never)]
-    fn with_word(&self, alloc: Global, place: usize, value: u64) -> Result<Page, OutOfMemory>
-        requires { place < WORDS_OF_A_PAGE }
-        ensures word { IfOk result (λ p. p ≡ slice_set self.now place value) }
-        ensures len { length self.now ≡ WORDS_OF_A_PAGE }
-    {
-        let mut words: [u64; WORDS_OF_A_PAGE] = *self.words;
-        words[place] = value;
-        Page::new(alloc, words)
-    }
-
     /// A page of these words, but for those from `start` on, which are `words`.
     #[inline(never)]
     pub fn with_words(
@@ -106,19 +95,48 @@ impl Page {
         Page::new(alloc, all)
     }
 
-    /// Makes `value` the word at a place: in place where nobody shares the page, else in a new page. After `OutOfMemory` nothing has changed.
-    pub fn store(&mut self, alloc: Global, place: usize, value: u64) -> Result<(), OutOfMemory>
-        requires { place < WORDS_OF_A_PAGE }
-        ensures ok { OnOk result (self.new ≡ slice_set self.old place value) }
+    /// A page of these words, but for `len` from `start` on, in which the change is made.
+    #[inline(never)]
+    fn with_change<C: Change>(
+        &self,
+        alloc: Global,
+        start: usize,
+        len: usize,
+        change: &C,
+    ) -> Result<Page, OutOfMemory>
+        requires { start + len ≤ WORDS_OF_A_PAGE }
+        ensures words { let changed = C.makes change.now (take len (drop start self.now)) in
+            IfOk result (λ p. p ≡ take start self.now ++ changed ++ drop (start + len) self.now) }
+        ensures count { length (C.makes change.now (take len (drop start self.now))) ≡ len }
+        ensures len { length self.now ≡ WORDS_OF_A_PAGE }
+    {
+        let mut all: [u64; WORDS_OF_A_PAGE] = *self.words;
+        change_part(&mut all, start, len, change);
+        Page::new(alloc, all)
+    }
+
+    /// Makes the change in `len` words from `start` on: in place where nobody shares the page, else in a new page. After `OutOfMemory` nothing has
+    /// changed.
+    pub fn change<C: Change>(
+        &mut self,
+        alloc: Global,
+        start: usize,
+        len: usize,
+        change: &C,
+    ) -> Result<(), OutOfMemory>
+        requires { start + len ≤ WORDS_OF_A_PAGE }
+        ensures ok { let changed = C.makes change.now (take len (drop start self.old)) in
+            OnOk result (self.new ≡ take start self.old ++ changed ++ drop (start + len) self.old) }
+        ensures count { length (C.makes change.now (take len (drop start self.old))) ≡ len }
         ensures err { OnErr result (self.new ≡ self.old) }
         ensures len { length self.old ≡ WORDS_OF_A_PAGE }
     {
         match Arc::get_mut(&mut self.words) {
-            Some(words) => {
-                words[place] = value;
+            Some(all) => {
+                change_part(all, start, len, change);
             }
             None => {
-                *self = self.with_word(alloc, place, value)?;
+                *self = self.with_change(alloc, start, len, change)?;
             }
         }
         Ok(())

@@ -1,11 +1,11 @@
 -- Laws of acts in order, for loops and sequences of calls that keep what is left to do.
-use Rattle.std.proofs.Common.{◌≡◌, List, ◌∷◌, ◌++◌, length, ap, sym, refl, ◌∙◌}
+use Rattle.std.proofs.Common.{◌≡◌, List, ◌∷◌, ◌++◌, Err, length, ap, sym, refl, ◌∙◌}
 use Rattle.bsp_step.specs.declared.stop.Stop.{Stop}
 use Rattle.bsp_step.specs.Context.{Context}
 use Rattle.bsp_step.specs.Act.{Act}
 use Rattle.bsp_step.specs.Perform.{perform_all}
 use Rattle.bsp_step.specs.declared.stop.Stop.TheVariants.{Fault, OutOfMemory}
-use Rattle.bsp_step.specs.Calls.{Stops, StopsByFault, RunStops}
+use Rattle.bsp_step.specs.Calls.{Stops, StopsByFault, PerformsAll, RunStops}
 use Rattle.bsp_step.proofs.Performing.{RunStops-at_act, RunStops-at_part, perform_all-append, perform_all-view, perform_all-length}
 
 -- Of the acts that the context start performs, the context now has only the rest left to do. Its view and the length of its memory are those of the start.
@@ -40,3 +40,8 @@ RunStops-left_part {start} {now} {acts} new part rest e h stopped = RunStops-at_
 pub Stops-by_fault : (now : Context) (a : Act) (new : Context) (e : Stop) → StopsByFault now a new e → Stops now a new e
 Stops-by_fault now a new (Fault f) stopped = stopped
 Stops-by_fault now a new OutOfMemory stopped = absurd stopped
+
+-- a call for several acts that stops
+pub PerformsAll-stops : (T : Type 0) (old : Context) (acts : List Act) (new : Context) (e : Stop) → PerformsAll {T = T} old acts new (Err e) → RunStops old acts new e
+PerformsAll-stops T old acts new (Fault f) stopped = stopped
+PerformsAll-stops T old acts new OutOfMemory stopped = tt

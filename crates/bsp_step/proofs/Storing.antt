@@ -19,7 +19,7 @@ perform-store c a value none within = let test : nat_lt a (length c.memory) ≡ 
 perform-store_past : (c : Context) (a value : ℕ) → c.fault ≡ None → length c.memory ≤ a → perform c (store a value) ≡ record c { fault = Some BadLocal }
 perform-store_past c a value none past = let test : nat_lt a (length c.memory) ≡ false = grind (arith, nat_tests) in rw (none, test) refl
 
-perform_all-stores : (c : Context) (start : ℕ) (words : List ℕ) → c.fault ≡ None → length words ≤ length c.memory - start → perform_all c (stores start words) ≡ with_stored c start words
+pub perform_all-stores : (c : Context) (start : ℕ) (words : List ℕ) → c.fault ≡ None → length words ≤ length c.memory - start → perform_all c (stores start words) ≡ with_stored c start words
 perform_all-stores c start [] none within = ap (λ (kept : List Store). record c { stores = kept }) (sym (append-nil c.stores))
 perform_all-stores c start (word ∷ words) none within =
     let long : length (slice_set c.memory start word) ≡ length c.memory = grind (arith, common_steps) in

@@ -149,3 +149,28 @@ IsAdvancing-end {m} {now} {from} {word} h some end =
     let high = h.high in
     let all : from - 1 ≡ length m - 2 = omega arith in
     ap own_cells (h.memory ∙ ap (λ n. stored m 1 (cells_from m 1 n)) all) ∙ own_cells-stored m (next_cells m) (length_of_next_cells m) some
+
+-- a cell of a block between the words before and behind it
+pub cell_between : (before behind : ℕ) (cells : List ℕ) (i : ℕ) → i < length cells → get_or (before ∷ cells ++ behind ∷ []) (i + 1) 0 ≡ get_or cells i 0
+cell_between before behind cells i inside = grind (arith, common_steps)
+
+-- the word behind it
+pub word_behind_cells : (before behind : ℕ) (cells : List ℕ) → get_or (before ∷ cells ++ behind ∷ []) (length cells + 1) 0 ≡ behind
+word_behind_cells before behind cells = grind (arith, common_steps)
+
+-- what a block becomes between the words before and behind it
+pub cells_between : (memory : List ℕ) (start count before behind : ℕ) → start + count < length memory → behind ≡ get_or memory (start + count) 0
+    → next_cells (before ∷ take count (drop start memory) ++ behind ∷ []) ≡ next_cells (before ∷ take (count + 1) (drop start memory))
+cells_between memory start count before behind inside there =
+    let words : take count (drop start memory) ++ behind ∷ [] ≡ take (count + 1) (drop start memory) = grind (arith, common_steps) in
+    ap (λ block. next_cells (before ∷ block)) words
+
+-- a list whose last item is set
+pub set_last : (cells : List ℕ) (last value : ℕ) → length cells ≡ last + 1 → slice_set cells last value ≡ take last cells ++ value ∷ []
+set_last [] last value long = absurd (omega (arith, long))
+set_last (cell ∷ []) zero value long = refl
+set_last (cell ∷ next ∷ cells) zero value long = absurd (omega (arith, long))
+set_last (cell ∷ cells) (suc last) value long = ap (λ all. cell ∷ all) (set_last cells last value (omega (arith, long)))
+
+pub length-between : (before behind : ℕ) (cells : List ℕ) → length (before ∷ cells ++ behind ∷ []) ≡ length cells + 2
+length-between before behind cells = grind (arith, common_steps)

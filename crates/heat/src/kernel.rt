@@ -6,12 +6,11 @@ ghost use Rattle.bsp_step.specs.Blocks.{stores, stored};
 ghost use Rattle.bsp_step.specs.Calls.{Runs};
 ghost use Rattle.heat.specs.Heat.{heat_plan, heat_advancing, heat_charging, heat_telling, next_cell, next_cells, own_cells, put_above, puts_to_neighbours};
 
-use bsp_model::{End, OutOfMemory};
+use bsp_model::{Change, End, OutOfMemory};
 use bsp_step::{Ctx, Program, Stop, View, settle};
 use std::alloc::Global;
 
-/// Cells are taken in blocks of at most so many words. A block ends where an address is a multiple of that, as a page of a memory does: it is
-/// stored in place, where no other memory shares the page.
+/// Cells are added up in blocks of at most so many words. A block ends where an address is a multiple of that, as a page of a memory does.
 const BLOCK: u64 = 64;
 
 /// Heat in a rod of cells, which are dealt to the processes in a row. In each time step every cell takes a quarter of the sum of the word
@@ -112,50 +111,54 @@ fn store_next_cells(ctx: &mut Ctx<'_>) -> Result<(), Stop>
     let mut before = ctx.load(0).unwrap();
     let mut start = 1;
     while start < end {
-        let count = count_in_block(start, end);
+        let count = ctx.piece_len(start).min(end - start);
         before = store_block(ctx, start, count, before)?;
         start += count;
     }
     Ok(())
 }
 
-/// How many of the words from `start` up to `end` are in the block of the first of them.
-fn count_in_block(start: u64, end: u64) -> u64
-    requires { start < end }
-    ensures some { 1 ≤ result }
-    ensures few { result ≤ BLOCK }
-    ensures within { start + result ≤ end }
-{
-    (BLOCK - start % BLOCK).min(end - start)
+/// A time step of cells one behind the other, between the words before and after them.
+#[derive(Clone, Copy)]
+struct TimeStep {
+    before: u64,
+    after: u64,
+}
+
+impl Change for TimeStep {
+    ghost use Rattle.std.specs.Prelude.{◌∷◌, ◌++◌, []};
+    ghost use Rattle.heat.specs.Heat.{next_cells};
+
+    ghost makes = { λ step cells. next_cells (step.before ∷ cells ++ step.after ∷ []) };
+
+    fn change(&self, cells: &mut [u64]) {
+        let Some(last) = cells.len().checked_sub(1) else {
+            return;
+        };
+        let mut before = self.before;
+        for i in 0..last {
+            let own = cells[i];
+            cells[i] = next_cell(before, own, cells[i + 1]);
+            before = own;
+        }
+        cells[last] = next_cell(before, cells[last], self.after);
+    }
 }
 
 /// Stores what `count` cells from `start` on become, where `before` is what the word before them was. Answers what the last of them was.
 fn store_block(ctx: &mut Ctx<'_>, start: u64, count: u64, before: u64) -> Result<u64, Stop>
     requires some { 1 ≤ count }
-    requires few { count ≤ BLOCK }
     requires within { start + count < length ctx.old.memory }
+    requires fits { start + count < 2 ^ 64 }
     ensures acted { Runs ctx.old (stores start (next_cells (before ∷ take (count + 1) (drop start ctx.old.memory)))) (slice_index ctx.old.memory (start + count - 1)) ctx.new result }
     ensures memory { OnOk result (ctx.new.memory ≡ stored ctx.old.memory start (next_cells (before ∷ take (count + 1) (drop start ctx.old.memory)))) }
     ensures view { OnOk result (ctx.new.view ≡ ctx.old.view) }
 {
-    let count = count as usize;
-    let mut words = [0; 66];
-    words[0] = before;
-    ctx.load_words(start, &mut words[1..count + 2]).unwrap();
-    let last = words[count];
-    make_next_cells(&mut words[..count + 2]);
-    ctx.store_words(start, &words[..count])?;
+    let last = ctx.load(start + count - 1).unwrap();
+    let after = ctx.load(start + count).unwrap();
+    ctx.change_words(start, count, &TimeStep { before, after })?
+        .unwrap();
     Ok(last)
-}
-
-/// Makes the first of these words what the cells between the first and the last of them become.
-fn make_next_cells(words: &mut [u64])
-    requires { 2 ≤ length words.old }
-    ensures { take (length words.old - 2) words.new ≡ next_cells words.old }
-{
-    for i in 0..words.len() - 2 {
-        words[i] = next_cell(words[i], words[i + 1], words[i + 2]);
-    }
 }
 
 /// What a cell becomes in a time step.
@@ -204,6 +207,16 @@ fn put_above(ctx: &mut Ctx<'_>) -> Result<End, Stop>
         ctx.put(pid + 1, &[last], 0, 0)?;
     }
     Ok(End::Sync)
+}
+
+/// How many of the words from `start` up to `end` are in the block of the first of them.
+fn count_in_block(start: u64, end: u64) -> u64
+    requires { start < end }
+    ensures some { 1 ≤ result }
+    ensures few { result ≤ BLOCK }
+    ensures within { start + result ≤ end }
+{
+    (BLOCK - start % BLOCK).min(end - start)
 }
 
 /// The sum of the own cells, modulo 2^64.

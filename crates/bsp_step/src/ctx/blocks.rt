@@ -1,13 +1,13 @@
 //! Calls for blocks of words, each the acts that it stands for.
 
-ghost use Rattle.std.specs.Prelude.{◌≡◌, ◌≤◌, ◌+◌, ◌↔◌, length, IsSome, IfNone, IfOk, IfSome, OnOk, option_map};
+ghost use Rattle.std.specs.Prelude.{◌≡◌, ◌≤◌, ◌+◌, ◌↔◌, length, take, drop, ◌<◌, IsOk, None, IsSome, IfNone, IfOk, IfSome, OnOk, option_map};
 ghost use Rattle.bsp_step.specs.Act as act;
 ghost use Rattle.bsp_step.specs.Blocks.{words_at, stores, with_stored};
 ghost use Rattle.bsp_step.specs.Calls.{PerformsAll, PutsWords};
 
 use crate::{Ctx, Stop, TurnLists};
 use bsp_model::limits::MOST_MEMORY_WORDS;
-use bsp_model::{Fault, OutOfMemory, Words};
+use bsp_model::{Change, Fault, OutOfMemory, Words};
 
 impl<'v> Ctx<'v> {
     /// Copies the words of the own memory from `address` on to `words`, as they are now. `None`, and nothing is copied, where they pass the end of
@@ -78,6 +78,64 @@ impl<'v> Ctx<'v> {
         }
         let start = self.resolve(pid, area, offset, len)?;
         self.lists.put_own_words(self.alloc, pid, start, from, len)?;
+        Ok(Some(()))
+    }
+
+    /// Makes the change in the `len` words of the own memory from `address` on, as they are now: one `store` after the other of the words that it
+    /// makes, in ascending order. `Ok(None)`, and nothing is done, where they pass the end of the memory. After `OutOfMemory` nothing is changed.
+    ///
+    /// Words that lie in one piece (`piece_len`) are changed where they lie, without a copy.
+    pub fn change_words<C: Change>(
+        &mut self,
+        address: u64,
+        len: u64,
+        change: &C,
+    ) -> Result<Option<()>, Stop>
+        ensures acted { let words = C.makes change.now (take len (drop address self.old.memory)) in
+            address + len ≤ length self.old.memory → PerformsAll self.old (stores address words) self.new result }
+        ensures stored { let words = C.makes change.now (take len (drop address self.old.memory)) in
+            IfOk result (λ found. IfSome found (λ _. self.new ≡ with_stored self.old address words)) }
+        ensures none { IfOk result (λ found. IfNone found (self.new ≡ self.old)) }
+        ensures within { IfOk result (λ found. IsSome found ↔ (address + len ≤ length self.old.memory)) }
+        ensures past { length self.old.memory < address + len → IsOk result }
+    {
+        let own = self.memory_len();
+        if address > own || len > own - address {
+            return Ok(None);
+        }
+        if let Some(fault) = self.fault {
+            return Err(Stop::Fault(fault));
+        }
+        let lists: &mut TurnLists = &mut self.lists;
+        if lists.local.change(address, len as usize, change)? {
+            return Ok(Some(()));
+        }
+        self.change_apart(address, len, change)
+    }
+
+    /// The same, where the words are there, in a list of their own.
+    #[inline(never)]
+    fn change_apart<C: Change>(
+        &mut self,
+        address: u64,
+        len: u64,
+        change: &C,
+    ) -> Result<Option<()>, Stop>
+        requires inside { address + len ≤ length self.old.memory }
+        requires goes { self.old.fault ≡ None }
+        ensures acted { let words = C.makes change.now (take len (drop address self.old.memory)) in
+            PerformsAll self.old (stores address words) self.new result }
+        ensures there { IfOk result (λ found. IsSome found) }
+        ensures stored { let words = C.makes change.now (take len (drop address self.old.memory)) in
+            OnOk result (self.new ≡ with_stored self.old address words) }
+    {
+        let mut words = vec![in self.alloc; 0; len as usize]?;
+        self.lists
+            .local
+            .memory()
+            .read(address, words.as_mut_slice());
+        change.change(words.as_mut_slice());
+        self.store_words(address, words.as_slice())?;
         Ok(Some(()))
     }
 }

@@ -1,7 +1,7 @@
 //! The reading calls of a context. They take no memory and never fault. What they promise holds in the whole turn, since no act changes the
 //! view or the length of the memory.
 
-ghost use Rattle.std.specs.Prelude.{◌≡◌, ◌≤◌, ◌<◌, ◌↔◌, length, slice_get, IsSome};
+ghost use Rattle.std.specs.Prelude.{◌≡◌, ◌≤◌, ◌<◌, ◌-◌, ◌↔◌, length, slice_get, IsSome};
 
 use crate::Ctx;
 use bsp_model::limits::{MOST_ARGUMENTS, MOST_MEMORY_WORDS, MOST_PROCESSES, MOST_TAG_WORDS};
@@ -61,6 +61,15 @@ impl<'v> Ctx<'v> {
         ensures short { length self.now.memory ≤ MOST_MEMORY_WORDS }
     {
         self.lists.local.memory().load(address)
+    }
+
+    /// How many words of the own memory from `address` on lie in one piece, at least one where there is any. It is for speed alone: calls for blocks
+    /// within a piece copy least. Memories of the same words may lie in other pieces, so no act should depend on it.
+    pub fn piece_len(&self, address: u64) -> u64
+        ensures some { address < length self.now.memory → 0 < result }
+        ensures inside { result ≤ length self.now.memory - address }
+    {
+        self.lists.local.memory().piece_len(address) as u64
     }
 
     /// The tag size in force in this superstep: at most `MOST_TAG_WORDS` words.

@@ -1,6 +1,6 @@
 //! Memories of several pages, and in one piece.
 
-use bsp_model::{Memory, OutOfMemory, Same, TryCopy};
+use bsp_model::{Change, LocalMemory, Memory, OutOfMemory, Same, TryCopy};
 use std::alloc::Global;
 
 /// Whether words are written up to the end, and not past it.
@@ -45,4 +45,41 @@ fn is_in_one_piece(paged: &Memory) -> Result<bool, OutOfMemory> {
 fn one_piece_has_the_words_of_pages(rt: HostRuntime) {
     let paged = Memory::from_words(rt.alloc(), &[0; 130]);
     assert!(rt; paged.is_ok_and(|paged| is_in_one_piece(&paged) == Ok(true)));
+}
+
+/// Makes each word 7.
+struct Sevens;
+
+impl Change for Sevens {
+    ghost use Rattle.std.specs.Prelude.{length, replicate};
+
+    ghost makes = { λ _ words. replicate (length words) 7 };
+
+    fn change(&self, words: &mut [u64]) {
+        words.fill(7);
+    }
+}
+
+/// Whether words of one page are changed where they lie, and words of two pages, or behind a gap, are not.
+fn is_changed(local: &mut LocalMemory, paged: &Memory) -> Result<bool, OutOfMemory> {
+    local.begin(&paged.as_ref())?;
+    let is_far = local.memory().len() == 130 && local.change(60, 8, &Sevens)?;
+    let is_made = local.memory().len() == 130 && local.change(64, 8, &Sevens)?;
+    let is_behind_gap = local.memory().len() == 130 && local.change(80, 8, &Sevens)?;
+    let is_there = local.memory().load(71) == Some(7) && local.memory().load(72) == Some(0);
+    Ok(!is_far && is_made && !is_behind_gap && is_there && paged.load(71) == Some(0))
+}
+
+fn is_changed_apart(alloc: Global) -> Result<bool, OutOfMemory> {
+    let paged = Memory::from_words(alloc, &[0; 130])?;
+    let mut local = LocalMemory::new(alloc);
+    let is_changed = is_changed(&mut local, &paged);
+    drop(local);
+    drop(paged);
+    is_changed
+}
+
+#[test]
+fn a_change_is_made_in_one_page(rt: HostRuntime) {
+    assert!(rt; is_changed_apart(rt.alloc()) == Ok(true));
 }

@@ -11,7 +11,7 @@ pub returns-in_err-before-clause-acted : goal.returns-in_err-before-clause-acted
 returns-in_err-before-clause-acted c =
     let m = c.args.ctx.now.memory in
     let start = c.loop-start.start in
-    let count = c.count_in_block-count.result in
+    let count = c.min-count.result in
     let end = c.memory_len-end.result - 1 in
     let same = cells_of_block c.loop-start.invariant.cells count (omega arith) in
     let first = HasLeft-same c.loop-start.invariant.acts (stores_of_block m start count end (omega arith) ∙ ap (λ cells. stores start cells ++ stores (start + count) (cells_from m (start + count) (end - (start + count)))) (sym same)) in
@@ -23,7 +23,7 @@ loop-start-preserved c =
     let m = c.args.ctx.now.memory in
     let now = c.loop-start.ctx in
     let start = c.loop-start.start in
-    let count = c.count_in_block-count.result in
+    let count = c.min-count.result in
     let end = c.memory_len-end.result - 1 in
     let same = cells_of_block c.loop-start.invariant.cells count (omega arith) in
     let acted = c.in_ok-before.ensures.acted in

@@ -1,13 +1,11 @@
-use Rattle.std.proofs.Common.{◌≡◌, ◌≤◌, ◌<◌, ◌-◌, ◌++◌, Bool, true, List, ℕ, length, ap, subst, ◌∙◌, arith}
-use Rattle.std.specs.Bool.{OnTrue}
+use Rattle.std.proofs.Common.{◌≡◌, ◌≤◌, ◌<◌, ◌-◌, ◌++◌, List, length, ap, ◌∙◌, arith}
 use Rattle.std.proofs.lemmas.Bool.Decides.{nat_tests}
 use Rattle.bsp_model.specs.LocalParts.{LocalParts}
 use Rattle.bsp_model.specs.Memory.{memory_written}
 use Rattle.bsp_model.specs.Stores.{records}
 use Rattle.bsp_model.specs.declared.range.Range.{Range}
-use Rattle.bsp_model.specs.declared.request.Store.{Store}
-use Rattle.bsp_model.specs.Inside.Ranges.{longer, GoOn}
-use Rattle.bsp_model.proofs.StoredWords.{stored-apart, stored-on, stored-none, last_len-on}
+use Rattle.bsp_model.specs.Inside.Ranges.{longer}
+use Rattle.bsp_model.proofs.StoredWords.{stored-apart, stored-on, stored-none, last_len-on, goes_on}
 use Rattle.bsp_model.proofs.local_memory.LocalMemory.store.Goals as goal
 
 pub invariant_of-self : goal.invariant_of-self
@@ -34,11 +32,6 @@ returns-then-not-go_on-clause-ok c =
       stores = (made.1 ∙ ap (λ (p : LocalParts). p.stores ++ records start words) c.self.view_is) i;
     }
 
--- the words go on behind those of the memory
-on : (ranges ranges' : List Range) (values values' : List ℕ) (start : ℕ) (go : Bool) → ranges' ≡ ranges → values' ≡ values → go ≡ true → OnTrue go (GoOn ranges' values' start) → GoOn ranges values start
-on ranges ranges' values values' start go same kept is_on goes =
-    subst (λ (rs : List Range). GoOn rs values start) same (subst (λ (vs : List ℕ). GoOn ranges' vs start) kept (subst (λ (b : Bool). OnTrue b (GoOn ranges' values' start)) is_on goes))
-
 pub add_words-requires-clause-fits : goal.add_words-requires-clause-fits
 add_words-requires-clause-fits c =
     let l = c.self.inside in
@@ -46,7 +39,7 @@ add_words-requires-clause-fits c =
     let some : 0 < length words = grind (arith, nat_tests) in
     let long : length l.memory ≡ length c.args.self.now.memory = ap (λ (p : LocalParts). length p.memory) c.self.view_is in
     let inside : length words ≤ length l.memory - c.args.start = omega (arith, c.requires.inside, long) in
-    let go = on l.ranges.items _ l.values.items _ c.args.start _ c.as_slice.ensures.value c.as_slice-2.ensures.value c.if-not-go_on.false c.go_on.ensures in
+    let go = goes_on l.ranges.items _ l.values.items _ c.args.start _ c.as_slice.ensures.value c.as_slice-2.ensures.value c.if-not-go_on.false c.go_on.ensures in
     rw c.in_ok-reserve.ensures.items (omega (arith, last_len-on l.ranges.items l.values.items l.memory words c.args.start go some inside, c.requires.short, long))
 
 pub returns-clause-ok : goal.returns-clause-ok
@@ -57,7 +50,7 @@ returns-clause-ok c =
     let some : 0 < length words = grind (arith, nat_tests) in
     let long : length l.memory ≡ length c.args.self.now.memory = ap (λ (p : LocalParts). length p.memory) c.self.view_is in
     let inside : length words ≤ length l.memory - start = omega (arith, c.requires.inside, long) in
-    let go = on l.ranges.items _ l.values.items _ start _ c.as_slice.ensures.value c.as_slice-2.ensures.value c.if-not-go_on.false c.go_on.ensures in
+    let go = goes_on l.ranges.items _ l.values.items _ start _ c.as_slice.ensures.value c.as_slice-2.ensures.value c.if-not-go_on.false c.go_on.ensures in
     let more = c.add_words.ensures ∙ ap (λ (rs : List Range). longer rs start (length words)) c.in_ok-reserve.ensures.items in
     let made = stored-on l.ranges.items _ l.values.items l.memory _ words start go some inside c.self.invariant more c.in_ok-write.ensures.written in
     λ i. record {
