@@ -107,35 +107,7 @@ impl<'v> Ctx<'v> {
             return Err(Stop::Fault(fault));
         }
         let lists: &mut TurnLists = &mut self.lists;
-        if lists.local.change(address, len as usize, change)? {
-            return Ok(Some(()));
-        }
-        self.change_apart(address, len, change)
-    }
-
-    /// The same, where the words are there, in a list of their own.
-    #[inline(never)]
-    fn change_apart<C: Change>(
-        &mut self,
-        address: u64,
-        len: u64,
-        change: &C,
-    ) -> Result<Option<()>, Stop>
-        requires inside { address + len ≤ length self.old.memory }
-        requires goes { self.old.fault ≡ None }
-        ensures acted { let words = C.makes change.now (take len (drop address self.old.memory)) in
-            PerformsAll self.old (stores address words) self.new result }
-        ensures there { IfOk result (λ found. IsSome found) }
-        ensures stored { let words = C.makes change.now (take len (drop address self.old.memory)) in
-            OnOk result (self.new ≡ with_stored self.old address words) }
-    {
-        let mut words = vec![in self.alloc; 0; len as usize]?;
-        self.lists
-            .local
-            .memory()
-            .read(address, words.as_mut_slice());
-        change.change(words.as_mut_slice());
-        self.store_words(address, words.as_slice())?;
+        lists.local.change(address, len as usize, change)?;
         Ok(Some(()))
     }
 }

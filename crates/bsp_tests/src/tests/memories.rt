@@ -60,14 +60,29 @@ impl Change for Sevens {
     }
 }
 
-/// Whether words of one page are changed where they lie, and words of two pages, or behind a gap, are not.
+/// Makes eight words from `start` on 7, if they are there.
+fn makes_sevens(local: &mut LocalMemory, start: u64) -> Result<bool, OutOfMemory> {
+    let len = local.memory().len() as u64;
+    if start > len || 8 > len - start {
+        return Ok(false);
+    }
+    local.change(start, 8, &Sevens)?;
+    Ok(true)
+}
+
+/// Whether words of one page, of two, and behind a gap are changed, and the memory that shares their pages stays.
 fn is_changed(local: &mut LocalMemory, paged: &Memory) -> Result<bool, OutOfMemory> {
     local.begin(&paged.as_ref())?;
-    let is_far = local.memory().len() == 130 && local.change(60, 8, &Sevens)?;
-    let is_made = local.memory().len() == 130 && local.change(64, 8, &Sevens)?;
-    let is_behind_gap = local.memory().len() == 130 && local.change(80, 8, &Sevens)?;
-    let is_there = local.memory().load(71) == Some(7) && local.memory().load(72) == Some(0);
-    Ok(!is_far && is_made && !is_behind_gap && is_there && paged.load(71) == Some(0))
+    let is_made = makes_sevens(local, 64)? && makes_sevens(local, 60)? && makes_sevens(local, 100)?;
+    let is_past = makes_sevens(local, 123)?;
+    let memory = local.memory();
+    let is_there = memory.load(60) == Some(7)
+        && memory.load(71) == Some(7)
+        && memory.load(107) == Some(7);
+    let is_alone = memory.load(59) == Some(0)
+        && memory.load(72) == Some(0)
+        && paged.load(71) == Some(0);
+    Ok(is_made && !is_past && is_there && is_alone && local.stores().len() == 24)
 }
 
 fn is_changed_apart(alloc: Global) -> Result<bool, OutOfMemory> {
@@ -80,6 +95,6 @@ fn is_changed_apart(alloc: Global) -> Result<bool, OutOfMemory> {
 }
 
 #[test]
-fn a_change_is_made_in_one_page(rt: HostRuntime) {
+fn a_change_is_made_in_pages_and_behind_gaps(rt: HostRuntime) {
     assert!(rt; is_changed_apart(rt.alloc()) == Ok(true));
 }

@@ -5,7 +5,7 @@ use Rattle.bsp_model.specs.Memory.{memory_written}
 use Rattle.bsp_model.specs.Stores.{records}
 use Rattle.bsp_model.specs.Inside.Ranges.{longer}
 use Rattle.bsp_model.proofs.StoredWords.{stored-on, goes_on}
-use Rattle.bsp_model.proofs.local_memory.LocalMemory.change.Goals as goal
+use Rattle.bsp_model.proofs.local_memory.LocalMemory.change_in_place.Goals as goal
 
 pub returns-clause-made : goal.returns-clause-made
 returns-clause-made g c made =
