@@ -211,31 +211,6 @@ impl LocalMemory {
         Ok(true)
     }
 
-    /// Makes the change in a copy of the `len` words from `start` on, and stores that. After `OutOfMemory` nothing has changed.
-    #[inline(never)]
-    fn change_apart<C: Change>(
-        &mut self,
-        start: u64,
-        len: usize,
-        change: &C,
-    ) -> Result<(), OutOfMemory>
-        requires inside { start + len ≤ length self.old.memory }
-        requires short { length self.old.memory < 2 ^ 64 }
-        ensures ok { let words = C.makes change.now (take len (drop start self.old.memory)) in
-            OnOk result (self.new ≡ record {
-              memory = memory_written self.old.memory start words;
-              stores = self.old.stores ++ records start words;
-            }) }
-        ensures count { let words = C.makes change.now (take len (drop start self.old.memory)) in
-            OnOk result (length words ≡ len) }
-        ensures err { OnErr result (self.new ≡ self.old) }
-    {
-        let mut words = vec![in *self.values.allocator(); 0; len]?;
-        self.memory.read(start, words.as_mut_slice());
-        change.change(words.as_mut_slice());
-        self.store(start, words.as_slice())
-    }
-
     /// Makes the change in the `len` words from `start` on, and keeps the words that it makes as stores. After `OutOfMemory` nothing has changed.
     #[inline]
     pub fn change<C: Change>(
@@ -258,7 +233,10 @@ impl LocalMemory {
         if self.change_in_place(start, len, change)? {
             return Ok(());
         }
-        self.change_apart(start, len, change)
+        let mut words = vec![in *self.values.allocator(); 0; len]?;
+        self.memory.read(start, words.as_mut_slice());
+        change.change(words.as_mut_slice());
+        self.store(start, words.as_slice())
     }
 
     /// Adds the memory to those of other processes, and takes its words and the stores away. After `OutOfMemory` the others have not changed, and
