@@ -12,11 +12,16 @@ use std::alloc::Global;
 use std::marker::Model;
 
 /// The next memory and the next queue of each of several processes, in the order of a list, in few lists.
-#[derive(Drop)]
 pub struct Cells {
     pub(crate) memories: Memories,
     /// The queue of each memory. Those past the last memory belong to no process.
     pub(crate) queues: MessageColumn,
+}
+
+impl Drop for Cells {
+    fn drop(self) {
+        let Self { memories, queues } = self;
+    }
 }
 
 impl Model for Cells {
@@ -45,14 +50,6 @@ impl Cells {
         ensures { self.new ≡ self.old }
     {
         self.memories.reserve(count)
-    }
-
-    /// Makes the room that other cells take beside their full pages.
-    fn reserve_like(&mut self, like: &Cells) -> Result<(), OutOfMemory>
-        ensures { self.new ≡ self.old }
-    {
-        let memories = self.memories.reserve_like(&like.memories, Share::whole());
-        memories.and(self.queues.reserve_like(&like.queues, Share::whole()))
     }
 
     /// Takes all processes away. The room stays.
@@ -124,14 +121,9 @@ impl Cells {
         ensures { IfOk result (λ c. c ≡ replaced self.now processes.now cells.now) }
     {
         let mut all = Cells::new(alloc);
-        match all.reserve_like(self) {
-            Ok(()) => {}
-            Err(error) => {
-                drop(all);
-                return Err(error);
-            }
-        }
-        let added = add_replaced(&mut all, self, processes, cells);
+        let memories = all.memories.reserve_like(&self.memories, Share::whole());
+        let reserved = memories.and(all.queues.reserve_like(&self.queues, Share::whole()));
+        let added = reserved.and(add_replaced(&mut all, self, processes, cells));
         added.and(Ok(all))
     }
 }

@@ -59,6 +59,6 @@ pub fn deliver_some(
         cells.clear();
         return Ok(());
     }
-    memories_after(alloc, outcomes, processes, &mut cells.memories)?;
-    queues_after(alloc, outcomes, processes, &mut cells.queues)
+    let memories = memories_after(alloc, outcomes, processes, &mut cells.memories);
+    memories.and(queues_after(alloc, outcomes, processes, &mut cells.queues))
 }

@@ -14,21 +14,7 @@ use crate::same::is_same_answer;
 use bsp_model::{Get, ProcessSet, Same, are_same};
 use bsp_step::{ListKind, OutcomeRef, Outcomes};
 
-/// Whether a get reads the words that it read before. Those of an owner whose outcome has not changed are the same.
-fn reads_same_words(old: &Outcomes, new: &Outcomes, changed: &ProcessSet, get: &Get) -> bool
-    requires marks { length changed.now ≡ length new.now }
-    requires before { IsReadable old.now get.now }
-    requires after { IsReadable new.now get.now }
-    requires unchanged { AreSameUnlessMarked old.now new.now changed.now }
-    ensures { IsTrue result ↔ (words_read old.now get.now ≡ words_read new.now get.now) }
-{
-    if !changed.contains(get.owner as usize) {
-        return true;
-    }
-    is_same_answer(old, new, get)
-}
-
-/// Whether gets read the words that they read before.
+/// Whether gets read the words that they read before. Those of an owner whose outcome has not changed are the same.
 fn read_same_words(old: &Outcomes, new: &Outcomes, changed: &ProcessSet, gets: &[Get]) -> bool
     requires marks { length changed.now ≡ length new.now }
     requires before { All (IsReadable old.now) gets.now }
@@ -37,7 +23,7 @@ fn read_same_words(old: &Outcomes, new: &Outcomes, changed: &ProcessSet, gets: &
     ensures { IsTrue result ↔ (map (words_read old.now) gets.now ≡ map (words_read new.now) gets.now) }
 {
     for get in gets {
-        if !reads_same_words(old, new, changed, get) {
+        if changed.contains(get.owner as usize) && !is_same_answer(old, new, get) {
             return false;
         }
     }

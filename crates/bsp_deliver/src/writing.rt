@@ -79,12 +79,8 @@ pub fn memory_with_gets(alloc: Global, d: usize, outcomes: &Outcomes) -> Result<
         written (map get_write (delivery_parts outcomes.now d).gets) a (slice_index (delivery_parts outcomes.now d).memory a))) }
 {
     let mut memories = Memories::new(alloc);
-    let memory = match add_memory(&mut memories, d, outcomes) {
-        Ok(()) => memories.get(0).to_memory(),
-        Err(error) => Err(error),
-    };
-    drop(memories);
-    memory
+    add_memory(&mut memories, d, outcomes)?;
+    memories.get(0).to_memory()
 }
 
 /// Makes `memories` those of these processes after computing, with the words over each that its gets read.

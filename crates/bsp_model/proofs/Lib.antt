@@ -1,8 +1,10 @@
+pub mod Appending
 pub mod BlocksOf
 pub mod Changes
 pub mod HeadsTo
 pub mod Inputs
 pub mod MadeAgain
+pub mod EitherWay
 pub mod PagedMemories
 pub mod Pages
 pub mod PairedColumns

@@ -19,12 +19,17 @@ use std::alloc::Global;
 use std::marker::Model;
 
 /// Blocks in order, kept in two lists: the heads, and the words of all blocks one behind the other.
-#[derive(Drop)]
 pub struct Blocks<X: Block> {
     /// The heads, each with the place where the words of its block end.
     heads: Vec<(X::Head, usize)>,
     /// The words of the first block, then those of the second, and so on.
     words: Vec<u64>,
+}
+
+impl<X: Block> Drop for Blocks<X> {
+    fn drop(self) {
+        let Self { heads, words } = self;
+    }
 }
 
 impl<X: Block> Model for Blocks<X> {
@@ -205,11 +210,9 @@ impl<'a, X: Block> Same for BlocksRef<'a, X> {
 
 impl<X: Block> TryCopy for Blocks<X> {
     fn copy(&self) -> Result<Blocks<X>, OutOfMemory> {
-        let alloc = *self.words.allocator();
-        let mut heads = Vec::new(alloc);
-        heads.extend_from_slice(self.heads.as_slice())?;
-        let words = self.words.as_slice().to_vec(alloc)?;
-        Ok(Blocks { heads, words })
+        let mut copy = Blocks::new(*self.words.allocator());
+        let appended = copy.append(&self.as_ref());
+        appended.and(Ok(copy))
     }
 }
 

@@ -39,13 +39,23 @@ impl TryCopy for Input {
 fn are_short_memories(mems: &[Memory]) -> bool
     ensures { result ≡ list_all (λ m. nat_le (length m) MOST_MEMORY_WORDS) mems.now }
 {
-    mems.iter().all(|memory| memory.len() <= MOST_MEMORY_WORDS)
+    for memory in mems {
+        if memory.len() > MOST_MEMORY_WORDS {
+            return false;
+        }
+    }
+    true
 }
 
 fn are_short_arguments(args: &[Words]) -> bool
     ensures { result ≡ list_all (λ a. nat_le (length a) MOST_ARGUMENTS) args.now }
 {
-    args.iter().all(|words| words.len() <= MOST_ARGUMENTS)
+    for words in args {
+        if words.len() > MOST_ARGUMENTS {
+            return false;
+        }
+    }
+    true
 }
 
 impl Input {

@@ -122,7 +122,7 @@ impl Lasts {
             let words = &self.own[number];
             return words.as_slice();
         }
-        self.rows.row(number - self.count)
+        self.rows.as_ref().row(number - self.count)
     }
 
     /// Adds copies of the words of one process more. After `OutOfMemory` nothing has changed.
@@ -151,6 +151,30 @@ impl Lasts {
         put_list(&mut self.own, self.count, words)?;
         self.count += 1;
         Ok(())
+    }
+
+    /// Adds the words of one process more, which stand in a list. The list itself is taken where it is a memory in one piece, and gets room back.
+    /// After `OutOfMemory` it may have any words.
+    fn take_list(&mut self, list: &mut Words) -> Result<(), OutOfMemory>
+        ensures { OnOk result (self.new ≡ self.old ++ list.old ∷ []) }
+    {
+        let mut words = Vec::new(list.allocator());
+        list.swap(&mut words);
+        let taken = self.push_from(&mut words);
+        list.swap(&mut words);
+        taken
+    }
+
+    /// Adds the words of all processes of `more`, of which lists of their own are handed on. `more` may then have any words. After `OutOfMemory`
+    /// some of them are added.
+    pub fn append(&mut self, more: &mut Lasts) -> Result<(), OutOfMemory>
+        ensures { OnOk result (self.new ≡ self.old ++ more.old) }
+    {
+        for number in 0..more.count {
+            self.take_list(&mut more.own[number])?;
+        }
+        self.rows
+            .append_range(&more.rows.as_ref(), 0, more.rows.len())
     }
 
     /// Makes `items` the words of a process from `place` on.

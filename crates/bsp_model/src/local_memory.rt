@@ -15,13 +15,22 @@ use std::marker::Model;
 
 /// The memory of a process while it computes, and the stores that were made in it, in order. Stores of words one behind the other are kept as one
 /// range, with no address for each word. Where there is one range alone, its words are not kept either: they stand in the memory.
-#[derive(Drop)]
 pub struct LocalMemory {
     memory: Memory,
     /// The ranges, in order. None of them goes on where the one before it ended.
     pub(crate) ranges: Vec<Range>,
     /// The words that were stored, in order: those of the first range, then those of the second, and so on. One range may go without.
     pub(crate) values: Vec<u64>,
+}
+
+impl Drop for LocalMemory {
+    fn drop(self) {
+        let Self {
+            memory,
+            ranges,
+            values,
+        } = self;
+    }
 }
 
 impl Model for LocalMemory {
@@ -121,8 +130,7 @@ impl LocalMemory {
     {
         self.ranges.clear();
         self.values.clear();
-        self.memory.load_from(memory)?;
-        Ok(())
+        self.memory.load_from(memory)
     }
 
     /// The words of the memory.

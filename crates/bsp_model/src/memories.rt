@@ -8,16 +8,21 @@ use crate::lasts::Lasts;
 use crate::page::{Page, WORDS_OF_A_PAGE};
 use crate::paging::{cut_write, is_within, shared_pages, take_pages, write_row};
 use crate::{ByProcess, Memory, MemoryRef, OutOfMemory, Share, SharedColumn, TryCopy};
-use std::alloc::Global;
+use std::alloc::{AllocError, Global};
 use std::marker::Model;
 
 /// The memories of several processes, by process. Copies share the pages that are full. A memory that lies in one piece has none.
-#[derive(Drop)]
 pub struct Memories {
     /// The full pages of each memory. Where `lasts` has no row, they belong to no memory.
     pages: SharedColumn<Page>,
     /// The words behind them: of each memory fewer than a page has, or all where it lies in one piece.
     lasts: Lasts,
+}
+
+impl Drop for Memories {
+    fn drop(self) {
+        let Self { pages, lasts } = self;
+    }
 }
 
 impl Model for Memories {
@@ -61,8 +66,8 @@ impl Memories {
     pub fn reserve_like(&mut self, like: &Memories, share: Share) -> Result<(), OutOfMemory>
         ensures { self.new ≡ self.old }
     {
-        self.pages.reserve_like(&like.pages, share)?;
-        self.lasts.reserve_like(&like.lasts, share)
+        let pages = self.pages.reserve_like(&like.pages, share);
+        pages.and(self.lasts.reserve_like(&like.lasts, share))
     }
 
     /// Makes these memories copies of others. Full pages are shared. After `OutOfMemory` there are none.
@@ -123,8 +128,27 @@ impl Memories {
     {
         let full = shared_pages(self.pages.allocator(), memory.pages)?;
         self.pages.put(self.lasts.len(), full)?;
-        self.lasts.push(memory.last)?;
-        Ok(())
+        self.lasts.push(memory.last)
+    }
+
+    /// Adds the memories of `more`, and leaves none there. Full pages are shared, and a memory that lies in one piece is handed on. After
+    /// `OutOfMemory` there are none here either.
+    pub fn append(&mut self, more: &mut Memories) -> Result<(), OutOfMemory>
+        ensures ok { OnOk result (self.new ≡ self.old ++ more.old) }
+        ensures err { OnErr result (self.new ≡ []) }
+        ensures rest { more.new ≡ [] }
+    {
+        let (place, count) = (self.lasts.len(), more.lasts.len());
+        let pages = self.pages.take_range(place, &more.pages, 0, count);
+        let lasts = self.lasts.append(&mut more.lasts);
+        more.pages.clear();
+        more.lasts.clear();
+        if let (Ok(()), Ok(())) = (pages, lasts) {
+            return Ok(());
+        }
+        self.pages.clear();
+        self.lasts.clear();
+        Err(AllocError)
     }
 
     /// Makes `words` the words of a process's memory from `start` on. False, and nothing changes, where they pass the end; after `OutOfMemory`
@@ -183,15 +207,14 @@ impl ByProcess for Memories {
         }
         self.pages
             .take_range(self.lasts.len(), &more.pages, from, to)?;
-        self.lasts.append_range(&more.lasts, from, to)?;
-        Ok(())
+        self.lasts.append_range(&more.lasts, from, to)
     }
 }
 
 impl TryCopy for Memories {
     fn copy(&self) -> Result<Memories, OutOfMemory> {
         let mut copy = Memories::new(self.pages.allocator());
-        copy.copy_from(self)?;
-        Ok(copy)
+        let copied = copy.copy_from(self);
+        copied.and(Ok(copy))
     }
 }

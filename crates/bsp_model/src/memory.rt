@@ -14,7 +14,6 @@ use std::marker::Model;
 use std::slice;
 
 /// The memory of a process: a list of 64-bit words at the addresses 0, 1, .. Its copies share the pages that are full.
-#[derive(Drop)]
 pub struct Memory {
     /// The pages that are full.
     pub(crate) pages: Vec<Page>,
@@ -22,6 +21,12 @@ pub struct Memory {
     pub(crate) last: Vec<u64>,
     /// The number of all words.
     pub(crate) len: usize,
+}
+
+impl Drop for Memory {
+    fn drop(self) {
+        let Self { pages, last, len } = self;
+    }
 }
 
 impl Model for Memory {

@@ -1,6 +1,6 @@
 //! A memory that is read where it lies.
 
-ghost use Rattle.std.specs.Prelude.{◌≡◌, ◌+◌, ◌-◌, ◌^◌, ◌<◌, ◌≤◌, ◌↔◌, [], length, IfOk, IsTrue, nat_le, slice_get, take, drop};
+ghost use Rattle.std.specs.Prelude.{◌≡◌, ◌+◌, ◌-◌, ◌^◌, ◌<◌, ◌≤◌, ◌↔◌, length, IfOk, IsTrue, nat_le, slice_get, take, drop};
 ghost use Rattle.std.specs.Bool.{OnTrue, OnFalse};
 ghost use Rattle.bsp_model.specs.Memory.{rest_of_page};
 
@@ -36,19 +36,6 @@ impl<'a> Model for MemoryRef<'a> {
 }
 
 impl<'a> MemoryRef<'a> {
-    /// No words.
-    #[inline(always)]
-    pub(crate) fn empty(alloc: Global) -> MemoryRef<'a>
-        ensures { result ≡ [] }
-    {
-        MemoryRef {
-            alloc,
-            pages: &[],
-            last: &[],
-            len: 0,
-        }
-    }
-
     /// The same words, to be read by another.
     #[inline(always)]
     pub(crate) fn again(&self) -> MemoryRef<'a>
@@ -178,8 +165,8 @@ impl<'a> MemoryRef<'a> {
         ensures { IfOk result (λ m. m ≡ self.now) }
     {
         let mut memory = Memory::new(self.alloc);
-        memory.load_from(self)?;
-        Ok(memory)
+        let loaded = memory.load_from(self);
+        loaded.and(Ok(memory))
     }
 
     /// A memory of these words in one piece, which shares none of them, or `OutOfMemory`. It serves where each superstep writes most of the words.

@@ -6,7 +6,8 @@ ghost use Rattle.bsp_model.specs.Inside.Cut.{IsCut};
 ghost use Rattle.bsp_model.specs.Inside.Pages.{paged_word, word_after, AreWritten};
 
 use crate::page::{Page, WORDS_OF_A_PAGE};
-use crate::{OutOfMemory, SharedColumn, SharedSeq, TryCopy};
+use crate::seq::append_copies;
+use crate::{OutOfMemory, SharedColumn, SharedSeq};
 use std::alloc::Global;
 use std::mem;
 use std::sync::Arc;
@@ -17,7 +18,7 @@ pub fn full_pages(alloc: Global, parts: &[[u64; WORDS_OF_A_PAGE]]) -> Result<Vec
 {
     let mut pages = Vec::with_capacity(alloc, parts.len())?;
     for part in parts {
-        pages.push(Page::new(alloc, *part)?)?;
+        pages.push_reserved(Page::new(alloc, *part)?);
     }
     Ok(pages)
 }
@@ -46,7 +47,7 @@ fn new_pages(
         let here = (words.len() - before).min(WORDS_OF_A_PAGE - place);
         let part = &words[before..before + here];
         let page = &pages[first + k];
-        new.push(page.with_words(alloc, place, part)?)?;
+        new.push_reserved(page.with_words(alloc, place, part)?);
     }
     Ok(new)
 }
@@ -71,8 +72,7 @@ pub fn write_pages(
     let place = start % WORDS_OF_A_PAGE;
     if words.len() <= WORDS_OF_A_PAGE - place {
         let page = &mut pages[first];
-        page.write(alloc, place, words)?;
-        return Ok(());
+        return page.write(alloc, place, words);
     }
     let count = (place + words.len() - 1) / WORDS_OF_A_PAGE + 1;
     let mut new = new_pages(alloc, pages, first, count, place, words)?;
@@ -85,10 +85,8 @@ fn copied_pages(alloc: Global, pages: &[Page]) -> Result<Vec<Page>, OutOfMemory>
     ensures { IfOk result (λ new. new.items ≡ pages.now) }
 {
     let mut new = Vec::with_capacity(alloc, pages.len())?;
-    for page in pages {
-        new.push_reserved(page.copy()?);
-    }
-    Ok(new)
+    let appended = append_copies(&mut new, pages);
+    appended.and(Ok(new))
 }
 
 /// Copies of these pages, which share their words, in a list that its copies share. For no page it takes no memory.
@@ -118,9 +116,6 @@ fn replace_pages(pages: &mut Vec<Page>, source: &[Page]) -> Result<(), OutOfMemo
     ensures err { OnErr result (pages.new.items ≡ []) }
 {
     pages.clear();
-    if source.is_empty() {
-        return Ok(());
-    }
     let alloc = *pages.allocator();
     *pages = copied_pages(alloc, source)?;
     Ok(())
@@ -136,33 +131,8 @@ pub fn take_pages(pages: &mut Vec<Page>) -> Result<SharedSeq<Page>, OutOfMemory>
     SharedSeq::from_vec(mem::replace(pages, none))
 }
 
-/// What `write_pages` does, in pages whose list copies may share: in a list of its own then. After `OutOfMemory` nothing has changed.
-pub fn write_shared_pages(
-    alloc: Global,
-    pages: &mut SharedSeq<Page>,
-    start: usize,
-    words: &[u64],
-) -> Result<(), OutOfMemory>
-    requires { start + length words.now ≤ WORDS_OF_A_PAGE * length pages.old }
-    ensures count { length pages.new ≡ length pages.old }
-    ensures ok { OnOk result (AreWritten pages.old start words.now pages.new) }
-    ensures err { OnErr result (pages.new ≡ pages.old) }
-{
-    if words.is_empty() {
-        return Ok(());
-    }
-    if let Some(shared) = &mut pages.items {
-        if let Some(own) = Arc::get_mut(shared) {
-            return write_pages(alloc, own.as_mut_slice(), start, words);
-        }
-    }
-    let mut own = copied_pages(alloc, pages.as_slice())?;
-    write_pages(alloc, own.as_mut_slice(), start, words)?;
-    *pages = SharedSeq::from_vec(own)?;
-    Ok(())
-}
-
-/// What `write_shared_pages` does, in the full pages of one process. After `OutOfMemory` nothing has changed.
+/// What `write_pages` does, in the full pages of one process, whose list copies may share: in a list of its own then. After `OutOfMemory` nothing has
+/// changed.
 pub fn write_row(
     column: &mut SharedColumn<Page>,
     place: usize,
@@ -175,11 +145,19 @@ pub fn write_row(
     ensures ok { OnOk result (AreWritten (row_at column.old place) start words.now (row_at column.new place)) }
     ensures err { OnErr result (column.new ≡ column.old) }
 {
-    if place < column.rows.len() {
-        let alloc = column.allocator();
-        let pages = &mut column.rows[place];
-        return write_shared_pages(alloc, pages, start, words);
+    if place >= column.rows.len() || words.is_empty() {
+        return Ok(());
     }
+    let alloc = column.allocator();
+    let pages = &mut column.rows[place];
+    if let Some(shared) = &mut pages.items {
+        if let Some(own) = Arc::get_mut(shared) {
+            return write_pages(alloc, own.as_mut_slice(), start, words);
+        }
+    }
+    let mut own = copied_pages(alloc, pages.as_slice())?;
+    write_pages(alloc, own.as_mut_slice(), start, words)?;
+    *pages = SharedSeq::from_vec(own)?;
     Ok(())
 }
 

@@ -9,11 +9,17 @@ use crate::{OutOfMemory, Share};
 use std::alloc::Global;
 use std::marker::Model;
 
-/// A list of rows, such as the last words of each memory. The items of all rows lie one behind the other in one list, and a second list says where each row ends.
-#[derive(Drop)]
-pub(crate) struct Rows<T> {
+/// A list of rows, such as the last words of each memory. The items of all rows lie one behind the other in one list. A second list says where each
+/// row ends.
+pub struct Rows<T> {
     items: Vec<T>,
     ends: Vec<usize>,
+}
+
+impl<T: Drop> Drop for Rows<T> {
+    fn drop(self) {
+        let Self { items, ends } = self;
+    }
 }
 
 impl<T> Model for Rows<T> {
@@ -60,7 +66,7 @@ impl<T> Rows<T> {
 
     /// These rows, to be read where they lie.
     #[inline(always)]
-    pub fn as_ref(&self) -> RowsRef<'_, T>
+    pub(crate) fn as_ref(&self) -> RowsRef<'_, T>
         ensures { result ≡ self.now }
     {
         RowsRef {
@@ -71,7 +77,7 @@ impl<T> Rows<T> {
 
     /// The number of rows.
     #[inline(always)]
-    pub fn len(&self) -> usize
+    pub(crate) fn len(&self) -> usize
         ensures len { result ≡ length self.now }
         ensures small { result < 2 ^ 63 }
     {
@@ -83,16 +89,7 @@ impl<T> Rows<T> {
     pub fn is_empty(&self) -> bool
         ensures { result ≡ nat_eq (length self.now) 0 }
     {
-        self.as_ref().is_empty()
-    }
-
-    /// The items of the row at a place.
-    #[inline(always)]
-    pub fn row(&self, number: usize) -> &[T]
-        requires { number < length self.now }
-        ensures { result.now ≡ slice_index_or self.now number [] }
-    {
-        self.as_ref().row(number)
+        self.ends.is_empty()
     }
 }
 
@@ -115,14 +112,6 @@ impl<'a, T> RowsRef<'a, T> {
         ensures { result ≡ length self.now }
     {
         self.ends.len()
-    }
-
-    /// Whether there is no row.
-    #[inline(always)]
-    pub fn is_empty(&self) -> bool
-        ensures { result ≡ nat_eq (length self.now) 0 }
-    {
-        self.ends.is_empty()
     }
 
     /// The items of the row at a place.
@@ -150,21 +139,21 @@ impl<T: Copy> Rows<T> {
     pub(crate) fn reserve(&mut self, rows: usize) -> Result<(), OutOfMemory>
         ensures { self.new ≡ self.old }
     {
-        self.items.reserve(rows)?;
-        self.ends.reserve(rows)
+        let items = self.items.reserve(rows);
+        items.and(self.ends.reserve(rows))
     }
 
     /// Makes room for a share of the rows that others have, and of their items.
-    pub(crate) fn reserve_like(&mut self, like: &Rows<T>, share: Share) -> Result<(), OutOfMemory>
+    pub fn reserve_like(&mut self, like: &Rows<T>, share: Share) -> Result<(), OutOfMemory>
         ensures { self.new ≡ self.old }
     {
-        self.items.reserve(share.part(like.items.len()))?;
-        self.ends.reserve(share.part(like.ends.len()))
+        let items = self.items.reserve(share.part(like.items.len()));
+        items.and(self.ends.reserve(share.part(like.ends.len())))
     }
 
     /// Puts a row of these items at the end. After `OutOfMemory` nothing has changed.
     #[inline(always)]
-    pub fn push(&mut self, row: &[T]) -> Result<(), OutOfMemory>
+    pub(crate) fn push(&mut self, row: &[T]) -> Result<(), OutOfMemory>
         ensures ok { OnOk result (self.new ≡ self.old ++ row.now ∷ []) }
         ensures err { OnErr result (self.new ≡ self.old) }
     {

@@ -134,18 +134,15 @@ impl<T: TryCopy> Seq<T> {
     pub fn append(&mut self, more: &[T]) -> Result<(), OutOfMemory>
         ensures { OnOk result (self.new ≡ self.old ++ more.now) }
     {
-        for item in more {
-            self.items.push(item.copy()?)?;
-        }
-        Ok(())
+        append_copies(&mut self.items, more)
     }
 }
 
 impl<T: TryCopy> TryCopy for Seq<T> {
     fn copy(&self) -> Result<Seq<T>, OutOfMemory> {
         let mut copy = Seq::new(self.allocator());
-        copy.append(self.as_slice())?;
-        Ok(copy)
+        let appended = copy.append(self.as_slice());
+        appended.and(Ok(copy))
     }
 }
 
@@ -153,6 +150,18 @@ impl<T: Same> Same for Seq<T> {
     fn same(&self, other: &Seq<T>) -> bool {
         are_same(self.as_slice(), other.as_slice())
     }
+}
+
+/// Puts copies of items at the end of a list. After `OutOfMemory` some of them are put.
+pub(crate) fn append_copies<T: TryCopy>(items: &mut Vec<T>, more: &[T]) -> Result<(), OutOfMemory>
+    ensures ok { OnOk result (items.new.items ≡ items.old.items ++ more.now) }
+    ensures kept { take (length items.old.items) items.new.items ≡ items.old.items }
+{
+    items.reserve(more.len())?;
+    for item in more {
+        items.push_reserved(item.copy()?);
+    }
+    Ok(())
 }
 
 /// Whether two lists have the same items, in the same order.

@@ -9,10 +9,15 @@ use std::marker::Model;
 use std::sync::Arc;
 
 /// A list of values that stays as it is. Its copies share the values, so that a copy takes no memory.
-#[derive(Drop)]
 pub struct SharedSeq<T> {
     /// None where there is no value.
     pub(crate) items: Option<Arc<Vec<T>, Global>>,
+}
+
+impl<T: Drop> Drop for SharedSeq<T> {
+    fn drop(self) {
+        let Self { items } = self;
+    }
 }
 
 impl<T> Model for SharedSeq<T> {

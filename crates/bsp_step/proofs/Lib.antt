@@ -3,6 +3,7 @@ pub mod Running
 pub mod Ranges
 pub mod Placing
 pub mod Finding
+pub mod BothOk
 pub mod Boxed
 pub mod Limits
 pub mod MessagesLeft

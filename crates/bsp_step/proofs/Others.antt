@@ -1,9 +1,8 @@
 -- Outcomes of which those of some processes lie apart.
-use Rattle.std.proofs.Common.{◌≡◌, ◌≢◌, ◌<◌, ℕ, List, [], Option, None, Some, All, length, get_or, refl, sym, ap, subst, ◌∙◌, arith}
+use Rattle.std.proofs.Common.{◌≡◌, ◌≢◌, ◌<◌, ℕ, List, Option, None, Some, All, length, get_or, refl, sym, ap, subst, ◌∙◌, arith}
 use Rattle.std.specs.Prelude.{Bool, true}
 use Rattle.std.specs.Bool.{OnTrue}
 use Rattle.std.proofs.lemmas.Bool.{OnTrue_at, OnTrue_from}
-use Rattle.std.proofs.lemmas.List.{nil_from_length}
 use Rattle.std.proofs.lemmas.List.Elements.{All-get_or}
 use Rattle.bsp_model.specs.Replaced.{replaced, IsAscending}
 use Rattle.bsp_model.proofs.Replaced.{All-replaced, length-replaced, replaced-there, replaced-elsewhere}
@@ -11,23 +10,11 @@ use Rattle.bsp_step.specs.OutcomeParts.{OutcomeParts, no_outcome}
 use Rattle.bsp_step.specs.declared.outcomes.others.Others.{Others}
 use Rattle.bsp_step.specs.declared.list_kind.ListKind.{ListKind}
 use Rattle.bsp_step.specs.ListKind.{IsWithout}
-use Rattle.bsp_step.specs.Inside.Others.{rows_of, outcomes_with, AreOthers, HasOthers}
+use Rattle.bsp_step.specs.Inside.Others.{rows_of, outcomes_with, AreOthers}
 
 pub length-with : (rows : Option (List OutcomeParts)) (others : Option Others) → length (outcomes_with rows others) ≡ length (rows_of rows)
 length-with rows None = refl
 length-with rows (Some others) = length-replaced (rows_of rows) others.processes.items others.rows
-
--- where no outcome is left, other rows that have none either lie under the others
-pub none_there : (rows new : Option (List OutcomeParts)) (others : Option Others) → outcomes_with rows others ≡ [] → rows_of new ≡ [] → rows_of rows ≡ rows_of new
-none_there rows new others none empty =
-    nil_from_length (rows_of rows) (omega (arith, length-with rows others, ap length none)) ∙ sym empty
-
-pub lie_under : (rows new : Option (List OutcomeParts)) (others : Option Others) → outcomes_with rows others ≡ [] → rows_of new ≡ [] → HasOthers rows others → HasOthers new others
-lie_under rows new None none empty has = has
-lie_under rows new (Some others) none empty has = subst (λ (os : List OutcomeParts). AreOthers os others) (none_there rows new (Some others) none empty) has
-
-pub none_over : (new : Option (List OutcomeParts)) (others : Option Others) → rows_of new ≡ [] → outcomes_with new others ≡ []
-none_over new others empty = nil_from_length (outcomes_with new others) (omega (arith, length-with new others, ap length empty))
 
 -- where neither these nor the others left anything of a kind
 pub without_others : (kind : ListKind) (rows : Option (List OutcomeParts)) (others : Others) (apart all : Bool) → apart ≡ true → OnTrue apart (All (IsWithout kind) others.rows)

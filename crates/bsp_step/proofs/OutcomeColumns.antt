@@ -193,6 +193,13 @@ end_of o = record { ended = o.ended; work = o.work }
 pub same_below : (l old new : Lists) (len n : ℕ) → l ≡ old → len ≡ n → ((k : ℕ) → k < len → AreSameLists l k new k) → (k : ℕ) → k < n → AreSameLists old k new k
 same_below l old new len n is long same k below = subst (λ (m : Lists). AreSameLists m k new k) is (same k (omega (arith, below, long)))
 
+-- what is known of the lists behind, of the columns themselves
+pub taken_behind : (l more new : Lists) (len n from to : ℕ) → l ≡ more → len ≡ n → ((k : ℕ) → len ≤ k → k < len + (to - from) → AreSameLists l (from + (k - len)) new k)
+    → (k : ℕ) → n ≤ k → k < n + (to - from) → AreSameLists more (from + (k - n)) new k
+taken_behind l more new len n from to is many same =
+    subst (λ (m : ℕ). (k : ℕ) → m ≤ k → k < m + (to - from) → AreSameLists more (from + (k - m)) new k) many
+    (subst (λ (lists : Lists). (k : ℕ) → len ≤ k → k < len + (to - from) → AreSameLists lists (from + (k - len)) new k) is same)
+
 -- so they have the outcomes that they had
 pub unchanged-below : (ends : List TurnEnd) (memories : List (List ℕ)) (l old new : Lists) (len : ℕ) (outcomes : List OutcomeParts) → l ≡ old → len ≡ length ends → ((k : ℕ) → k < len → AreSameLists l k new k) → outcomes_of ends memories old ≡ outcomes → outcomes_of ends memories new ≡ outcomes
 unchanged-below ends memories l old new len outcomes is long same before = same-outcomes ends memories old new (same_below l old new len (length ends) is long same) ∙ before

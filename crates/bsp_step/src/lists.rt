@@ -1,7 +1,6 @@
 //! The lists that several outcomes have, in columns.
 
-ghost use Rattle.std.specs.Prelude.{◌≡◌, ◌≤◌, ◌<◌, ◌+◌, ◌-◌, ℕ, [], OnOk};
-ghost use Rattle.bsp_model.specs.Columns.{row_at};
+ghost use Rattle.std.specs.Prelude.{◌≡◌, ◌≤◌, ◌<◌, ◌+◌, ◌-◌, ℕ, OnOk};
 ghost use Rattle.std.specs.Bool.{OnTrue};
 ghost use Rattle.bsp_step.specs.Inside.Outcomes.{IsWithoutColumn, first_at, AreSameLists, HasLists};
 
@@ -12,7 +11,6 @@ use bsp_model::{
 };
 use bsp_table::Area;
 use std::alloc::Global;
-use std::slice;
 
 /// How a turn ended, and the work that it charged, which is at most `MOST_WORK`, of 32 bits.
 #[derive(Clone, Copy)]
@@ -23,7 +21,6 @@ pub(crate) struct TurnEnd {
 
 /// The lists of several outcomes, each kind of list in a column of its own. Few turns end with a fault or choose a tag size: each fault and each
 /// choice lies in a row of one item, and where there is none the row is empty.
-#[derive(Drop)]
 pub(crate) struct Lists {
     pub(crate) faults: Column<Fault>,
     pub(crate) stores: StoreColumn,
@@ -36,38 +33,28 @@ pub(crate) struct Lists {
     pub(crate) lines: LineColumn,
 }
 
-/// Makes the fault that there may be the row of a process, behind which none stand any more. After `OutOfMemory` its own is left out too.
-#[inline(always)]
-fn put_fault(
-    column: &mut Column<Fault>,
-    place: usize,
-    fault: Option<Fault>,
-) -> Result<(), OutOfMemory>
-    ensures before { (k : ℕ) → k < place → row_at column.new k ≡ row_at column.old k }
-    ensures there { OnOk result (first_at column.new place ≡ fault) }
-{
-    match fault {
-        Some(fault) => column.put(place, slice::from_ref(&fault)),
-        None => {
-            column.cut(place);
-            Ok(())
-        }
+impl Drop for Lists {
+    fn drop(self) {
+        let Self {
+            faults,
+            stores,
+            puts,
+            gets,
+            sends,
+            pops,
+            pushes,
+            tags,
+            lines,
+        } = self;
     }
 }
 
-/// Makes the tag size that there may be the row of a process, behind which none stand any more. After `OutOfMemory` its own is left out too.
+/// The first item of the row of a process, if there is one.
 #[inline(always)]
-fn put_tag(column: &mut Column<u64>, place: usize, tag: Option<u64>) -> Result<(), OutOfMemory>
-    ensures before { (k : ℕ) → k < place → row_at column.new k ≡ row_at column.old k }
-    ensures there { OnOk result (first_at column.new place ≡ tag) }
+pub(crate) fn first<T: Copy>(column: &Column<T>, place: usize) -> Option<T>
+    ensures { result ≡ first_at column.now place }
 {
-    match tag {
-        Some(tag) => column.put(place, slice::from_ref(&tag)),
-        None => {
-            column.cut(place);
-            Ok(())
-        }
-    }
+    column.row(place).first().copied()
 }
 
 impl Lists {
@@ -90,8 +77,8 @@ impl Lists {
     pub(crate) fn reserve(&mut self, turns: usize) -> Result<(), OutOfMemory>
         ensures { self.new ≡ self.old }
     {
-        self.stores.reserve(turns)?;
-        self.puts.reserve(turns)
+        let stores = self.stores.reserve(turns);
+        stores.and(self.puts.reserve(turns))
     }
 
     /// Makes a share of the room that the lists of others take.
@@ -136,14 +123,14 @@ impl Lists {
         ensures before { (k : ℕ) → k < place → AreSameLists self.old k self.new k }
         ensures there { OnOk result (HasLists self.new place memory.now outcome.now) }
     {
-        let faults = put_fault(&mut self.faults, place, outcome.fault);
+        let faults = self.faults.put(place, outcome.fault.as_slice());
         let stores = self.stores.put(place, &outcome.stores, memory);
         let puts = self.puts.put(place, &outcome.puts);
         let gets = self.gets.put(place, outcome.gets);
         let sends = self.sends.put(place, &outcome.sends);
         let pops = self.pops.put(place, outcome.pops);
         let pushes = self.pushes.put(place, outcome.pushes);
-        let tags = put_tag(&mut self.tags, place, outcome.tag);
+        let tags = self.tags.put(place, outcome.tag.as_slice());
         let lines = self.lines.put(place, &outcome.lines);
         let requests = puts.and(gets).and(sends).and(pops).and(pushes);
         faults.and(stores).and(requests).and(tags).and(lines)
@@ -156,14 +143,14 @@ impl Lists {
         ensures there { OnOk result (HasLists self.new place outcome.now.memory outcome.now) }
     {
         let lists: &TurnLists = &outcome.lists;
-        let faults = put_fault(&mut self.faults, place, outcome.fault);
+        let faults = self.faults.put(place, outcome.fault.as_slice());
         let stores = self.stores.put_local(place, &lists.local);
         let puts = self.puts.put(place, &lists.puts.as_ref());
         let gets = self.gets.put(place, lists.gets.as_slice());
         let sends = self.sends.put(place, &lists.sends.as_ref());
         let pops = self.pops.put(place, lists.pops.as_slice());
         let pushes = self.pushes.put(place, lists.pushes.as_slice());
-        let tags = put_tag(&mut self.tags, place, outcome.tag);
+        let tags = self.tags.put(place, outcome.tag.as_slice());
         let lines = self.lines.put(place, &lists.lines.as_ref());
         let requests = puts.and(gets).and(sends).and(pops).and(pushes);
         faults.and(stores).and(requests).and(tags).and(lines)
@@ -183,22 +170,6 @@ impl Lists {
             ListKind::Tags => self.tags.is_empty(),
             ListKind::Lines => self.lines.is_empty(),
         }
-    }
-
-    /// The fault of a process, if there is one.
-    #[inline(always)]
-    pub(crate) fn fault(&self, place: usize) -> Option<Fault>
-        ensures { result ≡ first_at self.now.faults place }
-    {
-        self.faults.row(place).first().copied()
-    }
-
-    /// The choice of the next tag size that a process made, if it made one.
-    #[inline(always)]
-    pub(crate) fn tag(&self, place: usize) -> Option<u64>
-        ensures { result ≡ first_at self.now.tags place }
-    {
-        self.tags.row(place).first().copied()
     }
 
     /// Makes copies of the lists that others have from `from` on, and before `to`, those of the processes from `place` on, behind which none

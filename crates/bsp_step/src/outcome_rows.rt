@@ -11,13 +11,13 @@ ghost use Rattle.bsp_step.specs.ListKind.{IsWithout};
 mod put_rows;
 mod room;
 
-use crate::lists::{Lists, TurnEnd};
-use crate::{ListKind, Outcome, OutcomeRef, Outcomes, TurnLists};
+use crate::lists::{Lists, TurnEnd, first};
+use crate::{ListKind, Outcome, OutcomeRef, TurnLists};
 use bsp_model::{
     ByProcess, LineColumn, Memories, Memory, OutOfMemory, ProcessSet, Share, add_replaced,
 };
 pub use put_rows::PutRows;
-use std::alloc::Global;
+use std::alloc::{AllocError, Global};
 use std::marker::Model;
 
 /// What the turns of several processes leave, by process, as it is gathered. All lists of a kind lie in one list, and so do all memories.
@@ -74,8 +74,9 @@ impl OutcomeRows {
         ensures { OnOk result (memories.new ≡ map (λ o. o.memory) (replaced self.now processes.now new.now)) }
     {
         memories.clear();
-        memories.reserve_like(&self.memories, Share::whole())?;
-        add_replaced(memories, &self.memories, processes, &new.memories)
+        let reserved = memories.reserve_like(&self.memories, Share::whole());
+        let new = &new.memories;
+        reserved.and(add_replaced(memories, &self.memories, processes, new))
     }
 
     /// Makes the lines of all processes the column `lines`, or `OutOfMemory`.
@@ -109,7 +110,7 @@ impl OutcomeRows {
         let lists: &Lists = &self.lists;
         let memory = self.memories.get(pid);
         OutcomeRef {
-            fault: lists.fault(pid),
+            fault: first(&lists.faults, pid),
             ended: end.ended,
             stores: lists.stores.get(pid, &memory),
             memory,
@@ -118,7 +119,7 @@ impl OutcomeRows {
             sends: lists.sends.get(pid),
             pops: lists.pops.row(pid),
             pushes: lists.pushes.row(pid),
-            tag: lists.tag(pid),
+            tag: first(&lists.tags, pid),
             lines: lists.lines.get(pid),
             work: u64::from(end.work),
         }
@@ -156,8 +157,8 @@ impl OutcomeRows {
             ended: outcome.ended,
             work: outcome.work as u32,
         };
-        self.lists.put_turn(self.ends.len(), outcome)?;
-        self.ends.reserve(1)?;
+        let put = self.lists.put_turn(self.ends.len(), outcome);
+        put.and(self.ends.reserve(1))?;
         let lists: &mut TurnLists = &mut outcome.lists;
         lists.local.move_to(&mut self.memories)?;
         self.ends.push_reserved(end);
@@ -178,11 +179,32 @@ impl OutcomeRows {
             ended: outcome.ended,
             work: outcome.work as u32,
         };
-        self.lists.put(self.ends.len(), outcome, &memory.as_ref())?;
-        self.ends.reserve(1)?;
+        let put = self.lists.put(self.ends.len(), outcome, &memory.as_ref());
+        put.and(self.ends.reserve(1))?;
         self.memories.push_from(memory)?;
         self.ends.push_reserved(end);
         Ok(())
+    }
+
+    /// Adds the outcomes of `more`, and leaves none there. Full pages are shared, and a memory that lies in one piece is handed on. After
+    /// `OutOfMemory` there are none here either.
+    pub fn append(&mut self, more: &mut OutcomeRows) -> Result<(), OutOfMemory>
+        ensures ok { OnOk result (self.new ≡ self.old ++ more.old) }
+        ensures rest { more.new ≡ [] }
+    {
+        let (place, count) = (self.ends.len(), more.ends.len());
+        let lists = self.lists.take_range(place, &more.lists, 0, count);
+        let ends = self.ends.extend_from_slice(more.ends.as_slice());
+        let memories = self.memories.append(&mut more.memories);
+        more.ends.clear();
+        more.lists.clear();
+        if let (Ok(()), Ok(()), Ok(())) = (lists, ends, memories) {
+            return Ok(());
+        }
+        self.ends.clear();
+        self.memories.clear();
+        self.lists.clear();
+        Err(AllocError)
     }
 
     /// These outcomes, but for new ones of some processes, which are in ascending order.
@@ -198,22 +220,9 @@ impl OutcomeRows {
         ensures { IfOk result (λ o. o ≡ replaced self.now processes.now new.now) }
     {
         let mut all = OutcomeRows::new(alloc)?;
-        match all.reserve_like(self, Share::whole()) {
-            Ok(()) => {}
-            Err(error) => {
-                drop(all);
-                return Err(error);
-            }
-        }
-        let added = add_replaced(&mut all, self, processes, new);
+        let reserved = all.reserve_like(self, Share::whole());
+        let added = reserved.and(add_replaced(&mut all, self, processes, new));
         added.and(Ok(all))
-    }
-
-    /// These outcomes, which stay as they are, or `OutOfMemory`.
-    pub fn share(self) -> Result<Outcomes, OutOfMemory>
-        ensures { IfOk result (λ o. o ≡ self) }
-    {
-        Outcomes::of(self)
     }
 }
 
@@ -234,9 +243,10 @@ impl ByProcess for OutcomeRows {
         from: usize,
         to: usize,
     ) -> Result<(), OutOfMemory> {
-        self.lists
-            .take_range(self.ends.len(), &more.lists, from, to)?;
-        self.ends.reserve(to - from)?;
+        let taken = self
+            .lists
+            .take_range(self.ends.len(), &more.lists, from, to);
+        taken.and(self.ends.reserve(to - from))?;
         self.memories.append_range(&more.memories, from, to)?;
         self.ends.extend_from_slice(&more.ends[from..to]).unwrap();
         Ok(())

@@ -21,12 +21,17 @@ use std::alloc::Global;
 use std::marker::Model;
 
 /// What the turns of several processes leave, by process. It stays as it is; its copies share it, so that a copy takes no memory.
-#[derive(Drop)]
 pub struct Outcomes {
     /// None where there is no process.
     rows: Option<Shared<OutcomeRows>>,
     /// What few processes left in the place of that.
     others: Option<Shared<Others>>,
+}
+
+impl Drop for Outcomes {
+    fn drop(self) {
+        let Self { rows, others } = self;
+    }
 }
 
 impl Model for Outcomes {
@@ -70,16 +75,6 @@ impl Outcomes {
             rows: None,
             others: None,
         }
-    }
-
-    pub(crate) fn of(rows: OutcomeRows) -> Result<Outcomes, OutOfMemory>
-        ensures { IfOk result (λ o. o ≡ rows) }
-    {
-        let alloc = rows.allocator();
-        Ok(Outcomes {
-            rows: Some(Shared::new(alloc, rows)?),
-            others: None,
-        })
     }
 
     /// The number of processes.
@@ -219,40 +214,35 @@ impl Outcomes {
         requires count { length new ≡ length processes.items }
         ensures { IfOk result (λ o. o ≡ replaced self.now processes.items new) }
     {
-        if processes.is_empty() {
-            drop(processes);
-            drop(new);
-            return self.copy();
-        }
-        let rows = match self.base_rows(alloc, processes.as_slice()) {
-            Ok(rows) => rows,
-            Err(error) => {
-                drop(processes);
-                drop(new);
-                return Err(error);
-            }
-        };
-        if !are_few(processes.len(), rows.len()) {
-            let replaced = rows.replaced(alloc, processes.as_slice(), &new);
-            drop(rows);
-            drop(processes);
-            drop(new);
-            return replaced?.share();
-        }
         let others = Others {
             processes,
             rows: new,
         };
-        match Shared::new(alloc, others) {
-            Ok(others) => Ok(Outcomes {
-                rows: Some(rows),
-                others: Some(others),
-            }),
-            Err(error) => {
-                drop(rows);
-                Err(error)
-            }
+        if others.processes.is_empty() {
+            return self.copy();
         }
+        let rows = self.base_rows(alloc, others.processes.as_slice())?;
+        if !are_few(others.processes.len(), rows.len()) {
+            let processes = others.processes.as_slice();
+            return rows.replaced(alloc, processes, &others.rows)?.share();
+        }
+        Ok(Outcomes {
+            rows: Some(rows),
+            others: Some(Shared::new(alloc, others)?),
+        })
+    }
+}
+
+impl OutcomeRows {
+    /// These outcomes, which stay as they are, or `OutOfMemory`.
+    pub fn share(self) -> Result<Outcomes, OutOfMemory>
+        ensures { IfOk result (λ o. o ≡ self) }
+    {
+        let alloc = self.allocator();
+        Ok(Outcomes {
+            rows: Some(Shared::new(alloc, self)?),
+            others: None,
+        })
     }
 }
 

@@ -8,10 +8,8 @@ use bsp_model::{
 };
 use bsp_table::Area;
 use std::alloc::Global;
-use std::mem::replace;
 
 /// What a turn leaves in lists, its memory first. They lie in a box, so that an outcome and a context that move take few words with them.
-#[derive(Drop)]
 pub struct TurnLists {
     /// The memory after computing, and the stores that were made, in order.
     pub local: LocalMemory,
@@ -27,6 +25,20 @@ pub struct TurnLists {
     pub pushes: Seq<Area>,
     /// The printed lines, in order.
     pub lines: PrintedLines,
+}
+
+impl Drop for TurnLists {
+    fn drop(self) {
+        let Self {
+            local,
+            puts,
+            gets,
+            sends,
+            pops,
+            pushes,
+            lines,
+        } = self;
+    }
 }
 
 impl TurnLists {
@@ -104,13 +116,7 @@ impl TurnLists {
 impl TryCopy for TurnLists {
     fn copy(&self) -> Result<TurnLists, OutOfMemory> {
         let mut copy = TurnLists::new(self.gets.allocator());
-        match self.local.copy() {
-            Ok(local) => drop(replace(&mut copy.local, local)),
-            Err(error) => {
-                drop(copy);
-                return Err(error);
-            }
-        }
+        copy.local = self.local.copy()?;
         let appended = copy.append_requests(self);
         appended.and(Ok(copy))
     }

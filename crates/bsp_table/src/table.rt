@@ -13,10 +13,15 @@ use std::marker::Model;
 pub type Slot = SharedSeq<Area>;
 
 /// The registration table: slots, oldest first (Hill et al. 1998). A run keeps at most `MOST_SLOTS` of them. Its copies share them.
-#[derive(Drop)]
 pub struct Table {
     pub(crate) alloc: Global,
     pub(crate) slots: SharedSeq<Slot>,
+}
+
+impl Drop for Table {
+    fn drop(self) {
+        let Self { alloc, slots } = self;
+    }
 }
 
 impl Model for Table {

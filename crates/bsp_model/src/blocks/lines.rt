@@ -12,8 +12,7 @@ impl Blocks<Words> {
         ensures ok { OnOk result (self.new ≡ self.old ++ words.now ∷ []) }
         ensures err { OnErr result (self.new ≡ self.old) }
     {
-        self.add(LineHead, &[], words)?;
-        Ok(())
+        self.add(LineHead, &[], words)
     }
 }
 

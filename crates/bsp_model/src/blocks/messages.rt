@@ -22,8 +22,7 @@ impl Blocks<Message> {
         ensures err { OnErr result (self.new ≡ self.old) }
     {
         let tag_len = tag.len();
-        self.add(MessageHead { tag_len }, tag, words)?;
-        Ok(())
+        self.add(MessageHead { tag_len }, tag, words)
     }
 }
 

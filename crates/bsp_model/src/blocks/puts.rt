@@ -1,10 +1,9 @@
 //! Puts in two lists.
 
-ghost use Rattle.std.specs.Prelude.{◌≡◌, ◌<◌, ◌++◌, ◌∷◌, [], length, Some, OnErr, OnOk, IfOk, slice_get};
+ghost use Rattle.std.specs.Prelude.{◌≡◌, ◌<◌, ◌++◌, ◌∷◌, [], length, Some, OnErr, OnOk, slice_get};
 
 use crate::block::PutHead;
-use crate::{Blocks, BlocksRef, OutOfMemory, Put, Words};
-use std::alloc::Global;
+use crate::{Blocks, BlocksRef, OutOfMemory, Put};
 
 /// A put that stands in a list of puts.
 #[derive(Clone, Copy)]
@@ -24,8 +23,7 @@ impl Blocks<Put> {
         ensures ok { OnOk result (self.new ≡ self.old ++ record { target = target; start = start; words = words.now } ∷ []) }
         ensures err { OnErr result (self.new ≡ self.old) }
     {
-        self.add(PutHead { target, start }, &[], words)?;
-        Ok(())
+        self.add(PutHead { target, start }, &[], words)
     }
 }
 
@@ -42,18 +40,5 @@ impl<'a> BlocksRef<'a, Put> {
             start: head.start,
             words,
         }
-    }
-
-    /// A copy of the put at a place, with words of its own.
-    pub fn copy_at(&self, alloc: Global, place: usize) -> Result<Put, OutOfMemory>
-        requires { place < length self.now }
-        ensures { IfOk result (λ put. slice_get self.now place ≡ Some put) }
-    {
-        let put = self.at(place);
-        Ok(Put {
-            target: put.target,
-            start: put.start,
-            words: Words::from_slice(alloc, put.words)?,
-        })
     }
 }

@@ -1,10 +1,9 @@
 //! Messages on their way in two lists.
 
-ghost use Rattle.std.specs.Prelude.{◌≡◌, ◌<◌, ◌++◌, ◌∷◌, [], length, Some, OnErr, OnOk, IfOk, slice_get};
+ghost use Rattle.std.specs.Prelude.{◌≡◌, ◌<◌, ◌++◌, ◌∷◌, [], length, Some, OnErr, OnOk, slice_get};
 
 use crate::block::SendHead;
-use crate::{Blocks, BlocksRef, OutOfMemory, Send, Words};
-use std::alloc::Global;
+use crate::{Blocks, BlocksRef, OutOfMemory, Send};
 
 /// A message that stands in a list of messages on their way.
 #[derive(Clone, Copy)]
@@ -25,8 +24,7 @@ impl Blocks<Send> {
         ensures err { OnErr result (self.new ≡ self.old) }
     {
         let tag_len = tag.len();
-        self.add(SendHead { target, tag_len }, tag, words)?;
-        Ok(())
+        self.add(SendHead { target, tag_len }, tag, words)
     }
 }
 
@@ -44,18 +42,5 @@ impl<'a> BlocksRef<'a, Send> {
             tag,
             words,
         }
-    }
-
-    /// A copy of the message at a place, with words of its own.
-    pub fn copy_at(&self, alloc: Global, place: usize) -> Result<Send, OutOfMemory>
-        requires { place < length self.now }
-        ensures { IfOk result (λ send. slice_get self.now place ≡ Some send) }
-    {
-        let send = self.at(place);
-        Ok(Send {
-            target: send.target,
-            tag: Words::from_slice(alloc, send.tag)?,
-            words: Words::from_slice(alloc, send.words)?,
-        })
     }
 }

@@ -12,9 +12,14 @@ use std::alloc::Global;
 use std::marker::Model;
 
 /// For each process, by its number, blocks in order; all lie in four lists. A process at which no blocks were put has none.
-#[derive(Drop)]
 pub struct BlockColumn<X: Block> {
     pairs: Pairs<(X::Head, usize), u64>,
+}
+
+impl<X: Block> Drop for BlockColumn<X> {
+    fn drop(self) {
+        let Self { pairs } = self;
+    }
 }
 
 impl<X: Block> Model for BlockColumn<X> {
@@ -60,14 +65,6 @@ impl<X: Block> BlockColumn<X> {
         self.pairs.clear();
     }
 
-    /// Takes away the blocks of the processes from `place` on.
-    #[inline(always)]
-    pub fn cut(&mut self, place: usize)
-        ensures { AreCut [] (row_at self.old) place (row_at self.new) }
-    {
-        self.pairs.cut(place);
-    }
-
     /// Whether no process has blocks, for sure: where it is false, all may still have none.
     #[inline(always)]
     pub fn is_empty(&self) -> bool
@@ -91,8 +88,7 @@ impl<X: Block> BlockColumn<X> {
         ensures ok { OnOk result (IsPut [] (row_at self.old) place blocks.now (row_at self.new)) }
         ensures err { OnErr result (AreCut [] (row_at self.old) place (row_at self.new)) }
     {
-        self.pairs.put_pair(place, blocks.heads, blocks.words)?;
-        Ok(())
+        self.pairs.put_pair(place, blocks.heads, blocks.words)
     }
 
     /// Gives the processes from `place` on what `more` has from the process `from` on, and before `to`. The processes behind them have none. After
@@ -107,7 +103,6 @@ impl<X: Block> BlockColumn<X> {
         ensures ok { OnOk result (AreTaken [] (row_at self.old) place (row_at more.now) from to (row_at self.new)) }
         ensures err { OnErr result (AreCut [] (row_at self.old) place (row_at self.new)) }
     {
-        self.pairs.take_range(place, &more.pairs, from, to)?;
-        Ok(())
+        self.pairs.take_range(place, &more.pairs, from, to)
     }
 }

@@ -10,10 +10,15 @@ use std::alloc::Global;
 use std::marker::Model;
 
 /// For each process, by its number, two rows, whose items lie in two lists.
-#[derive(Drop)]
 pub struct Pairs<A, B> {
     firsts: Column<A>,
     seconds: Column<B>,
+}
+
+impl<A: Drop, B: Drop> Drop for Pairs<A, B> {
+    fn drop(self) {
+        let Self { firsts, seconds } = self;
+    }
 }
 
 impl<A, B> Model for Pairs<A, B> {
@@ -65,16 +70,16 @@ impl<A: Copy, B: Copy> Pairs<A, B> {
     pub fn reserve(&mut self, processes: usize) -> Result<(), OutOfMemory>
         ensures { self.new ≡ self.old }
     {
-        self.firsts.reserve(processes)?;
-        self.seconds.reserve(processes)
+        let firsts = self.firsts.reserve(processes);
+        firsts.and(self.seconds.reserve(processes))
     }
 
     /// Makes room for a share of the rows that others have.
     pub fn reserve_like(&mut self, like: &Pairs<A, B>, share: Share) -> Result<(), OutOfMemory>
         ensures { self.new ≡ self.old }
     {
-        self.firsts.reserve_like(&like.firsts, share)?;
-        self.seconds.reserve_like(&like.seconds, share)
+        let firsts = self.firsts.reserve_like(&like.firsts, share);
+        firsts.and(self.seconds.reserve_like(&like.seconds, share))
     }
 
     /// Leaves the rows from a process on out.
@@ -82,8 +87,8 @@ impl<A: Copy, B: Copy> Pairs<A, B> {
     pub fn cut(&mut self, place: usize)
         ensures { AreCut ([], []) (pair_at self.old) place (pair_at self.new) }
     {
-        self.firsts.cut(place);
-        self.seconds.cut(place);
+        self.firsts.truncate(place);
+        self.seconds.truncate(place);
     }
 
     /// Takes all rows away. Their room stays.
@@ -105,13 +110,12 @@ impl<A: Copy, B: Copy> Pairs<A, B> {
         ensures ok { OnOk result (IsPut ([], []) (pair_at self.old) place (first.now, second.now) (pair_at self.new)) }
         ensures err { OnErr result (AreCut ([], []) (pair_at self.old) place (pair_at self.new)) }
     {
-        self.seconds.cut(place);
-        self.firsts.put(place, first)?;
-        if let Err(error) = self.seconds.put(place, second) {
-            self.firsts.cut(place);
-            return Err(error);
+        let firsts = self.firsts.put(place, first);
+        let both = firsts.and(self.seconds.put(place, second));
+        if both.is_err() {
+            self.cut(place);
         }
-        Ok(())
+        both
     }
 
     /// Makes the rows that others have from `from` on, and before `to`, those of the processes from `place` on, and leaves those behind them
@@ -127,12 +131,11 @@ impl<A: Copy, B: Copy> Pairs<A, B> {
             (AreTaken ([], []) (pair_at self.old) place (pair_at more.now) from to (pair_at self.new)) }
         ensures err { OnErr result (AreCut ([], []) (pair_at self.old) place (pair_at self.new)) }
     {
-        self.seconds.cut(place);
-        self.firsts.take_range(place, &more.firsts, from, to)?;
-        if let Err(error) = self.seconds.take_range(place, &more.seconds, from, to) {
-            self.firsts.cut(place);
-            return Err(error);
+        let firsts = self.firsts.take_range(place, &more.firsts, from, to);
+        let both = firsts.and(self.seconds.take_range(place, &more.seconds, from, to));
+        if both.is_err() {
+            self.cut(place);
         }
-        Ok(())
+        both
     }
 }

@@ -3,7 +3,8 @@
 ghost use Rattle.std.specs.Prelude.{◌≡◌, ◌<◌, ◌≤◌, ◌++◌, ℕ, [], length, OnErr, OnOk};
 ghost use Rattle.bsp_model.specs.Columns.{row_at, AreCut, AreTaken, IsPut};
 
-use crate::{OutOfMemory, Share, SharedSeq, TryCopy};
+use crate::seq::append_copies;
+use crate::{OutOfMemory, Share, SharedSeq};
 use std::alloc::Global;
 use std::marker::Model;
 
@@ -30,20 +31,6 @@ fn fill<T: Drop>(rows: &mut Vec<SharedSeq<T>>, count: usize) -> Result<(), OutOf
 {
     while rows.len() < count {
         rows.push(SharedSeq::new())?;
-    }
-    Ok(())
-}
-
-/// Adds copies of lists, which share their items. After `OutOfMemory` some of them are added.
-fn add_copies<T: Drop>(
-    rows: &mut Vec<SharedSeq<T>>,
-    more: &[SharedSeq<T>],
-) -> Result<(), OutOfMemory>
-    ensures ok { OnOk result (rows.new.items ≡ rows.old.items ++ more.now) }
-    ensures before { (k : ℕ) → k < length rows.old.items → row_at rows.new.items k ≡ row_at rows.old.items k }
-{
-    for row in more {
-        rows.push(row.copy()?)?;
     }
     Ok(())
 }
@@ -131,6 +118,6 @@ impl<T: Drop> SharedColumn<T> {
             return Ok(());
         }
         fill(&mut self.rows, place)?;
-        add_copies(&mut self.rows, &more.rows[from..to])
+        append_copies(&mut self.rows, &more.rows[from..to])
     }
 }

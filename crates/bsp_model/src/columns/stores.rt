@@ -43,17 +43,14 @@ impl Pairs<Range, u64> {
         ensures err { OnErr result (pair_at self.new place ≡ ([], [])) }
     {
         if stores.ranges.len() == 1 && stores.stand_in(stores.ranges[0], memory) {
-            self.put_pair(place, stores.ranges, &[])?;
-            return Ok(());
+            return self.put_pair(place, stores.ranges, &[]);
         }
         let Some(_) = range_beside(stores.ranges, stores.values) else {
-            self.put_pair(place, stores.ranges, stores.values)?;
-            return Ok(());
+            return self.put_pair(place, stores.ranges, stores.values);
         };
         self.cut(place);
         let words = stores.to_words(memory.alloc)?;
-        self.put_pair(place, stores.ranges, words.as_slice())?;
-        Ok(())
+        self.put_pair(place, stores.ranges, words.as_slice())
     }
 
     /// The same for those that a turn made, beside the memory that it left.

@@ -71,10 +71,12 @@ impl PutRows {
         ends.clear();
         memories.clear();
         lists.clear();
-        outcomes.keep_room(OutcomeRows {
+        let rows = OutcomeRows {
             ends,
             memories,
             lists,
-        })
+        };
+        *outcomes = rows.share()?;
+        Ok(())
     }
 }

@@ -12,7 +12,8 @@ impl OutcomeRows {
         ensures { IfOk result (λ o. o ≡ []) }
     {
         let mut rows = OutcomeRows::new(alloc)?;
-        let reserved = rows.reserve(count);
+        let ends = rows.ends.reserve(count);
+        let reserved = ends.and(rows.memories.reserve(count));
         reserved.and(Ok(rows))
     }
 
@@ -23,14 +24,6 @@ impl OutcomeRows {
         let mut rows = OutcomeRows::with_capacity(alloc, count)?;
         let reserved = rows.lists.reserve(count);
         reserved.and(Ok(rows))
-    }
-
-    /// Makes room for so many outcomes more, but not in their lists.
-    fn reserve(&mut self, count: usize) -> Result<(), OutOfMemory>
-        ensures { self.new ≡ self.old }
-    {
-        self.ends.reserve(count)?;
-        self.memories.reserve(count)
     }
 
     /// Makes a share of the room that other outcomes take.

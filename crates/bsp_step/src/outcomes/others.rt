@@ -9,10 +9,15 @@ use crate::{OutcomeRows, Outcomes};
 use bsp_model::ProcessSet;
 
 /// The outcomes of some processes, which are in ascending order.
-#[derive(Drop)]
 pub struct Others {
     pub processes: Vec<usize>,
     pub rows: OutcomeRows,
+}
+
+impl Drop for Others {
+    fn drop(self) {
+        let Self { processes, rows } = self;
+    }
 }
 
 /// The first process from a number on in a list of them in ascending order, or a number that is no process's.

@@ -6,7 +6,7 @@ ghost use Rattle.bsp_model.specs.Replaced.{IsAscending};
 ghost use Rattle.bsp_step.specs.OutcomeParts.{outcome_of};
 
 use crate::{OutcomeRows, Outcomes, PutRows};
-use bsp_model::{LineColumn, Memories, OutOfMemory, Share, Shared};
+use bsp_model::{LineColumn, Memories, OutOfMemory, Share};
 use std::alloc::Global;
 
 /// Whether lists for so many of all processes begin with their share of room. For very few it is cheaper that the lists that are used grow.
@@ -36,8 +36,10 @@ impl Outcomes {
     pub fn into_room(self, alloc: Global, count: usize) -> Result<OutcomeRows, OutOfMemory>
         ensures { IfOk result (λ o. o ≡ []) }
     {
-        let Outcomes { rows, others } = self;
-        drop(others);
+        let mut outcomes = self;
+        drop(outcomes.others.take());
+        let rows = outcomes.rows.take();
+        drop(outcomes);
         let Some(rows) = rows else {
             return OutcomeRows::with_room(alloc, count);
         };
@@ -73,17 +75,6 @@ impl Outcomes {
         }
     }
 
-    /// Keeps lists in which others can be gathered, in the place of no outcomes.
-    pub(crate) fn keep_room(&mut self, room: OutcomeRows) -> Result<(), OutOfMemory>
-        requires none { self.old ≡ [] }
-        requires empty { room ≡ [] }
-        ensures { self.new ≡ [] }
-    {
-        let alloc = room.allocator();
-        self.rows.insert(Shared::new(alloc, room)?);
-        Ok(())
-    }
-
     /// Takes all memories away, and makes room for so many. Where these outcomes are as many, or more but not very many more, there is room for the
     /// share that so many of their memories have. Or `OutOfMemory`.
     pub fn make_room_for_memories(
@@ -99,16 +90,6 @@ impl Outcomes {
                 rows.reserve_memories(memories, Share::of(count, rows.len()))
             }
             _ => memories.reserve(count),
-        }
-    }
-
-    /// The lists of all processes, where none lies apart.
-    fn all_rows(&self) -> Option<&OutcomeRows>
-        ensures { IfSome result (λ rows. rows.now ≡ self.now) }
-    {
-        match (&self.rows, &self.others) {
-            (Some(rows), None) => Some(rows),
-            _ => None,
         }
     }
 
@@ -143,8 +124,8 @@ impl Outcomes {
             return self.copy_memories(memories);
         }
         memories.clear();
-        memories.reserve(processes.len())?;
-        self.push_memories(processes, memories)
+        let reserved = memories.reserve(processes.len());
+        reserved.and(self.push_memories(processes, memories))
     }
 
     /// Adds copies of the memories of some processes to `memories`. After `OutOfMemory` some of them are added.
@@ -171,10 +152,10 @@ impl Outcomes {
     fn copy_lines(&self, lines: &mut LineColumn) -> Result<(), OutOfMemory>
         ensures { OnOk result ((p : ℕ) → row_at lines.new p ≡ (outcome_of self.now p).lines) }
     {
-        lines.clear();
-        if let Some(rows) = self.all_rows() {
+        if let (Some(rows), None) = (&self.rows, &self.others) {
             return rows.copy_lines(lines);
         }
+        lines.clear();
         for pid in 0..self.len() {
             lines.put(pid, &self.lines(pid))?;
         }

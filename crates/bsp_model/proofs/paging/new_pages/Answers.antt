@@ -5,8 +5,9 @@ use Rattle.bsp_model.proofs.paging.new_pages.Goals as goal
 pub loop-k-preserved : goal.loop-k-preserved
 loop-k-preserved c = record {
   count = search rules;
+  room = search rules;
   words =
-      rw c.in_ok-push.ensures.items
+      rw c.push_reserved.ensures.items
       (new_page_more c.args.pages.now c.loop-k.new.items c.index-pages-first.result c.in_ok-with_words.field-0 c.args.words.now _ c.args.first c.args.start c.loop-k.k
       c.saturating_sub-before.result c.saturating_sub-place.result c.min-here.result _
       c.loop-k.invariant.count c.requires.start

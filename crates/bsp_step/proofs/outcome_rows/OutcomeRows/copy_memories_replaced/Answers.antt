@@ -6,6 +6,7 @@ use Rattle.bsp_step.specs.OutcomeParts.{OutcomeParts}
 use Rattle.bsp_step.specs.declared.lists.TurnEnd.{TurnEnd}
 use Rattle.bsp_step.specs.declared.lists.Lists.{Lists}
 use Rattle.bsp_step.specs.Inside.Outcomes.{outcomes_of}
+use Rattle.bsp_step.proofs.BothOk.{on_second_ok}
 use Rattle.bsp_step.proofs.OutcomeColumns.{length-outcomes_of, memories-outcomes_of}
 use Rattle.bsp_step.proofs.outcome_rows.OutcomeRows.copy_memories_replaced.Goals as goal
 
@@ -32,9 +33,9 @@ returns c =
     let own = c.self.inside in
     let new = c.new.inside in
     let processes = c.args.processes.now in
-    on_ok_weaker c.add_replaced.result
+    on_ok_weaker c.and.result
     (λ e. e
     ∙ ap (λ (ms : List (List ℕ)). replaced ms processes new.memories) (memories_are own.ends.items own.memories own.lists.value c.args.self.now c.self.invariant.count c.self.view_is)
     ∙ ap (λ (ms : List (List ℕ)). replaced (map (λ (o : OutcomeParts). o.memory) c.args.self.now) processes ms) (memories_are new.ends.items new.memories new.lists.value c.args.new.now c.new.invariant.count c.new.view_is)
     ∙ sym (map-replaced (λ (o : OutcomeParts). o.memory) c.args.self.now processes c.args.new.now))
-    c.add_replaced.ensures
+    (on_second_ok _ c.reserve_like-reserved.result c.add_replaced.result c.and.result c.and.ensures c.add_replaced.ensures)

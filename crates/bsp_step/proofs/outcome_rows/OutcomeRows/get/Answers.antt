@@ -33,7 +33,7 @@ get-requires c =
 
 -- the parts that are found make the outcome
 parts_of : (c : After-from)
-    → record { fault = c.fault.result; ended = c.index-end.result.now.ended; memory = c.get-memory.result; stores = c.get.result; puts = c.get-2.result; gets = c.row.result.now; sends = c.get-3.result; pops = c.row-2.result.now; pushes = c.row-3.result.now; tag = c.tag.result; lines = c.get-4.result; work = c.from.result }
+    → record { fault = c.first.result; ended = c.index-end.result.now.ended; memory = c.get-memory.result; stores = c.get.result; puts = c.get-2.result; gets = c.row.result.now; sends = c.get-3.result; pops = c.row-2.result.now; pushes = c.row-3.result.now; tag = c.first-2.result; lines = c.get-4.result; work = c.from.result }
     ≡ outcome_at c.self.inside.ends.items c.self.inside.memories c.self.inside.lists.value c.args.pid
 parts_of c =
     let r = c.self.inside in
@@ -41,7 +41,7 @@ parts_of c =
     c.index-end.ensures ∙ get_or_default r.ends.items c.args.pid c.index-end.result.now no_end (within r c.args.self.now c.args.pid c.self.view_is c.requires) in
     let all : c.deref-lists.result.now ≡ r.lists.value = c.deref-lists.ensures in
     λ i. record {
-      fault = (c.fault.ensures ∙ ap (λ (l : Lists). first_at l.faults c.args.pid) all) i;
+      fault = (c.first.ensures ∙ ap (λ (l : Lists). first_at l.faults c.args.pid) all) i;
       ended = (end i).ended;
       memory = c.get-memory.ensures i;
       stores = (c.get.ensures ∙ ap (λ (l : Lists). stores_beside l.stores c.args.pid c.get-memory.result) all ∙ ap (stores_beside r.lists.value.stores c.args.pid) c.get-memory.ensures) i;
@@ -50,7 +50,7 @@ parts_of c =
       sends = (c.get-3.ensures ∙ ap (λ (l : Lists). row_at l.sends c.args.pid) all) i;
       pops = (c.row-2.ensures ∙ ap (λ (l : Lists). row_at l.pops c.args.pid) all) i;
       pushes = (c.row-3.ensures ∙ ap (λ (l : Lists). row_at l.pushes c.args.pid) all) i;
-      tag = (c.tag.ensures ∙ ap (λ (l : Lists). first_at l.tags c.args.pid) all) i;
+      tag = (c.first-2.ensures ∙ ap (λ (l : Lists). first_at l.tags c.args.pid) all) i;
       lines = (c.get-4.ensures ∙ ap (λ (l : Lists). row_at l.lines c.args.pid) all) i;
       work = (c.from.ensures ∙ ap (λ (e : TurnEnd). e.work) end) i;
     }

@@ -1,10 +1,11 @@
 use Rattle.std.proofs.Common.{◌≡◌, ◌<◌, ◌≤◌, ◌+◌, ◌-◌, ◌++◌, ℕ, List, [], length, take, inl, inr, ap, sym, ◌∙◌, arith}
 use Rattle.std.specs.Prelude.{slice_range}
 use Rattle.std.proofs.lemmas.Bool.{cases_lt}
+use Rattle.std.proofs.lemmas.Result.{on_ok_weaker}
 use Rattle.std.proofs.lemmas.List.{get_or_append_left, get_or-append_right, get_or-take, get_or_past, length-append}
 use Rattle.std.proofs.lemmas.List.Edits.{length-between, get_or-between}
 use Rattle.bsp_model.specs.Columns.{row_at, AreTaken}
-use Rattle.bsp_model.proofs.columns.column.Column.take_range.Goals as goal
+use Rattle.bsp_model.proofs.rows.Rows.take_range.Goals as goal
 
 -- Rows behind those before a place; past the last one each is empty.
 taken_rows : {X : Type 0} (old front more new : List (List X)) (place from to end : ℕ) → length front ≡ place → ((k : ℕ) → row_at front k ≡ row_at (take place old) k) → from < end → end ≤ to → end ≤ length more
@@ -29,8 +30,9 @@ taken_rows old front more new place from to end long same some within inside pas
 
 pub returns-clause-ok : goal.returns-clause-ok
 returns-clause-ok g c =
-    rw (← c.self.view_is, ← c.more.view_is)
-    (taken_rows c.self.inside.rows c.fill.new.self c.more.inside.rows c.append_range.new.self c.args.place c.args.from c.args.to c.min-to.result
+    on_ok_weaker _
+    (λ is. taken_rows c.args.self.now c.fill.new.self c.args.more.now c.append_range.new.self c.args.place c.args.from c.args.to c.min-to.result
     c.in_ok-fill.ensures.count (λ k. c.in_ok-fill.ensures.same k ∙ ap (λ rows. row_at rows k) c.truncate.ensures) c.if-to-from.false
     (omega (arith, c.min-to.ensures, c.len.ensures)) (omega (arith, c.min-to.ensures, c.len.ensures)) (λ k above below. omega (arith, c.min-to.ensures, c.len.ensures, above, below))
-    (c.in_ok-append_range.ensures.ok ∙ ap (λ rows. c.fill.new.self ++ slice_range rows c.args.from c.min-to.result) c.as_ref.ensures))
+    (is ∙ ap (λ rows. c.fill.new.self ++ slice_range rows c.args.from c.min-to.result) c.as_ref.ensures))
+    c.append_range.ensures.ok
