@@ -15,11 +15,9 @@ pub mod SeenRuns
 pub mod KeptCosts
 pub mod TakingOver
 pub mod Settings
-pub mod UnrecordedRuns
 pub mod ViewsWithin
 pub mod SameLines
 pub mod SharedCells
 pub mod RunErrors
 pub mod Gathered
-pub mod PrintedLines
 pub mod WorkerRows

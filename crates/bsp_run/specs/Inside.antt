@@ -2,8 +2,6 @@ pub mod Tape
 pub mod History
 pub mod Opening
 pub mod Record
-pub mod Printed
-pub mod IsUnrecorded
 pub mod Settings
 pub mod Condition
 pub mod Lines

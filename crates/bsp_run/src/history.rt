@@ -170,7 +170,7 @@ impl History {
 }
 
 /// Adds copies of the memories of these views, where there are none yet. After `OutOfMemory` some of them are added.
-pub(crate) fn add_memories(all: &mut Memories, views: &Views) -> Result<(), OutOfMemory>
+pub fn add_memories(all: &mut Memories, views: &Views) -> Result<(), OutOfMemory>
     requires { all.old ≡ [] }
     ensures { OnOk result (all.new ≡ map (λ v. v.memory) views.now) }
 {

@@ -1,6 +1,6 @@
 //! Turns one after the other, and what is kept from turn to turn.
 
-ghost use Rattle.std.specs.Prelude.{◌≡◌, ◌<◌, [], All, OnOk, length};
+ghost use Rattle.std.specs.Prelude.{◌≡◌, ◌<◌, ◌++◌, All, OnOk, length};
 ghost use Rattle.bsp_step.specs.Turn.{turn_of};
 ghost use Rattle.bsp_run.specs.Shares.{turns_of};
 
@@ -27,8 +27,8 @@ pub(crate) fn spare_of(alloc: Global, spare: &mut Option<Outcome>) -> Result<Out
     }
 }
 
-/// The turns of some processes, in the order of the list, by the calling thread. `processes` are places in `views`. The gate is passed before each turn,
-/// with its place in the list, counted from 0. The turns are gathered in `rows`, in the lists of the spare outcome that is there.
+/// Adds the turns of some processes to `rows`, in the order of the list, by the calling thread. `processes` are places in `views`. The gate is passed
+/// before each turn, with its place in the list, counted from `first` on. The spare outcome that is there lends its lists.
 ///
 /// # Errors
 /// `OutOfMemory` where the calling thread is refused memory for a turn. Those before it are then in `rows`, and there is no spare outcome.
@@ -39,16 +39,16 @@ pub fn turns_by_one<P: Program, G: Gate>(
     program: &P,
     views: &Views,
     processes: &[usize],
+    first: usize,
     gate: &G,
 ) -> Result<(), OutOfMemory>
-    requires processes { All (λ p. p < length views.now) processes.now }
-    requires empty { rows.old ≡ [] }
-    ensures { OnOk result (rows.new
-        ≡ turns_of (turn_of (P.acts program.now) (P.ending program.now)) views.now processes.now) }
+    requires { All (λ p. p < length views.now) processes.now }
+    ensures { OnOk result (rows.new ≡ rows.old
+        ++ turns_of (turn_of (P.acts program.now) (P.ending program.now)) views.now processes.now) }
 {
     let mut last = spare_of(alloc, spare)?;
     for (place, process) in processes.iter().enumerate() {
-        gate.pass(place);
+        gate.pass(first.saturating_add(place));
         last = turn_reusing(alloc, program, &views.get(*process), last)?;
         match rows.push(&mut last) {
             Ok(()) => {}

@@ -9,8 +9,7 @@ ghost use Rattle.bsp_run.specs.Setting.{next_setting};
 ghost use Rattle.bsp_run.specs.Ending.{end_of};
 ghost use Rattle.bsp_run.specs.Condition.{no_view};
 ghost use Rattle.bsp_run.specs.Inside.Opening.{CanOpen, state_of};
-ghost use Rattle.bsp_run.specs.Inside.IsUnrecorded.{HaveTurns};
-ghost use Rattle.bsp_run.specs.Inside.Settings.{IsSettingOf, AreTurned};
+ghost use Rattle.bsp_run.specs.Inside.Settings.{IsSettingOf, AreTurned, HaveTurns};
 
 use crate::ending::end_of;
 use crate::keeping::next_table;
@@ -46,7 +45,7 @@ impl Model for Views {
 
 impl Views {
     /// What the processes see with these memories and queues, or `OutOfMemory`.
-    pub(crate) fn open(alloc: Global, setting: Setting, cells: Cells) -> Result<Views, OutOfMemory>
+    pub fn open(alloc: Global, setting: Setting, cells: Cells) -> Result<Views, OutOfMemory>
         requires { CanOpen setting.args (state_of cells setting.table setting.tag_size) }
         ensures { IfOk result (λ v. v ≡ views_of setting.args setting.step (state_of cells setting.table setting.tag_size)) }
     {
@@ -85,11 +84,7 @@ impl Views {
     }
 
     /// What the processes see in superstep 0 of the run of a lawful input.
-    pub(crate) fn first(
-        alloc: Global,
-        input: &Input,
-        recording: Recording,
-    ) -> Result<Views, OutOfMemory>
+    pub fn first(alloc: Global, input: &Input, recording: Recording) -> Result<Views, OutOfMemory>
         requires { input_fault input.now ≡ None }
         ensures { IfOk result (λ views. views ≡ open_views (start input.now)) }
     {
@@ -109,14 +104,14 @@ impl Views {
     }
 
     /// What all processes see alike.
-    pub(crate) fn setting(&self) -> &Setting
+    pub fn setting(&self) -> &Setting
         ensures { IsSettingOf self.now result.now }
     {
         &self.setting
     }
 
     /// What all processes see alike in the next superstep, where these views were open, and the turns left these outcomes.
-    pub(crate) fn next_setting(&self, outcomes: &Outcomes) -> Result<Setting, OutOfMemory>
+    pub fn next_setting(&self, outcomes: &Outcomes) -> Result<Setting, OutOfMemory>
         requires turned { (r : Run) × AreTurned r self.now outcomes.now }
         ensures { (r : Run) → AreTurned r self.now outcomes.now
             → IfOk result (λ setting. setting ≡ next_setting r) }
@@ -131,11 +126,7 @@ impl Views {
     }
 
     /// How a superstep of these outcomes ends the run, or none where it ends by delivery.
-    pub(crate) fn end(
-        &self,
-        alloc: Global,
-        outcomes: &Outcomes,
-    ) -> Result<Option<Status>, OutOfMemory>
+    pub fn end(&self, alloc: Global, outcomes: &Outcomes) -> Result<Option<Status>, OutOfMemory>
         requires turns { (r : Run) × HaveTurns r self.now outcomes.now }
         ensures { (r : Run) → HaveTurns r self.now outcomes.now
             → IfOk result (λ end. end ≡ end_of (length r.past) r.state.table outcomes.now) }
@@ -145,7 +136,7 @@ impl Views {
     }
 
     /// No cells, in the room of these where no copy shares it.
-    pub(crate) fn into_room(self, alloc: Global) -> Cells
+    pub fn into_room(self, alloc: Global) -> Cells
         ensures { result ≡ [] }
     {
         self.cells.into_room(alloc)

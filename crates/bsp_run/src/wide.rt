@@ -70,7 +70,7 @@ pub fn wide_turns<P: Program, G: Gate, R: Threads + Sync>(
     gate.enter(DEPTH_OF_SUPERSTEPS, views.setting().step);
     if workers.min(processes.len()) < 2 {
         let TurnRows { outcomes, spare } = rows;
-        return turns_by_one(alloc, outcomes, spare, program, views, processes, gate);
+        return turns_by_one(alloc, outcomes, spare, program, views, processes, 0, gate);
     }
     let turns = Turns { program, views };
     by_workers(rt, alloc, &turns, rows, processes, workers, gate)

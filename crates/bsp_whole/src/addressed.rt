@@ -1,6 +1,6 @@
 //! The requests that are addressed to a process.
 
-ghost use Rattle.std.specs.Prelude.{◌≡◌, ◌≤◌, ◌++◌, ◌==◌, length, map, filter, IfOk, OnOk};
+ghost use Rattle.std.specs.Prelude.{◌≡◌, ◌<◌, ◌≤◌, ◌++◌, ◌==◌, length, map, filter, slice_get, IfOk, OnOk, Some};
 ghost use Rattle.bsp_step.specs.ViewParts.{IsQueue};
 ghost use Rattle.bsp_deliver.specs.Requests.{all_puts, all_sends};
 ghost use Rattle.bsp_deliver.specs.Delivery.{delivery_parts, message_of};
@@ -8,9 +8,35 @@ ghost use Rattle.bsp_whole.specs.Inbox.{inbox_of};
 
 use crate::Inbox;
 use bsp_model::limits::MOST_PROCESSES;
-use bsp_model::{OutOfMemory, Put, PutsRef, Send, SendsRef, Seq};
+use bsp_model::{OutOfMemory, Put, PutsRef, Send, SendsRef, Seq, Words};
 use bsp_step::Outcomes;
 use std::alloc::Global;
+
+/// A copy of the put at a place, with words of its own.
+fn copied_put(alloc: Global, puts: &PutsRef<'_>, place: usize) -> Result<Put, OutOfMemory>
+    requires { place < length puts.now }
+    ensures { IfOk result (λ put. slice_get puts.now place ≡ Some put) }
+{
+    let put = puts.at(place);
+    Ok(Put {
+        target: put.target,
+        start: put.start,
+        words: Words::from_slice(alloc, put.words)?,
+    })
+}
+
+/// A copy of the message at a place, with words of its own.
+fn copied_send(alloc: Global, sends: &SendsRef<'_>, place: usize) -> Result<Send, OutOfMemory>
+    requires { place < length sends.now }
+    ensures { IfOk result (λ send. slice_get sends.now place ≡ Some send) }
+{
+    let send = sends.at(place);
+    Ok(Send {
+        target: send.target,
+        tag: Words::from_slice(alloc, send.tag)?,
+        words: Words::from_slice(alloc, send.words)?,
+    })
+}
 
 /// Adds one sender's puts to `d`, in issue order.
 fn add_puts(
@@ -23,7 +49,7 @@ fn add_puts(
 {
     for place in 0..puts.len() {
         if puts.at(place).target == d {
-            list.push((sender, puts.copy_at(list.allocator(), place)?))?;
+            list.push((sender, copied_put(list.allocator(), puts, place)?))?;
         }
     }
     Ok(())
@@ -40,7 +66,7 @@ fn add_sends(
 {
     for place in 0..sends.len() {
         if sends.at(place).target == d {
-            list.push((sender, sends.copy_at(list.allocator(), place)?))?;
+            list.push((sender, copied_send(list.allocator(), sends, place)?))?;
         }
     }
     Ok(())

@@ -15,4 +15,4 @@ pub use inboxes::Inbox;
 pub use parcels::{answers_same, parcel_same};
 pub use plain::{run_plain, run_result};
 pub use sessions::{scratch_run, session_run};
-pub use wide::run_wide;
+pub use wide::{run_result_wide, run_wide};

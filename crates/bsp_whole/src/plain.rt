@@ -14,7 +14,8 @@ ghost use Rattle.bsp_whole.specs.Inside.Turns.{AreTurnsOf};
 use bsp_deliver::{Cells, deliver_some};
 use bsp_model::{Input, OutOfMemory};
 use bsp_pool::Open;
-use bsp_run::{History, Phase, RunError, RunResult, Tape, lawful_result, numbers, turns_by_one};
+use bsp_run::{History, Phase, RunError, RunResult, Tape, numbers, turns_by_one};
+use bsp_scratch::lawful_result;
 use bsp_step::{Outcomes, Program};
 use std::alloc::Global;
 
@@ -44,7 +45,7 @@ fn plain_outcomes<P: Program>(
     let mut spare = None;
     let views = tape.open_views();
     match turns_by_one(
-        alloc, &mut rows, &mut spare, program, views, processes, &Open,
+        alloc, &mut rows, &mut spare, program, views, processes, 0, &Open,
     ) {
         Ok(()) => {
             drop(spare);

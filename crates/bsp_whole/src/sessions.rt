@@ -14,7 +14,8 @@ ghost use Rattle.bsp_incr.specs.Inside.Replies.{done, reply_to, replies_from, re
 use bsp_incr::{Batch, EditError, Reply, Session, Update, scratch_run_behind};
 use bsp_model::{Input, OutOfMemory};
 use bsp_pool::{Gate, Open};
-use bsp_run::{History, RunError};
+use bsp_run::{History, RunError, RunResult};
+use bsp_scratch::lawful_result;
 use bsp_step::Program;
 use std::alloc::{AllocError, Global};
 use std::thread::Threads;
@@ -152,7 +153,7 @@ pub fn session_run<P: Program + Drop, R: Threads + Sync, G: Gate>(
     Ok(replies?)
 }
 
-/// `scratch_run_behind` an open gate.
+/// The replies of `session_run` without their updates: each accepted input is run by itself on the calling thread, from its first superstep.
 pub fn scratch_run<P: Program>(
     alloc: Global,
     program: &P,
@@ -165,5 +166,9 @@ pub fn scratch_run<P: Program>(
     ensures lawful { OnOk result (input_fault input ≡ None) }
     ensures input { IfErr result (λ e. input_fault input ≡ input_fault_of e) }
 {
-    scratch_run_behind(alloc, program, input, batches, &Open)
+    let make = |input: &Input| -> Result<RunResult, OutOfMemory>
+        requires { input_fault input.now ≡ None }
+        ensures { IfOk result (λ given. given ≡ result_of (run (turn_of (P.acts program.entry.now) (P.ending program.entry.now)) input.entry.now)) }
+    { lawful_result(alloc, program, input, &Open) };
+    scratch_run_behind(alloc, input, batches, &make, &Open)
 }

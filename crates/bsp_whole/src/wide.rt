@@ -6,7 +6,8 @@ ghost use Rattle.bsp_model.specs.Input.{input_fault};
 ghost use Rattle.bsp_step.specs.Turn.{turn_of};
 ghost use Rattle.bsp_run.specs.Run.{advance, after_delivery, open_views, run};
 ghost use Rattle.bsp_run.specs.Condition.{is_open};
-ghost use Rattle.bsp_run.specs.Law.{IsBspRun};
+ghost use Rattle.bsp_run.specs.Law.{IsBspRun, IsBspResult};
+ghost use Rattle.bsp_run.specs.Result.{result_of};
 ghost use Rattle.bsp_run.specs.RunErrors.{input_fault_of};
 ghost use Rattle.bsp_whole.specs.Inside.Turns.{AreTurnsOf};
 
@@ -14,7 +15,10 @@ use crate::plain::checked;
 use bsp_deliver::Cells;
 use bsp_model::{Input, OutOfMemory};
 use bsp_pool::Gate;
-use bsp_run::{History, Phase, RunError, Tape, TurnRows, numbers, wide_deliveries, wide_turns};
+use bsp_run::{
+    History, Phase, RunError, RunResult, Tape, TurnRows, numbers, wide_deliveries, wide_turns,
+};
+use bsp_scratch::wide_result;
 use bsp_step::{Outcomes, Program};
 use std::alloc::Global;
 use std::thread::Threads;
@@ -149,4 +153,25 @@ pub fn run_wide<P: Program, G: Gate, R: Threads + Sync>(
     checked(input)?;
     let history = wide_history(rt, alloc, program, input, workers, gate)?;
     Ok(history)
+}
+
+/// What `run_result` answers, by 1 to 16 workers, the calling thread among them. It goes on alone until workers are worth their start. Where the gate
+/// tells no time they start at once.
+pub fn run_result_wide<P: Program, G: Gate, R: Threads + Sync>(
+    rt: &R,
+    alloc: Global,
+    program: &P,
+    input: &Input,
+    workers: usize,
+    gate: &G,
+) -> Result<RunResult, RunError>
+    requires workers { (0 < workers) × (workers ≤ 16) }
+    ensures lawful { OnOk result (input_fault input.now ≡ None) }
+    ensures result { IfOk result (λ r. r ≡ result_of (run (turn_of (P.acts program.now) (P.ending program.now)) input.now)) }
+    ensures law { IfOk result (λ r. IsBspResult (turn_of (P.acts program.now) (P.ending program.now)) input.now r) }
+    ensures input { IfErr result (λ e. input_fault input.now ≡ input_fault_of e) }
+{
+    checked(input)?;
+    let result = wide_result(rt, alloc, program, input, workers, gate)?;
+    Ok(result)
 }

@@ -3,9 +3,9 @@ use Rattle.std.specs.Prelude.{◌≡◌, ◌<◌, ℕ, List, map, length, slice_
 use Rattle.bsp_step.specs.ViewParts.{ViewParts}
 use Rattle.bsp_step.specs.OutcomeParts.{OutcomeParts}
 use Rattle.bsp_run.specs.declared.setting.Setting.{Setting}
-use Rattle.bsp_run.specs.declared.phase.Phase.TheVariants.{Turned}
+use Rattle.bsp_run.specs.declared.phase.Phase.TheVariants.{Open, Turned}
 use Rattle.bsp_run.specs.Run.{Run, open_views}
-use Rattle.bsp_run.specs.Condition.{IsRun, no_view}
+use Rattle.bsp_run.specs.Condition.{AreOutcomesOf, IsRun, no_view}
 
 -- Each process sees the setting.
 pub record IsSettingOf (vs : List ViewParts) (setting : Setting) : Type 0 where
@@ -20,3 +20,10 @@ pub record AreTurned (r : Run) (vs : List ViewParts) (os : List OutcomeParts) : 
   pub phase : r.phase ≡ Turned
   pub views : vs ≡ open_views r
   pub outcomes : r.outcomes ≡ os
+
+-- The open superstep of a run, in which the processes see these views, and the outcomes of its turns.
+pub record HaveTurns (r : Run) (vs : List ViewParts) (os : List OutcomeParts) : Type 0 where
+  pub run : IsRun r
+  pub phase : r.phase ≡ Open
+  pub views : vs ≡ open_views r
+  pub turns : AreOutcomesOf (open_views r) os

@@ -55,6 +55,11 @@ fn unrecorded_runs_with_an_allocation_refused(rt: HostRuntime) {
 }
 
 #[test]
+fn unrecorded_wide_runs_with_an_allocation_refused(rt: HostRuntime) {
+    find_runs(&rt, rt.alloc(), Way::UnrecordedWide);
+}
+
+#[test]
 fn wide_runs_with_an_allocation_refused(rt: HostRuntime) {
     find_runs(&rt, rt.alloc(), Way::Wide);
 }

@@ -11,7 +11,7 @@ use bsp_pool::{Gate, Open};
 use bsp_programs::Bundled;
 use bsp_right::{run_broadcast, run_matvec, run_prefix, run_rank};
 use bsp_run::{History, RunError, RunResult};
-use bsp_whole::{run_plain, run_result, run_wide, session_run};
+use bsp_whole::{run_plain, run_result, run_result_wide, run_wide, session_run};
 use std::alloc::Global;
 use std::process::Abort;
 use std::thread::Threads;
@@ -24,6 +24,7 @@ pub enum Way {
     Computing,
     Wide,
     Unrecorded,
+    UnrecordedWide,
     Opened,
     Replied,
 }
@@ -114,6 +115,10 @@ fn is_run_on<R: Threads + Sync, G: Gate>(
             is_recorded(run, &known.end)
         }
         Way::Unrecorded => is_given(run_result(alloc, &program, input), &known.end),
+        Way::UnrecordedWide => {
+            let given = run_result_wide(rt, alloc, &program, input, workers, gate);
+            is_given(given, &known.end)
+        }
         Way::Opened => is_opened(rt, alloc, known, input.copy()?, workers, gate),
         Way::Replied => is_replied(rt, alloc, known, input.copy()?, workers, gate),
     }
@@ -136,11 +141,12 @@ pub fn is_run<R: Threads + Sync, G: Gate>(
     found
 }
 
-static WAYS: [Way; 6] = [
+static WAYS: [Way; 7] = [
     Way::Plain,
     Way::Computing,
     Way::Wide,
     Way::Unrecorded,
+    Way::UnrecordedWide,
     Way::Opened,
     Way::Replied,
 ];
@@ -163,8 +169,10 @@ fn each_call_runs_each_program(rt: HostRuntime) {
 fn any_number_of_workers_gives_the_sums(rt: HostRuntime) {
     let known = &SITTINGS[SUMS_OF_ONES_AT].known;
     for workers in 1..17 {
-        let found = is_run(&rt, rt.alloc(), Way::Wide, known, workers, &Open);
-        assert!(rt; found == Ok(true), "{workers} workers");
+        for way in [Way::Wide, Way::UnrecordedWide] {
+            let found = is_run(&rt, rt.alloc(), way, known, workers, &Open);
+            assert!(rt; found == Ok(true), "{workers} workers");
+        }
     }
 }
 

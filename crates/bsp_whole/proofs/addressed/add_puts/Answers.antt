@@ -5,7 +5,7 @@ use Rattle.bsp_model.specs.declared.request.Put.{Put}
 use Rattle.bsp_deliver.proofs.Senders.{item_at}
 use Rattle.bsp_whole.proofs.AddressedRequests.{added_yes, added_no}
 use Rattle.bsp_whole.proofs.addressed.add_puts.Goals as goal
-use Rattle.bsp_whole.proofs.addressed.add_puts.Goals.{then-at-d+in_ok-copy_at+in_ok-push, else-at-d}
+use Rattle.bsp_whole.proofs.addressed.add_puts.Goals.{then-at-d+in_ok-copied_put+in_ok-push, else-at-d}
 
 pub loop-place-preserved : goal.loop-place-preserved
 loop-place-preserved c =
@@ -16,9 +16,9 @@ loop-place-preserved c =
     let from : Put → ℕ × Put = λ r. (c.args.sender, r) in
     let to : Put → Bool = λ r. r.target == c.args.d in
     elim c.if-at-d.branch [
-      | then-at-d+in_ok-copy_at+in_ok-push w ↦
-          let r : Put = w.in_ok-copy_at.field-0 in
-          let is : r ≡ get_or all i r = item_at all i r w.in_ok-copy_at.ensures in
+      | then-at-d+in_ok-copied_put+in_ok-push w ↦
+          let r : Put = w.in_ok-copied_put.field-0 in
+          let is : r ≡ get_or all i r = item_at all i r w.in_ok-copied_put.ensures in
           let target : r.target ≡ c.args.d = ap (λ (x : Put). x.target) (is ∙ get_or_from_slice_get all i seen r c.at.ensures) ∙ w.if-at-d.true in
           w.list-is ∙ w.in_ok-push.ensures.ok ∙ added_yes from to all i r c.args.list.now c.loop-place.list here is (eq-eqb _ _ target) c.loop-place.invariant
       | else-at-d w ↦ w.list-is ∙ added_no from to all i seen c.args.list.now c.loop-place.list here (item_at all i seen c.at.ensures) (ne_eqb _ _ w.if-at-d.false) c.loop-place.invariant

@@ -1,4 +1,6 @@
-use Rattle.std.proofs.Common.{◌∙◌, ap, length}
+use Rattle.std.proofs.Common.{◌∙◌, ◌++◌, List, ap, length}
+use Rattle.bsp_step.specs.OutcomeParts.{OutcomeParts}
+use Rattle.bsp_run.specs.Shares.{turns_of}
 use Rattle.std.proofs.lemmas.Result.{IfOk-weaker}
 use Rattle.bsp_step.specs.Turn.{turn_of}
 use Rattle.bsp_run.specs.Run.{open_views}
@@ -7,8 +9,8 @@ use Rattle.bsp_run.proofs.Runs.{open_phase}
 use Rattle.bsp_whole.proofs.Supersteps.{are_known, turns_made}
 use Rattle.bsp_whole.proofs.plain.plain_outcomes.Goals as goal
 
-pub turns_by_one-requires-clause-processes : goal.turns_by_one-requires-clause-processes
-turns_by_one-requires-clause-processes g c κs within =
+pub turns_by_one-requires-after_bounds : goal.turns_by_one-requires-after_bounds
+turns_by_one-requires-after_bounds g c κs within =
     are_known c.args.processes.now (length (open_views c.args.tape.now)) c.open_views-views.result.now c.requires.processes (ap length c.open_views-views.ensures.views)
 
 pub returns-in-Ok : goal.returns-in-Ok
@@ -19,5 +21,5 @@ returns-in-Ok g c =
     IfOk-weaker c.share.result _ (AreTurnsOf (turn_of acts ending) (open_views c.args.tape.now))
     (λ os e.
     turns_made acts ending (open_views c.args.tape.now) c.open_views-views.result.now c.args.processes.now os
-    c.open_views-views.ensures.views (c.open_views-views.ensures.limits opened) c.requires.processes (e ∙ c.in-Ok.ensures))
+    c.open_views-views.ensures.views (c.open_views-views.ensures.limits opened) c.requires.processes (e ∙ c.in-Ok.ensures ∙ ap (λ (rows : List OutcomeParts). rows ++ turns_of (turn_of acts ending) c.open_views-views.result.now c.args.processes.now) c.in_ok-rows.ensures))
     c.share.ensures

@@ -1,7 +1,7 @@
 use Rattle.std.proofs.Common.{◌≡◌, ◌∙◌, ap, sym, subst}
+use Rattle.bsp_run.specs.Inside.Settings.{HaveTurns}
 use Rattle.bsp_run.specs.Run.{Run, open_views, after_turns, phase_after}
 use Rattle.bsp_run.specs.Inside.Tape.{run_of}
-use Rattle.bsp_run.specs.Inside.IsUnrecorded.{HaveTurns}
 use Rattle.bsp_run.specs.Condition.{AreOutcomesOf, IsRun}
 use Rattle.bsp_run.proofs.Phases.{turned_is_run}
 use Rattle.bsp_run.proofs.tape.Tape.turned.Goals as goal

@@ -1,11 +1,11 @@
 use Rattle.std.proofs.Common.{◌≡◌, List, All, Option, IfOk, sym, subst, length, arith}
+use Rattle.bsp_run.specs.Inside.Settings.{HaveTurns}
 use Rattle.bsp_run.specs.declared.result.Status.{Status}
 use Rattle.bsp_table.specs.declared.area.Area.{Area}
 use Rattle.bsp_table.specs.NextTable.{AreSlots}
 use Rattle.bsp_step.specs.OutcomeParts.{OutcomeParts}
 use Rattle.bsp_run.specs.Ending.{end_of}
 use Rattle.bsp_run.specs.Run.{Run}
-use Rattle.bsp_run.specs.Inside.IsUnrecorded.{HaveTurns}
 use Rattle.bsp_run.proofs.Conditions.{count_of_outcomes, pops_are_slots}
 use Rattle.bsp_run.proofs.Settings.{open_setting}
 use Rattle.bsp_run.proofs.views.Views.end.Goals as goal

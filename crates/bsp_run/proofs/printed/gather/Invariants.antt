@@ -1,7 +1,0 @@
-use Rattle.std.proofs.Common.{◌≡◌, ◌<◌, ℕ}
-use Rattle.bsp_model.specs.Columns.{row_at}
-use Rattle.bsp_run.specs.Inside.Printed.{lines_in}
-use Rattle.bsp_run.proofs.printed.gather.Given as goal
-
-abbrev pub invariant-loop-pid : goal.invariant-loop-pid
-invariant-loop-pid l = (p : ℕ) → p < l.pid → row_at l.all p ≡ lines_in l.printed p

@@ -1,0 +1,4 @@
+pub mod PartLists
+pub mod PrintedLines
+pub mod UnrecordedRuns
+pub mod Underway

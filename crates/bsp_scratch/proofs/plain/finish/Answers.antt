@@ -1,0 +1,17 @@
+use Rattle.bsp_model.specs.declared.input.Input.{Input}
+use Rattle.bsp_step.specs.Turn.{turn_of}
+use Rattle.bsp_run.specs.Run.{run}
+use Rattle.bsp_scratch.proofs.Underway.{is_over}
+use Rattle.bsp_scratch.proofs.plain.finish.Goals as goal
+
+pub result_at_end-requires : goal.result_at_end-requires
+result_at_end-requires g c =
+    let input : Input = c.args.input.now in
+    let turn = turn_of (g.P.Program.acts c.args.program.now) (g.P.Program.ending c.args.program.now) in
+    record { ended = (run turn input, is_over turn input c.in-Ok.views c.supersteps.new.kept c.in-Ok.ensures.stands c.in-Ok.ensures.over) }
+
+pub returns-in-Ok : goal.returns-in-Ok
+returns-in-Ok g c =
+    let input : Input = c.args.input.now in
+    let turn = turn_of (g.P.Program.acts c.args.program.now) (g.P.Program.ending c.args.program.now) in
+    c.result_at_end.ensures (run turn input) (is_over turn input c.in-Ok.views c.supersteps.new.kept c.in-Ok.ensures.stands c.in-Ok.ensures.over)

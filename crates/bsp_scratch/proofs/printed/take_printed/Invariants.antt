@@ -1,0 +1,6 @@
+use Rattle.std.proofs.Common.{◌≡◌, take}
+use Rattle.bsp_scratch.specs.Inside.Printed.{lines_in}
+use Rattle.bsp_scratch.proofs.printed.take_printed.Given as goal
+
+abbrev pub invariant-loop-superstep : goal.invariant-loop-superstep
+invariant-loop-superstep l = l.lines ≡ lines_in (take l.superstep-index l.printed) l.pid

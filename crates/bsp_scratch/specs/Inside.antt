@@ -1,0 +1,3 @@
+pub mod IsUnrecorded
+pub mod Printed
+pub mod Underway

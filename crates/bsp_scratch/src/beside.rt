@@ -1,0 +1,127 @@
+//! A run of which no record is kept, by several workers.
+
+ghost use Rattle.std.specs.Prelude.{◌≡◌, ◌≤◌, ◌<◌, None, IfOk};
+ghost use Rattle.bsp_model.specs.Input.{input_fault};
+ghost use Rattle.bsp_step.specs.Turn.{turn_of};
+ghost use Rattle.bsp_scratch.specs.Parts.{AreOfRun};
+ghost use Rattle.bsp_run.specs.Run.{run};
+ghost use Rattle.bsp_scratch.specs.Inside.Underway.{IsUnderway};
+ghost use Rattle.bsp_run.specs.Result.{result_of};
+
+use crate::crew::Crew;
+use crate::pace::Pace;
+use crate::plain::{finish, lawful_result, result_at_end, supersteps};
+use crate::shared_run::SharedRun;
+use crate::unrecorded::Unrecorded;
+use bsp_model::{Input, OutOfMemory, Shared};
+use bsp_pool::Gate;
+use bsp_run::{Recording, RunResult, Views, numbers};
+use bsp_step::Program;
+use std::alloc::Global;
+use std::marker::Brand;
+use std::thread::{Threads, available_parallelism, join};
+
+/// How many workers a run has beside the calling thread: where the gate tells the time, no more than there are processors.
+fn workers_beside<G: Gate, R: Threads>(rt: &R, workers: usize, gate: &G) -> usize {
+    if gate.now().is_none() {
+        return workers.saturating_sub(1);
+    }
+    match available_parallelism(rt) {
+        Ok(processors) => workers.min(processors.get()).saturating_sub(1),
+        Err(_) => 0,
+    }
+}
+
+/// What a run gives that is under way, beside a crew that is there.
+fn beside_crew<J: SharedRun, P: Program, G: Gate, R: Threads + Sync>(
+    rt: &R,
+    alloc: Global,
+    program: &P,
+    input: &Input,
+    views: Shared<Views>,
+    kept: Unrecorded,
+    crew: &Crew<J>,
+    gate: &G,
+) -> Result<RunResult, OutOfMemory>
+    requires lawful { input_fault input.now ≡ None }
+    requires under_way { IsUnderway (turn_of (P.acts program.now) (P.ending program.now)) input.now views kept }
+    requires crew { AreOfRun (turn_of (P.acts program.now) (P.ending program.now)) input.now J.turn J.views }
+    ensures { IfOk result (λ r. r ≡ result_of (run (turn_of (P.acts program.now) (P.ending program.now)) input.now)) }
+{
+    let attend = ||
+        requires { J.turn ≡ turn_of (P.acts program.now) (P.ending program.now) }
+    { crew.attend(rt, alloc, program, gate) };
+    let conduct = move || -> Result<RunResult, OutOfMemory>
+        requires lawful { input_fault input.now ≡ None }
+        requires under_way { IsUnderway (turn_of (P.acts program.now) (P.ending program.now)) input.now views kept }
+        requires crew { AreOfRun (turn_of (P.acts program.now) (P.ending program.now)) input.now J.turn J.views }
+        ensures { IfOk result (λ r. r ≡ result_of (run (turn_of (P.acts program.entry.now) (P.ending program.entry.now)) input.entry.now)) }
+    {
+        let result = finish(alloc, program, input, views, kept, Some(crew), gate);
+        crew.dismiss();
+        result
+    };
+    join(rt, attend, conduct).1
+}
+
+/// What a run gives that is under way, by so many workers beside the calling thread.
+fn by_crew<J: SharedRun, P: Program, G: Gate, R: Threads + Sync>(
+    rt: &R,
+    alloc: Global,
+    program: &P,
+    input: &Input,
+    views: Shared<Views>,
+    kept: Unrecorded,
+    workers: usize,
+    gate: &G,
+) -> Result<RunResult, OutOfMemory>
+    requires lawful { input_fault input.now ≡ None }
+    requires under_way { IsUnderway (turn_of (P.acts program.now) (P.ending program.now)) input.now views kept }
+    requires run { AreOfRun (turn_of (P.acts program.now) (P.ending program.now)) input.now J.turn J.views }
+    ensures { IfOk result (λ r. r ≡ result_of (run (turn_of (P.acts program.now) (P.ending program.now)) input.now)) }
+{
+    let crew: Result<Crew<J>, OutOfMemory> = Crew::new(alloc, workers);
+    let Ok(crew) = crew else {
+        return finish::<Brand, P, G>(alloc, program, input, views, kept, None, gate);
+    };
+    beside_crew(rt, alloc, program, input, views, kept, &crew, gate)
+}
+
+/// What `lawful_result` answers, by 1 to 16 workers, the calling thread among them. It goes on alone until workers are worth their start. Where
+/// the gate tells no time they start at once.
+pub fn wide_result<P: Program, G: Gate, R: Threads + Sync>(
+    rt: &R,
+    alloc: Global,
+    program: &P,
+    input: &Input,
+    workers: usize,
+    gate: &G,
+) -> Result<RunResult, OutOfMemory>
+    requires lawful { input_fault input.now ≡ None }
+    requires workers { (0 < workers) × (workers ≤ 16) }
+    ensures { IfOk result (λ r. r ≡ result_of (run (turn_of (P.acts program.now) (P.ending program.now)) input.now)) }
+{
+    let useful = workers.min(input.mems.len());
+    if useful < 2 {
+        return lawful_result(alloc, program, input, gate);
+    }
+    let processes = numbers(input.mems.len());
+    let views = Shared::new(alloc, Views::first(alloc, input, Recording::None)?)?;
+    let mut kept = Unrecorded::new(alloc, input, processes);
+    let pace = Some(Pace::new(gate));
+    let alone = supersteps::<Brand, P, G>(
+        alloc, program, input, views, &mut kept, None, pace, gate,
+    );
+    let views = match alone {
+        Ok(views) => views,
+        Err(error) => {
+            drop(kept);
+            return Err(error);
+        }
+    };
+    if kept.is_over(input.limit) {
+        return result_at_end(alloc, views, kept);
+    }
+    let beside = workers_beside(rt, useful, gate);
+    by_crew::<Brand, P, G, R>(rt, alloc, program, input, views, kept, beside, gate)
+}

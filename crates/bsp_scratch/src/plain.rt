@@ -1,0 +1,149 @@
+//! A run of which no record is kept, on one thread or beside a crew.
+
+ghost use Rattle.std.specs.Prelude.{◌≡◌, ◌≤◌, false, is_some, None, IfNone, IfOk, IfSome, OnOk, map};
+ghost use Rattle.bsp_model.specs.Input.{input_fault};
+ghost use Rattle.bsp_step.specs.Turn.{turn_of};
+ghost use Rattle.bsp_scratch.specs.Parts.{AreOfRun};
+ghost use Rattle.bsp_run.specs.Run.{Run, start, after_turns, open_views, run};
+ghost use Rattle.bsp_scratch.specs.Inside.IsUnrecorded.{IsUnrecorded, HasEnded, AreTaken};
+ghost use Rattle.bsp_scratch.specs.Inside.Underway.{IsUnderway, Stands};
+ghost use Rattle.bsp_run.specs.Result.{result_of};
+
+use crate::crew::Crew;
+use crate::pace::Pace;
+use crate::shared_run::SharedRun;
+use crate::unrecorded::{Unrecorded, all_turns};
+use bsp_model::{Input, OutOfMemory, Shared};
+use bsp_pool::Gate;
+use bsp_run::{Phase, Recording, RunResult, Views, numbers};
+use bsp_step::Program;
+use std::alloc::Global;
+use std::marker::Brand;
+
+/// Takes the turns of the open superstep of a run of which no record is kept, in which the processes see these views.
+fn unrecorded_turns<J: SharedRun, P: Program, G: Gate>(
+    alloc: Global,
+    program: &P,
+    views: &Shared<Views>,
+    kept: &mut Unrecorded,
+    crew: Option<&Crew<J>>,
+    gate: &G,
+) -> Result<(), OutOfMemory>
+    requires opened { (r : Run) × ((r.phase ≡ Phase.Open) × IsUnrecorded r views.now kept.old) }
+    requires turn { IfSome crew (λ _. J.turn ≡ turn_of (P.acts program.now) (P.ending program.now)) }
+    requires seen { IfSome crew (λ _. views.now ≡ J.views kept.old.step) }
+    ensures step { kept.new.step ≡ kept.old.step }
+    ensures taken { (r : Run) → r.phase ≡ Phase.Open → IsUnrecorded r views.now kept.old
+        → OnOk result (AreTaken (is_some kept.new.end)
+        (after_turns r (map (turn_of (P.acts program.now) (P.ending program.now)) (open_views r))) views.now kept.new) }
+{
+    let step = kept.step;
+    let taken = &mut kept.taken;
+    all_turns(alloc, program, views, taken, step, crew, gate)?;
+    kept.end = views.end(alloc, &kept.taken.outcomes)?;
+    Ok(())
+}
+
+/// Whether workers are worth their start, where there is a pace.
+fn calls_workers<G: Gate>(pace: &mut Option<Pace>, gate: &G) -> bool
+    ensures never { IfNone pace.old (result ≡ false) }
+    ensures none { IfNone pace.old (pace.new ≡ None) }
+{
+    match pace {
+        Some(pace) => pace.is_worth_workers(gate),
+        None => false,
+    }
+}
+
+/// The supersteps that are left of a run; with a pace, those until workers are worth their start. It answers the views at which they end.
+pub(crate) fn supersteps<J: SharedRun, P: Program, G: Gate>(
+    alloc: Global,
+    program: &P,
+    input: &Input,
+    mut views: Shared<Views>,
+    kept: &mut Unrecorded,
+    crew: Option<&Crew<J>>,
+    mut pace: Option<Pace>,
+    gate: &G,
+) -> Result<Shared<Views>, OutOfMemory>
+    requires lawful { input_fault input.now ≡ None }
+    requires under_way { IsUnderway (turn_of (P.acts program.now) (P.ending program.now)) input.now views kept.old }
+    requires crew { IfSome crew (λ _. AreOfRun (turn_of (P.acts program.now) (P.ending program.now)) input.now J.turn J.views) }
+    ensures stands { IfOk result
+        (λ next. Stands (turn_of (P.acts program.now) (P.ending program.now)) input.now next kept.new kept.new.end) }
+    ensures over { IfNone pace (IfOk result (λ _. kept.new.end ≡ None → input.now.limit ≤ kept.new.step)) }
+{
+    for _step in kept.step..input.limit {
+        if calls_workers(&mut pace, gate) {
+            return Ok(views);
+        }
+        match unrecorded_turns(alloc, program, &views, kept, crew, gate) {
+            Ok(()) => {}
+            Err(error) => {
+                drop(views);
+                return Err(error);
+            }
+        }
+        if kept.end.is_some() {
+            return Ok(views);
+        }
+        views = kept.go_on(alloc, views)?;
+    }
+    Ok(views)
+}
+
+/// What a run gives whose supersteps are over.
+pub(crate) fn result_at_end(
+    alloc: Global,
+    views: Shared<Views>,
+    mut kept: Unrecorded,
+) -> Result<RunResult, OutOfMemory>
+    requires ended { (r : Run) × HasEnded kept.end r views kept }
+    ensures { (r : Run) → HasEnded kept.end r views kept → IfOk result (λ given. given ≡ result_of r) }
+{
+    let result = kept.result(alloc, &views);
+    drop(views);
+    drop(kept);
+    result
+}
+
+/// What a run gives that is under way.
+pub(crate) fn finish<J: SharedRun, P: Program, G: Gate>(
+    alloc: Global,
+    program: &P,
+    input: &Input,
+    views: Shared<Views>,
+    mut kept: Unrecorded,
+    crew: Option<&Crew<J>>,
+    gate: &G,
+) -> Result<RunResult, OutOfMemory>
+    requires lawful { input_fault input.now ≡ None }
+    requires under_way { IsUnderway (turn_of (P.acts program.now) (P.ending program.now)) input.now views kept }
+    requires crew { IfSome crew (λ _. AreOfRun (turn_of (P.acts program.now) (P.ending program.now)) input.now J.turn J.views) }
+    ensures { IfOk result (λ r. r ≡ result_of (run (turn_of (P.acts program.now) (P.ending program.now)) input.now)) }
+{
+    match supersteps(alloc, program, input, views, &mut kept, crew, None, gate) {
+        Ok(views) => result_at_end(alloc, views, kept),
+        Err(error) => {
+            drop(kept);
+            Err(error)
+        }
+    }
+}
+
+/// What the run of a program on an input gives, where the input is known to be lawful. It keeps no record of the run: beside the lines and the costs, memory for
+/// one superstep. The gate is passed before each turn.
+pub fn lawful_result<P: Program, G: Gate>(
+    alloc: Global,
+    program: &P,
+    input: &Input,
+    gate: &G,
+) -> Result<RunResult, OutOfMemory>
+    requires lawful { input_fault input.now ≡ None }
+    ensures { IfOk result (λ r. r ≡ result_of (run (turn_of (P.acts program.now) (P.ending program.now)) input.now)) }
+{
+    let processes = numbers(input.mems.len());
+    let views = Shared::new(alloc, Views::first(alloc, input, Recording::None)?)?;
+    let kept = Unrecorded::new(alloc, input, processes);
+    finish::<Brand, P, G>(alloc, program, input, views, kept, None, gate)
+}
