@@ -1,5 +1,5 @@
 -- Turns that end alike end a superstep alike, and leave the same table and tag size.
-use Rattle.std.proofs.Common.{◌≡◌, ◌<◌, ◌+◌, ℕ, suc, Bool, cond, not, Option, None, Some, List, [], ◌∷◌, ◌++◌, length, arith, refl, ap, ◌∙◌}
+use Rattle.std.proofs.Common.{◌≡◌, ◌<◌, ◌+◌, ℕ, Bool, cond, not, Option, None, Some, List, ◌++◌, length, refl, ap, ◌∙◌}
 use Rattle.std.specs.Prelude.{◌&&◌, ◌||◌, is_some, unwrap_or}
 use Rattle.std.specs.List.{list_any}
 use Rattle.bsp_model.specs.declared.fault.SyncFault.{SyncFault}
@@ -12,26 +12,15 @@ use Rattle.bsp_run.specs.declared.result.Status.TheVariants.{Faulted, Halted}
 use Rattle.bsp_run.specs.State.{pops_of, pushes_of}
 use Rattle.bsp_run.specs.Ending.{end_of, end_without_fault, fault_at, faults_from}
 use Rattle.bsp_incr.specs.Inside.Alike.{EndsAlike, AllEndAlike}
-use Rattle.bsp_incr.proofs.Likeness.{same_part}
+use Rattle.bsp_incr.proofs.Likeness.{alike_lists, same_part}
 
 -- a test that holds of some outcome
 same_any : (test : OutcomeParts → Bool) (os us : List OutcomeParts) → length os ≡ length us → ((p : ℕ) → p < length us → test (outcome_of os p) ≡ test (outcome_of us p)) → list_any test os ≡ list_any test us
-same_any test [] [] count each = refl
-same_any test [] (u ∷ us) count each = absurd (omega arith)
-same_any test (o ∷ os) [] count each = absurd (omega arith)
-same_any test (o ∷ os) (u ∷ us) count each =
-    let first : test o ≡ test u = each 0 (omega arith) in
-    let rest = same_any test os us (omega arith) (λ p l. each (suc p) (omega arith)) in
-    λ i. first i || rest i
+same_any test = alike_lists (λ o u. test o ≡ test u) (λ os us. list_any test os ≡ list_any test us) refl (λ o u os us first rest. λ i. first i || rest i)
 
 same_faults : (n : ℕ) (os us : List OutcomeParts) → length os ≡ length us → ((p : ℕ) → p < length us → EndsAlike (outcome_of os p) (outcome_of us p)) → faults_from n os ≡ faults_from n us
-same_faults n [] [] count each = refl
-same_faults n [] (u ∷ us) count each = absurd (omega arith)
-same_faults n (o ∷ os) [] count each = absurd (omega arith)
-same_faults n (o ∷ os) (u ∷ us) count each =
-    let first : EndsAlike o u = each 0 (omega arith) in
-    let rest = same_faults (n + 1) os us (omega arith) (λ p l. each (suc p) (omega arith)) in
-    λ i. fault_at n (first.fault i) ++ rest i
+same_faults n os us count each =
+    alike_lists EndsAlike (λ os us. (n : ℕ) → faults_from n os ≡ faults_from n us) (λ n. refl) (λ o u os us first rest n. λ i. fault_at n (first.fault i) ++ rest (n + 1) i) os us count each n
 
 -- the same pops and pushes
 pub same_pops : (os us : List OutcomeParts) → AllEndAlike os us → pops_of os ≡ pops_of us
@@ -74,10 +63,8 @@ same_next_table slots os us h =
     λ i. next_table slots (pops i) (pushes i)
 
 pub same_next_tag_size : (size : ℕ) (os us : List OutcomeParts) → AllEndAlike os us → next_tag_size size os ≡ next_tag_size size us
-same_next_tag_size size [] [] h = refl
-same_next_tag_size size [] (u ∷ us) h = let count = h.count in absurd (omega arith)
-same_next_tag_size size (o ∷ os) [] h = let count = h.count in absurd (omega arith)
-same_next_tag_size size (o ∷ os) (u ∷ us) h = let first : EndsAlike o u = h.each 0 (omega arith) in ap (λ tag. unwrap_or tag size) first.tag
+same_next_tag_size size os us h =
+    alike_lists EndsAlike (λ os us. next_tag_size size os ≡ next_tag_size size us) refl (λ o u os us first rest. ap (λ tag. unwrap_or tag size) first.tag) os us h.count h.each
 
 pub ends_alike-same : (o u : OutcomeParts) → o ≡ u → EndsAlike o u
 ends_alike-same o u e =

@@ -1,5 +1,5 @@
 -- An update, place by place.
-use Rattle.std.proofs.Common.{◌≡◌, ◌<◌, ◌≤◌, ◌↔◌, ◌+◌, ℕ, Bool, true, false, List, [], ◌∷◌, ◌++◌, Option, length, get_or, not, slice_get, arith, refl, sym, ap, ◌∙◌, subst, inl, inr}
+use Rattle.std.proofs.Common.{◌≡◌, ◌<◌, ◌≤◌, ◌↔◌, ◌+◌, ℕ, Bool, true, false, List, [], ◌∷◌, Option, length, get_or, not, slice_get, arith, refl, sym, ap, ◌∙◌, subst, inl, inr}
 use Rattle.std.specs.Prelude.{Contains}
 use Rattle.std.specs.Bool.{Decides}
 use Rattle.std.proofs.lemmas.Bool.{cases_lt, false≢true}
@@ -16,42 +16,22 @@ use Rattle.bsp_run.proofs.Laws.{superstep_at-past_end}
 use Rattle.bsp_incr.specs.declared.reply.Place.{Place}
 use Rattle.bsp_incr.specs.declared.reply.Update.{Update}
 use Rattle.bsp_incr.specs.Inside.Reuse.{serves, needs_turn}
-use Rattle.bsp_incr.specs.Inside.Changes.{differs, differ_in, differ_from, differ, is_touched, touched_in, touched_from, touched, update_of}
+use Rattle.bsp_incr.specs.Inside.Changes.{gathered, turns_in, turn_test, differ, deliveries_in, delivery_test, is_touched, touched, update_of}
 use Rattle.bsp_incr.proofs.Propagation.{Decides-untouched}
 use Rattle.bsp_incr.proofs.Serving.{Decides-serves}
 use Rattle.bsp_incr.specs.Exact.{supersteps_before, delivered_before, view_there, HasTurn, IsServed, IsKept, comes_before, AreInOrder, IsExact}
 use Rattle.bsp_incr.proofs.Updating.{same_update}
-use Rattle.bsp_incr.proofs.PlacesGathered.{none_in_nil, in_cons, cons_here, cons_later, gathered, in_gathered, of_gathered, gathered_in_order}
+use Rattle.bsp_incr.proofs.PlacesGathered.{none_in_nil, in_cons, cons_here, cons_later, in_gathered, of_gathered, gathered_in_order}
 
 -- what the definitions of the update's lists gather
 
-abbrev turns_in : Superstep → ℕ
-turns_in s = length s.views
-
-abbrev turn_test : (ViewParts → ℕ → Bool) → List Superstep → ℕ → Superstep → ℕ → Bool
-turn_test looks olds n s p = differs looks (superstep_at olds n).views s.views p
-
-abbrev deliveries_in : Superstep → ℕ
-deliveries_in s = length s.outcomes
-
-abbrev delivery_test : List Superstep → ℕ → Superstep → ℕ → Bool
-delivery_test olds n s p = is_touched (superstep_at olds n).outcomes s.outcomes p
-
-differ_gathers : (looks : ViewParts → ℕ → Bool) (olds : List Superstep) (n : ℕ) (ss : List Superstep) → differ_from looks n olds ss ≡ gathered turns_in (turn_test looks olds) n ss
-differ_gathers looks olds n [] = refl
-differ_gathers looks olds n (s ∷ later) = ap (λ (ps : List Place). differ_in looks n (superstep_at olds n).views s.views ++ ps) (differ_gathers looks olds (n + 1) later)
-
-touched_gathers : (olds : List Superstep) (n : ℕ) (ss : List Superstep) → touched_from n olds ss ≡ gathered deliveries_in (delivery_test olds) n ss
-touched_gathers olds n [] = refl
-touched_gathers olds n (s ∷ later) = ap (λ (ps : List Place). touched_in n (superstep_at olds n).outcomes s.outcomes ++ ps) (touched_gathers olds (n + 1) later)
-
 differ_is : (looks : ViewParts → ℕ → Bool) (olds news : List Superstep) → differ looks olds news ≡ gathered turns_in (turn_test looks olds) 0 news
 unfolding differ
-differ_is looks olds news = differ_gathers looks olds 0 news
+differ_is looks olds news = refl
 
 touched_is : (olds news : List Superstep) → touched olds news ≡ gathered deliveries_in (delivery_test olds) 0 news
 unfolding touched
-touched_is olds news = touched_gathers olds 0 news
+touched_is olds news = refl
 
 -- a superstep with something in it is there
 inside : (count : Superstep → ℕ) (ss : List Superstep) (k p : ℕ) → ((s : ℕ) → length ss ≤ s → count (superstep_at ss s) ≡ 0) → p < count (superstep_at ss k) → k < length ss
@@ -90,10 +70,6 @@ twice false h = h
 again : (b : Bool) → b ≡ true → not (not b) ≡ true
 again true h = refl
 again false h = h
-
-no_to_yes : (b : Bool) → b ≡ true → not b ≡ false
-no_to_yes true h = refl
-no_to_yes false h = cc
 
 yes_or_no : (b : Bool) → (b ≡ true → ⊥) → not b ≡ true
 yes_or_no true h = absurd (h refl)

@@ -1,6 +1,6 @@
 -- Lists of answers by process, and of the processes whose answer is true.
 use Rattle.std.proofs.Common.{◌≡◌, ◌<◌, ◌+◌, ℕ, zero, suc, Bool, true, false, cond, List, [], ◌∷◌, All, length, get_or, arith, refl, sym, ap, ◌∙◌, subst}
-use Rattle.std.specs.Prelude.{filter, ◌&&◌, nat_eq}
+use Rattle.std.specs.Prelude.{filter, ◌&&◌}
 use Rattle.std.specs.List.{range_with_len}
 use Rattle.std.proofs.lemmas.List.FromFn.{get_or-map-range_with_len, get_or-range_with_len, length-map-range_with_len, length-range_with_len}
 use Rattle.std.proofs.lemmas.List.Kept.{AllPairs-filter}
@@ -64,8 +64,3 @@ filter_twice f g (p ∷ ps) = twice_if f g (f p) p ps (filter_twice f g ps)
 -- all processes, where the test holds everywhere
 pub all_where : (n : ℕ) (test : ℕ → Bool) → ((p : ℕ) → p < n → test p ≡ true) → processes_where n test ≡ range_with_len 0 n
 all_where n test holds = filter_from test (λ _. true) 0 n (λ k low high. holds k (omega arith)) ∙ filter_all (range_with_len 0 n)
-
--- a list that is not empty has an item
-pub not_empty : {X : Type 0} (xs : List X) → nat_eq (length xs) 0 ≡ false → 0 < length xs
-not_empty [] e = cc
-not_empty (x ∷ xs) e = omega arith

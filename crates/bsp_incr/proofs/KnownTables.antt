@@ -1,5 +1,5 @@
 -- What is known of the tables of a run that is made again.
-use Rattle.std.proofs.Common.{◌≡◌, ◌≤◌, ◌<◌, ◌+◌, ℕ, true, List, [], ◌∷◌, Option, None, Some, map, length, get_or, arith, refl, sym, ap, ◌∙◌, subst, length-append}
+use Rattle.std.proofs.Common.{◌≡◌, ◌≤◌, ◌<◌, ◌+◌, ℕ, Bool, true, false, cond, List, [], ◌∷◌, Option, None, Some, map, length, get_or, arith, refl, sym, ap, ◌∙◌, subst, length-append}
 use Rattle.std.proofs.lemmas.Bool.{false≢true}
 use Rattle.bsp_model.specs.declared.input.Input.{Input}
 use Rattle.bsp_table.specs.declared.area.Area.{Area}
@@ -10,13 +10,13 @@ use Rattle.bsp_deliver.specs.SyncFault.{next_tag_size}
 use Rattle.bsp_run.specs.declared.superstep.Superstep.{Superstep}
 use Rattle.bsp_run.specs.State.{State, next_state, pops_of, pushes_of, view_of}
 use Rattle.bsp_run.specs.Ending.{end_of}
-use Rattle.bsp_run.specs.Run.{Run, open_views, after_turns, after_delivery, phase_after}
+use Rattle.bsp_run.specs.Run.{Run, open_views, after_turns, after_delivery}
 use Rattle.bsp_run.specs.Law.{state_at, views_in}
-use Rattle.bsp_run.specs.Condition.{no_view, is_open, is_turned}
+use Rattle.bsp_run.specs.Condition.{no_view, is_open}
 use Rattle.bsp_run.specs.Inside.Record.{IsRecord}
 use Rattle.bsp_run.proofs.Conditions.{view-views_of}
 use Rattle.bsp_run.proofs.Runs.{turns_closed}
-use Rattle.bsp_run.proofs.Records.{superstep, state_at-next, count-next, count-views_in, open_views-in, past-delivered}
+use Rattle.bsp_run.proofs.Records.{superstep, state_at-next, count-next, count-views_in, open_views-in, past-delivered, past-turned}
 use Rattle.bsp_run.proofs.Laws.{taken-opened}
 use Rattle.bsp_incr.specs.declared.compare.known_table.KnownTable.{KnownTable}
 use Rattle.bsp_incr.specs.declared.compare.known_table.KnownTable.TheVariants.{AsBefore, Unknown}
@@ -25,7 +25,8 @@ use Rattle.bsp_incr.specs.Inside.Before.{views_before, delivered_outcomes, views
 use Rattle.bsp_incr.specs.Inside.Known.{HaveSameTable, IsKnown, KnowsTable, KnowsNextTable}
 use Rattle.bsp_incr.proofs.EndLikeness.{same_end, same_next_table, same_next_tag_size}
 use Rattle.bsp_incr.proofs.Propagation.{view-in}
-use Rattle.bsp_incr.proofs.RunBefore.{record_of_law, taken-in, some_taken, nothing_taken, delivered-in, some_delivered, nothing_delivered, views_after-some}
+use Rattle.bsp_incr.proofs.Remaking.{outcomes-turned}
+use Rattle.bsp_incr.proofs.RunBefore.{record_of_law, taken-in, some_taken, nothing_taken, delivered-in, some_delivered, nothing_delivered, next-in}
 use Rattle.bsp_incr.proofs.Staying.{IsStaying, same_after}
 
 -- The state of a superstep has the table and the tag size of another state.
@@ -96,41 +97,20 @@ shares_open turn input k r h made same =
 
 -- What is known where turns end as those of the run before, which ended by delivery.
 pub record EndAsBefore (old : Option Run) (r : Run) (us : List OutcomeParts) : Type 0 where
-  pub some : 0 < length (delivered_outcomes old (length r.past))
   pub same_table : HaveSameTable (views_before old (length r.past)) (open_views r)
   pub alike : AllEndAlike (delivered_outcomes old (length r.past)) us
 
--- the same, of lists by other names
-pub end_as_before : (old : Option Run) (r : Run) (before now us : List OutcomeParts) → before ≡ delivered_outcomes old (length r.past) → now ≡ us → 0 < length before → HaveSameTable (views_before old (length r.past)) (open_views r) → AllEndAlike before now → EndAsBefore old r us
-end_as_before old r before now us b n some same alike =
-    record {
-      some = subst (λ (os : List OutcomeParts). 0 < length os) b some;
-      same_table = same;
-      alike = subst (AllEndAlike (delivered_outcomes old (length r.past))) n (subst (λ (os : List OutcomeParts). AllEndAlike os now) b alike);
-    }
-
 -- The superstep ends by delivery ..
 pub delivers_as_before : (turn : ViewParts → OutcomeParts) (input : Input) (old : Option Run) (r : Run) (us : List OutcomeParts) → IsBefore turn input old → IsRecord turn input r → EndAsBefore old r us → end_of (length r.past) r.state.table us ≡ None
-delivers_as_before turn input None r us h made e = absurd (nothing_delivered (length r.past) 0 e.some)
+delivers_as_before turn input None r us h made e = absurd (nothing_delivered (length r.past) 0 e.alike.some)
 delivers_as_before turn input (Some k) r us h made e =
     let s = length r.past in
-    let past = some_delivered k s 0 e.some in
+    let past = some_delivered k s 0 e.alike.some in
     let shared = shares_open turn input k r h made e.same_table in
     sym (same_end s r.state.table (delivered_outcomes (Some k) s) us e.alike)
     ∙ ap (λ (slots : List (List Area)). end_of s slots (delivered_outcomes (Some k) s)) (sym shared.table)
     ∙ ap (end_of s (state_at turn h.input_before s).table) (delivered-in turn input k s h past)
     ∙ (record_of_law turn h.input_before k h.lawful h.law).goes_on s past
-
-phase-turned : (r : Run) (us : List OutcomeParts) → end_of (length r.past) r.state.table us ≡ None → is_turned (after_turns r us).phase ≡ true
-unfolding after_turns
-phase-turned r us e = ap (λ x. is_turned (phase_after x)) e
-
-pub turned_as_before : (turn : ViewParts → OutcomeParts) (input : Input) (old : Option Run) (r t : Run) (us : List OutcomeParts) → IsBefore turn input old → IsRecord turn input r → EndAsBefore old r us → t ≡ after_turns r us → true ≡ is_turned t.phase
-turned_as_before turn input old r t us h made e is = sym (ap (λ (x : Run). is_turned x.phase) is ∙ phase-turned r us (delivers_as_before turn input old r us h made e))
-
--- the next superstep of the run before
-next-in : (turn : ViewParts → OutcomeParts) (input : Input) (k : Run) (s : ℕ) (h : IsBefore turn input (Some k)) → s < length k.past → views_after (Some k) s ≡ views_in turn h.input_before (s + 1)
-next-in turn input k s h l = views_after-some k s l ∙ (record_of_law turn h.input_before k h.lawful h.law).views (s + 1) (omega (arith, l))
 
 -- .. and the next one has the table and the tag size of the run before.
 next_as_before : (turn : ViewParts → OutcomeParts) (input : Input) (k r t : Run) (h : IsBefore turn input (Some k)) → IsRecord turn input r → EndAsBefore (Some k) r t.outcomes → t.state ≡ r.state → t.past ≡ r.past → HaveSameTable (views_after (Some k) (length t.past)) (open_views (after_delivery t))
@@ -138,9 +118,9 @@ next_as_before turn input k r t h made e state past =
     let s = length r.past in
     let us = t.outcomes in
     let i = h.input_before in
-    let delivered = some_delivered k s 0 e.some in
+    let delivered = some_delivered k s 0 e.alike.some in
     let os = delivered_outcomes (Some k) s in
-    let some : 1 ≤ length us = omega (arith, e.some, e.alike.count) in
+    let some : 1 ≤ length us = omega (arith, e.alike.some, e.alike.count) in
     let shared = shares_next (state_at turn i s) r.state os us (shares_open turn input k r h made e.same_table) e.alike in
     let after : state_at turn i (s + 1) ≡ next_state (state_at turn i s) os = state_at-next turn i s ∙ ap (next_state (state_at turn i s)) (sym (delivered-in turn input k s h delivered)) in
     let views : views_after (Some k) (length t.past) ≡ views_in turn i (s + 1) = ap (λ (xs : List Superstep). views_after (Some k) (length xs)) past ∙ next-in turn input k s h delivered in
@@ -159,19 +139,16 @@ state-turned : (r : Run) (us : List OutcomeParts) → (after_turns r us).state �
 unfolding after_turns
 state-turned r us = refl
 
-past-turned : (r : Run) (us : List OutcomeParts) → (after_turns r us).past ≡ r.past
-unfolding after_turns
-past-turned r us = refl
-
-outcomes-turned : (r : Run) (us : List OutcomeParts) → (after_turns r us).outcomes ≡ us
-unfolding after_turns
-outcomes-turned r us = refl
-
 pub knows_next_as_before : (turn : ViewParts → OutcomeParts) (input : Input) (old : Option Run) (r t : Run) (us : List OutcomeParts) → IsBefore turn input old → IsRecord turn input r → EndAsBefore old r us → t ≡ after_turns r us → KnowsNextTable old t AsBefore
-knows_next_as_before turn input None r t us h made e is = absurd (nothing_delivered (length r.past) 0 e.some)
+knows_next_as_before turn input None r t us h made e is = absurd (nothing_delivered (length r.past) 0 e.alike.some)
 knows_next_as_before turn input (Some k) r t us h made e is = λ _.
     next_as_before turn input k r t h made (subst (EndAsBefore (Some k) r) (sym (ap (λ (x : Run). x.outcomes) is ∙ outcomes-turned r us)) e)
     (ap (λ (x : Run). x.state) is ∙ state-turned r us) (ap (λ (x : Run). x.past) is ∙ past-turned r us)
+
+-- So much is known where it is known whether the turns end alike.
+pub knows_next_if : (old : Option Run) (t : Run) (ends : Bool) (known : KnownTable) → known ≡ cond ends AsBefore Unknown → (ends ≡ true → KnowsNextTable old t AsBefore) → KnowsNextTable old t known
+knows_next_if old t true known is h = subst (KnowsNextTable old t) (sym is) (h refl)
+knows_next_if old t false known is h = subst (KnowsNextTable old t) (sym is) tt
 
 -- A superstep that the run before took after a delivery shows what it showed after that delivery.
 taken_after : (turn : ViewParts → OutcomeParts) (input : Input) (old : Option Run) (s : ℕ) → IsBefore turn input old → 0 < length (views_before old (s + 1)) → views_after old s ≡ views_before old (s + 1)

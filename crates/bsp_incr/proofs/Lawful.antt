@@ -14,8 +14,8 @@ use Rattle.bsp_incr.specs.declared.edit.Edit.{Edit}
 use Rattle.bsp_incr.specs.declared.edit.Edit.TheVariants.{Word, Arg, Limit, Prices}
 use Rattle.bsp_incr.specs.declared.edit.EditFault.{EditFault}
 use Rattle.bsp_incr.specs.declared.edit.EditFault.TheVariants as why
-use Rattle.bsp_incr.specs.declared.edit.EditRefusal.{EditRefusal}
-use Rattle.bsp_incr.specs.Edits.{edit_fault, refusal_or, refusal_from, refusal_of, with_number, edited_by, edited}
+use Rattle.bsp_incr.specs.Edits.{edit_fault, refusal_from, refusal_of, with_number, edited_by, edited}
+use Rattle.bsp_incr.proofs.EditSequences.{none_both}
 
 set_own : (lists : List (List ℕ)) (p a value : ℕ) → map (λ (m : List ℕ). length m) (with_number lists p a value) ≡ map (λ (m : List ℕ). length m) lists
 set_own lists p a value = map-set_same (λ (m : List ℕ). length m) lists p (slice_set (get_or lists p []) a value) [] (length-set (get_or lists p []) a value)
@@ -27,32 +27,16 @@ all_same bound xs ys e =
 abbrev chain : (a b c d e x y : Bool) → Option InputFault
 chain a b c d e x y = cond a (Some NoProcess) (cond b (Some TooMany) (cond c (Some LengthsDiffer) (cond d (Some MemoryTooLong) (cond e (Some ArgsTooLong) (cond x (Some BadLimit) (cond y (Some BadPrice) None))))))
 
-last_tests : (a b c d e x y u v : Bool) → chain a b c d e x y ≡ None → (u ≡ false) → (v ≡ false) → chain a b c d e u v ≡ None
-last_tests true b c d e x y u v h k l = cc
-last_tests false true c d e x y u v h k l = cc
-last_tests false false true d e x y u v h k l = cc
-last_tests false false false true e x y u v h k l = cc
-last_tests false false false false true x y u v h k l = cc
-last_tests false false false false false x y u v h k l = cc
-
-limit_test : (a b c d e x y : Bool) → chain a b c d e x y ≡ None → x ≡ false
-limit_test true b c d e x y h = cc
-limit_test false true c d e x y h = cc
-limit_test false false true d e x y h = cc
-limit_test false false false true e x y h = cc
-limit_test false false false false true x y h = cc
-limit_test false false false false false true y h = cc
-limit_test false false false false false false y h = refl
-
-price_test : (a b c d e x y : Bool) → chain a b c d e x y ≡ None → y ≡ false
-price_test true b c d e x y h = cc
-price_test false true c d e x y h = cc
-price_test false false true d e x y h = cc
-price_test false false false true e x y h = cc
-price_test false false false false true x y h = cc
-price_test false false false false false true y h = cc
-price_test false false false false false false true h = cc
-price_test false false false false false false false h = refl
+-- where no test fails, the last two may be others that do not
+last_tests : (a b c d e x y : Bool) → chain a b c d e x y ≡ None → ((u v : Bool) → u ≡ false → v ≡ false → chain a b c d e u v ≡ None) × (x ≡ false) × (y ≡ false)
+last_tests true b c d e x y h = cc
+last_tests false true c d e x y h = cc
+last_tests false false true d e x y h = cc
+last_tests false false false true e x y h = cc
+last_tests false false false false true x y h = cc
+last_tests false false false false false true y h = cc
+last_tests false false false false false false true h = cc
+last_tests false false false false false false false h = (λ u v k l. λ i. cond (k i) (Some BadLimit) (cond (l i) (Some BadPrice) None), refl, refl)
 
 -- no edit of a word or an argument changes whether an input is lawful
 mems_same : (i : Input) (mems : List (List ℕ)) → map (λ (m : List ℕ). length m) mems ≡ map (λ (m : List ℕ). length m) i.mems → input_fault (record i { mems = mems }) ≡ input_fault i
@@ -82,37 +66,22 @@ edit_lawful i j (Limit n) h k =
     let a = length j.mems == 0 in let b = nat_lt 64 (length j.mems) in let c = not (length j.args == length j.mems) in
     let d = not (list_all (λ (m : List ℕ). nat_le (length m) 4096) j.mems) in let e = not (list_all (λ (a : List ℕ). nat_le (length a) 64) j.args) in
     let x = not (nat_le 1 j.limit && nat_le j.limit 1024) in let y = not (nat_le j.g 1000000 && nat_le j.l 1000000) in
-    last_tests a b c d e x y (not (nat_le 1 n && nat_le n 1024)) y k (accepted (nat_le 1 n && nat_le n 1024) why.BadLimit h) (price_test a b c d e x y k)
+    let rest = last_tests a b c d e x y k in rest.0 (not (nat_le 1 n && nat_le n 1024)) y (accepted (nat_le 1 n && nat_le n 1024) why.BadLimit h) rest.2
 edit_lawful i j (Prices g l) h k =
     let a = length j.mems == 0 in let b = nat_lt 64 (length j.mems) in let c = not (length j.args == length j.mems) in
     let d = not (list_all (λ (m : List ℕ). nat_le (length m) 4096) j.mems) in let e = not (list_all (λ (a : List ℕ). nat_le (length a) 64) j.args) in
     let x = not (nat_le 1 j.limit && nat_le j.limit 1024) in let y = not (nat_le j.g 1000000 && nat_le j.l 1000000) in
-    last_tests a b c d e x y x (not (nat_le g 1000000 && nat_le l 1000000)) k (limit_test a b c d e x y k) (accepted (nat_le g 1000000 && nat_le l 1000000) why.BadPrice h)
-
-none_refused : (place : ℕ) (f : Option EditFault) (later : Option EditRefusal) → refusal_or place f later ≡ None → (f ≡ None) × (later ≡ None)
-none_refused place None later h = (refl, h)
-none_refused place (Some f) later h = cc
+    let rest = last_tests a b c d e x y k in rest.0 x (not (nat_le g 1000000 && nat_le l 1000000)) rest.1 (accepted (nat_le g 1000000 && nat_le l 1000000) why.BadPrice h)
 
 all_lawful : (i j : Input) (place : ℕ) (edits : List Edit) → refusal_from i place edits ≡ None → input_fault j ≡ None → input_fault (edited j edits) ≡ None
 all_lawful i j place [] h k = k
 all_lawful i j place (e ∷ later) h k =
-    let both = none_refused place (edit_fault i e) (refusal_from i (place + 1) later) h in
+    let both = none_both place (edit_fault i e) (refusal_from i (place + 1) later) h in
     all_lawful i (edited_by j e) (place + 1) later both.1 (edit_lawful i j e both.0 k)
 
 -- An accepted batch keeps an input lawful ..
 pub edited_lawful : (i : Input) (edits : List Edit) → refusal_of i edits ≡ None → input_fault i ≡ None → input_fault (edited i edits) ≡ None
 edited_lawful i edits h k = all_lawful i i 0 edits h k
-
-edit_count : (i : Input) (e : Edit) → length (edited_by i e).mems ≡ length i.mems
-edit_count i (Word pid addr value) = length-set i.mems pid (slice_set (get_or i.mems pid []) addr value)
-edit_count i (Arg pid index value) = refl
-edit_count i (Limit n) = refl
-edit_count i (Prices g l) = refl
-
--- .. and any batch its number of processes.
-pub edited_count : (i : Input) (edits : List Edit) → length (edited i edits).mems ≡ length i.mems
-edited_count i [] = refl
-edited_count i (e ∷ later) = edited_count (edited_by i e) later ∙ edit_count i e
 
 abbrev lengths : List (List ℕ) → List ℕ
 lengths lists = map (λ (m : List ℕ). length m) lists
@@ -123,10 +92,14 @@ edit_lengths i (Arg pid index value) = (refl, set_own i.args pid index value)
 edit_lengths i (Limit n) = (refl, refl)
 edit_lengths i (Prices g l) = (refl, refl)
 
--- It changes no length either.
+-- .. and any batch each length.
 pub same_lengths : (i : Input) (edits : List Edit) → (lengths (edited i edits).mems ≡ lengths i.mems) × (lengths (edited i edits).args ≡ lengths i.args)
 same_lengths i [] = (refl, refl)
 same_lengths i (e ∷ later) =
     let rest = same_lengths (edited_by i e) later in
     let first = edit_lengths i e in
     (rest.0 ∙ first.0, rest.1 ∙ first.1)
+
+pub edited_count : (i : Input) (edits : List Edit) → length (edited i edits).mems ≡ length i.mems
+edited_count i edits =
+    sym (length-map (edited i edits).mems (λ (m : List ℕ). length m)) ∙ ap (λ (ns : List ℕ). length ns) (same_lengths i edits).0 ∙ length-map i.mems (λ (m : List ℕ). length m)

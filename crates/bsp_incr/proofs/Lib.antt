@@ -28,3 +28,6 @@ pub mod Replying
 pub mod EndLikeness
 pub mod KnownTables
 pub mod MovedAlike
+pub mod Alike
+pub mod TakingOver
+pub mod Facts

@@ -264,21 +264,3 @@ first_marked turn r input edits h =
             | inr w ↦ inl (λ k is same. w.1 (ap (λ (xs : List ℕ). get_or xs w.0 0) (subst (λ (x : Run). (first_view_before x p).memory ≡ get_or input.mems p []) (sym (some_same r k is)) same)))
           ];
     }
-
--- where there is no run before
-all_set : (n p : ℕ) → get_or (replicate n true) p true ≡ false → ⊥
-all_set zero p h = cc
-all_set (suc n) zero h = cc
-all_set (suc n) (suc p) h = all_set n p h
-
-pub all_args_marked : (input : Input) → AreArgsMarked None input (replicate (length input.mems) true)
-all_args_marked input = record { count = length-replicate (length input.mems) true; clean = λ p l c. absurd (all_set (length input.mems) p c); other = λ p l c k is. absurd (none_some k is) }
-
-pub all_first_marked : (input : Input) → AreFirstMarked None input (replicate (length input.mems) true)
-all_first_marked input =
-    record {
-      count = length-replicate (length input.mems) true;
-      memory = λ p l c. absurd (all_set (length input.mems) p c);
-      args = λ p l c. absurd (all_set (length input.mems) p c);
-      other = λ p l c. inr (λ k is. absurd (none_some k is));
-    }

@@ -1,29 +1,51 @@
 -- Sets of processes: what they are filled with, and who is in them.
-use Rattle.std.proofs.Common.{◌≡◌, ◌≢◌, ◌<◌, ◌++◌, ℕ, zero, suc, Bool, true, false, cond, List, [], ◌∷◌, All, replicate, length, get_or, append_assoc, arith, refl, sym, ap, ◌∙◌, subst}
-use Rattle.std.specs.Prelude.{filter, not, ◌||◌}
+use Rattle.std.proofs.Common.{◌≡◌, ◌≢◌, ◌<◌, ℕ, zero, suc, Bool, true, false, cond, List, [], ◌∷◌, All, map, replicate, length, get_or, arith, refl, sym, ap, ◌∙◌, subst}
+use Rattle.std.specs.Prelude.{filter, not, slice_set}
 use Rattle.std.specs.List.{Contains, range_with_len}
 use Rattle.std.proofs.lemmas.List.{get_or_default, get_or-replicate, length-replicate}
 use Rattle.std.proofs.lemmas.List.Elements.{filter_passes}
 use Rattle.std.proofs.lemmas.List.FromFn.{fill_by_all}
-use Rattle.bsp_model.specs.ProcessSet.{processes_in, union}
+use Rattle.std.proofs.Math.ListN.{length-set}
+use Rattle.bsp_model.specs.ProcessSet.{processes_in}
+use Rattle.bsp_model.proofs.Replaced.{length-replaced}
 use Rattle.bsp_model.proofs.ProcessSets.{processes_are, processes_known}
 use Rattle.bsp_deliver.specs.Requests.{each_below}
+use Rattle.bsp_incr.specs.Inside.Changes.{processes_where}
+use Rattle.bsp_incr.proofs.Patching.{patched, patched_at}
 
-listed_next : (test : ℕ → Bool) (done : List ℕ) (p : ℕ) (later : List ℕ) → test p ≡ true → (done ++ p ∷ []) ++ filter test later ≡ done ++ filter test (p ∷ later)
-listed_next test done p later e = append_assoc done (p ∷ []) (filter test later) ∙ ap (λ b. done ++ cond b (p ∷ filter test later) (filter test later)) (sym e)
+-- the set with these members too
+abbrev pub with_members : List Bool → List ℕ → List Bool
+with_members set ps = patched (λ _. true) set ps
 
-passed_over : (test : ℕ → Bool) (done : List ℕ) (p : ℕ) (later : List ℕ) → test p ≡ false → done ++ filter test later ≡ done ++ filter test (p ∷ later)
-passed_over test done p later e = ap (λ b. done ++ cond b (p ∷ filter test later) (filter test later)) (sym e)
-
--- A process at which the test holds goes behind those that are listed, and one at which it fails is passed over.
-pub listed_if : (test : ℕ → Bool) (b : Bool) (done : List ℕ) (p : ℕ) (later : List ℕ) → test p ≡ b → cond b (done ++ p ∷ []) done ++ filter test later ≡ done ++ filter test (p ∷ later)
-listed_if test true done p later e = listed_next test done p later e
-listed_if test false done p later e = passed_over test done p later e
+-- A process at which the test holds is put into the set, and one at which it fails is passed over.
+pub member_if : (test : ℕ → Bool) (b : Bool) (set : List Bool) (p : ℕ) (later : List ℕ) → test p ≡ b → with_members (cond b (slice_set set p true) set) (filter test later) ≡ with_members set (filter test (p ∷ later))
+member_if test true set p later e = ap (λ b. with_members set (cond b (p ∷ filter test later) (filter test later))) (sym e)
+member_if test false set p later e = ap (λ b. with_members set (cond b (p ∷ filter test later) (filter test later))) (sym e)
 
 -- so it is where the test is turned round
-pub passed_if : (test : ℕ → Bool) (b : Bool) (done : List ℕ) (p : ℕ) (later : List ℕ) → test p ≡ not b → cond b done (done ++ p ∷ []) ++ filter test later ≡ done ++ filter test (p ∷ later)
-passed_if test true done p later e = passed_over test done p later e
-passed_if test false done p later e = listed_next test done p later e
+pub member_if_not : (test : ℕ → Bool) (b : Bool) (set : List Bool) (p : ℕ) (later : List ℕ) → test p ≡ not b → with_members (cond b set (slice_set set p true)) (filter test later) ≡ with_members set (filter test (p ∷ later))
+member_if_not test true set p later e = member_if test false set p later e
+member_if_not test false set p later e = member_if test true set p later e
+
+pub length_if : (b : Bool) (set : List Bool) (p : ℕ) → length (cond b (slice_set set p true) set) ≡ length set
+length_if true set p = length-set set p true
+length_if false set p = refl
+
+pub length_if_not : (b : Bool) (set : List Bool) (p : ℕ) → length (cond b set (slice_set set p true)) ≡ length set
+length_if_not true set p = refl
+length_if_not false set p = length-set set p true
+
+put_or_not : (b x : Bool) → x ≡ false → cond b true x ≡ b
+put_or_not true x e = refl
+put_or_not false x e = e
+
+-- the set of the processes at which a test holds
+pub members_where : (n : ℕ) (test : ℕ → Bool) → with_members (replicate n false) (processes_where n test) ≡ each_below n test
+members_where n test =
+    let none : List Bool = replicate n false in
+    let yes : ℕ → Bool = λ _. true in
+    fill_by_all test (with_members none (processes_where n test)) n false (length-replaced none (processes_where n test) (map yes (processes_where n test)) ∙ length-replicate n false)
+    (λ p l. patched_at yes test n p none false l (omega (arith, l, length-replicate n false)) ∙ put_or_not (test p) (get_or none p false) (get_or-replicate n p false false l))
 
 -- where these are the members
 pub are_members : (set : List Bool) (ps : List ℕ) → ps ≡ processes_in set → All (λ p. get_or set p false ≡ true) ps
@@ -74,12 +96,3 @@ no_members set p none l = none_of set p [] l (sym none) (nothing_left [] p refl)
 
 pub nobody_marked : (set : List Bool) (p : ℕ) → processes_in set ≡ [] → get_or set p false ≡ true → ⊥
 nobody_marked set p none t = nothing_left (processes_in set) p none ((processes_are set p).1 t)
-
--- The empty set with all members of a set is that set.
-pub copied : (n : ℕ) (set : List Bool) → length set ≡ n → union (replicate n false) set ≡ set
-copied n set long =
-    let none : List Bool = replicate n false in
-    let both : ℕ → Bool = λ p. get_or none p false || get_or set p false in
-    let many : length none ≡ n = length-replicate n false in
-    ap (λ k. each_below k both) many
-    ∙ sym (fill_by_all both set n false long (λ p l. ap (λ b. b || get_or set p false) (sym (get_or-replicate n p false false l))))

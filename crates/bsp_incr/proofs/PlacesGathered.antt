@@ -7,12 +7,8 @@ use Rattle.std.proofs.lemmas.Bool.{cases_lt}
 use Rattle.bsp_run.specs.declared.superstep.Superstep.{Superstep}
 use Rattle.bsp_run.specs.Supersteps.{superstep_at}
 use Rattle.bsp_incr.specs.declared.reply.Place.{Place}
-use Rattle.bsp_incr.specs.Inside.Changes.{processes_where, places_of}
+use Rattle.bsp_incr.specs.Inside.Changes.{gathered, processes_where, places_of}
 use Rattle.bsp_incr.specs.Exact.{comes_before, AreInOrder}
-
-abbrev pub gathered : (Superstep → ℕ) → (ℕ → Superstep → ℕ → Bool) → ℕ → List Superstep → List Place
-gathered count test n [] = []
-gathered count test n (s ∷ later) = places_of n (processes_where (count s) (test n s)) ++ gathered count test (n + 1) later
 
 pub none_in_nil : {X : Type 0} (x : X) → Contains [] x → ⊥
 none_in_nil x (k, l, at) = omega arith

@@ -1,14 +1,17 @@
 -- What a process sees next depends on its delivery, its arguments, the table and the tag size alone.
-use Rattle.std.proofs.Common.{◌≡◌, ◌<◌, ◌+◌, ℕ, Bool, true, false, List, [], length, get_or, arith, refl, sym, ap, ◌∙◌}
+use Rattle.std.proofs.Common.{◌≡◌, ◌<◌, ◌+◌, ℕ, Bool, true, false, List, [], length, get_or, inl, inr, replicate, arith, refl, sym, ap, ◌∙◌}
 use Rattle.std.specs.Prelude.{nat_lt, not, ◌&&◌}
 use Rattle.std.specs.Bool.{Decides}
-use Rattle.std.proofs.lemmas.List.FromFn.{get_or-map-range_with_len}
+use Rattle.std.proofs.lemmas.Bool.{cases_Bool, false≢true}
+use Rattle.std.proofs.lemmas.List.FromFn.{fill_by_all, get_or-map-range_with_len}
 use Rattle.std.proofs.lemmas.Bool.Decides.{nat_tests, Decides-and, Decides-ltb, Decides-like, same_from_decides}
 use Rattle.bsp_model.specs.declared.input.Input.{Input}
 use Rattle.bsp_step.specs.ViewParts.{ViewParts}
 use Rattle.bsp_step.specs.OutcomeParts.{OutcomeParts}
 use Rattle.bsp_deliver.specs.Delivery.{delivery_parts, next_memory, next_queue}
-use Rattle.std.proofs.lemmas.List.{get_or-map}
+use Rattle.std.proofs.lemmas.List.{get_or-map, get_or-replicate, length-replicate}
+use Rattle.bsp_deliver.specs.Requests.{each_below}
+use Rattle.bsp_deliver.specs.Touched.{AreTouched}
 use Rattle.bsp_run.specs.State.{State, no_messages, first_state, next_state, view_of}
 use Rattle.bsp_run.specs.Law.{state_at, views_in, outcomes_in}
 use Rattle.bsp_run.specs.Condition.{no_view}
@@ -24,7 +27,7 @@ pub Decides-untouched : (old new : List OutcomeParts) (d : ℕ) → Decides (nat
 Decides-untouched old new d =
     Decides-and (nat_lt d (length old)) (same_delivery (delivery_parts old d) (delivery_parts new d)) (Decides-ltb d (length old)) (Decides-delivery (delivery_parts old d) (delivery_parts new d))
 
-not_false : (b : Bool) → not b ≡ false → b ≡ true
+pub not_false : (b : Bool) → not b ≡ false → b ≡ true
 not_false true h = refl
 not_false false h = cc
 
@@ -112,13 +115,29 @@ same_view v w h table tag =
     λ i. record { nprocs = h.nprocs i; pid = h.pid i; step = h.step i; args = h.args i; memory = h.memory i; table = table i; tag_size = tag i; queue = h.queue i }
 
 -- where the run before has a delivery to the process, that is whether it depends on something else
-pub touched_from_decides : (old new : List OutcomeParts) (d : ℕ) (same : Bool) → d < length old → Decides same (delivery_parts old d ≡ delivery_parts new d) → not same ≡ is_touched old new d
+touched_from_decides : (old new : List OutcomeParts) (d : ℕ) (same : Bool) → d < length old → Decides same (delivery_parts old d ≡ delivery_parts new d) → not same ≡ is_touched old new d
 touched_from_decides old new d same l h =
     ap not
     (same_from_decides same (nat_lt d (length old) && same_delivery (delivery_parts old d) (delivery_parts new d))
     (Decides-like same (λ (e : delivery_parts old d ≡ delivery_parts new d). (l, e)) (λ (e : (d < length old) × (delivery_parts old d ≡ delivery_parts new d)). e.1) h)
     (Decides-untouched old new d))
 
+-- where each process had a delivery before, a mark says whether it is touched
+mark_is : (old new : List OutcomeParts) (marks : List Bool) (d : ℕ) → length old ≡ length new → AreTouched old new marks → d < length new → get_or marks d true ≡ is_touched old new d
+mark_is old new marks d long h l =
+    elim (cases_Bool (get_or marks d true)) [
+      | inl t ↦ t ∙ touched_from_decides old new d false (omega (arith, l, long)) (λ no. absurd (false≢true no), λ same. absurd (false≢true (sym ((h.each d l).1 same) ∙ t)))
+      | inr f ↦ f ∙ touched_from_decides old new d true (omega (arith, l, long)) (λ yes. (h.each d l).0 f, λ same. refl)
+    ]
+
+pub touched_are : (old new : List OutcomeParts) (marks : List Bool) → length old ≡ length new → AreTouched old new marks → marks ≡ each_below (length new) (is_touched old new)
+touched_are old new marks long h = fill_by_all (is_touched old new) marks (length new) true h.count (λ d l. mark_is old new marks d long h l)
+
 -- where the run before has no delivery, each has to be made
 pub touched-none : (new : List OutcomeParts) (d : ℕ) → is_touched [] new d ≡ true
 touched-none new d = let none : nat_lt d 0 ≡ false = grind (arith, nat_tests) in ap (λ b. not (b && same_delivery (delivery_parts [] d) (delivery_parts new d))) none
+
+pub all_touched : (new : List OutcomeParts) → replicate (length new) true ≡ each_below (length new) (is_touched [] new)
+all_touched new =
+    let n = length new in
+    fill_by_all (is_touched [] new) (replicate n true) n true (length-replicate n true) (λ p l. get_or-replicate n p true true l ∙ sym (touched-none new p))

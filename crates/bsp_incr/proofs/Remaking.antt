@@ -120,9 +120,21 @@ pub outcomes-turned : (r : Run) (os : List OutcomeParts) → (after_turns r os).
 unfolding after_turns
 outcomes-turned r os = refl
 
+-- a superstep whose turns are taken has its number and its outcomes
+pub turned_still : (P : ℕ → List OutcomeParts → Type 0) (r t : Run) (os : List OutcomeParts) → t ≡ after_turns r os → P (length r.past) os → P (length t.past) t.outcomes
+unfolding after_turns
+turned_still P r t os is h = subst (λ (x : Run). P (length x.past) x.outcomes) (sym is) h
+
+pub turned_same : {X : Type 0} (f : ℕ → List OutcomeParts → X) (r t : Run) (os : List OutcomeParts) → t ≡ after_turns r os → f (length t.past) t.outcomes ≡ f (length r.past) os
+unfolding after_turns
+turned_same f r t os is = ap (λ (x : Run). f (length x.past) x.outcomes) is
+
 -- the turns of the open superstep
 pub turns-in : (turn : ViewParts → OutcomeParts) (input : Input) (r : Run) → IsRecord turn input r → map turn (open_views r) ≡ outcomes_in turn input (length r.past)
 turns-in turn input r h = ap (map turn) (open_views-in turn input r h)
+
+pub count-turns : (turn : ViewParts → OutcomeParts) (input : Input) (r : Run) → IsRecord turn input r → length (map turn (open_views r)) ≡ length input.mems
+count-turns turn input r h = ap (λ (os : List OutcomeParts). length os) (turns-in turn input r h) ∙ count-outcomes_in turn input (length r.past)
 
 -- A superstep that ends the run keeps what is known.
 pub under_way_turned : (turn : ViewParts → OutcomeParts) (looks : ViewParts → ℕ → Bool) (old : Option Run) (input : Input) (r q : Run) (marks : List Bool) (u v : Update) → is_open r.phase ≡ true → IsUnderWay turn looks old input r marks u → q ≡ after_turns r (map turn (open_views r))
@@ -153,7 +165,7 @@ under_way_delivered turn looks old input others r q m marks u v o t b a h is n k
     let none : s - s ≡ 0 = omega arith in
     let all : List OutcomeParts → List Bool = λ os. union (each_below (length os) (is_touched (delivered_outcomes old s) os)) others in
     let marked = marked_next turn input old s others marks b a (n ∙ ap all (turns-in turn input r h.made)) in
-    let many : length us ≡ length input.mems = ap (λ (os : List OutcomeParts). length os) (turns-in turn input r h.made) ∙ count-outcomes_in turn input s in
+    let many : length us ≡ length input.mems = count-turns turn input r h.made in
     let last : (superstep_at next.past s).outcomes ≡ us =
     ap (λ (xs : List Superstep). (superstep_at xs s).outcomes) (past-delivered r us) ∙ ap (λ (x : Superstep). x.outcomes) (get_or-append_right r.past (superstep (open_views r) us ∷ []) s s no_superstep refl (omega arith) ∙ ap (λ k. get_or (superstep (open_views r) us ∷ []) k no_superstep) none) in
     subst (λ (x : Run). IsUnderWay turn looks old input x marks v) (sym is)

@@ -1,9 +1,9 @@
 -- Which places need their turn, one after the other.
-use Rattle.std.proofs.Common.{◌≡◌, ◌≤◌, ◌<◌, ℕ, Bool, true, false, List, Option, None, Some, All, map, replicate, length, get_or, slice_get, not, arith, refl, sym, ap, ◌∙◌, subst, inl, inr}
+use Rattle.std.proofs.Common.{◌≡◌, ◌≤◌, ◌<◌, ℕ, Bool, true, false, List, Option, None, Some, All, map, length, get_or, slice_get, not, arith, refl, sym, ap, ◌∙◌, subst, inl, inr}
 use Rattle.std.specs.Prelude.{filter, ◌&&◌}
 use Rattle.std.specs.List.{range_with_len}
-use Rattle.std.proofs.lemmas.Bool.{cases_lt, false≢true}
-use Rattle.std.proofs.lemmas.List.{get_or_default, get_or-map, get_or-replicate, length-map, length-replicate}
+use Rattle.std.proofs.lemmas.Bool.{cases_lt}
+use Rattle.std.proofs.lemmas.List.{get_or_default, get_or-map, length-map}
 use Rattle.std.proofs.lemmas.List.Elements.{filter_passes}
 use Rattle.std.proofs.lemmas.Option.{slice_get-get_or, slice_get_past}
 use Rattle.bsp_step.specs.ViewParts.{ViewParts}
@@ -13,18 +13,14 @@ use Rattle.bsp_run.specs.Shares.{turns_of}
 use Rattle.bsp_run.proofs.Shares.{turns_of-all}
 use Rattle.bsp_incr.specs.Inside.Reuse.{needs_turn, serves}
 use Rattle.bsp_incr.specs.Inside.Changes.{differs, processes_where}
-use Rattle.bsp_incr.specs.Inside.Marks.{AreMarked, ViewsDifferAtMost, HaveOneTable}
+use Rattle.bsp_incr.specs.Inside.Marks.{ViewsDifferAtMost}
 use Rattle.bsp_model.specs.ProcessSet.{processes_in}
 use Rattle.bsp_model.specs.Replaced.{replaced}
 use Rattle.bsp_incr.proofs.Gathering.{all_where, filter_from, filter_twice}
 use Rattle.bsp_incr.proofs.Patching.{patched, patched_at, patched_is, put_or_there}
 use Rattle.bsp_model.proofs.Replaced.{length-replaced}
 use Rattle.bsp_incr.proofs.Serving.{serves-itself}
-use Rattle.bsp_incr.proofs.Propagation.{same_view}
-
-pub not_false : (b : Bool) → not b ≡ false → b ≡ true
-not_false true h = refl
-not_false false h = cc
+use Rattle.bsp_incr.proofs.Propagation.{not_false}
 
 -- where the run before has no view of the process
 pub differs-none : (looks : ViewParts → ℕ → Bool) (old new : List ViewParts) (p : ℕ) → length old ≤ p → differs looks old new p ≡ true
@@ -57,13 +53,8 @@ unneeded looks old new p h =
       | inr w ↦ let none : slice_get old p ≡ None = slice_get_past old p w in let both : None ≡ Some some.0 = sym none ∙ some.1 in cc
     ]
 
--- A process that is not marked sees the same view, where the table and the tag size are the same.
-pub clean_view : (old new : List ViewParts) (marks : List Bool) (p : ℕ) → AreMarked old new marks → HaveOneTable old → HaveOneTable new → (get_or old 0 no_view).table ≡ (get_or new 0 no_view).table → (get_or old 0 no_view).tag_size ≡ (get_or new 0 no_view).tag_size
-    → p < length old → p < length new → get_or marks p true ≡ false → get_or old p no_view ≡ get_or new p no_view
-clean_view old new marks p h g k table tag l m clean =
-    same_view (get_or old p no_view) (get_or new p no_view) (h.clean p l m clean)
-    (g.table p l ∙ table ∙ sym (k.table p m))
-    (g.tag_size p l ∙ tag ∙ sym (k.tag_size p m))
+pub served_there : (looks : ViewParts → ℕ → Bool) (old new : List ViewParts) (p : ℕ) (v w : ViewParts) → v ≡ get_or old p no_view → w ≡ get_or new p no_view → serves looks (get_or old p no_view) (get_or new p no_view) ≡ true → serves looks v w ≡ true
+served_there looks old new p v w e f served = ap (λ x. serves looks x w) e ∙ ap (serves looks (get_or old p no_view)) f ∙ served
 
 -- The processes at which views may differ have all whose turn is needed ..
 needed_if : (b d : Bool) → (b ≡ false → d ≡ false) → (b && d) ≡ d
@@ -131,20 +122,3 @@ turns_in_place turn looks old new set os us ws served needed h long recorded ser
 pub turns_of_none : (turn : ViewParts → OutcomeParts) (looks : ViewParts → ℕ → Bool) (old new : List ViewParts) (needed : List ℕ) (ws : List OutcomeParts) → length old ≡ 0 → needed ≡ processes_where (length new) (differs looks old new) → ws ≡ turns_of turn new needed → ws ≡ map turn new
 turns_of_none turn looks old new needed ws none n w =
     w ∙ ap (turns_of turn new) (n ∙ all_where (length new) (differs looks old new) (λ p l. differs-none looks old new p (omega (arith, none)))) ∙ turns_of-all turn new
-
--- The marked processes, where each of the others sees the same view.
-pub marked_differ : (old new : List ViewParts) (marks : List Bool) → AreMarked old new marks → HaveOneTable old → HaveOneTable new → (get_or old 0 no_view).table ≡ (get_or new 0 no_view).table → (get_or old 0 no_view).tag_size ≡ (get_or new 0 no_view).tag_size
-    → length old ≡ length new → ViewsDifferAtMost old new marks
-marked_differ old new marks h g k table tag long =
-    record {
-      count = h.count;
-      same = λ p l clean. let here : p < length old = omega (arith, l, long) in (here, clean_view old new marks p h g k table tag here l clean);
-    }
-
--- all processes
-pub all_differ : (old new : List ViewParts) → ViewsDifferAtMost old new (replicate (length new) true)
-all_differ old new =
-    record {
-      count = length-replicate (length new) true;
-      same = λ p l t. absurd (false≢true (sym t ∙ get_or-replicate (length new) p true true l));
-    }

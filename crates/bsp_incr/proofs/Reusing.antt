@@ -1,12 +1,16 @@
 -- A recorded turn over another memory.
-use Rattle.std.proofs.Common.{◌≡◌, ℕ, ◌+◌, Bool, List, [], ◌∷◌, ◌++◌, Option, None, Some, length, refl, sym, ap, ◌∙◌}
+use Rattle.std.proofs.Common.{◌≡◌, ◌<◌, ℕ, ◌+◌, Bool, true, List, [], ◌∷◌, ◌++◌, Option, None, Some, get_or, length, map, refl, sym, ap, ◌∙◌}
 use Rattle.std.specs.Prelude.{slice_set, nat_lt, nat_le}
 use Rattle.std.proofs.Math.ListN.{length-set}
+use Rattle.std.proofs.lemmas.List.{get_or-map}
 use Rattle.bsp_model.specs.declared.request.Store.{Store}
 use Rattle.bsp_model.specs.declared.fault.Fault.{Fault}
 use Rattle.bsp_model.specs.declared.fault.Fault.TheVariants.{BadLocal, BadPid}
 use Rattle.bsp_model.specs.declared.fault.End.{End}
 use Rattle.bsp_step.specs.ViewParts.{ViewParts, IsView}
+use Rattle.bsp_step.specs.OutcomeParts.{OutcomeParts, no_outcome, outcome_of}
+use Rattle.bsp_step.proofs.Limits.{turn_of-issued}
+use Rattle.bsp_run.specs.Condition.{no_view}
 use Rattle.bsp_step.specs.Context.{Context, fresh}
 use Rattle.bsp_step.specs.Act.{Act, store, charge, put, get, send, move_into, push_reg, pop_reg, set_tagsize, print}
 use Rattle.bsp_step.specs.Perform.{perform, performed, perform_all, refusal, done, first_fault, fault_unless, area_fault, target_area, request_fault}
@@ -14,7 +18,9 @@ use Rattle.bsp_step.specs.Turn.{turn_of, closed}
 use Rattle.bsp_step.specs.Footprint.{IsFootprint, AreAlike, AreAlikeButForWords}
 use Rattle.bsp_model.specs.Stores.{made_again}
 use Rattle.bsp_model.proofs.MadeAgain.{length-made_again, made_again-append}
+use Rattle.bsp_incr.specs.Inside.Reuse.{serves}
 use Rattle.bsp_incr.specs.Reused.{reused}
+use Rattle.bsp_incr.proofs.Serving.{Decides-serves}
 
 made_again-push : (m : List ℕ) (stores : List Store) (s : Store) → made_again m (stores ++ s ∷ []) ≡ slice_set (made_again m stores) s.addr s.value
 made_again-push m stores s = made_again-append m stores (s ∷ [])
@@ -99,3 +105,18 @@ turn_of-alike acts ending looks v w footprint old new alike =
     ∙ ap (λ (how : End). closed (perform_all (fresh w) (acts v)) how) (sym (footprint.ending_alike v w old new alike))
     ∙ ap (λ (x : ViewParts). closed (perform_all (fresh x) (acts v)) (ending v)) (with_memory v w alike.parts)
     ∙ turn_over acts ending v w.memory alike.parts.same_length
+
+-- it is so where the recorded turn serves, and the memory keeps its length
+pub reused_is : (acts : ViewParts → List Act) (ending : ViewParts → End) (looks : ViewParts → ℕ → Bool) (v w : ViewParts) (o : OutcomeParts) (memory : List ℕ) → IsFootprint acts ending looks → IsView v → IsView w → serves looks v w ≡ true → o ≡ turn_of acts ending v → memory ≡ made_again w.memory o.stores
+    → (record o { memory = memory } ≡ turn_of acts ending w) × (length memory ≡ length o.memory)
+reused_is acts ending looks v w o memory footprint old new served outcome is =
+    let turn = turn_of acts ending in
+    let alike = (Decides-serves looks v w).0 served in
+    let made : record o { memory = memory } ≡ turn w =
+    ap (λ (x : OutcomeParts). record x { memory = memory }) outcome ∙ ap (λ (m : List ℕ). record (turn v) { memory = m }) (is ∙ ap (λ (x : OutcomeParts). made_again w.memory x.stores) outcome)
+    ∙ sym (turn_of-alike acts ending looks v w footprint old new alike) in
+    (made, ap (λ (x : OutcomeParts). length x.memory) made ∙ (turn_of-issued acts ending w new).memory ∙ sym alike.parts.same_length ∙ sym (turn_of-issued acts ending v old).memory ∙ ap (λ (x : OutcomeParts). length x.memory) (sym outcome))
+
+-- what is recorded at a place is the turn of the view there
+pub turn_there : (turn : ViewParts → OutcomeParts) (views : List ViewParts) (os : List OutcomeParts) (p : ℕ) (v : ViewParts) (o : OutcomeParts) → p < length views → os ≡ map turn views → v ≡ get_or views p no_view → o ≡ outcome_of os p → o ≡ turn v
+turn_there turn views os p v o here recorded at is = is ∙ ap (λ (xs : List OutcomeParts). outcome_of xs p) recorded ∙ get_or-map turn views p no_view no_outcome here ∙ ap turn (sym at)

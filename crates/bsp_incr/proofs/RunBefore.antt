@@ -24,7 +24,7 @@ use Rattle.bsp_run.proofs.Records.{opened-past, open_views-in, count-views_in, c
 use Rattle.bsp_run.proofs.OneRun.{one_run}
 use Rattle.bsp_run.proofs.Laws.{superstep_at-past_end, taken-opened, taken_outcomes}
 use Rattle.bsp_incr.specs.Inside.Marks.{HaveOneTable, AreDelivered, AreArgsMarked}
-use Rattle.bsp_incr.specs.Exact.{supersteps_before}
+use Rattle.bsp_incr.specs.Exact.{delivered_before, supersteps_before}
 use Rattle.bsp_incr.specs.Inside.Before.{views_before, outcomes_before, delivered_outcomes, views_after, first_view_before, IsBefore, IsBeforeEdits, HasSameArgs, HasSameMemory}
 use Rattle.bsp_incr.specs.Inside.Changes.{processes_where}
 use Rattle.bsp_incr.specs.declared.edit.Edit.{Edit}
@@ -126,18 +126,31 @@ pub turns_before : (turn : ViewParts → OutcomeParts) (input : Input) (old : Op
 turns_before turn input None s h = subst (λ (x : Superstep). x.outcomes ≡ map turn x.views) (sym (superstep_at-past_end [] s (omega arith))) refl
 turns_before turn input (Some k) s h = taken_outcomes turn (supersteps_of k) s (record_of_law turn h.input_before k h.lawful h.law).turns
 
--- what the run before delivered, it delivered to the same processes
-pub count_before : (turn : ViewParts → OutcomeParts) (input : Input) (old : Option Run) (s : ℕ) → IsBefore turn input old → 0 < length (delivered_outcomes old s) → length (delivered_outcomes old s) ≡ length (outcomes_in turn input s)
-count_before turn input None s h l = absurd (nothing_delivered s 0 l)
-count_before turn input (Some k) s h l =
-    ap (λ (os : List OutcomeParts). length os) (delivered-in turn input k s h (some_delivered k s 0 l)) ∙ count-outcomes_in turn h.input_before s ∙ h.stands ∙ sym (count-outcomes_in turn input s)
+-- what the run before delivered, it delivered to as many processes
+pub count_delivered : (turn : ViewParts → OutcomeParts) (input : Input) (k : Run) (s : ℕ) (h : IsBefore turn input (Some k)) → s < length k.past → length (delivered_outcomes (Some k) s) ≡ length input.mems
+count_delivered turn input k s h l = ap (λ (os : List OutcomeParts). length os) (delivered-in turn input k s h l) ∙ count-outcomes_in turn h.input_before s ∙ h.stands
 
--- the same, of as many outcomes
-pub count_beside : (turn : ViewParts → OutcomeParts) (input : Input) (old : Option Run) (s : ℕ) (os : List OutcomeParts) → IsBefore turn input old → length os ≡ length input.mems → 0 < length (delivered_outcomes old s) → length (delivered_outcomes old s) ≡ length os
-count_beside turn input old s os h many some = count_before turn input old s h some ∙ count-outcomes_in turn input s ∙ sym many
+-- what stands at a place of its deliveries
+pub delivered_there : (turn : ViewParts → OutcomeParts) (input : Input) (before : Option Run) (k : Run) (past : List Superstep) (s n : ℕ) (x d : Superstep) → before ≡ Some k → IsBefore turn input before → past ≡ k.past → s ≡ n → true ≡ nat_lt s (length past) → x ≡ get_or past s d
+    → (x.outcomes ≡ delivered_outcomes before n) × (length x.outcomes ≡ length input.mems)
+delivered_there turn input before k past s n x d is h whole at inside found =
+    let here : s < length past = grind (arith, nat_tests) in
+    let there : n < length k.past = omega (arith, here, at, ap (λ (xs : List Superstep). length xs) whole) in
+    let outcomes : x.outcomes ≡ delivered_outcomes (Some k) n =
+    ap (λ (y : Superstep). y.outcomes) (found ∙ get_or_default past s d no_superstep here) ∙ (λ i. (superstep_at (whole i) (at i)).outcomes) in
+    (outcomes ∙ ap (λ (o : Option Run). delivered_outcomes o n) (sym is), ap (λ (os : List OutcomeParts). length os) outcomes ∙ count_delivered turn input k n (subst (IsBefore turn input) is h) there)
 
-pub views_after-some : (k : Run) (s : ℕ) → s < length k.past → views_after (Some k) s ≡ (superstep_at (supersteps_opened k) (s + 1)).views
+views_after-some : (k : Run) (s : ℕ) → s < length k.past → views_after (Some k) s ≡ (superstep_at (supersteps_opened k) (s + 1)).views
 views_after-some k s l = let t : nat_lt s (length k.past) ≡ true = grind (arith, nat_tests) in ap (λ b. cond b (superstep_at (supersteps_opened k) (s + 1)).views []) t
+
+-- the next superstep of the run before
+pub next-in : (turn : ViewParts → OutcomeParts) (input : Input) (k : Run) (s : ℕ) (h : IsBefore turn input (Some k)) → s < length k.past → views_after (Some k) s ≡ views_in turn h.input_before (s + 1)
+next-in turn input k s h l = views_after-some k s l ∙ (record_of_law turn h.input_before k h.lawful h.law).views (s + 1) (omega (arith, l))
+
+-- it has as many processes
+pub count_after : (turn : ViewParts → OutcomeParts) (input : Input) (old : Option Run) (s : ℕ) → IsBefore turn input old → s < length (delivered_before old) → length (views_after old s) ≡ length input.mems
+count_after turn input None s h l = absurd (omega arith)
+count_after turn input (Some k) s h l = ap (λ (vs : List ViewParts). length vs) (next-in turn input k s h l) ∙ count-views_in turn h.input_before (s + 1) ∙ h.stands
 
 views_after-none : (k : Run) (s : ℕ) → length k.past ≤ s → views_after (Some k) s ≡ []
 views_after-none k s l = let t : nat_lt s (length k.past) ≡ false = grind (arith, nat_tests) in ap (λ b. cond b (superstep_at (supersteps_opened k) (s + 1)).views []) t

@@ -1,5 +1,5 @@
 -- A superstep in which each process sees what it saw in the run before.
-use Rattle.std.proofs.Common.{◌≡◌, ◌<◌, ◌+◌, ◌++◌, ◌∷◌, ℕ, zero, suc, Bool, true, List, [], Option, None, Some, All, map, length, get_or, arith, refl, sym, ap, ◌∙◌, subst, append-nil, length-append}
+use Rattle.std.proofs.Common.{◌≡◌, ◌<◌, ◌+◌, ◌++◌, ◌∷◌, ℕ, zero, suc, Bool, true, List, [], None, Some, All, map, length, get_or, arith, refl, sym, ap, ◌∙◌, subst, append-nil, length-append}
 use Rattle.std.proofs.lemmas.Grind.{common_steps}
 use Rattle.std.proofs.lemmas.List.{length-map}
 use Rattle.std.proofs.lemmas.List.FromFn.{fill_by_all, get_or-map-range_with_len, length-map-range_with_len}
@@ -133,9 +133,9 @@ some_before old s l = omega (arith, l, length-append old.past (last_superstep ol
 pub left : (turn : ViewParts → OutcomeParts) (i j : Input) (old r : Run) → IsStaying turn i j old r → outcomes_there old r ≡ map turn (open_views r)
 left turn i j old r h = past_outcomes turn i old (length r.past) h.before h.past ∙ ap (map turn) h.seen
 
-turns_on : (turn : ViewParts → OutcomeParts) (r : Run) (os : List OutcomeParts) → end_of (length r.past) r.state.table os ≡ None → is_turned (after_turns r os).phase ≡ true
+pub turns_on : (r : Run) (os : List OutcomeParts) → end_of (length r.past) r.state.table os ≡ None → is_turned (after_turns r os).phase ≡ true
 unfolding after_turns
-turns_on turn r os e = ap (λ x. is_turned (phase_after x)) e
+turns_on r os e = ap (λ x. is_turned (phase_after x)) e
 
 -- it ends by delivery
 pub goes_on : (turn : ViewParts → OutcomeParts) (i j : Input) (old r : Run) → IsStaying turn i j old r → is_turned (after_turns r (map turn (open_views r))).phase ≡ true
@@ -143,7 +143,7 @@ goes_on turn i j old r h =
     let s = length r.past in
     let same : views_in turn i s ≡ views_in turn j s = h.seen ∙ open_views-in turn j r h.made in
     let state : r.state ≡ state_at turn i s = h.made.state ∙ sym (same_state turn i j s h.some h.many same) in
-    turns_on turn r (map turn (open_views r))
+    turns_on r (map turn (open_views r))
     (ap (λ (x : State). end_of s x.table (map turn (open_views r))) state ∙ ap (λ (vs : List ViewParts). end_of s (state_at turn i s).table (map turn vs)) (sym h.seen) ∙ h.before.goes_on s h.past)
 
 alike : (v w : ViewParts) → v ≡ w → AreAlikeButForTable v w
@@ -157,10 +157,10 @@ alike v w e =
       queue = ap (λ (x : ViewParts). x.queue) e;
     }
 
--- What is known of the run that is made again stays, marks and update too, where nobody is marked.
-pub under_way_taken : (turn : ViewParts → OutcomeParts) (looks : ViewParts → ℕ → Bool) (j : Input) (old r q : Run) (marks : List Bool) (u : Update) (k : IsBefore turn j (Some old)) → processes_in marks ≡ [] → IsStaying turn k.input_before j old r → IsUnderWay turn looks (Some old) j r marks u → q ≡ after_delivery (after_turns r (map turn (open_views r)))
-    → IsUnderWay turn looks (Some old) j q marks u
-under_way_taken turn looks j old r q marks u k none h under is =
+-- What is known of the run that is made again stays, the update too, and nobody is marked then.
+pub under_way_taken : (turn : ViewParts → OutcomeParts) (looks : ViewParts → ℕ → Bool) (j : Input) (old r q : Run) (marks set : List Bool) (u : Update) (k : IsBefore turn j (Some old)) → processes_in set ≡ [] → length set ≡ length (open_views r) → IsStaying turn k.input_before j old r → IsUnderWay turn looks (Some old) j r marks u → q ≡ after_delivery (after_turns r (map turn (open_views r)))
+    → IsUnderWay turn looks (Some old) j q set u
+under_way_taken turn looks j old r q marks set u k none long_set h under is =
     let i = k.input_before in
     let s = length r.past in
     let us = map turn (open_views r) in
@@ -172,8 +172,8 @@ under_way_taken turn looks j old r q marks u k none h under is =
     let same = same_after turn i j s h.some h.many (h.seen ∙ open_views-in turn j r h.made) in
     let count : length (open_views r) ≡ length (open_views next) =
     ap (λ (vs : List ViewParts). length vs) (open_views-in turn j r h.made) ∙ count-views_in turn j s ∙ sym (count-views_in turn j (s + 1)) ∙ sym (ap (λ (vs : List ViewParts). length vs) views) in
-    let marked : AreMarked (views_before (Some old) (s + 1)) (open_views next) marks = record {
-      count = (under.marked h.started).count ∙ count;
+    let marked : AreMarked (views_before (Some old) (s + 1)) (open_views next) set = record {
+      count = long_set ∙ count;
       clean = λ p l n c. alike (get_or (views_before (Some old) (s + 1)) p no_view) (get_or (open_views next) p no_view)
           (ap (λ (vs : List ViewParts). get_or vs p no_view) (taken-in turn j old (s + 1) k (some_taken old (s + 1) p l) ∙ same ∙ sym views));
     } in
@@ -183,11 +183,11 @@ under_way_taken turn looks j old r q marks u k none h under is =
     sym (append-nil u.executed) ∙ ap (λ (xs : List Place). u.executed ++ xs) (sym (ap (λ (vs : List ViewParts). differ_in looks s vs (open_views r)) taken ∙ nothing-differs looks s (open_views r))) in
     let redelivered : u.redelivered ≡ u.redelivered ++ touched_in s (delivered_outcomes (Some old) s) us =
     sym (append-nil u.redelivered) ∙ ap (λ (xs : List Place). u.redelivered ++ xs) (sym (ap (λ (os : List OutcomeParts). touched_in s os us) delivered ∙ nothing-touched s us)) in
-    subst (λ (x : Run). IsUnderWay turn looks (Some old) j x marks u) (sym is)
+    subst (λ (x : Run). IsUnderWay turn looks (Some old) j x set u) (sym is)
     record {
       made = made;
-      marked = λ _. subst (λ n. AreMarked (views_before (Some old) n) (open_views next) marks) (sym long) marked;
-      reached = λ _ p t. absurd (nobody_marked marks p none t);
+      marked = λ _. subst (λ n. AreMarked (views_before (Some old) n) (open_views next) set) (sym long) marked;
+      reached = λ _ p t. absurd (nobody_marked set p none t);
       updated = updated_delivered looks (Some old) r us u u phase under.updated executed redelivered;
     }
 
@@ -200,12 +200,3 @@ staying turn j old r set k made started some past differ none =
     let count : length (views_before (Some old) s) ≡ length (open_views r) =
     ap (λ (vs : List ViewParts). length vs) taken ∙ count-views_in turn k.input_before s ∙ k.stands ∙ sym (count-views_in turn j s) ∙ sym (ap (λ (vs : List ViewParts). length vs) (open_views-in turn j r made)) in
     record { before = record_of_law turn k.input_before old k.lawful k.law; made = made; many = k.stands; some = some; started = started; past = past; seen = sym taken ∙ same_views (views_before (Some old) s) (open_views r) set differ none count }
-
--- the same, from what the code knows
-pub staying_whole : (turn : ViewParts → OutcomeParts) (j : Input) (before : Option Run) (old r : Run) (step : ℕ) (olds news : List ViewParts) (set : List Bool) → IsBefore turn j before → (processes_in set ≡ []) × (step < length old.past) × (before ≡ Some old) → IsRecord turn j r → is_open r.phase ≡ true → 0 < length j.mems
-    → step ≡ length r.past → olds ≡ views_before before step → news ≡ open_views r → ViewsDifferAtMost olds news set → (k : IsBefore turn j (Some old)) × IsStaying turn k.input_before j old r
-staying_whole turn j before old r step olds news set h whole made started some steps there here differ =
-    let k : IsBefore turn j (Some old) = subst (IsBefore turn j) whole.2 h in
-    let past : length r.past < length old.past = subst (λ n. n < length old.past) steps whole.1 in
-    let taken : olds ≡ views_before (Some old) (length r.past) = there ∙ (λ i. views_before (whole.2 i) (steps i)) in
-    (k, staying turn j old r set k made started some past (subst (λ (vs : List ViewParts). ViewsDifferAtMost vs (open_views r) set) taken (subst (λ (vs : List ViewParts). ViewsDifferAtMost olds vs set) here differ)) whole.0)

@@ -10,36 +10,27 @@ use Rattle.bsp_run.specs.Supersteps.{supersteps_of, superstep_at}
 use Rattle.bsp_run.proofs.Records.{superstep, supersteps-open, supersteps-turned, supersteps-delivered, past-delivered, past-turned}
 use Rattle.bsp_incr.specs.declared.reply.Place.{Place}
 use Rattle.bsp_incr.specs.declared.reply.Update.{Update}
-use Rattle.bsp_incr.specs.Inside.Changes.{differ, differ_in, differ_from, touched, touched_in, touched_from, update_of}
+use Rattle.bsp_incr.specs.Inside.Changes.{places_of, processes_where, gathered, turns_in, turn_test, differ, differ_in, deliveries_in, delivery_test, touched, touched_in, update_of}
 use Rattle.bsp_incr.specs.Exact.{supersteps_before, delivered_before}
 use Rattle.bsp_incr.specs.Inside.Before.{views_before, delivered_outcomes}
 
 -- one superstep more
-differ_from-push : (looks : ViewParts → ℕ → Bool) (n m : ℕ) (olds xs : List Superstep) (x : Superstep) → n + length xs ≡ m → differ_from looks n olds (xs ++ x ∷ []) ≡ differ_from looks n olds xs ++ differ_in looks m (superstep_at olds m).views x.views
-differ_from-push looks n m olds [] x e =
+gathered-push : (count : Superstep → ℕ) (test : ℕ → Superstep → ℕ → Bool) (n m : ℕ) (xs : List Superstep) (x : Superstep) → n + length xs ≡ m → gathered count test n (xs ++ x ∷ []) ≡ gathered count test n xs ++ places_of m (processes_where (count x) (test m x))
+gathered-push count test n m [] x e =
     let at : n ≡ m = omega arith in
-    append-nil (differ_in looks n (superstep_at olds n).views x.views) ∙ ap (λ k. differ_in looks k (superstep_at olds k).views x.views) at
-differ_from-push looks n m olds (y ∷ xs) x e =
-    let here = differ_in looks n (superstep_at olds n).views y.views in
-    ap (λ (zs : List Place). here ++ zs) (differ_from-push looks (n + 1) m olds xs x (omega arith))
-    ∙ sym (append_assoc here (differ_from looks (n + 1) olds xs) (differ_in looks m (superstep_at olds m).views x.views))
+    append-nil (places_of n (processes_where (count x) (test n x))) ∙ ap (λ k. places_of k (processes_where (count x) (test k x))) at
+gathered-push count test n m (y ∷ xs) x e =
+    let here = places_of n (processes_where (count y) (test n y)) in
+    ap (λ (zs : List Place). here ++ zs) (gathered-push count test (n + 1) m xs x (omega arith))
+    ∙ sym (append_assoc here (gathered count test (n + 1) xs) (places_of m (processes_where (count x) (test m x))))
 
 differ-push : (looks : ViewParts → ℕ → Bool) (olds xs : List Superstep) (x : Superstep) → differ looks olds (xs ++ x ∷ []) ≡ differ looks olds xs ++ differ_in looks (length xs) (superstep_at olds (length xs)).views x.views
 unfolding differ
-differ-push looks olds xs x = differ_from-push looks 0 (length xs) olds xs x (omega arith)
-
-touched_from-push : (n m : ℕ) (olds xs : List Superstep) (x : Superstep) → n + length xs ≡ m → touched_from n olds (xs ++ x ∷ []) ≡ touched_from n olds xs ++ touched_in m (superstep_at olds m).outcomes x.outcomes
-touched_from-push n m olds [] x e =
-    let at : n ≡ m = omega arith in
-    append-nil (touched_in n (superstep_at olds n).outcomes x.outcomes) ∙ ap (λ k. touched_in k (superstep_at olds k).outcomes x.outcomes) at
-touched_from-push n m olds (y ∷ xs) x e =
-    let here = touched_in n (superstep_at olds n).outcomes y.outcomes in
-    ap (λ (zs : List Place). here ++ zs) (touched_from-push (n + 1) m olds xs x (omega arith))
-    ∙ sym (append_assoc here (touched_from (n + 1) olds xs) (touched_in m (superstep_at olds m).outcomes x.outcomes))
+differ-push looks olds xs x = gathered-push turns_in (turn_test looks olds) 0 (length xs) xs x (omega arith)
 
 touched-push : (olds xs : List Superstep) (x : Superstep) → touched olds (xs ++ x ∷ []) ≡ touched olds xs ++ touched_in (length xs) (superstep_at olds (length xs)).outcomes x.outcomes
 unfolding touched
-touched-push olds xs x = touched_from-push 0 (length xs) olds xs x (omega arith)
+touched-push olds xs x = gathered-push deliveries_in (delivery_test olds) 0 (length xs) xs x (omega arith)
 
 executed_more : (looks : ViewParts → ℕ → Bool) (old : Option Run) (r : Run) (os : List OutcomeParts) (before after : List Place) (all : List Superstep) → r.phase ≡ Open → all ≡ r.past ++ superstep (open_views r) os ∷ [] → before ≡ differ looks (supersteps_before old) (supersteps_of r)
     → after ≡ before ++ differ_in looks (length r.past) (views_before old (length r.past)) (open_views r) → after ≡ differ looks (supersteps_before old) all

@@ -1,10 +1,14 @@
 -- What a session holds, and its replies to batches of edits (this profile).
-use Rattle.std.specs.Prelude.{◌≡◌, ℕ, Bool, List, [], ◌∷◌, map, Option, None, Some}
+use Rattle.std.specs.Prelude.{◌≡◌, ℕ, Bool, List, [], ◌∷◌, map, Option, None, Some, Result, IfOk}
+use Rattle.std.specs.Borrow.{Bor}
+use Rattle.std.specs.Fn.{Shared}
+use Rattle.std.specs.declared.alloc.AllocError.{AllocError}
 use Rattle.bsp_model.specs.declared.input.Input.{Input}
 use Rattle.bsp_model.specs.Input.{input_fault}
 use Rattle.bsp_step.specs.ViewParts.{ViewParts}
 use Rattle.bsp_step.specs.OutcomeParts.{OutcomeParts}
-use Rattle.bsp_run.specs.Run.{Run}
+use Rattle.bsp_run.specs.Run.{Run, run}
+use Rattle.bsp_run.specs.declared.result.RunResult.{RunResult}
 use Rattle.bsp_run.specs.Law.{IsBspRun}
 use Rattle.bsp_run.specs.Result.{result_of}
 use Rattle.bsp_incr.specs.declared.edit.Edit.{Edit}
@@ -84,3 +88,9 @@ pub record AreScratchReplies (looks : ViewParts → ℕ → Bool) (turn : ViewPa
   pub whole : List Reply
   pub are : AreReplies looks turn input batches whole
   pub without : replies ≡ map without_update whole
+
+-- A call that answers what the run of any lawful input gives.
+pub record MakesRuns {F : Type 0} (calls : Shared F (Bor Input × Unit {0}) (Result RunResult AllocError)) (f : F) (turn : ViewParts → OutcomeParts) : Type 0 where
+  pub takes : (input : Bor Input) → input_fault input.now ≡ None → calls.pre f (input, tt)
+  pub gives : (input : Bor Input) (r : Result RunResult AllocError) → input_fault input.now ≡ None → calls.post f (input, tt) r
+      → IfOk r (λ given. given ≡ result_of (run turn input.now))

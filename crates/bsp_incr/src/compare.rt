@@ -10,10 +10,10 @@ mod marks;
 mod moving;
 mod places;
 
-pub use alike::{all_cost_alike, ends_as_before};
-pub use before::{delivered_outcomes, views_after, with_first_views};
-pub use beside::{OpenSuperstep, open_superstep};
-pub use doubtful::{Doubtful, all_see_the_same};
+pub use alike::{Alike, alike_beside};
+pub use before::views_after;
+pub use beside::{OpenSuperstep, delivered_beside, open_superstep};
+pub use doubtful::Doubtful;
 pub use known_table::KnownTable;
 pub use looking::{has_table, serves};
 pub use marks::{Marks, all_marks, marks_of_edits};

@@ -12,7 +12,7 @@ pub use former::restore;
 pub use undo::{arg_of, word_of};
 
 /// A change of one part of an input. No edit changes a length.
-#[derive(Clone, Copy, PartialEq, Eq)]
+#[derive(Clone, Copy, Debug, PartialEq, Eq)]
 pub enum Edit {
     /// Word `addr` of the memory of process `pid` becomes `value`.
     Word { pid: u64, addr: u64, value: u64 },

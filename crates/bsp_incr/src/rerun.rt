@@ -7,7 +7,7 @@ ghost use Rattle.bsp_run.specs.Condition.{is_ended};
 ghost use Rattle.bsp_run.specs.Law.{IsBspRun};
 ghost use Rattle.bsp_incr.specs.Inside.Changes.{update_of};
 ghost use Rattle.bsp_incr.specs.Edits.{refusal_of, edited};
-ghost use Rattle.bsp_incr.specs.Inside.Before.{IsBefore, IsBeforeEdits};
+ghost use Rattle.bsp_incr.specs.Inside.Before.{IsBefore};
 ghost use Rattle.bsp_incr.specs.Inside.Marks.{AreArgsMarked, AreFirstMarked};
 ghost use Rattle.bsp_run.specs.TurnBy.{turn_by};
 
@@ -62,27 +62,6 @@ fn remake_all<P: Program, G: Gate, R: Threads + Sync>(
     Ok(update)
 }
 
-/// All supersteps of a run, from its opening on, and what was done for them. The processes in `first` begin with something else than in the run before.
-fn remade<P: Program, G: Gate, R: Threads + Sync>(
-    given: &Given<'_, P, R, G>,
-    first: ProcessSet,
-) -> Result<(Tape, Update), OutOfMemory>
-    requires first { AreFirstMarked given.now.before given.now.input first }
-    ensures ended { IfOk result (λ r. is_ended r.0.phase ≡ true) }
-    ensures run { IfOk result (λ r. r.0 ≡ run (turn_by P.Program given.now.program) given.now.input) }
-    ensures update { IfOk result
-        (λ r. r.1 ≡ update_of (P.looks given.now.program) given.now.before r.0) }
-{
-    let mut tape = opened(given, &first)?;
-    match remake_all(given, &mut tape, first) {
-        Ok(update) => Ok((tape, update)),
-        Err(error) => {
-            drop(tape);
-            Err(error)
-        }
-    }
-}
-
 /// The run of a program on a lawful input, made against the run before, if there was one, of the same program and as many processes: a turn is
 /// taken only where the recorded one does not serve, and a delivery is made only where it depends on something else.
 pub fn rerun<P: Program, G: Gate, R: Threads + Sync>(
@@ -108,39 +87,23 @@ pub fn rerun<P: Program, G: Gate, R: Threads + Sync>(
         old,
         other_args: &args,
     };
-    let (tape, update) = remade(&given, first)?;
-    let executed = update.executed.as_slice();
-    match finished(old, tape, input.mems.len(), executed) {
-        Ok(history) => Ok((history, update)),
+    let mut tape = opened(&given, &first)?;
+    match remake_all(&given, &mut tape, first) {
+        Ok(update) => {
+            let executed = update.executed.as_slice();
+            match finished(old, tape, input.mems.len(), executed) {
+                Ok(history) => Ok((history, update)),
+                Err(error) => {
+                    drop(update);
+                    Err(error)
+                }
+            }
+        }
         Err(error) => {
-            drop(update);
+            drop(tape);
             Err(error)
         }
     }
-}
-
-/// Puts the run of an edited input in the place of the run of the input as it was, against which it is made and which goes to `before`. After
-/// `OutOfMemory` that run stays.
-fn rerun_from_edits<P: Program, G: Gate, R: Threads + Sync>(
-    workers: Workers<'_, R, G>,
-    program: &P,
-    history: &mut History,
-    before: &mut Option<History>,
-    input: &Input,
-    edits: &[Edit],
-) -> Result<Update, OutOfMemory>
-    requires lawful { input_fault input.now ≡ None }
-    requires before { IsBeforeEdits (turn_by P.Program program.now) edits.now input.now history.old }
-    ensures run { OnOk result (history.new ≡ run (turn_by P.Program program.now) input.now) }
-    ensures update { IfOk result
-        (λ update. update ≡ update_of (P.looks program.now) (Some history.old) history.new) }
-    ensures before { OnOk result (before.new ≡ Some history.old) }
-    ensures err { OnErr result (history.new ≡ history.old) }
-{
-    let marks = marks_of_edits(history, input, edits);
-    let (made, update) = rerun(workers, program, Some(&*history), input, marks)?;
-    before.insert(replace(history, made));
-    Ok(update)
 }
 
 /// Edits an input and makes its run again, against the run of the input as it was, which goes to `before`. After `OutOfMemory` nothing has changed.
@@ -165,8 +128,13 @@ pub fn rerun_edited<P: Program, G: Gate, R: Threads + Sync>(
     ensures err_history { OnErr result (history.new ≡ history.old) }
 {
     let formers = make_edits(workers.alloc, input, edits)?;
-    match rerun_from_edits(workers, program, history, before, input, edits) {
-        Ok(update) => Ok(update),
+    let marks = marks_of_edits(history, input, edits);
+    match rerun(workers, program, Some(&*history), input, marks) {
+        Ok((made, update)) => {
+            drop(formers);
+            before.insert(replace(history, made));
+            Ok(update)
+        }
         Err(error) => {
             restore(input, formers);
             Err(error)

@@ -182,26 +182,6 @@ impl<P: Program + Drop> Session<P> {
             count: workers,
             gate,
         };
-        Ok(self.change(workers, edits, before)?)
-    }
-
-    /// Applies a batch that is accepted. The history goes to `before`. After `OutOfMemory` nothing has changed.
-    fn change<R: Threads + Sync, G: Gate>(
-        &mut self,
-        workers: Workers<'_, R, G>,
-        edits: &[Edit],
-        before: &mut Option<History>,
-    ) -> Result<Update, OutOfMemory>
-        requires accepted { refusal_of self.old.input edits.now ≡ None }
-        ensures program { self.new.program ≡ self.old.program }
-        ensures given { OnOk result (self.new.input ≡ edited self.old.input edits.now) }
-        ensures law { OnOk result (IsBspRun (turn_of (P.acts self.old.program) (P.ending self.old.program))
-            self.new.input self.new.history) }
-        ensures exact { IfOk result (λ u. IsExact (P.looks self.old.program)
-            (Some self.old.history) self.new.history u) }
-        ensures before { OnOk result (before.new ≡ Some self.old.history) }
-        ensures err { OnErr result (self.new ≡ self.old) }
-    {
         let update = rerun_edited(
             workers,
             &self.program,

@@ -11,14 +11,21 @@ pub record EndsAlike (o u : OutcomeParts) : Type 0 where
   pub pops : o.pops ≡ u.pops
   pub pushes : o.pushes ≡ u.pushes
 
--- As many turns, which end alike one by one.
-pub record AllEndAlike (os us : List OutcomeParts) : Type 0 where
-  pub count : length os ≡ length us
-  pub each : (p : ℕ) → p < length us → EndsAlike (outcome_of os p) (outcome_of us p)
-
 -- The same work, and requests that move as many words between the same processes, whoever issues them.
 pub record CostsAlike (o u : OutcomeParts) : Type 0 where
   pub work : o.work ≡ u.work
   pub puts : (sender : ℕ) → map (put_transfer sender) o.puts ≡ map (put_transfer sender) u.puts
   pub gets : (sender : ℕ) → map (get_transfer sender) o.gets ≡ map (get_transfer sender) u.gets
   pub sends : (sender : ℕ) → map (send_transfer sender) o.sends ≡ map (send_transfer sender) u.sends
+
+-- Some turns, and as many others, which are alike one by one.
+pub record AllAlike (AreAlike : OutcomeParts → OutcomeParts → Type 0) (os us : List OutcomeParts) : Type 0 where
+  pub some : 0 < length os
+  pub count : length os ≡ length us
+  pub each : (p : ℕ) → p < length us → AreAlike (outcome_of os p) (outcome_of us p)
+
+abbrev pub AllEndAlike : List OutcomeParts → List OutcomeParts → Type 0
+AllEndAlike = AllAlike EndsAlike
+
+abbrev pub AllCostAlike : List OutcomeParts → List OutcomeParts → Type 0
+AllCostAlike = AllAlike CostsAlike

@@ -28,14 +28,21 @@ differs looks old new p = needs_turn looks (slice_get old p) (slice_index_or new
 abbrev pub differ_in : (ViewParts → ℕ → Bool) → ℕ → List ViewParts → List ViewParts → List Place
 differ_in looks step old new = places_of step (processes_where (length new) (differs looks old new))
 
-abbrev pub differ_from : (ViewParts → ℕ → Bool) → ℕ → List Superstep → List Superstep → List Place
-differ_from looks step olds [] = []
-differ_from looks step olds (s ∷ later) = differ_in looks step (superstep_at olds step).views s.views ++ differ_from looks (step + 1) olds later
+-- The processes at which a test holds, superstep by superstep, from superstep n on. Of each superstep so many are asked.
+abbrev pub gathered : (Superstep → ℕ) → (ℕ → Superstep → ℕ → Bool) → ℕ → List Superstep → List Place
+gathered count test n [] = []
+gathered count test n (s ∷ later) = places_of n (processes_where (count s) (test n s)) ++ gathered count test (n + 1) later
+
+abbrev pub turns_in : Superstep → ℕ
+turns_in s = length s.views
+
+abbrev pub turn_test : (ViewParts → ℕ → Bool) → List Superstep → ℕ → Superstep → ℕ → Bool
+turn_test looks olds n s p = differs looks (superstep_at olds n).views s.views p
 
 -- The places whose turn has to be taken (this profile), by superstep, then process: the run before has no such superstep, or a view of the process that does
 -- not serve.
 unfoldable pub differ : (ViewParts → ℕ → Bool) → List Superstep → List Superstep → List Place
-differ looks olds news = differ_from looks 0 olds news
+differ looks olds news = gathered turns_in (turn_test looks olds) 0 news
 
 -- The delivery to d has to be made: the run before has none, or one that depends on something else.
 abbrev pub is_touched : List OutcomeParts → List OutcomeParts → ℕ → Bool
@@ -44,13 +51,15 @@ is_touched old new d = not (nat_lt d (length old) && same_delivery (delivery_par
 abbrev pub touched_in : ℕ → List OutcomeParts → List OutcomeParts → List Place
 touched_in step old new = places_of step (processes_where (length new) (is_touched old new))
 
-abbrev pub touched_from : ℕ → List Superstep → List Superstep → List Place
-touched_from step olds [] = []
-touched_from step olds (s ∷ later) = touched_in step (superstep_at olds step).outcomes s.outcomes ++ touched_from (step + 1) olds later
+abbrev pub deliveries_in : Superstep → ℕ
+deliveries_in s = length s.outcomes
+
+abbrev pub delivery_test : List Superstep → ℕ → Superstep → ℕ → Bool
+delivery_test olds n s p = is_touched (superstep_at olds n).outcomes s.outcomes p
 
 -- The places whose delivery has to be made (this profile), by superstep, then process. Both lists are of supersteps that ended by delivery.
 unfoldable pub touched : List Superstep → List Superstep → List Place
-touched olds news = touched_from 0 olds news
+touched olds news = gathered deliveries_in (delivery_test olds) 0 news
 
 -- What has to be done for a new run, against the run before.
 abbrev pub update_of : (ViewParts → ℕ → Bool) → Option Run → Run → Update

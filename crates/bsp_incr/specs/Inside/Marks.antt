@@ -4,7 +4,6 @@ use Rattle.bsp_model.specs.declared.input.Input.{Input}
 use Rattle.bsp_step.specs.ViewParts.{ViewParts}
 use Rattle.bsp_step.specs.OutcomeParts.{OutcomeParts, outcome_of}
 use Rattle.bsp_deliver.specs.Delivery.{delivery_parts, next_memory, next_queue}
-use Rattle.bsp_deliver.specs.Condition.{AreDeliverable}
 use Rattle.bsp_run.specs.Run.{Run}
 use Rattle.bsp_run.specs.Supersteps.{superstep_at}
 use Rattle.bsp_run.specs.Condition.{no_view}
@@ -45,12 +44,6 @@ pub record AreDelivered (os : List OutcomeParts) (views : List ViewParts) : Type
   pub count : length views ≡ length os
   pub memory : (d : ℕ) → d < length os → (slice_index_or views d no_view).memory ≡ next_memory (delivery_parts os d)
   pub queue : (d : ℕ) → d < length os → (slice_index_or views d no_view).queue ≡ next_queue (delivery_parts os d)
-
--- what was delivered before can be compared: nothing, or something to each of the same processes
-pub record AreComparable (os us : List OutcomeParts) : Type 0 where
-  pub count : 0 < length os → length os ≡ length us
-  pub before : 0 < length os → AreDeliverable os
-  pub after : AreDeliverable us
 
 -- A process whose arguments are not marked has those of the run before, and one whose arguments are marked has others.
 pub record AreArgsMarked (old : Option Run) (input : Input) (marks : List Bool) : Type 0 where

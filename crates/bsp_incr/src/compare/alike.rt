@@ -1,15 +1,20 @@
 //! What the outcomes of a superstep have in common with those of the run before.
 
-ghost use Rattle.std.specs.Prelude.{◌≡◌, ◌<◌, ℕ, length, option_map, true};
+ghost use Rattle.std.specs.Prelude.{◌≡◌, ◌<◌, if◌then◌else◌, length, true};
+ghost use Rattle.bsp_incr.specs.declared.compare.known_table.KnownTable.TheVariants.{AsBefore, Unknown};
 ghost use Rattle.bsp_step.specs.OutcomeParts.{outcome_of};
-ghost use Rattle.bsp_incr.specs.Inside.Alike.{AllEndAlike, CostsAlike, EndsAlike};
-ghost use Rattle.bsp_incr.specs.Inside.Before.{outcomes_if_any};
+ghost use Rattle.bsp_incr.specs.Inside.Alike.{AllCostAlike, AllEndAlike, CostsAlike, EndsAlike};
+ghost use Rattle.bsp_incr.specs.Inside.Given.{delivered_beside};
 ghost use Rattle.bsp_incr.specs.Inside.Marks.{OutcomesDifferAtMost};
 
+use crate::compare::beside::delivered_beside;
 use crate::compare::doubtful::Doubtful;
+use crate::compare::known_table::KnownTable;
 use crate::compare::moving::{gets_move_alike, puts_move_alike, sends_move_alike};
-use bsp_model::{ProcessSet, are_same};
-use bsp_step::{OutcomeRef, Outcomes};
+use crate::rerun::Given;
+use bsp_model::are_same;
+use bsp_run::Tape;
+use bsp_step::{OutcomeRef, Outcomes, Program};
 
 /// Whether two turns charged the same work, and moved as many words between the same processes.
 fn costs_alike(old: &OutcomeRef<'_>, new: &OutcomeRef<'_>) -> bool
@@ -32,67 +37,81 @@ fn ends_alike(old: &OutcomeRef<'_>, new: &OutcomeRef<'_>) -> bool
         && are_same(old.pushes, new.pushes)
 }
 
-/// Whether the turns of a process charged and moved alike.
-fn costs_alike_at(old: &Outcomes, new: &Outcomes, p: usize) -> bool
-    requires old { p < length old.now }
-    requires new { p < length new.now }
-    ensures { result ≡ true → CostsAlike (outcome_of old.now p) (outcome_of new.now p) }
-{
-    costs_alike(&old.get(p), &new.get(p))
+/// What is the same of all turns of a superstep as in the run before, which ended that superstep by delivery.
+#[derive(Clone, Copy)]
+pub struct Alike {
+    /// The table and the tag size that the processes saw, how each turn ended, and the table and the tag size for which it asked. So the superstep ends
+    /// by delivery again, and leaves the same table and tag size.
+    pub ends: bool,
+    /// The work that was charged, and the words that were moved between the same processes. So the superstep costs as much, at the same prices.
+    pub costs: bool,
 }
 
-/// Whether the turns of a process ended alike.
-fn ends_alike_at(old: &Outcomes, new: &Outcomes, p: usize) -> bool
-    requires old { p < length old.now }
-    requires new { p < length new.now }
-    ensures { result ≡ true → EndsAlike (outcome_of old.now p) (outcome_of new.now p) }
-{
-    ends_alike(&old.get(p), &new.get(p))
-}
+impl Alike {
+    /// Looks at the turns of one process more.
+    fn look_at(&mut self, old: &Outcomes, new: &Outcomes, p: usize)
+        requires old { p < length old.now }
+        requires new { p < length new.now }
+        ensures ends { self.new.ends ≡ true → (self.old.ends ≡ true)
+            × EndsAlike (outcome_of old.now p) (outcome_of new.now p) }
+        ensures costs { self.new.costs ≡ true → (self.old.costs ≡ true)
+            × CostsAlike (outcome_of old.now p) (outcome_of new.now p) }
+    {
+        let before = old.get(p);
+        let after = new.get(p);
+        self.ends = self.ends && ends_alike(&before, &after);
+        self.costs = self.costs && costs_alike(&before, &after);
+    }
 
-/// Whether the turns of all processes charged and moved alike. Only those of the processes in `doubtful` are looked at, since the others left the same.
-pub fn all_cost_alike(old: &Outcomes, new: &Outcomes, doubtful: &ProcessSet) -> bool
-    requires count { length old.now ≡ length new.now }
-    requires doubtful { OutcomesDifferAtMost old.now new.now doubtful.now }
-    ensures { result ≡ true → (p : ℕ) → p < length new.now → CostsAlike (outcome_of old.now p) (outcome_of new.now p) }
-{
-    for process in doubtful.iter() {
-        if !costs_alike_at(old, new, process) {
-            return false;
+    /// What is the same of these turns. Only those of doubtful processes are looked at.
+    fn among(old: &Outcomes, new: &Outcomes, doubtful: &Doubtful) -> Alike
+        requires some { 0 < length old.now }
+        requires count { length old.now ≡ length new.now }
+        requires doubtful { OutcomesDifferAtMost old.now new.now doubtful.now.processes }
+        ensures table { result.ends ≡ true → doubtful.now.same_table ≡ true }
+        ensures ends { result.ends ≡ true → AllEndAlike old.now new.now }
+        ensures costs { result.costs ≡ true → AllCostAlike old.now new.now }
+    {
+        let mut alike = Alike {
+            ends: doubtful.same_table,
+            costs: true,
+        };
+        for process in doubtful.processes.iter() {
+            alike.look_at(old, new, process);
+        }
+        alike
+    }
+
+    /// So much is known of the table after the superstep.
+    pub fn next_table(&self) -> KnownTable
+        ensures { result ≡ (if self.now.ends then AsBefore else Unknown) }
+    {
+        if self.ends {
+            KnownTable::AsBefore
+        } else {
+            KnownTable::Unknown
         }
     }
-    true
 }
 
-/// Whether the turns of all processes ended alike. Here too, only those in `doubtful` are looked at.
-pub fn all_end_alike(old: &Outcomes, new: &Outcomes, doubtful: &ProcessSet) -> bool
-    requires count { length old.now ≡ length new.now }
-    requires doubtful { OutcomesDifferAtMost old.now new.now doubtful.now }
-    ensures { result ≡ true → AllEndAlike old.now new.now }
+/// What is the same of the turns of the open superstep. Nothing is, where the run before did not end it by delivery.
+pub fn alike_beside<P: Program, R, G>(
+    given: &Given<'_, P, R, G>,
+    tape: &Tape,
+    doubtful: &Doubtful,
+    new: &Outcomes,
+) -> Alike
+    requires count { length new.now ≡ length given.now.input.mems }
+    requires doubtful { OutcomesDifferAtMost (delivered_beside given.now tape.now) new.now doubtful.now.processes }
+    ensures table { result.ends ≡ true → doubtful.now.same_table ≡ true }
+    ensures ends { result.ends ≡ true → AllEndAlike (delivered_beside given.now tape.now) new.now }
+    ensures costs { result.costs ≡ true → AllCostAlike (delivered_beside given.now tape.now) new.now }
 {
-    for process in doubtful.iter() {
-        if !ends_alike_at(old, new, process) {
-            return false;
-        }
-    }
-    true
-}
-
-/// True only where the superstep ends by delivery, and leaves the table and the tag size that it left in the run before. That run opened it with the
-/// same table and ended it by delivery, and all turns ended alike in both runs.
-pub fn ends_as_before(old: Option<&Outcomes>, new: &Outcomes, doubtful: &Doubtful) -> bool
-    requires count { 0 < length (outcomes_if_any (option_map (λ o. o.now) old))
-        → length (outcomes_if_any (option_map (λ o. o.now) old)) ≡ length new.now }
-    requires doubtful { OutcomesDifferAtMost (outcomes_if_any (option_map (λ o. o.now) old)) new.now
-        doubtful.now.processes }
-    ensures some { result ≡ true → 0 < length (outcomes_if_any (option_map (λ o. o.now) old.entry)) }
-    ensures table { result ≡ true → doubtful.now.same_table ≡ true }
-    ensures ends { result ≡ true → AllEndAlike (outcomes_if_any (option_map (λ o. o.now) old.entry)) new.now }
-{
-    match old {
-        Some(old) if doubtful.same_table && !old.is_empty() => {
-            all_end_alike(old, new, &doubtful.processes)
-        }
-        _ => false,
+    match delivered_beside(given, tape) {
+        Some(old) => Alike::among(old, new, doubtful),
+        None => Alike {
+            ends: false,
+            costs: false,
+        },
     }
 }

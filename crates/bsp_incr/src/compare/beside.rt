@@ -1,13 +1,13 @@
 //! The open superstep of a run that is made again, beside that of the run before.
 
-ghost use Rattle.std.specs.Prelude.{◌≡◌, ◌<◌, All, length, map, option_map, true};
+ghost use Rattle.std.specs.Prelude.{◌≡◌, ◌<◌, [], All, IfNone, IfSome, length, map, true};
+ghost use Rattle.bsp_deliver.specs.Condition.{AreDeliverable};
 ghost use Rattle.bsp_step.specs.ViewParts.{IsView};
 ghost use Rattle.bsp_run.specs.Run.{open_views};
 ghost use Rattle.bsp_run.specs.Condition.{is_open};
 ghost use Rattle.bsp_run.specs.Inside.Record.{IsRecord};
-ghost use Rattle.bsp_incr.specs.Inside.Before.{outcomes_if_any};
 ghost use Rattle.bsp_run.specs.TurnBy.{turn_by};
-ghost use Rattle.bsp_incr.specs.Inside.Given.{views_beside};
+ghost use Rattle.bsp_incr.specs.Inside.Given.{IsMaking, delivered_beside, views_beside};
 ghost use Rattle.bsp_incr.specs.Inside.Marks.{HaveOneTable};
 
 use crate::compare::before::{outcomes_before, views_before};
@@ -40,12 +40,14 @@ pub fn open_superstep<'old, 'new, P: Program, R, G>(
 ) -> OpenSuperstep<'old, 'new>
     requires open { is_open tape.now.phase ≡ true }
     requires made { IsRecord (turn_by P.Program given.now.program) given.now.input tape.now }
+    ensures given { IsMaking P.Program given.now }
     ensures step { result.step ≡ length tape.now.past }
     ensures views { result.views.now ≡ open_views tape.now }
     ensures limits { All IsView result.views.now }
     ensures old_views { result.old_views ≡ views_beside given.now tape.now }
-    ensures recorded { outcomes_if_any (option_map (λ o. o.now) result.old_outcomes)
-        ≡ map (turn_by P.Program given.now.program) result.old_views }
+    ensures recorded { IfSome result.old_outcomes (λ o. (0 < length result.old_views)
+        × (o.now ≡ map (turn_by P.Program given.now.program) result.old_views)) }
+    ensures none { IfNone result.old_outcomes (result.old_views ≡ []) }
 {
     let step = tape.step();
     OpenSuperstep {
@@ -54,5 +56,24 @@ pub fn open_superstep<'old, 'new, P: Program, R, G>(
         like: tape.outcomes_before(),
         old_views: views_before(given.old, step),
         old_outcomes: outcomes_before(given.old, step),
+    }
+}
+
+/// The outcomes that the run before delivered in the superstep with the number of the open one; none where it ended no such superstep by delivery.
+pub fn delivered_beside<'old, P: Program, R, G>(
+    given: &Given<'old, P, R, G>,
+    tape: &Tape,
+) -> Option<&'old Outcomes>
+    ensures outcomes { IfSome result (λ o. o.now ≡ delivered_beside given.now tape.now) }
+    ensures none { IfNone result (delivered_beside given.now tape.now ≡ []) }
+    ensures deliverable { IfSome result (λ o. AreDeliverable o.now) }
+    ensures count { IfSome result (λ o. length o.now ≡ length given.now.input.mems) }
+{
+    let Some(history) = given.old else {
+        return None;
+    };
+    match history.past().get(tape.step()) {
+        Some(superstep) => Some(&superstep.outcomes),
+        None => None,
     }
 }

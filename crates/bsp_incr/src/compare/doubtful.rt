@@ -1,8 +1,7 @@
 //! Who may see something else in a superstep than in the run before.
 
-ghost use Rattle.std.specs.Prelude.{◌≡◌, ◌↔◌, [], IsTrue, true};
-ghost use Rattle.bsp_model.specs.ProcessSet.{processes_in};
-ghost use Rattle.bsp_incr.specs.Inside.Marks.{AreMarked, ViewsDifferAtMost};
+ghost use Rattle.std.specs.Prelude.{◌↔◌, IsTrue};
+ghost use Rattle.bsp_incr.specs.Inside.Marks.{AreMarked};
 ghost use Rattle.bsp_incr.specs.Inside.Known.{AreDoubtful, AreMarkedAlone, HaveSameTable, IsKnown};
 
 use crate::compare::beside::OpenSuperstep;
@@ -11,7 +10,7 @@ use crate::compare::looking::has_table;
 use bsp_model::ProcessSet;
 
 /// What may be another in a superstep than in the run before.
-#[derive(Drop)]
+#[derive(Clone, Copy)]
 pub struct Doubtful {
     /// The processes that may see something else.
     pub processes: ProcessSet,
@@ -34,20 +33,6 @@ fn is_same_table(superstep: &OpenSuperstep<'_, '_>, known: KnownTable) -> bool
             has_table(&superstep.old_views.get(0), now.table, now.tag_size)
         }
     }
-}
-
-/// Whether all processes are known to see what they saw in the run before: none is marked, and the table and the tag size are the same.
-pub fn all_see_the_same(
-    superstep: &OpenSuperstep<'_, '_>,
-    marks: &ProcessSet,
-    known: KnownTable,
-) -> bool
-    requires marks { AreMarked superstep.now.old_views superstep.now.views.now marks.now }
-    requires known { IsKnown known superstep.now.old_views superstep.now.views.now }
-    ensures none { result ≡ true → processes_in marks.now ≡ [] }
-    ensures same { result ≡ true → ViewsDifferAtMost superstep.now.old_views superstep.now.views.now marks.now }
-{
-    marks.is_empty() && is_same_table(superstep, known)
 }
 
 impl Doubtful {

@@ -1,23 +1,24 @@
 //! The places of processes in a superstep.
 
 ghost use Rattle.std.specs.Prelude.{◌≡◌, ◌++◌, OnOk};
+ghost use Rattle.bsp_model.specs.ProcessSet.{processes_in};
 ghost use Rattle.bsp_incr.specs.Inside.Changes.{places_of};
 
 use crate::Place;
-use bsp_model::{OutOfMemory, Seq};
+use bsp_model::{OutOfMemory, ProcessSet, Seq};
 
 /// Adds the places of these processes in a superstep.
 pub fn add_places(
     places: &mut Seq<Place>,
     step: u64,
-    processes: &[usize],
+    processes: &ProcessSet,
 ) -> Result<(), OutOfMemory>
-    ensures { OnOk result (places.new ≡ places.old ++ places_of step processes.now) }
+    ensures { OnOk result (places.new ≡ places.old ++ places_of step (processes_in processes.now)) }
 {
-    for process in processes {
+    for process in processes.iter() {
         places.push(Place {
             step,
-            pid: *process as u64,
+            pid: process as u64,
         })?;
     }
     Ok(())

@@ -1,6 +1,6 @@
 //! Batches that take others back.
 
-ghost use Rattle.std.specs.Prelude.{◌≡◌, [], slice_index, slice_index_or, map, IfOk};
+ghost use Rattle.std.specs.Prelude.{◌≡◌, [], slice_index, slice_index_or, IfOk};
 ghost use Rattle.bsp_incr.specs.Undo.{former_of, undo_of};
 
 use crate::edit::editing::refusal_of;

@@ -38,8 +38,8 @@ pub fn finished(
     ensures { IfOk result (λ history. history ≡ tape) }
 {
     let Some(history) = old else {
-        return Ok(tape.finish()?);
+        return tape.finish();
     };
     let processes = processes_of_places(nprocs, executed);
-    Ok(tape.finish_like(history, &processes)?)
+    tape.finish_like(history, &processes)
 }

@@ -6,7 +6,6 @@ ghost use Rattle.bsp_model.specs.Replaced.{replaced};
 ghost use Rattle.bsp_run.specs.Run.{start};
 ghost use Rattle.bsp_incr.specs.Inside.Marks.{AreFirstMarked};
 
-use crate::compare::with_first_views;
 use crate::rerun::given::Given;
 use bsp_model::{OutOfMemory, ProcessSet, Seq, SharedSeq, TryCopy, Words};
 use bsp_run::{Arguments, Tape, copied};
@@ -46,15 +45,23 @@ pub fn opened<P: Program, R, G>(
     ensures { IfOk result (λ tape. tape ≡ start given.now.input) }
 {
     let input = given.input;
-    let Some((history, like)) = with_first_views(given.old) else {
-        return Ok(Tape::open_lawful(given.workers.alloc, input)?);
+    let Some(history) = given.old else {
+        return Tape::open_lawful(given.workers.alloc, input);
     };
-    let marked = marks.members(given.workers.alloc)?;
+    let Some(like) = history.views(0) else {
+        return Tape::open_lawful(given.workers.alloc, input);
+    };
     let args = args_again(
         given.workers.alloc,
         history.args(),
         &input.args,
         given.other_args,
     )?;
-    Ok(Tape::open_like(given.workers.alloc, input, args, like, marked)?)
+    match marks.members(given.workers.alloc) {
+        Ok(marked) => Tape::open_like(given.workers.alloc, input, args, like, marked),
+        Err(error) => {
+            drop(args);
+            Err(error)
+        }
+    }
 }

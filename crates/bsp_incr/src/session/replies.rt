@@ -1,100 +1,103 @@
 //! The replies of a session, by runs made afresh.
 
-ghost use Rattle.std.specs.Prelude.{◌≡◌, None, IfOk, IfErr, OnOk, map};
+ghost use Rattle.std.specs.Prelude.{◌≡◌, ◌++◌, ◌∷◌, [], ℕ, Bool, None, IfOk, IfErr, OnOk, map};
 ghost use Rattle.bsp_model.specs.Input.{input_fault};
-ghost use Rattle.bsp_step.specs.Turn.{turn_of};
+ghost use Rattle.bsp_step.specs.ViewParts.{ViewParts};
+ghost use Rattle.bsp_step.specs.OutcomeParts.{OutcomeParts};
 ghost use Rattle.bsp_run.specs.Run.{run};
 ghost use Rattle.bsp_run.specs.Result.{result_of};
 ghost use Rattle.bsp_run.specs.RunErrors.{input_fault_of};
-ghost use Rattle.bsp_incr.specs.Replies.{input_after, without_update, AreScratchReplies};
-ghost use Rattle.bsp_run.specs.TurnBy.{turn_by};
+ghost use Rattle.bsp_incr.specs.Replies.{input_after, without_update, AreScratchReplies, MakesRuns};
 ghost use Rattle.bsp_incr.specs.Inside.Replies.{reply_to, replies};
 
 use crate::edit::{make_edits, refusal_of};
 use crate::{Batch, Reply};
 use bsp_model::{Input, OutOfMemory};
 use bsp_pool::Gate;
-use bsp_run::{DEPTH_OF_RUNS, RunError, lawful_result};
-use bsp_step::Program;
+use bsp_run::{DEPTH_OF_RUNS, RunError, RunResult};
 use std::alloc::Global;
 
-/// The reply that gives the run of a lawful input, made afresh.
-fn scratch_done<P: Program, G: Gate>(
-    alloc: Global,
-    program: &P,
+/// Adds the reply that gives the run of a lawful input, made afresh by `make`.
+fn push_run<F: Fn(&Input) -> Result<RunResult, OutOfMemory>>(
+    all: &mut Vec<Reply>,
     input: &Input,
-    gate: &G,
-) -> Result<Reply, OutOfMemory>
+    make: &F,
+) -> Result<(), OutOfMemory>
     requires lawful { input_fault input.now ≡ None }
-    ensures { IfOk result
-        (λ reply. reply ≡ Reply.Done (result_of (run (turn_by P.Program program.now) input.now)) None) }
+    requires makes { (turn : ViewParts → OutcomeParts) × MakesRuns F.Fn make.now turn }
+    ensures { (turn : ViewParts → OutcomeParts) → MakesRuns F.Fn make.now turn
+        → OnOk result (all.new.items ≡ all.old.items ++ Reply.Done (result_of (run turn input.now)) None ∷ []) }
 {
-    let result = lawful_result(alloc, program, input, gate)?;
-    Ok(Reply::Done {
+    let result = make(input)?;
+    all.push(Reply::Done {
         result,
         update: None,
-    })
+    })?;
+    Ok(())
 }
 
-/// The reply to a batch, by a run made afresh where the batch is accepted.
-fn scratch_reply<P: Program, G: Gate>(
+/// Adds the reply to a batch, by a run made afresh where the batch is accepted.
+fn push_reply<F: Fn(&Input) -> Result<RunResult, OutOfMemory>>(
+    all: &mut Vec<Reply>,
     alloc: Global,
-    program: &P,
     input: &mut Input,
     batch: &Batch,
-    gate: &G,
-) -> Result<Reply, OutOfMemory>
+    make: &F,
+) -> Result<(), OutOfMemory>
     requires lawful { input_fault input.old ≡ None }
+    requires makes { (turn : ViewParts → OutcomeParts) × MakesRuns F.Fn make.now turn }
     ensures input { OnOk result (input.new ≡ input_after input.old batch.now) }
-    ensures reply { IfOk result (λ reply. reply
-        ≡ without_update (reply_to (P.looks program.now) (turn_by P.Program program.now) input.old batch.now)) }
+    ensures reply { (looks : ViewParts → ℕ → Bool) (turn : ViewParts → OutcomeParts) → MakesRuns F.Fn make.now turn
+        → OnOk result (all.new.items ≡ all.old.items ++ without_update (reply_to looks turn input.old batch.now) ∷ []) }
     ensures lawful { OnOk result (input_fault input.new ≡ None) }
 {
     match refusal_of(input, batch.as_slice()) {
-        Some(refusal) => return Ok(Reply::Refused(refusal)),
+        Some(refusal) => {
+            all.push(Reply::Refused(refusal))?;
+            return Ok(());
+        }
         None => {}
     }
-    let _formers = make_edits(alloc, input, batch.as_slice())?;
-    let reply = scratch_done(alloc, program, input, gate)?;
-    Ok(reply)
+    let formers = make_edits(alloc, input, batch.as_slice())?;
+    drop(formers);
+    push_run(all, input, make)
 }
 
-/// The opening's reply, and those to the batches.
-fn all_scratch_replies<P: Program, G: Gate>(
+/// Adds the opening's reply, and those to the batches.
+fn push_replies<G: Gate, F: Fn(&Input) -> Result<RunResult, OutOfMemory>>(
+    all: &mut Vec<Reply>,
     alloc: Global,
-    program: &P,
-    opening: Reply,
     input: &mut Input,
     batches: &[Batch],
+    make: &F,
     gate: &G,
-) -> Result<Vec<Reply>, OutOfMemory>
+) -> Result<(), OutOfMemory>
+    requires none { all.old.items ≡ [] }
     requires lawful { input_fault input.old ≡ None }
-    requires opening { opening ≡ Reply.Done (result_of (run (turn_by P.Program program.now) input.old)) None }
-    ensures { IfOk result (λ all. all.items
-        ≡ map without_update (replies (P.looks program.now) (turn_by P.Program program.now) input.old batches.now)) }
+    requires makes { (turn : ViewParts → OutcomeParts) × MakesRuns F.Fn make.now turn }
+    ensures { (looks : ViewParts → ℕ → Bool) (turn : ViewParts → OutcomeParts) → MakesRuns F.Fn make.now turn
+        → OnOk result (all.new.items ≡ map without_update (replies looks turn input.old batches.now)) }
 {
-    let mut all = Vec::new(alloc);
-    all.push(opening)?;
+    push_run(all, input, make)?;
     for batch in batches {
         gate.enter(DEPTH_OF_RUNS, all.len() as u64);
-        let reply = scratch_reply(alloc, program, input, batch, gate)?;
-        all.push(reply)?;
+        push_reply(all, alloc, input, batch, make)?;
     }
-    Ok(all)
+    Ok(())
 }
 
-/// The replies of a session to its opening and to these batches, without their updates: each accepted input is run by itself on the calling thread,
-/// from its first superstep. The gate is passed before each turn. `Input(f)` exactly where the input's check answers f, or `OutOfMemory`.
-pub fn scratch_run_behind<P: Program, G: Gate>(
+/// The replies of a session to its opening and to these batches, without their updates: `make` makes the run of each accepted input from its first
+/// superstep. The gate is told of each run. `Input(f)` exactly where the input's check answers f, or `OutOfMemory`.
+pub fn scratch_run_behind<G: Gate, F: Fn(&Input) -> Result<RunResult, OutOfMemory>>(
     alloc: Global,
-    program: &P,
     mut input: Input,
     batches: &[Batch],
+    make: &F,
     gate: &G,
 ) -> Result<Vec<Reply>, RunError>
-    ensures law { IfOk result (λ all. AreScratchReplies (P.looks program.now)
-        (turn_of (P.acts program.now) (P.ending program.now))
-        input batches.now all.items) }
+    requires makes { (turn : ViewParts → OutcomeParts) × MakesRuns F.Fn make.now turn }
+    ensures law { (looks : ViewParts → ℕ → Bool) (turn : ViewParts → OutcomeParts) → MakesRuns F.Fn make.now turn
+        → IfOk result (λ all. AreScratchReplies looks turn input batches.now all.items) }
     ensures lawful { OnOk result (input_fault input ≡ None) }
     ensures input { IfErr result (λ e. input_fault input ≡ input_fault_of e) }
 {
@@ -105,14 +108,13 @@ pub fn scratch_run_behind<P: Program, G: Gate>(
             return Err(RunError::Input(fault));
         }
     }
-    match scratch_done(alloc, program, &input, gate) {
-        Ok(opening) => {
-            let replies = all_scratch_replies(alloc, program, opening, &mut input, batches, gate);
-            drop(input);
-            Ok(replies?)
-        }
+    let mut all = Vec::new(alloc);
+    let pushed = push_replies(&mut all, alloc, &mut input, batches, make, gate);
+    drop(input);
+    match pushed {
+        Ok(()) => Ok(all),
         Err(error) => {
-            drop(input);
+            drop(all);
             Err(error.into())
         }
     }

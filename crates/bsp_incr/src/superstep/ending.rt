@@ -1,12 +1,13 @@
 //! How a superstep of a run that is made again ends: its deliveries, and the opening of the next.
 
-ghost use Rattle.std.specs.Prelude.{◌≡◌, ◌≤◌, ◌<◌, ◌++◌, IfOk, OnOk, length, option_map};
+ghost use Rattle.std.specs.Prelude.{◌≡◌, ◌≤◌, ◌<◌, ◌++◌, IfOk, OnOk, length, true};
 ghost use Rattle.bsp_model.specs.ProcessSet.{processes_in, union};
 ghost use Rattle.bsp_deliver.specs.Requests.{each_below};
 ghost use Rattle.bsp_run.specs.Run.{after_delivery, open_views};
 ghost use Rattle.bsp_run.specs.Setting.{next_setting, next_views};
 ghost use Rattle.bsp_run.specs.Shares.{deliveries_to};
 ghost use Rattle.bsp_run.specs.Result.{cost_of_delivery, IsSmall};
+ghost use Rattle.bsp_incr.specs.Inside.Alike.{AllCostAlike};
 ghost use Rattle.bsp_incr.specs.Inside.Before.{views_after};
 ghost use Rattle.bsp_incr.specs.Inside.Changes.{touched_in, is_touched, places_of, processes_where};
 ghost use Rattle.bsp_incr.specs.Inside.Marks.{OutcomesDifferAtMost};
@@ -14,41 +15,53 @@ ghost use Rattle.bsp_incr.specs.Inside.Given.{delivered_beside};
 ghost use Rattle.bsp_incr.specs.Inside.Known.{IsKnown, KnowsNextTable};
 
 use crate::Place;
-use crate::compare::{
-    KnownTable, add_places, all_cost_alike, delivered_outcomes, has_table, views_after,
-};
+use crate::compare::{KnownTable, add_places, delivered_beside, has_table, views_after};
 use crate::rerun::{Given, UnderWay};
-use crate::superstep::deliveries::{Deliveries, touched_beside};
-use bsp_deliver::Cells;
+use bsp_deliver::{Cells, touched_by_changes};
 use bsp_model::{CostRow, OutOfMemory, ProcessSet, Seq};
 use bsp_pool::Gate;
 use bsp_run::{Phase, Setting, Tape, Views, wide_deliveries};
 use bsp_step::Program;
 use std::thread::Threads;
 
-/// The cost of the superstep whose turns are taken: that of the run before, at the prices in force, if no turn that may be another one charged other work
-/// or moved other numbers of words.
-fn cost<P: Program, G: Gate, R: Threads + Sync>(
+/// Deliveries that were made.
+#[derive(Drop)]
+struct Deliveries {
+    /// To whom, in order.
+    processes: Vec<usize>,
+    /// The next memory and queue of each of them.
+    cells: Cells,
+}
+
+/// To whom the deliveries of the superstep whose turns are taken have to be made. Where the run before made none in it, that is everyone.
+fn touched_beside<P: Program, R, G>(
     given: &Given<'_, P, R, G>,
     tape: &Tape,
     doubtful: &ProcessSet,
-) -> CostRow
+) -> ProcessSet
     requires turned { tape.now.phase ≡ Phase.Turned }
     requires many { length tape.now.outcomes ≡ length given.now.input.mems }
     requires doubtful { OutcomesDifferAtMost (delivered_beside given.now tape.now) tape.now.outcomes doubtful.now }
+    ensures { result ≡ each_below (length tape.now.outcomes)
+        (is_touched (delivered_beside given.now tape.now) tape.now.outcomes) }
+{
+    match delivered_beside(given, tape) {
+        Some(old) => touched_by_changes(old, tape.outcomes(), doubtful),
+        None => ProcessSet::all(given.input.mems.len()),
+    }
+}
+
+/// The cost of the superstep whose turns are taken: that of the run before, at the prices in force, where it is known to be the same.
+fn cost<P: Program, R, G>(given: &Given<'_, P, R, G>, tape: &Tape, is_same: bool) -> CostRow
+    requires turned { tape.now.phase ≡ Phase.Turned }
+    requires same { is_same ≡ true → AllCostAlike (delivered_beside given.now tape.now) tape.now.outcomes }
     ensures value { result ≡ cost_of_delivery tape.now.g tape.now.l tape.now.outcomes }
     ensures small { IsSmall result }
 {
-    let Some(history) = given.old else {
-        return tape.cost();
-    };
-    let Some(old) = delivered_outcomes(given.old, tape.step()) else {
-        return tape.cost();
-    };
-    if !all_cost_alike(old, tape.outcomes(), doubtful) {
-        return tape.cost();
+    match given.old {
+        Some(history) if is_same => tape.cost_like(history),
+        _ => tape.cost(),
     }
-    tape.cost_like(history)
 }
 
 /// What all processes see alike in the next superstep. It is built and compared with that of the run before only where nothing is known of it.
@@ -79,7 +92,7 @@ fn next_setting(
 
 /// What the processes see in the next superstep, after the deliveries that were made: what the other processes see lies where it lay in the run before.
 /// `known` is what is known of the table there.
-fn next_views_like<P: Program, G: Gate, R: Threads + Sync>(
+fn next_views_like<P: Program, R, G>(
     given: &Given<'_, P, R, G>,
     tape: &Tape,
     old_next: &Views,
@@ -88,7 +101,7 @@ fn next_views_like<P: Program, G: Gate, R: Threads + Sync>(
 ) -> Result<Views, OutOfMemory>
     requires turned { tape.now.phase ≡ Phase.Turned }
     requires many { length tape.now.outcomes ≡ length given.now.input.mems }
-    requires some { 0 < length old_next.now }
+    requires count { length old_next.now ≡ length given.now.input.mems }
     requires next { old_next.now ≡ views_after given.now.before (length tape.now.past) }
     requires processes { deliveries.processes.items ≡ processes_where (length tape.now.outcomes)
         (is_touched (delivered_beside given.now tape.now) tape.now.outcomes) }
@@ -110,37 +123,11 @@ fn next_views_like<P: Program, G: Gate, R: Threads + Sync>(
     }
 }
 
-/// Opens the next superstep with such views. `known` is what is known of the table there.
-fn open_next_like<P: Program, G: Gate, R: Threads + Sync>(
-    given: &Given<'_, P, R, G>,
-    tape: &mut Tape,
-    old_next: &Views,
-    doubtful: &ProcessSet,
-    deliveries: Deliveries,
-    known: &mut KnownTable,
-) -> Result<(), OutOfMemory>
-    requires turned { tape.old.phase ≡ Phase.Turned }
-    requires many { length tape.old.outcomes ≡ length given.now.input.mems }
-    requires some { 0 < length old_next.now }
-    requires next { old_next.now ≡ views_after given.now.before (length tape.old.past) }
-    requires processes { deliveries.processes.items ≡ processes_where (length tape.old.outcomes)
-        (is_touched (delivered_beside given.now tape.old) tape.old.outcomes) }
-    requires cells { deliveries.cells ≡ deliveries_to tape.old.outcomes deliveries.processes.items }
-    requires doubtful { OutcomesDifferAtMost (delivered_beside given.now tape.old) tape.old.outcomes doubtful.now }
-    requires known { KnowsNextTable given.now.before tape.old known.old }
-    ensures tape { OnOk result (tape.new ≡ after_delivery tape.old) }
-    ensures known { OnOk result (KnowsNextTable given.now.before tape.old known.new) }
-{
-    let row = cost(given, tape, doubtful);
-    let views = next_views_like(given, tape, old_next, deliveries, known)?;
-    tape.delivered_as(views, row)
-}
-
 /// Opens the next superstep, after the deliveries that were made. `known` is what is known of the table there.
-fn open_next<P: Program, G: Gate, R: Threads + Sync>(
+fn open_next<P: Program, R, G>(
     given: &Given<'_, P, R, G>,
     tape: &mut Tape,
-    doubtful: &ProcessSet,
+    is_same_cost: bool,
     deliveries: Deliveries,
     known: &mut KnownTable,
 ) -> Result<(), OutOfMemory>
@@ -149,16 +136,22 @@ fn open_next<P: Program, G: Gate, R: Threads + Sync>(
     requires processes { deliveries.processes.items ≡ processes_where (length tape.old.outcomes)
         (is_touched (delivered_beside given.now tape.old) tape.old.outcomes) }
     requires cells { deliveries.cells ≡ deliveries_to tape.old.outcomes deliveries.processes.items }
-    requires doubtful { OutcomesDifferAtMost (delivered_beside given.now tape.old) tape.old.outcomes doubtful.now }
+    requires cost { is_same_cost ≡ true → AllCostAlike (delivered_beside given.now tape.old) tape.old.outcomes }
     requires known { KnowsNextTable given.now.before tape.old known.old }
     ensures tape { OnOk result (tape.new ≡ after_delivery tape.old) }
     ensures known { OnOk result (KnowsNextTable given.now.before tape.old known.new) }
 {
     match views_after(given.old, tape.step()) {
-        Some(old_next) => open_next_like(given, tape, old_next, doubtful, deliveries, known),
+        Some(old_next) => {
+            let row = cost(given, tape, is_same_cost);
+            let views = next_views_like(given, tape, old_next, deliveries, known)?;
+            tape.delivered_as(views, row)
+        }
         None => {
             *known = KnownTable::Unknown;
-            tape.delivered(deliveries.cells)
+            let Deliveries { processes, cells } = deliveries;
+            drop(processes);
+            tape.delivered(cells)
         }
     }
 }
@@ -178,8 +171,8 @@ fn deliveries_among<P: Program, G: Gate, R: Threads + Sync>(
         ≡ redelivered.old ++ places_of (length tape.now.past) (processes_in touched.now)) }
 {
     let workers = &given.workers;
+    add_places(redelivered, tape.step() as u64, touched)?;
     let processes = touched.members(workers.alloc)?;
-    add_places(redelivered, tape.step() as u64, processes.as_slice())?;
     let mut cells = Cells::new(workers.alloc);
     match wide_deliveries(
         workers.rt,
@@ -204,13 +197,14 @@ pub fn make_deliveries<P: Program, G: Gate, R: Threads + Sync>(
     given: &Given<'_, P, R, G>,
     tape: &mut Tape,
     doubtful: &ProcessSet,
-    known: KnownTable,
+    is_same_cost: bool,
     under_way: &mut UnderWay,
 ) -> Result<(), OutOfMemory>
     requires turned { tape.old.phase ≡ Phase.Turned }
     requires many { length tape.old.outcomes ≡ length given.now.input.mems }
     requires doubtful { OutcomesDifferAtMost (delivered_beside given.now tape.old) tape.old.outcomes doubtful.now }
-    requires known { KnowsNextTable given.now.before tape.old known }
+    requires cost { is_same_cost ≡ true → AllCostAlike (delivered_beside given.now tape.old) tape.old.outcomes }
+    requires known { KnowsNextTable given.now.before tape.old under_way.old.table }
     ensures tape { OnOk result (tape.new ≡ after_delivery tape.old) }
     ensures known { OnOk result (KnowsNextTable given.now.before tape.old under_way.new.table) }
     ensures marks { OnOk result (under_way.new.marks ≡ union (each_below (length tape.old.outcomes)
@@ -221,8 +215,7 @@ pub fn make_deliveries<P: Program, G: Gate, R: Threads + Sync>(
 {
     let touched = touched_beside(given, tape, doubtful);
     under_way.marks = touched.union(given.other_args);
-    under_way.table = known;
     let redelivered = &mut under_way.update.redelivered;
     let deliveries = deliveries_among(given, tape, &touched, redelivered)?;
-    open_next(given, tape, doubtful, deliveries, &mut under_way.table)
+    open_next(given, tape, is_same_cost, deliveries, &mut under_way.table)
 }

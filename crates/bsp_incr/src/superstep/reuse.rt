@@ -1,26 +1,33 @@
 //! What a recorded turn leaves over a new memory.
 
-ghost use Rattle.std.specs.Prelude.{◌≡◌, ◌++◌, ◌∷◌, [], OnOk, true};
-ghost use Rattle.bsp_step.specs.Turn.{turn_of};
-ghost use Rattle.bsp_incr.specs.Inside.Reuse.{serves};
+ghost use Rattle.std.specs.Prelude.{◌≡◌, ◌<◌, ◌++◌, ◌∷◌, [], OnOk, false, length, map, slice_index_or};
+ghost use Rattle.bsp_run.specs.Condition.{no_view};
+ghost use Rattle.bsp_run.specs.TurnBy.{turn_by};
+ghost use Rattle.bsp_incr.specs.Inside.OpenSuperstep.{differs_now};
 
+use crate::compare::OpenSuperstep;
 use bsp_model::OutOfMemory;
-use bsp_step::{OutcomeRef, OutcomeRows, Program, View};
+use bsp_step::{OutcomeRows, Outcomes, Program};
 
-/// Adds the turn at a view for which the recorded turn of another view serves: no call is made.
-pub fn reuse<P: Program>(
+/// Adds the turn of a process for which the recorded one serves, over the memory that it sees now: no call is made.
+pub fn add_served<P: Program>(
     rows: &mut OutcomeRows,
     program: &P,
-    recorded: &View<'_>,
-    outcome: OutcomeRef<'_>,
-    view: &View<'_>,
+    superstep: &OpenSuperstep<'_, '_>,
+    old_outcomes: &Outcomes,
+    p: usize,
 ) -> Result<(), OutOfMemory>
-    requires serves { serves (P.looks program.now) recorded.now view.now ≡ true }
-    requires outcome { outcome ≡ turn_of (P.acts program.now) (P.ending program.now) recorded.now }
-    ensures { OnOk result (rows.new ≡ rows.old ++ turn_of (P.acts program.now) (P.ending program.now) view.now ∷ []) }
+    requires place { p < length superstep.now.views.now }
+    requires recorded { old_outcomes.now ≡ map (turn_by P.Program program.now) superstep.now.old_views }
+    requires serves { differs_now (P.looks program.now) superstep.now p ≡ false }
+    ensures { OnOk result (rows.new ≡ rows.old
+        ++ turn_by P.Program program.now (slice_index_or superstep.now.views.now p no_view) ∷ []) }
 {
+    let recorded = superstep.old_views.get(p);
     // That a view keeps its limits is known where a field of it is read.
     let _step = recorded.step;
+    let outcome = old_outcomes.get(p);
+    let view = superstep.views.get(p);
     let mut memory = view.memory.to_memory()?;
     match outcome.stores.make_again(&mut memory) {
         Ok(()) => {}

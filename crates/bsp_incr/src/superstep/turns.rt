@@ -1,10 +1,10 @@
 //! The turns of a superstep, of which those that serve from the run before are not taken again.
 
-ghost use Rattle.std.specs.Prelude.{◌≡◌, ◌<◌, ◌++◌, ◌∷◌, [], All, IfNone, IfOk, IfSome, OnOk, map, length, option_map, slice_index_or, true, false, if◌then◌else◌};
-ghost use Rattle.bsp_model.specs.Replaced.{replaced, IsAscending};
-ghost use Rattle.bsp_run.specs.Condition.{no_view};
+ghost use Rattle.std.specs.Prelude.{◌≡◌, ◌<◌, ◌++◌, [], All, IfNone, IfOk, IfSome, OnOk, map, length, slice_index_or, slice_set, true, false, if◌then◌else◌};
+ghost use Rattle.bsp_model.specs.ProcessSet.{processes_in};
+ghost use Rattle.bsp_model.specs.Replaced.{replaced};
+ghost use Rattle.bsp_deliver.specs.Requests.{each_below};
 ghost use Rattle.bsp_run.specs.Shares.{turns_of};
-ghost use Rattle.bsp_incr.specs.Inside.Before.{outcomes_if_any};
 ghost use Rattle.bsp_incr.specs.Inside.Changes.{differ_in, processes_where};
 ghost use Rattle.bsp_run.specs.TurnBy.{turn_by};
 ghost use Rattle.bsp_incr.specs.Inside.Known.{AreDoubtful};
@@ -14,12 +14,11 @@ ghost use Rattle.bsp_incr.specs.Inside.OpenSuperstep.{differs_now, stays_now};
 use crate::Place;
 use crate::compare::{Doubtful, OpenSuperstep, add_places, serves};
 use crate::rerun::Given;
-use crate::superstep::reuse::reuse;
-use bsp_model::{OutOfMemory, Seq, TryCopy};
+use crate::superstep::reuse::add_served;
+use bsp_model::{OutOfMemory, ProcessSet, Seq, TryCopy};
 use bsp_pool::Gate;
 use bsp_run::{TurnRows, wide_turns};
 use bsp_step::{Outcome, OutcomeRows, Outcomes, Program};
-use std::alloc::Global;
 use std::mem::replace;
 use std::thread::Threads;
 
@@ -44,27 +43,6 @@ fn needs_turn<P: Program>(
         &superstep.views.get(p),
         doubtful.same_table,
     )
-}
-
-/// Adds the turn of a process for which the recorded one serves, over the memory that it sees now.
-fn add_served<P: Program>(
-    rows: &mut OutcomeRows,
-    program: &P,
-    superstep: &OpenSuperstep<'_, '_>,
-    old_outcomes: &Outcomes,
-    p: usize,
-) -> Result<(), OutOfMemory>
-    requires place { p < length superstep.now.views.now }
-    requires recorded { old_outcomes.now ≡ map (turn_by P.Program program.now) superstep.now.old_views }
-    requires serves { differs_now (P.looks program.now) superstep.now p ≡ false }
-    ensures { OnOk result (rows.new ≡ rows.old
-        ++ turn_by P.Program program.now (slice_index_or superstep.now.views.now p no_view) ∷ []) }
-{
-    let recorded = superstep.old_views.get(p);
-    let outcome = old_outcomes.get(p);
-    let view = superstep.views.get(p);
-    reuse(rows, program, &recorded, outcome, &view)?;
-    Ok(())
 }
 
 /// The turns of processes for which the recorded ones serve.
@@ -99,26 +77,32 @@ fn served_turns<P: Program, R, G>(
     Ok(served)
 }
 
-/// The recorded outcomes, with new ones for processes for which the recorded turns serve.
+/// The recorded outcomes, with new ones for the processes for which the recorded turns serve.
 fn with_served_turns<P: Program, R, G>(
     given: &Given<'_, P, R, G>,
     superstep: &OpenSuperstep<'_, '_>,
     old_outcomes: &Outcomes,
-    processes: Vec<usize>,
+    served: &ProcessSet,
 ) -> Result<Outcomes, OutOfMemory>
-    requires known { All (λ p. p < length superstep.now.views.now) processes.items }
-    requires within { All (λ p. p < length old_outcomes.now) processes.items }
-    requires ascending { IsAscending processes.items }
+    requires views { length served.now ≡ length superstep.now.views.now }
+    requires outcomes { length served.now ≡ length old_outcomes.now }
     requires recorded { old_outcomes.now ≡ map (turn_by P.Program given.now.program) superstep.now.old_views }
-    requires serve { All (λ p. differs_now (P.looks given.now.program) superstep.now p ≡ false) processes.items }
-    ensures { IfOk result (λ all. all ≡ replaced old_outcomes.now processes.items
-        (turns_of (turn_by P.Program given.now.program) superstep.now.views.now processes.items)) }
+    requires serve { All (λ p. differs_now (P.looks given.now.program) superstep.now p ≡ false)
+        (processes_in served.now) }
+    ensures { IfOk result (λ all. all ≡ replaced old_outcomes.now (processes_in served.now)
+        (turns_of (turn_by P.Program given.now.program) superstep.now.views.now (processes_in served.now))) }
 {
-    if processes.is_empty() {
-        return Ok(old_outcomes.copy()?);
+    if served.is_empty() {
+        return old_outcomes.copy();
     }
-    let served = served_turns(given, superstep, old_outcomes, processes.as_slice())?;
-    Ok(old_outcomes.replaced(given.workers.alloc, processes, served)?)
+    let processes = served.members(given.workers.alloc)?;
+    match served_turns(given, superstep, old_outcomes, processes.as_slice()) {
+        Ok(turns) => old_outcomes.replaced(given.workers.alloc, processes, turns),
+        Err(error) => {
+            drop(processes);
+            Err(error)
+        }
+    }
 }
 
 /// The turns of these processes, which the workers take, in the lists of the spare outcome.
@@ -163,74 +147,54 @@ fn taken_turns<P: Program, G: Gate, R: Threads + Sync>(
     }
 }
 
-/// The processes of an open superstep whose turns have to be taken, and those for which the recorded turns serve, in ascending order.
-#[derive(Drop)]
+/// The doubtful processes of an open superstep, by whether their turns have to be taken.
+#[derive(Clone, Copy)]
 struct Needs {
-    taken: Vec<usize>,
-    served: Vec<usize>,
+    taken: ProcessSet,
+    /// Those for which the recorded turns serve.
+    served: ProcessSet,
 }
 
 impl Needs {
-    /// No process yet, with room for so many in each list.
-    fn with_room(alloc: Global, count: usize) -> Result<Needs, OutOfMemory>
-        ensures taken { IfOk result (λ needs. needs.taken.items ≡ []) }
-        ensures served { IfOk result (λ needs. needs.served.items ≡ []) }
-    {
-        Ok(Needs {
-            taken: Vec::with_capacity(alloc, count)?,
-            served: Vec::with_capacity(alloc, count)?,
-        })
-    }
-
-    /// Adds a process behind those of its list.
-    fn add(&mut self, process: usize, is_taken: bool) -> Result<(), OutOfMemory>
-        ensures taken { OnOk result (self.new.taken.items
-            ≡ (if is_taken then self.old.taken.items ++ process ∷ [] else self.old.taken.items)) }
-        ensures served { OnOk result (self.new.served.items
-            ≡ (if is_taken then self.old.served.items else self.old.served.items ++ process ∷ [])) }
+    /// Puts a process into its set.
+    fn insert(&mut self, process: usize, is_taken: bool)
+        requires taken { process < length self.old.taken }
+        requires served { process < length self.old.served }
+        ensures taken { self.new.taken
+            ≡ (if is_taken then slice_set self.old.taken process true else self.old.taken) }
+        ensures served { self.new.served
+            ≡ (if is_taken then self.old.served else slice_set self.old.served process true) }
     {
         if is_taken {
-            self.taken.push(process)?;
+            self.taken.insert(process);
         } else {
-            self.served.push(process)?;
+            self.served.insert(process);
         }
-        Ok(())
     }
-}
 
-/// Who of the doubtful processes has to take a turn.
-fn needs_among<P: Program, R, G>(
-    given: &Given<'_, P, R, G>,
-    superstep: &OpenSuperstep<'_, '_>,
-    doubtful: &Doubtful,
-) -> Result<Needs, OutOfMemory>
-    requires doubtful { AreDoubtful superstep.now.old_views superstep.now.views.now doubtful.now }
-    ensures taken { IfOk result (λ needs. needs.taken.items ≡ processes_where (length superstep.now.views.now)
-        (differs_now (P.looks given.now.program) superstep.now)) }
-    ensures served { IfOk result (λ needs. needs.served.items ≡ processes_where (length superstep.now.views.now)
-        (stays_now (P.looks given.now.program) superstep.now doubtful.now.processes)) }
-{
-    let mut needs = Needs::with_room(given.workers.alloc, doubtful.processes.count())?;
-    for process in doubtful.processes.iter() {
-        let is_taken = needs_turn(given.program, superstep, doubtful, process);
-        needs.add(process, is_taken)?;
+    /// Who of the doubtful processes has to take a turn.
+    fn among<P: Program, R, G>(
+        given: &Given<'_, P, R, G>,
+        superstep: &OpenSuperstep<'_, '_>,
+        doubtful: &Doubtful,
+    ) -> Needs
+        requires doubtful { AreDoubtful superstep.now.old_views superstep.now.views.now doubtful.now }
+        ensures taken { result.taken ≡ each_below (length superstep.now.views.now)
+            (differs_now (P.looks given.now.program) superstep.now) }
+        ensures served { result.served ≡ each_below (length superstep.now.views.now)
+            (stays_now (P.looks given.now.program) superstep.now doubtful.now.processes) }
+    {
+        let none = ProcessSet::none(doubtful.processes.count());
+        let mut needs = Needs {
+            taken: none,
+            served: none,
+        };
+        for process in doubtful.processes.iter() {
+            let is_taken = needs_turn(given.program, superstep, doubtful, process);
+            needs.insert(process, is_taken);
+        }
+        needs
     }
-    Ok(needs)
-}
-
-/// The outcomes of the run before, where it took turns of such a superstep.
-fn recorded<'old>(superstep: &OpenSuperstep<'old, '_>) -> Option<&'old Outcomes>
-    requires { length superstep.now.old_views
-        ≡ length (outcomes_if_any (option_map (λ o. o.now) superstep.now.old_outcomes)) }
-    ensures some { IfSome result (λ old. old.now
-        ≡ outcomes_if_any (option_map (λ o. o.now) superstep.now.old_outcomes)) }
-    ensures views { IfSome result (λ old. 0 < length superstep.now.old_views) }
-    ensures none { IfNone result (superstep.now.old_views ≡ []) }
-{
-    if superstep.old_views.is_empty() {
-        return None;
-    }
-    superstep.old_outcomes
 }
 
 /// The recorded outcomes, with new ones of the processes whose turns were taken, and of those for which the recorded turns serve.
@@ -238,23 +202,24 @@ fn over_recorded<P: Program, R, G>(
     given: &Given<'_, P, R, G>,
     superstep: &OpenSuperstep<'_, '_>,
     old_outcomes: &Outcomes,
-    needs: Needs,
+    served: &ProcessSet,
+    processes: Vec<usize>,
     taken: OutcomeRows,
 ) -> Result<Outcomes, OutOfMemory>
     requires some { 0 < length superstep.now.old_views }
     requires recorded { old_outcomes.now ≡ map (turn_by P.Program given.now.program) superstep.now.old_views }
-    requires taken { needs.taken.items ≡ processes_where (length superstep.now.views.now)
+    requires processes { processes.items ≡ processes_where (length superstep.now.views.now)
         (differs_now (P.looks given.now.program) superstep.now) }
     requires served { (set : _) × ((ViewsDifferAtMost superstep.now.old_views superstep.now.views.now set)
-        × (needs.served.items ≡ processes_where (length superstep.now.views.now)
+        × (served.now ≡ each_below (length superstep.now.views.now)
         (stays_now (P.looks given.now.program) superstep.now set))) }
-    requires turns { taken ≡ turns_of (turn_by P.Program given.now.program) superstep.now.views.now needs.taken.items }
+    requires turns { taken ≡ turns_of (turn_by P.Program given.now.program) superstep.now.views.now processes.items }
     ensures { IfOk result (λ all. all ≡ map (turn_by P.Program given.now.program) superstep.now.views.now) }
 {
-    match with_served_turns(given, superstep, old_outcomes, needs.served) {
-        Ok(renewed) => renewed.replaced(given.workers.alloc, needs.taken, taken),
+    match with_served_turns(given, superstep, old_outcomes, served) {
+        Ok(renewed) => renewed.replaced(given.workers.alloc, processes, taken),
         Err(error) => {
-            drop(needs.taken);
+            drop(processes);
             drop(taken);
             Err(error)
         }
@@ -269,18 +234,28 @@ pub fn turns_again<P: Program, G: Gate, R: Threads + Sync>(
     executed: &mut Seq<Place>,
     spare: &mut Option<Outcome>,
 ) -> Result<Outcomes, OutOfMemory>
-    requires recorded { outcomes_if_any (option_map (λ o. o.now) superstep.now.old_outcomes)
-        ≡ map (turn_by P.Program given.now.program) superstep.now.old_views }
+    requires recorded { IfSome superstep.now.old_outcomes (λ o. (0 < length superstep.now.old_views)
+        × (o.now ≡ map (turn_by P.Program given.now.program) superstep.now.old_views)) }
+    requires none { IfNone superstep.now.old_outcomes (superstep.now.old_views ≡ []) }
     requires doubtful { AreDoubtful superstep.now.old_views superstep.now.views.now doubtful.now }
     ensures turns { IfOk result (λ all. all ≡ map (turn_by P.Program given.now.program) superstep.now.views.now) }
     ensures executed { OnOk result (executed.new ≡ executed.old
         ++ differ_in (P.looks given.now.program) superstep.now.step superstep.now.old_views superstep.now.views.now) }
 {
-    let needs = needs_among(given, superstep, doubtful)?;
-    add_places(executed, superstep.step, needs.taken.as_slice())?;
-    let taken = taken_turns(given, superstep, needs.taken.as_slice(), spare)?;
-    match recorded(superstep) {
-        Some(old_outcomes) => over_recorded(given, superstep, old_outcomes, needs, taken),
-        None => taken.share(),
+    let needs = Needs::among(given, superstep, doubtful);
+    add_places(executed, superstep.step, &needs.taken)?;
+    let processes = needs.taken.members(given.workers.alloc)?;
+    match taken_turns(given, superstep, processes.as_slice(), spare) {
+        Ok(taken) => match superstep.old_outcomes {
+            Some(old) => over_recorded(given, superstep, old, &needs.served, processes, taken),
+            None => {
+                drop(processes);
+                taken.share()
+            }
+        },
+        Err(error) => {
+            drop(processes);
+            Err(error)
+        }
     }
 }

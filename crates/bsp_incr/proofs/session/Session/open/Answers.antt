@@ -1,11 +1,7 @@
 use Rattle.bsp_step.specs.Turn.{turn_of}
-use Rattle.bsp_model.proofs.Inputs.{lawful_input}
 use Rattle.bsp_run.proofs.OneRun.{one_run}
 use Rattle.bsp_incr.proofs.Exactness.{exact_of}
 use Rattle.bsp_incr.proofs.session.Session.open.Goals as goal
-
-pub all_marks-marks-requires : goal.all_marks-marks-requires
-all_marks-marks-requires g c = (lawful_input c.args.input c.in-Ok.ensures.ok).few_processes
 
 pub returns-in-Ok-rerun-clause-law : goal.returns-in-Ok-rerun-clause-law
 returns-in-Ok-rerun-clause-law g c =

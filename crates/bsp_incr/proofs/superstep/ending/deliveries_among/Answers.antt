@@ -1,9 +1,8 @@
-use Rattle.std.proofs.Common.{◌≡◌, ◌<◌, ◌∙◌, ◌++◌, ℕ, List, Bool, All, false, ap, sym, subst, length, get_or}
+use Rattle.std.proofs.Common.{◌≡◌, ◌<◌, ◌∙◌, List, Bool, All, false, ap, sym, subst, length, get_or}
 use Rattle.bsp_step.specs.OutcomeParts.{OutcomeParts}
 use Rattle.bsp_deliver.specs.Condition.{IsAscending}
 use Rattle.bsp_run.specs.Run.{Run}
 use Rattle.bsp_run.proofs.Runs.{outcomes_shown-turned}
-use Rattle.bsp_incr.specs.Inside.Changes.{places_of}
 use Rattle.bsp_incr.proofs.Gathering.{processes_where-ascending, listed_below}
 use Rattle.bsp_incr.proofs.superstep.ending.deliveries_among.Goals as goal
 
@@ -13,14 +12,9 @@ wide_deliveries-requires-clause-processes g c κs within =
     let set : List Bool = c.args.touched.now in
     let now = c.outcomes.ensures.outcomes ∙ outcomes_shown-turned r c.requires.turned in
     let long : length set ≡ length c.outcomes.result.now = c.requires.many ∙ sym (ap (λ (os : List OutcomeParts). length os) now) in
-    subst (λ n. All (λ p. p < n) c.as_slice-2.result.now) long (listed_below (length set) (λ p. get_or set p false) c.as_slice-2.result.now (c.as_slice-2.ensures.value ∙ c.in_ok-processes.ensures))
+    subst (λ n. All (λ p. p < n) c.as_slice.result.now) long (listed_below (length set) (λ p. get_or set p false) c.as_slice.result.now (c.as_slice.ensures.value ∙ c.in_ok-processes.ensures))
 
 pub wide_deliveries-requires-clause-ascending : goal.wide_deliveries-requires-clause-ascending
 wide_deliveries-requires-clause-ascending g c κs within =
     let set : List Bool = c.args.touched.now in
-    subst IsAscending (sym (c.as_slice-2.ensures.value ∙ c.in_ok-processes.ensures)) (processes_where-ascending (length set) (λ p. get_or set p false))
-
-pub returns-in-Ok-clause-places : goal.returns-in-Ok-clause-places
-returns-in-Ok-clause-places g c =
-    c.in_ok-add_places.ensures ∙ ap (λ n. c.args.redelivered.now ++ places_of n c.as_slice.result.now) c.step.ensures
-    ∙ ap (λ (ks : List ℕ). c.args.redelivered.now ++ places_of (length c.args.tape.now.past) ks) (c.as_slice.ensures.value ∙ c.in_ok-processes.ensures)
+    subst IsAscending (sym (c.as_slice.ensures.value ∙ c.in_ok-processes.ensures)) (processes_where-ascending (length set) (λ p. get_or set p false))

@@ -1,11 +1,9 @@
 use Rattle.std.proofs.Common.{◌∙◌, ◌++◌, ℕ, Bool, List, ap, sym, length}
-use Rattle.std.proofs.lemmas.Result.{on_ok_weaker}
 use Rattle.std.proofs.lemmas.List.FromFn.{length-map-range_with_len}
-use Rattle.bsp_model.specs.ProcessSet.{union}
-use Rattle.bsp_deliver.specs.Requests.{each_below}
 use Rattle.bsp_run.specs.Run.{Run}
 use Rattle.bsp_incr.specs.Inside.Changes.{is_touched, places_of}
 use Rattle.bsp_incr.specs.Inside.Given.{Making, delivered_beside}
+use Rattle.bsp_incr.proofs.Facts.{on_ok}
 use Rattle.bsp_incr.proofs.Gathering.{processes_where-each_below}
 use Rattle.bsp_incr.proofs.superstep.ending.make_deliveries.Goals as goal
 
@@ -27,13 +25,6 @@ union-under_way-requires g c =
     c.given.invariant.others.count ∙ ap (λ (m : Making _). length m.input.mems) c.given.view_is ∙ sym c.requires.many
     ∙ sym (ap (λ (bs : List Bool). length bs) c.touched_beside-touched.ensures ∙ length-map-range_with_len test 0 (length r.outcomes))
 
-pub returns-clause-marks : goal.returns-clause-marks
-returns-clause-marks g c =
-    let marks =
-    c.union-under_way.ensures ∙ ap (λ (s : List Bool). union s c.given.inside.other_args.now) c.touched_beside-touched.ensures
-    ∙ ap (λ (m : Making _). union (each_below (length c.args.tape.now.outcomes) (is_touched (delivered_beside c.args.given.now c.args.tape.now) c.args.tape.now.outcomes)) m.others) c.given.view_is in
-    on_ok_weaker c.open_next.result (λ _. marks) c.open_next.ensures.tape
-
 pub returns-clause-redelivered : goal.returns-clause-redelivered
 returns-clause-redelivered g c =
     let r : Run = c.args.tape.now in
@@ -41,4 +32,4 @@ returns-clause-redelivered g c =
     let redelivered =
     c.in_ok-deliveries.ensures.places
     ∙ ap (λ (ks : List ℕ). c.args.under_way.now.update.redelivered ++ places_of (length r.past) ks) (processes_where-each_below (length r.outcomes) test c.touched_beside-touched.result c.touched_beside-touched.ensures) in
-    on_ok_weaker c.open_next.result (λ _. redelivered) c.open_next.ensures.tape
+    on_ok c.open_next.result redelivered

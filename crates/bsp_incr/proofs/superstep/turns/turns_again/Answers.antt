@@ -1,37 +1,42 @@
-use Rattle.std.proofs.Common.{◌≡◌, ◌∙◌, List, IfOk, sym, ap, subst, length}
-use Rattle.std.proofs.lemmas.List.{length-map}
+use Rattle.std.proofs.Common.{◌≡◌, ◌++◌, ◌∙◌, [], Bor, IfNone, IfOk, List, Option, ap, length, subst}
 use Rattle.bsp_step.specs.ViewParts.{ViewParts}
 use Rattle.bsp_step.specs.OutcomeParts.{OutcomeParts}
-use Rattle.bsp_run.specs.Shares.{turns_of}
 use Rattle.bsp_run.specs.TurnBy.{turn_by}
+use Rattle.bsp_incr.specs.Inside.Changes.{places_of}
 use Rattle.bsp_incr.specs.Inside.OpenSuperstep.{differs_now}
-use Rattle.bsp_incr.proofs.Gathering.{listed_below}
+use Rattle.bsp_incr.proofs.Facts.{on_ok}
+use Rattle.bsp_incr.proofs.Gathering.{listed_below, processes_where-each_below}
 use Rattle.bsp_incr.proofs.Retaking.{turns_of_none}
 use Rattle.bsp_incr.proofs.superstep.turns.turns_again.Goals as goal
 
 pub taken_turns-requires-clause-known : goal.taken_turns-requires-clause-known
 taken_turns-requires-clause-known g c κs within =
     let superstep = c.args.superstep.now in
-    listed_below (length superstep.views.now) (differs_now (g.P.Program.looks c.args.given.now.program) superstep) c.as_slice-2.result.now (c.as_slice-2.ensures.value ∙ c.in_ok-needs.ensures.taken)
+    let goes = differs_now (g.P.Program.looks c.args.given.now.program) superstep in
+    listed_below (length superstep.views.now) goes c.as_slice.result.now
+    (c.as_slice.ensures.value ∙ c.in_ok-processes.ensures ∙ processes_where-each_below (length superstep.views.now) goes c.among-needs.result.taken c.among-needs.ensures.taken)
 
-pub recorded-requires : goal.recorded-requires
-recorded-requires g c =
-    let old = c.args.superstep.now.old_views in
-    sym (ap (λ (os : List OutcomeParts). length os) c.requires.recorded ∙ length-map old (turn_by g.P.Program c.args.given.now.program))
+pub over_recorded-requires-clause-processes : goal.over_recorded-requires-clause-processes
+over_recorded-requires-clause-processes g c κs within =
+    let superstep = c.args.superstep.now in
+    c.in_ok-processes.ensures ∙ processes_where-each_below (length superstep.views.now) (differs_now (g.P.Program.looks c.args.given.now.program) superstep) c.among-needs.result.taken c.among-needs.ensures.taken
 
-pub over_recorded-requires-clause-served : goal.over_recorded-requires-clause-served
-over_recorded-requires-clause-served g c κs within = (c.args.doubtful.now.processes, (c.requires.doubtful.processes, c.in_ok-needs.ensures.served))
+pub returns-in-Some-clause-executed : goal.returns-in-Some-clause-executed
+returns-in-Some-clause-executed g c =
+    let superstep = c.args.superstep.now in
+    let goes = differs_now (g.P.Program.looks c.args.given.now.program) superstep in
+    let processes = processes_where-each_below (length superstep.views.now) goes c.among-needs.result.taken c.among-needs.ensures.taken in
+    on_ok c.over_recorded.result (c.in_ok-add_places.ensures ∙ ap (λ ps. c.args.executed.now ++ places_of superstep.step ps) processes)
 
-pub over_recorded-requires-clause-turns : goal.over_recorded-requires-clause-turns
-over_recorded-requires-clause-turns g c κs within = c.in_ok-taken.ensures ∙ ap (turns_of (turn_by g.P.Program c.args.given.now.program) c.args.superstep.now.views.now) c.as_slice-2.ensures.value
-
-pub returns-in-None-clause-turns : goal.returns-in-None-clause-turns
-returns-in-None-clause-turns g c =
+pub returns-in-None : goal.returns-in-None
+returns-in-None g c =
     let superstep = c.args.superstep.now in
     let turn = turn_by g.P.Program c.args.given.now.program in
     let looks = g.P.Program.looks c.args.given.now.program in
-    let none : length superstep.old_views ≡ 0 = ap (λ (vs : List ViewParts). length vs) c.in-None.ensures.none in
-    let needed = c.as_slice-2.ensures.value ∙ c.in_ok-needs.ensures.taken in
-    subst (λ (os : List OutcomeParts). IfOk c.share.result (λ all. all ≡ os))
-    (turns_of_none turn looks superstep.old_views superstep.views.now c.as_slice-2.result.now c.in_ok-taken.taken none needed c.in_ok-taken.ensures)
-    c.share.ensures
+    let none = subst (λ (o : Option (Bor (List OutcomeParts))). IfNone o (superstep.old_views ≡ [])) c.in-None.is c.requires.none in
+    let needed = processes_where-each_below (length superstep.views.now) (differs_now looks superstep) c.among-needs.result.taken c.among-needs.ensures.taken in
+    let turns = turns_of_none turn looks superstep.old_views superstep.views.now c.as_slice.result.now c.in-Ok.taken (ap (λ (vs : List ViewParts). length vs) none) (c.as_slice.ensures.value ∙ c.in_ok-processes.ensures ∙ needed) c.in-Ok.ensures in
+    record {
+      turns = subst (λ (os : List OutcomeParts). IfOk c.share.result (λ all. all ≡ os)) turns c.share.ensures;
+      executed = on_ok c.share.result (c.in_ok-add_places.ensures ∙ ap (λ ps. c.args.executed.now ++ places_of superstep.step ps) needed);
+    }
