@@ -6,3 +6,4 @@ pub mod Shapes
 pub mod KnownTargets
 pub mod Walks
 pub mod Rows
+pub mod Handing

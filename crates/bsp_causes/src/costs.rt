@@ -177,11 +177,6 @@ pub fn update_cost(alloc: Global, run: &History, update: &Update) -> Result<Upda
         rows: Seq::new(alloc),
         total: 0,
     };
-    match add_rows(&mut cost, run, update) {
-        Ok(()) => Ok(cost),
-        Err(error) => {
-            drop(cost);
-            Err(error)
-        }
-    }
+    let added = add_rows(&mut cost, run, update);
+    added.and(Ok(cost))
 }

@@ -153,13 +153,8 @@ fn parcel_causes(
     ensures { IfOk result (λ c. c ≡ parcel_causes old.now new.now d) }
 {
     let mut causes = DeliveryCauses::of_own(alloc, &old.get(d), &new.get(d));
-    match add_causes(&mut causes, old, new, d) {
-        Ok(()) => Ok(causes),
-        Err(error) => {
-            drop(causes);
-            Err(error)
-        }
-    }
+    let added = add_causes(&mut causes, old, new, d);
+    added.and(Ok(causes))
 }
 
 /// The outcomes of a superstep of a run that ended by delivery; none where there is no run, or no such superstep of it.

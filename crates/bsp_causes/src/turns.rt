@@ -120,13 +120,8 @@ fn view_causes<P: Program>(
         tag_size: old.tag_size != new.tag_size,
         words: Seq::new(alloc),
     };
-    match add_other_words(&mut causes.words, program, old, new) {
-        Ok(()) => Ok(causes),
-        Err(error) => {
-            drop(causes);
-            Err(error)
-        }
-    }
+    let added = add_other_words(&mut causes.words, program, old, new);
+    added.and(Ok(causes))
 }
 
 /// What the processes saw in a superstep of a run; nothing where there is no run, or where it took no turns of such a superstep.

@@ -1,5 +1,5 @@
 -- Conversations that go on: what was heard and said, piece by piece.
-use Rattle.std.proofs.Common.{◌≡◌, ℕ, ◌+◌, ◌<◌, length, get_or, add-one, drop-cons, arith, true, false, cond, List, [], ◌∷◌, ◌++◌, drop, Option, Result, Ok, Err, refl, sym, ap, subst, ◌∙◌, inl, inr, append_assoc}
+use Rattle.std.proofs.Common.{◌≡◌, ℕ, ◌+◌, ◌<◌, ◌≤◌, nat_lt, length, get_or, add-one, drop-cons, arith, true, false, cond, List, [], ◌∷◌, ◌++◌, drop, Option, Result, Ok, Err, refl, sym, ap, subst, ◌∙◌, inl, inr, append_assoc}
 use Rattle.std.proofs.lemmas.Bool.Decides.{nat_tests}
 use Rattle.std.specs.Prelude.{◌==◌, IfErr, IsErrAnd, OnErr, OnOk}
 use Rattle.std.proofs.lemmas.List.{append-nil}
@@ -304,12 +304,7 @@ pub rest_breaks : (r : Result (Unit {0}) EngineError) (now : Due) (begun : List 
 rest_breaks (Ok u) now begun old new none some t = tt
 rest_breaks (Err e) now begun old new none some t = λ due start h. breaks_in_last due now start old new begun e h none some t
 
--- a conversation that has come somewhere goes on from there
-pub until_from : (r : Result (Unit {0}) EngineError) (due now : Due) (start old new : Option (List Event)) (begun : List ℕ) → IsGoing due now start old begun []
-    → OnOk r (TalksOn now begun old new) → IfErr r (λ e. BreaksOff now begun [] old new e) → TalksUntil due start new r
-until_from (Ok u) due now start old new begun h whole broken = whole due start h
-until_from (Err e) due now start old new begun h whole broken = broken due start h
-
+-- a conversation that broke off for this reason
 pub until_error : (r : Result (Unit {0}) EngineError) (e : EngineError) (due : Due) (old new : Option (List Event)) → IsErrAnd r (λ y. y ≡ e) → Breaks due old new e → TalksUntil due old new r
 until_error (Ok u) e due old new h b = absurd h
 until_error (Err y) e due old new h b = subst (Breaks due old new) (sym h) b
@@ -329,6 +324,28 @@ breaks_in_byte due now old mid new begun left b later error h none is a =
       | true ↦ λ e a. breaks_in_line due now old mid new begun b later error (goes_as due now old mid begun left begun (b ∷ later) h refl is) none e a
       | false ↦ λ e a. subst (λ (x : EngineError). Breaks due old new x) (sym a.0) (subst (λ (l : Option (List Event)). Breaks due old l OutOfMemory) (sym a.1) (breaks_now due now old mid begun left h none))
     ] refl a
+
+-- a byte that is an LF, and another
+pub attended_line : (due now : Due) (begun next : List ℕ) (b : ℕ) (old new : Option (List Event)) → b ≡ 10 → next ≡ [] → Answered due now begun old new → Attended due now begun b next old new
+attended_line due now begun next b old new e none a = rw e (none, a)
+
+pub attended_byte : (due now : Due) (begun next : List ℕ) (b : ℕ) (old new : Option (List Event)) → (b ≡ 10 → ⊥) → next ≡ kept begun b → now ≡ due → new ≡ old → Attended due now begun b next old new
+attended_byte due now begun next b old new e keeps same silent = let no : (b == 10) ≡ false = grind (arith, nat_tests) in rw no (keeps, same, silent)
+
+pub unattended_line : (due : Due) (begun : List ℕ) (b : ℕ) (old new : Option (List Event)) (error : EngineError) → b ≡ 10 → Stopped due begun old new error → Unattended due begun b old new error
+unattended_line due begun b old new error e a = rw e a
+
+pub unattended_byte : (due : Due) (begun : List ℕ) (b : ℕ) (old new : Option (List Event)) (error : EngineError) → (b ≡ 10 → ⊥) → error ≡ OutOfMemory → new ≡ old → Unattended due begun b old new error
+unattended_byte due begun b old new error e refused silent = let no : (b == 10) ≡ false = grind (arith, nat_tests) in rw no (refused, silent)
+
+-- of a line that is too long already no more is kept
+pub kept_none : (begun : List ℕ) (b : ℕ) → 16777216 < length begun → kept begun b ≡ begun
+unfolding kept
+kept_none begun b long = let no : nat_lt 16777216 (length begun) ≡ true = grind (arith, nat_tests) in rw no refl
+
+pub kept_one : (begun : List ℕ) (b : ℕ) → length begun ≤ 16777216 → kept begun b ≡ begun ++ b ∷ []
+unfolding kept
+kept_one begun b short = let no : nat_lt 16777216 (length begun) ≡ false = grind (arith, nat_tests) in rw no refl
 
 -- an error that was handed on
 pub handed_on : {A : Type 0} (r : Result A EngineError) (e : EngineError) (P : EngineError → Type 0) → IsErrAnd r (λ y. y ≡ e) → P e → IfErr r P

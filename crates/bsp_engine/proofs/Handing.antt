@@ -1,7 +1,7 @@
 -- What is known of a step that may fail is known where its `Ok` hands another value on.
-use Rattle.std.proofs.Common.{◌≡◌, ◌∙◌, cond, Result, Ok, Err, OnOk, subst, sym}
+use Rattle.std.proofs.Common.{◌≡◌, ◌∙◌, Result, Ok, Err, OnOk, subst, sym}
 use Rattle.std.specs.Prelude.{IfErr, IfOk}
-use Rattle.std.specs.Result.{is_ok, result_and}
+use Rattle.std.specs.Result.{result_and}
 
 -- the same step, of which more is known
 pub told : {X E : Type 0} (r : Result X E) (A B : Type 0) → (A → B) → OnOk r A → OnOk r B
@@ -28,8 +28,3 @@ and_ok {E} (Err e) y z s A B is h so same = let other : Err e ≡ Ok z = sym is 
 pub and_failed : {X Y E : Type 0} (r : Result X E) (y : Y) (s : Result Y E) (Q P : E → Type 0) → s ≡ result_and r (Ok y) → IfErr r Q → ((e : E) → Q e → P e) → IfErr s P
 and_failed (Ok x) y s Q P is h so = let F : Result _ _ → Type 0 = λ t. IfErr t P in subst F (sym is) tt
 and_failed (Err e) y s Q P is h so = let F : Result _ _ → Type 0 = λ t. IfErr t P in subst F (sym is) (so e h)
-
--- what holds where a step went well
-pub where_ok : {X E A : Type 0} (r : Result X E) (x y z : A) → x ≡ cond (is_ok r) y z → OnOk r (x ≡ y)
-where_ok (Ok v) x y z e = e
-where_ok (Err e) x y z is = tt

@@ -1,5 +1,5 @@
 -- The report that is computed is that of the document.
-use Rattle.std.proofs.Common.{◌≡◌, ℕ, Bool, true, false, cond, List, Option, None, Some, Result, Ok, Err, refl}
+use Rattle.std.proofs.Common.{◌≡◌, ◌∙◌, ℕ, Bool, true, false, cond, List, Option, None, Some, Result, Ok, Err, refl, subst}
 use Rattle.std.specs.Prelude.{IfSome}
 use Rattle.bsp_model.specs.declared.fault.End.{End}
 use Rattle.bsp_model.specs.declared.fault.InputFault.{InputFault}
@@ -83,3 +83,10 @@ pub is_answered : {P : Type 0} (meaning : Meaning P) (acts : P → ViewParts →
 is_answered meaning acts ending looks scratch detail None old new answer h = tt
 is_answered meaning acts ending looks scratch detail (Some bytes) old new answer h =
     record { report = report_of meaning acts ending looks scratch detail bytes; is = is_report meaning acts ending looks scratch detail bytes; answers = h }
+
+-- the same of bytes that were read
+pub is_answered_read : {P : Type 0} (meaning : Meaning P) (acts : P → ViewParts → List Act) (ending : P → ViewParts → End) (looks : P → ViewParts → ℕ → Bool) (scratch : Bool) (detail : Detail) (source : Option (List ℕ)) (slice bytes : List ℕ) (old new : Option (List ℕ)) (answer : Result (Unit {0}) EngineError)
+    → slice ≡ bytes → IfSome source (λ all. bytes ≡ all) → Answers (report_of meaning acts ending looks scratch detail slice) old new answer → IfSome source (λ all. IsAnswered meaning acts ending looks scratch detail all old new answer)
+is_answered_read meaning acts ending looks scratch detail None slice bytes old new answer same read h = tt
+is_answered_read meaning acts ending looks scratch detail (Some all) slice bytes old new answer same read h =
+    is_answered meaning acts ending looks scratch detail (Some all) old new answer (subst (λ (b : List ℕ). Answers (report_of meaning acts ending looks scratch detail b) old new answer) (same ∙ read) h)

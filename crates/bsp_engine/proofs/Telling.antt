@@ -3,7 +3,7 @@ use Rattle.std.proofs.Common.{◌≡◌, ℕ, Result, Ok, Err, OnOk, List, [], �
 use Rattle.bsp_model.specs.declared.cost.CostRow.{CostRow}
 use Rattle.bsp_run.specs.declared.result.RunResult.{RunResult}
 use Rattle.bsp_run.specs.Run.{Run}
-use Rattle.bsp_run.specs.Result.{status_of, memories_of, lines_of, result_of}
+use Rattle.bsp_run.specs.Result.{costs_of, lines_of, memories_of, result_of, status_of, total_of}
 use Rattle.bsp_engine.specs.Inside.Touched.{cost_changes}
 use Rattle.bsp_engine.specs.Changes.{changes_lines, changes_of, other_lines, others, piece_if, same_lines, same_row, same_words}
 use Rattle.bsp_text.specs.Lines.{line, numbered}
@@ -26,12 +26,13 @@ result_told (Ok u) run lines costs t0 t1 t2 t3 t4 t5 l k a b c d e =
 result_told (Err x) run lines costs t0 t1 t2 t3 t4 t5 l k a b c d e = tt
 
 -- what of a run is another than in the run before
-pub changes_told : {E : Type 0} (r : Result (Unit {0}) E) (old new : Run) (t0 t1 t2 t3 t4 : List ℕ) → t1 ≡ t0 ++ status_lines (status_of new)
+pub changes_told : {E : Type 0} (r : Result (Unit {0}) E) (old new : Run) (olds news : List CostRow) (total : ℕ) (t0 t1 t2 t3 t4 : List ℕ) → olds ≡ costs_of old → news ≡ costs_of new → total ≡ total_of (costs_of new) → t1 ≡ t0 ++ status_lines (status_of new)
     → t2 ≡ t1 ++ numbered (piece_if memory_line) 0 (others same_words (memories_of old) (memories_of new)) → t3 ≡ t2 ++ numbered (piece_if other_lines) 0 (others same_lines (lines_of old) (lines_of new))
-    → OnOk r (t4 ≡ t3 ++ cost_changes old new) → OnOk r (t4 ≡ t0 ++ changes_lines (changes_of (result_of old) (result_of new)))
+    → OnOk r (t4 ≡ t3 ++ cost_changes olds news total) → OnOk r (t4 ≡ t0 ++ changes_lines (changes_of (result_of old) (result_of new)))
 unfolding result_of
-changes_told (Ok u) old new t0 t1 t2 t3 t4 a b c d =
+changes_told (Ok u) old new olds news total t0 t1 t2 t3 t4 o n s a b c d =
     let memories = numbered (piece_if memory_line) 0 (others same_words (memories_of old) (memories_of new)) in
     let lines = numbered (piece_if other_lines) 0 (others same_lines (lines_of old) (lines_of new)) in
-    d ∙ ap (λ t. t ++ cost_changes old new) (c ∙ ap (λ t. t ++ lines) (b ∙ ap (λ t. t ++ memories) a)) ∙ simp append_assoc
-changes_told (Err x) old new t0 t1 t2 t3 t4 a b c d = tt
+    let costs = cost_changes (costs_of old) (costs_of new) (total_of (costs_of new)) in
+    d ∙ (λ i. t3 ++ cost_changes (o i) (n i) (s i)) ∙ ap (λ t. t ++ costs) (c ∙ ap (λ t. t ++ lines) (b ∙ ap (λ t. t ++ memories) a)) ∙ simp append_assoc
+changes_told (Err x) old new olds news total t0 t1 t2 t3 t4 o n s a b c d = tt

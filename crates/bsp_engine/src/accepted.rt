@@ -6,7 +6,7 @@ ghost use Rattle.bsp_run.specs.Result.{result_of};
 ghost use Rattle.bsp_incr.specs.Edits.{edited, refusal_of};
 ghost use Rattle.bsp_incr.specs.Replies.{refusal_in};
 ghost use Rattle.bsp_incr.specs.declared.reply.Reply.TheVariants.{Done};
-ghost use Rattle.bsp_engine.specs.Blocks.{lines_after, reply_lines};
+ghost use Rattle.bsp_engine.specs.Blocks.{reply_lines};
 ghost use Rattle.bsp_engine.specs.Told.{told_by};
 ghost use Rattle.bsp_engine.specs.Inside.Given.{result_if};
 ghost use Rattle.bsp_engine.specs.Inside.Touched.{IsUpdateBetween};
@@ -45,27 +45,6 @@ pub fn apply<P: Program + Drop, R: Threads + Sync, G: Gate>(
     session.apply_keeping(crew.rt, crew.alloc, batch, crew.workers, crew.gate, before)
 }
 
-/// Appends the lines of the run after a batch: all lines, or with changes those that have changed.
-fn push_history(
-    text: &mut Vec<u8>,
-    changes: bool,
-    nprocs: usize,
-    old: &History,
-    new: &History,
-    batch: &[Edit],
-    update: &Update,
-) -> Result<(), OutOfMemory>
-    requires count { nprocs ≡ length (result_of old.now).memories }
-    requires update { IsUpdateBetween old.now batch.now update.now new.now }
-    ensures { OnOk result (text.new.items ≡ text.old.items ++ lines_after (result_if changes old.now) (result_of new.now)) }
-{
-    if changes {
-        push_changed(text, nprocs, old, new, batch, update)
-    } else {
-        push_run(text, new)
-    }
-}
-
 /// Appends the lines of the reply to an accepted batch of a session of so many processes.
 pub fn push_accepted<P: Program>(
     text: &mut Vec<u8>,
@@ -82,6 +61,10 @@ pub fn push_accepted<P: Program>(
     ensures { OnOk result (text.new.items ≡ text.old.items ++ reply_lines detail.places (result_if detail.changes old.now)
         (told_by detail (P.looks program.now) (Some old.now) new.now (Done (result_of new.now) (Some update.now)))) }
 {
-    push_history(text, detail.changes, nprocs, old, new, batch, update)?;
+    if detail.changes {
+        push_changed(text, nprocs, old, new, batch, update)?;
+    } else {
+        push_run(text, new)?;
+    }
     push_update(text, detail, program, Some(old), new, update)
 }

@@ -2,7 +2,7 @@
 
 ghost use Rattle.std.specs.Prelude.{◌≡◌, ◌++◌, IfOk, Some, codes};
 ghost use Rattle.toml.specs.View.{table_view};
-ghost use Rattle.bsp_engine.specs.Asked.{asked_at, asked_of, asks_for_text, begins_with_word, document_of, is_blank, is_document, is_help, is_space, is_word, no_edits};
+ghost use Rattle.bsp_engine.specs.Asked.{asked_at, asked_of, asks_for_text, document_of, is_blank, is_document, is_help, is_space, is_word, no_edits};
 ghost use Rattle.bsp_engine.specs.Tree.{tree_of};
 
 use crate::asked_place::{is_turn, is_view};
@@ -59,20 +59,14 @@ pub fn is_blank(line: &[u8]) -> bool
     true
 }
 
-/// Whether the text begins with the word, and has nothing behind it but spaces and a comment.
-fn begins_with_word(word: &[u8], text: &[u8]) -> bool
-    ensures { result ≡ begins_with_word word.now text.now }
-{
-    text.starts_with(word) && is_blank(&text[word.len()..])
-}
-
 /// Whether the word stands on the line: spaces may stand around it, and a comment behind it.
 fn is_word(word: &[u8], line: &[u8]) -> bool
     ensures { result ≡ is_word word.now line.now }
 {
     for (at, byte) in line.iter().enumerate() {
         if !is_space(*byte) {
-            return begins_with_word(word, &line[at..]);
+            let text = &line[at..];
+            return text.starts_with(word) && is_blank(&text[word.len()..]);
         }
     }
     false

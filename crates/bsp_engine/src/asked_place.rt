@@ -1,18 +1,11 @@
 //! The place for which a line of a live session asks: a process in a superstep.
 
 ghost use Rattle.std.specs.Prelude.{◌≡◌};
-ghost use Rattle.bsp_engine.specs.Asked.{asked_place, asking_word, behind_spaces, behind_word, first_word, is_in_word, is_turn, is_view, number_of, place_at};
+ghost use Rattle.bsp_engine.specs.Asked.{asked_place, asking_word, behind_spaces, behind_word, first_word, is_turn, is_view, number_of, place_at};
 
 use crate::asked::{is_blank, is_space};
 use crate::limits::MOST_DOCUMENT_BYTES;
 use bsp_incr::Place;
-
-/// Whether a byte is no space, and not the beginning of a comment.
-fn is_in_word(byte: u8) -> bool
-    ensures { result ≡ is_in_word byte }
-{
-    !is_space(byte) && byte != b'#'
-}
 
 /// The text without the spaces in front of it.
 fn behind_spaces(text: &[u8]) -> &[u8]
@@ -32,7 +25,7 @@ fn split_word(text: &[u8]) -> (&[u8], &[u8])
     ensures rest { result.1.now ≡ behind_word text.now }
 {
     for (at, byte) in text.iter().enumerate() {
-        if !is_in_word(*byte) {
+        if is_space(*byte) || *byte == b'#' {
             return text.split_at(at);
         }
     }

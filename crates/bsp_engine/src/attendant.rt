@@ -1,13 +1,13 @@
 //! Who answers the lines of a live session, one after the other.
 
-ghost use Rattle.std.specs.Prelude.{◌≡◌, ◌∷◌, ◌++◌, List, ℕ, IfErr, IfOk, IsOkAnd, OnOk, Err, false};
-ghost use Rattle.bsp_engine.specs.Asked.{asked_of, asks_for_text};
+ghost use Rattle.std.specs.Prelude.{◌≡◌, ◌∷◌, List, ℕ, IfErr, IfOk, IsOkAnd, OnOk, Err, false};
+ghost use Rattle.bsp_engine.specs.Asked.{asks_for_text};
 ghost use Rattle.bsp_engine.specs.Document.{WithOwnText};
 ghost use Rattle.bsp_engine.specs.JobOf.{job_of};
 ghost use Rattle.bsp_engine.specs.Refusal.{IfFault};
 ghost use Rattle.bsp_engine.specs.Inside.DueAt.{due_at, due_from};
 ghost use Rattle.bsp_engine.specs.Inside.LiveReplies.{live_replying};
-ghost use Rattle.bsp_engine.specs.Live.{after, answer_block, answer_to, due_of, last_result};
+ghost use Rattle.bsp_engine.specs.Live.{due_of};
 
 use crate::asked::{asked_of, asks_for_text};
 use crate::asked_text::put_asked_text;
@@ -60,24 +60,6 @@ pub fn attendant_of<C: Catalogue, R: Threads + Sync, G: Gate>(
     })
 }
 
-/// Does what a line asks, and writes its block with the number of the last block.
-fn write_block<P: Program + Drop, R: Threads + Sync, G: Gate>(
-    crew: &Crew<'_, R, G>,
-    attendant: &mut Attendant<P>,
-    line: &[u8],
-) -> Result<(), OutOfMemory>
-    ensures rest { OnOk result (attendant.new ≡ record attendant.old { live = after attendant.old.live (asked_of line.now); text = attendant.new.text }) }
-    ensures text { OnOk result (attendant.new.text.items ≡ answer_block attendant.old.live.detail.places attendant.old.last (last_result P.acts P.ending attendant.old.live)
-        (answer_to (live_replying P.acts P.ending P.looks) attendant.old.live (asked_of line.now))) }
-{
-    attendant.text.clear();
-    let number = attendant.last;
-    crew.gate.enter(DEPTH_OF_RUNS, number);
-    push_line(&mut attendant.text, "run", &[number])?;
-    let asked = asked_of(crew.alloc, line)?;
-    push_answer(crew, &mut attendant.live, &mut attendant.text, asked)
-}
-
 /// Writes the answer to a line that asks for no text, as the block with the next number.
 fn write_next_block<P: Program + Drop, R: Threads + Sync, G: Gate>(
     crew: &Crew<'_, R, G>,
@@ -93,7 +75,11 @@ fn write_next_block<P: Program + Drop, R: Threads + Sync, G: Gate>(
         return Err(AllocError);
     };
     attendant.last = number;
-    write_block(crew, attendant, line)
+    attendant.text.clear();
+    crew.gate.enter(DEPTH_OF_RUNS, number);
+    push_line(&mut attendant.text, "run", &[number])?;
+    let asked = asked_of(crew.alloc, line)?;
+    push_answer(crew, &mut attendant.live, &mut attendant.text, asked)
 }
 
 /// Writes the answer to a line, which has no LF.

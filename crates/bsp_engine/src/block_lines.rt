@@ -1,15 +1,14 @@
 //! The lines of a block, one function for each kind.
 
 ghost use Rattle.std.specs.Prelude.{◌≡◌, ◌++◌, OnOk, codes, length};
-ghost use Rattle.std.specs.List.{flat_map};
 ghost use Rattle.bsp_text.specs.Lines.{field, line, numbered};
 ghost use Rattle.bsp_engine.specs.Text.{process_fault_line, sync_fault_word, status_lines, print_lines, cost_line, update_places, counts_line, edit_fault_word, refusal_line};
 
-use crate::places::push_places;
+use crate::places::{begin_line, push_places};
 use bsp_incr::{EditFault, EditRefusal, Update};
 use bsp_model::{CostRow, OutOfMemory, SyncFault};
 use bsp_run::{Lines, ProcessFault, Status};
-use bsp_text::{push_fault, push_field, push_joined_line, push_line};
+use bsp_text::{push_fault, push_joined_line, push_line};
 
 /// Appends a line of two parts: a word and a number, and then a word and numbers.
 fn push_parted_line(
@@ -21,8 +20,7 @@ fn push_parted_line(
 ) -> Result<(), OutOfMemory>
     ensures { OnOk result (text.new.items ≡ text.old.items ++ (word.now ++ field number ++ codes " " ++ line second.now numbers.now)) }
 {
-    text.extend_from_slice(word.as_bytes())?;
-    push_field(text, number)?;
+    begin_line(text, word, number)?;
     text.push(b' ')?;
     push_line(text, second, numbers)
 }
@@ -31,26 +29,19 @@ fn push_parted_line(
 fn push_process_fault(text: &mut Vec<u8>, fault: ProcessFault) -> Result<(), OutOfMemory>
     ensures { OnOk result (text.new.items ≡ text.old.items ++ process_fault_line fault) }
 {
-    text.extend_from_slice(b"fault")?;
-    push_field(text, fault.pid)?;
+    begin_line(text, "fault", fault.pid)?;
     text.push(b' ')?;
     push_fault(text, fault.fault)
-}
-
-fn push_faults(text: &mut Vec<u8>, faults: &[ProcessFault]) -> Result<(), OutOfMemory>
-    ensures { OnOk result (text.new.items ≡ text.old.items ++ flat_map process_fault_line faults.now) }
-{
-    for fault in faults {
-        push_process_fault(text, *fault)?;
-    }
-    Ok(())
 }
 
 fn push_faulted(text: &mut Vec<u8>, step: u64, faults: &[ProcessFault]) -> Result<(), OutOfMemory>
     ensures { OnOk result (text.new.items ≡ text.old.items ++ status_lines (Status.Faulted step faults.now)) }
 {
     push_line(text, "status faulted", &[step])?;
-    push_faults(text, faults)
+    for fault in faults {
+        push_process_fault(text, *fault)?;
+    }
+    Ok(())
 }
 
 fn sync_fault_word(fault: SyncFault) -> &'static str

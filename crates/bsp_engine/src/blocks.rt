@@ -1,47 +1,19 @@
 //! The blocks of a report.
 
-ghost use Rattle.std.specs.Prelude.{◌≡◌, ◌++◌, [], IfOk, OnOk, map, option_map};
-ghost use Rattle.bsp_engine.specs.Blocks.{lines_after, reply_block, reply_lines, result_before, text_of};
-ghost use Rattle.bsp_engine.specs.Text.{update_lines};
+ghost use Rattle.std.specs.Prelude.{◌≡◌, ◌++◌, IfOk, OnOk, map, option_map};
+ghost use Rattle.bsp_engine.specs.Blocks.{reply_lines, result_before, text_of};
 ghost use Rattle.bsp_engine.specs.Told.{alone};
 
 use crate::block_lines::push_refusal;
 use crate::change_lines::push_changes;
 use crate::update_lines::push_update_alone;
 use crate::whole_run::push_result;
-use bsp_incr::{Reply, Update};
+use bsp_incr::Reply;
 use bsp_model::OutOfMemory;
 use bsp_options::Detail;
 use bsp_run::RunResult;
 use bsp_text::push_line;
 use std::alloc::Global;
-
-/// Appends all of a result, or what of it is another than in a result before.
-fn push_result_after(
-    text: &mut Vec<u8>,
-    before: Option<&RunResult>,
-    run: &RunResult,
-) -> Result<(), OutOfMemory>
-    ensures { OnOk result (text.new.items ≡ text.old.items ++ lines_after (option_map (λ r. r.now) before.entry) run.now) }
-{
-    match before {
-        None => push_result(text, run),
-        Some(old) => push_changes(text, old, run),
-    }
-}
-
-fn push_update_if(
-    text: &mut Vec<u8>,
-    places: bool,
-    update: &Option<Update>,
-) -> Result<(), OutOfMemory>
-    ensures { OnOk result (text.new.items ≡ text.old.items ++ update_lines places [] update.now) }
-{
-    match update {
-        Some(update) => push_update_alone(text, places, update),
-        None => Ok(()),
-    }
-}
 
 /// Appends what follows the line `run K` of a reply.
 fn push_reply(
@@ -57,25 +29,14 @@ fn push_reply(
             result: run,
             update,
         } => {
-            push_result_after(text, before, run)?;
-            push_update_if(text, places, update)
+            match before {
+                None => push_result(text, run)?,
+                Some(old) => push_changes(text, old, run)?,
+            }
+            push_update_alone(text, places, update)
         }
         Reply::Refused(refusal) => push_refusal(text, *refusal),
     }
-}
-
-/// Appends the block of a reply.
-fn push_block(
-    text: &mut Vec<u8>,
-    places: bool,
-    number: u64,
-    before: Option<&RunResult>,
-    reply: &Reply,
-) -> Result<(), OutOfMemory>
-    ensures { OnOk result (text.new.items ≡ text.old.items ++ reply_block places number (option_map (λ r. r.now) before.entry) (alone reply.now)) }
-{
-    push_line(text, "run", &[number])?;
-    push_reply(text, places, before, reply)
 }
 
 /// With changes, the result of the last block that has one.
@@ -101,7 +62,8 @@ pub fn push_report(text: &mut Vec<u8>, replies: &[Reply], detail: Detail) -> Res
 {
     let mut before = None;
     for (number, reply) in replies.iter().enumerate() {
-        push_block(text, detail.places, number as u64, before, reply)?;
+        push_line(text, "run", &[number as u64])?;
+        push_reply(text, detail.places, before, reply)?;
         before = result_before(detail.changes, before, reply);
     }
     Ok(())

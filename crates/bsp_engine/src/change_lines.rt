@@ -1,7 +1,8 @@
 //! The text of what of a result is another than in the result before.
 
 ghost use Rattle.std.specs.Prelude.{◌≡◌, ◌++◌, [], Some, false, OnOk, IfOk, option_map, slice_get, unwrap_or};
-ghost use Rattle.bsp_engine.specs.Changes.{changes_lines, changes_of, count_line, other, other_lines, other_number, others, piece_if, same_lines, same_row, same_words};
+ghost use Rattle.bsp_engine.specs.Changes.{changes_lines, changes_of, other, other_lines, others, piece_if, same_lines, same_row, same_words};
+ghost use Rattle.bsp_engine.specs.Inside.Touched.{cost_changes};
 ghost use Rattle.bsp_text.specs.Lines.{numbered};
 ghost use Rattle.bsp_engine.specs.Text.{cost_line, memory_line};
 
@@ -136,14 +137,20 @@ pub fn push_other_costs(
     Ok(())
 }
 
-/// Appends the number of supersteps, unless it is the same as before.
-pub fn push_other_count(text: &mut Vec<u8>, old: usize, new: usize) -> Result<(), OutOfMemory>
-    ensures { OnOk result (text.new.items ≡ text.old.items ++ count_line (other_number old new)) }
+/// Appends the costs that have changed, the number of supersteps if it has changed, and the sum.
+pub fn push_cost_changes(
+    text: &mut Vec<u8>,
+    olds: &[CostRow],
+    news: &[CostRow],
+    total: u64,
+) -> Result<(), OutOfMemory>
+    ensures { OnOk result (text.new.items ≡ text.old.items ++ cost_changes olds.now news.now total) }
 {
-    if old == new {
-        return Ok(());
+    push_other_costs(text, olds, news)?;
+    if olds.len() != news.len() {
+        push_line(text, "costs", &[news.len() as u64])?;
     }
-    push_line(text, "costs", &[new as u64])
+    push_line(text, "total", &[total])
 }
 
 /// Appends the lines of what of a result is another than in the result before.
@@ -153,7 +160,5 @@ pub fn push_changes(text: &mut Vec<u8>, old: &RunResult, new: &RunResult) -> Res
     push_status(text, &new.status)?;
     push_other_memories(text, Some(&old.memories), &new.memories)?;
     push_all_other_lines(text, old.lines.as_slice(), new.lines.as_slice())?;
-    push_other_costs(text, old.costs.as_slice(), new.costs.as_slice())?;
-    push_other_count(text, old.costs.len(), new.costs.len())?;
-    push_line(text, "total", &[new.total])
+    push_cost_changes(text, old.costs.as_slice(), new.costs.as_slice(), new.total)
 }

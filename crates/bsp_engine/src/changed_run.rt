@@ -5,18 +5,15 @@ ghost use Rattle.bsp_run.specs.Result.{lines_of, memories_of, result_of};
 ghost use Rattle.bsp_engine.specs.Changes.{changes_lines, changes_of, other_lines, others, piece_if, same_lines, same_words};
 ghost use Rattle.bsp_text.specs.Lines.{numbered};
 ghost use Rattle.bsp_engine.specs.Text.{memory_line};
-ghost use Rattle.bsp_engine.specs.Inside.Touched.{AreSameUnflagged, IsUpdateBetween, cost_changes, flags_of, piece_there};
+ghost use Rattle.bsp_engine.specs.Inside.Touched.{AreSameUnflagged, IsUpdateBetween, flags_of, piece_there};
 ghost use Rattle.bsp_engine.specs.Untouched.{at_limit, end_alike};
 
 use crate::block_lines::push_status;
-use crate::change_lines::{
-    push_other_costs, push_other_count, push_other_lines, push_other_memory,
-};
+use crate::change_lines::{push_cost_changes, push_other_lines, push_other_memory};
 use crate::flags::flag_touched;
 use bsp_incr::{Edit, Update};
 use bsp_model::OutOfMemory;
 use bsp_run::{History, Status};
-use bsp_text::push_line;
 use std::alloc::Global;
 
 fn is_at_limit(status: &Status) -> bool
@@ -134,16 +131,6 @@ fn push_changed_lines(
     Ok(())
 }
 
-/// Appends the changed costs, the number of supersteps if it has changed, and the sum.
-fn push_changed_costs(text: &mut Vec<u8>, old: &History, new: &History) -> Result<(), OutOfMemory>
-    ensures { OnOk result (text.new.items ≡ text.old.items ++ cost_changes old.now new.now) }
-{
-    let (olds, news) = (old.costs(), new.costs());
-    push_other_costs(text, olds, news)?;
-    push_other_count(text, olds.len(), news.len())?;
-    push_line(text, "total", &[new.total()])
-}
-
 /// Appends the changes of the run after a batch against the run before it. The processes that the update touches are compared alone. Where the runs do
 /// not end alike, all processes are compared.
 pub fn push_changed(
@@ -162,5 +149,5 @@ pub fn push_changed(
     push_status(text, new.status())?;
     push_changed_memories(text, old, new, flags.as_slice())?;
     push_changed_lines(text, old, new, flags.as_slice())?;
-    push_changed_costs(text, old, new)
+    push_cost_changes(text, old.costs(), new.costs(), new.total())
 }

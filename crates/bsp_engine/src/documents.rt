@@ -36,39 +36,6 @@ fn put_report_of<C: Catalogue, R: Threads + Sync, G: Gate>(
     Ok(put_report(crew, options.scratch, options.detail, job, text)?)
 }
 
-/// Writes the report of a document: all of it is made before the first write.
-fn write_report<C: Catalogue, R: Threads + Sync, K: Sink, G: Gate>(
-    rt: &R,
-    alloc: Global,
-    options: Options,
-    bytes: &[u8],
-    writer: &mut K,
-    gate: &G,
-) -> Result<(), EngineError>
-    requires workers { (0 < options.workers) × (options.workers ≤ 16) }
-    requires short { length bytes.now ≤ most_document_bytes }
-    requires sink { K.failures writer.old < 2 ^ 64 - 1 }
-    ensures answer { IsAnswered C.meaning C.Program.acts C.Program.ending C.Program.looks options.scratch options.detail bytes.now (K.contents writer.old) (K.contents writer.new) result }
-    ensures nothing { IfErr result (λ e. e ≢ EngineError.Write → writer.new ≡ writer.old) }
-    ensures read { result ≢ Err EngineError.Read }
-    ensures write_failed { result ≡ Err EngineError.Write → K.failures writer.new ≡ K.failures writer.old + 1 }
-    ensures write_calm { result ≢ Err EngineError.Write → K.failures writer.new ≡ K.failures writer.old }
-{
-    let crew = Crew {
-        rt,
-        alloc,
-        workers: options.workers,
-        gate,
-    };
-    let mut text = Vec::new(alloc);
-    put_report_of::<C, _, _>(&crew, bytes, options, &mut text)?;
-    gate.leave();
-    match write_text(writer, text.as_slice()) {
-        Ok(()) => Ok(()),
-        Err(_) => Err(EngineError::Write),
-    }
-}
-
 /// Reads a document to its end, runs its job by 1 to 16 workers, and writes the report: all of it is made before the first write.
 ///
 /// From scratch each input is run from its start on the calling thread, and the report has no updates. With places each update tells its own, and with
@@ -108,5 +75,17 @@ pub fn engine<C: Catalogue, R: Threads + Sync, S: Source, K: Sink, G: Gate>(
     ensures write_calm { result ≢ Err EngineError.Write → K.failures writer.new ≡ K.failures writer.old }
 {
     read_all(reader, document)?;
-    write_report::<C, _, _, _>(rt, alloc, options, document.as_slice(), writer, gate)
+    let crew = Crew {
+        rt,
+        alloc,
+        workers: options.workers,
+        gate,
+    };
+    let mut text = Vec::new(alloc);
+    put_report_of::<C, _, _>(&crew, document.as_slice(), options, &mut text)?;
+    gate.leave();
+    match write_text(writer, text.as_slice()) {
+        Ok(()) => Ok(()),
+        Err(_) => Err(EngineError::Write),
+    }
 }

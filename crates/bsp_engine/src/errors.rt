@@ -83,20 +83,6 @@ fn input_fault_line(fault: InputFault) -> &'static str
     }
 }
 
-fn job_fault_line(fault: JobFault) -> &'static str
-    ensures { result.now ≡ fault_line (EngineError.Job fault) }
-{
-    match fault {
-        JobFault::NotToml => "fault J1",
-        JobFault::MissingKey => "fault J2",
-        JobFault::WrongType => "fault J3",
-        JobFault::UnknownKey => "fault J4",
-        JobFault::UnknownProgram => "fault J5",
-        JobFault::Input(fault) => input_fault_line(fault),
-        JobFault::BadWord => "fault J7",
-    }
-}
-
 impl EngineError {
     /// The fault line, without its LF.
     pub fn line(&self) -> &'static str
@@ -105,7 +91,13 @@ impl EngineError {
         match *self {
             EngineError::Read => "fault read",
             EngineError::TooLong => "fault long",
-            EngineError::Job(fault) => job_fault_line(fault),
+            EngineError::Job(JobFault::NotToml) => "fault J1",
+            EngineError::Job(JobFault::MissingKey) => "fault J2",
+            EngineError::Job(JobFault::WrongType) => "fault J3",
+            EngineError::Job(JobFault::UnknownKey) => "fault J4",
+            EngineError::Job(JobFault::UnknownProgram) => "fault J5",
+            EngineError::Job(JobFault::Input(fault)) => input_fault_line(fault),
+            EngineError::Job(JobFault::BadWord) => "fault J7",
             EngineError::Write => "fault write",
             EngineError::OutOfMemory => "fault memory",
         }

@@ -2,74 +2,61 @@
 
 mod batch;
 mod reasons;
+mod remark;
 mod syntax;
 
 use crate::asked::document_of;
 use crate::catalogue::Catalogue;
 use crate::jobs::check;
 use crate::tree::value_at;
-use batch::put_batch_fault;
-use bsp_model::{Input, OutOfMemory};
-use reasons::push_fault;
+use batch::tell_batch_fault;
+use bsp_model::Input;
+use reasons::tell_fault;
+use remark::Remark;
 use std::alloc::Global;
-use std::fmt::Display;
-use syntax::push_syntax_error;
+use std::fs;
+use std::rt::Files;
+use syntax::tell_syntax_error;
 use toml::Table;
 
-/// Appends a text with the code of each control character in its place, so that it stays on one line.
-fn push_escaped(line: &mut String, text: &str) -> Result<(), OutOfMemory> {
-    for c in text.chars() {
-        if c.is_control() {
-            write!(line, "\\u{{{:x}}}", c as u32)?;
-        } else {
-            line.push(c)?;
-        }
-    }
-    Ok(())
-}
-
-/// The table of a document that is these written bytes, or that has words before them and an LF behind them; or appends where in the written bytes it
-/// is no TOML.
+/// The table of a document that is these written bytes, or that has words before them and an LF behind them. Where it is no TOML, there is none, and it
+/// is told where in the written bytes.
 fn read_table(
     alloc: Global,
     document: &[u8],
     written: &[u8],
-    line: &mut String,
-) -> Result<Option<Table>, OutOfMemory> {
+    remark: &mut Remark,
+) -> Option<Table> {
     let skipped = document.len().saturating_sub(written.len() + 1);
     let text = match std::str::from_utf8(document) {
         Ok(text) => text,
         Err(error) => {
-            let place = error.valid_up_to().saturating_sub(skipped);
-            push_numbered(line, "byte ", place)?;
-            return line.push_str(": not UTF-8").and(Ok(None));
+            remark.add_value("byte ", error.valid_up_to().saturating_sub(skipped));
+            remark.add(": not UTF-8");
+            return None;
         }
     };
     match toml::table_from_str(alloc, text) {
-        Ok(table) => Ok(Some(table)),
+        Ok(table) => Some(table),
         Err(error) => {
-            let explained = push_syntax_error(line, written, skipped, &error);
+            tell_syntax_error(remark, written, skipped, &error);
             drop(error);
-            explained.and(Ok(None))
+            None
         }
     }
 }
 
-/// Appends what is wrong with a document, by its first fault, and where, without an LF. Of a document that is a job there is nothing to tell.
-pub fn explain<C: Catalogue>(
-    alloc: Global,
-    document: &[u8],
-    line: &mut String,
-) -> Result<(), OutOfMemory> {
-    let Some(table) = read_table(alloc, document, document, line)? else {
-        return Ok(());
-    };
-    let explained = match check::<C>(&table) {
-        Ok(()) => Ok(()),
-        Err(wrong) => push_fault(line, &table, &wrong, C::names()),
-    };
-    drop(table);
-    explained
+/// Says what is wrong with a document, by its first fault, and where. Of a document that is a job there is nothing to say.
+pub fn explain<C: Catalogue, R: Alloc<A = Global> + Eprint>(rt: &R, document: &[u8]) {
+    let mut remark = Remark::new(rt.alloc());
+    if let Some(table) = read_table(rt.alloc(), document, document, &mut remark) {
+        if let Err(wrong) = check::<C>(&table) {
+            tell_fault(&mut remark, &table, &wrong, C::names());
+        }
+        drop(table);
+    }
+    remark.say(rt);
+    drop(remark);
 }
 
 /// Whether the answer to a line is that the line was not read as a batch, or that its batch was refused.
@@ -83,51 +70,50 @@ fn is_without_effect(answer: &[u8]) -> bool {
     false
 }
 
-/// Makes an empty text what is wrong with a line of a live session, without an LF, where the answer to it and the input after it are these. Of a
-/// line that had its effect there is nothing to tell.
-pub fn explain_line(
-    alloc: Global,
+/// Tells what is wrong with a line of a live session, where this is the input.
+fn tell_line(alloc: Global, line: &[u8], input: &Input, remark: &mut Remark) {
+    let Ok(document) = document_of(alloc, line) else {
+        return;
+    };
+    if let Some(table) = read_table(alloc, document.as_slice(), line, remark) {
+        if let Some(value) = value_at(&table, "batch") {
+            tell_batch_fault(remark, value, input);
+        }
+        drop(table);
+    }
+    drop(document);
+}
+
+/// Says what is wrong with a line of a live session, where the answer to it and the input after it are these. Of a line that had its effect there is
+/// nothing to say.
+pub fn explain_line<R: Alloc<A = Global> + Eprint>(
+    rt: &R,
     line: &[u8],
     answer: &[u8],
     input: &Input,
-    why: &mut String,
-) -> Result<(), OutOfMemory> {
-    if !is_without_effect(answer) {
-        return Ok(());
+) {
+    if is_without_effect(answer) {
+        let mut remark = Remark::new(rt.alloc());
+        tell_line(rt.alloc(), line, input, &mut remark);
+        remark.say(rt);
+        drop(remark);
     }
-    let document = document_of(alloc, line)?;
-    let Some(table) = read_table(alloc, document.as_slice(), line, why)? else {
-        return Ok(());
-    };
-    let explained = match value_at(&table, "batch") {
-        Some(value) => put_batch_fault(alloc, why, value, input),
-        None => Ok(()),
-    };
-    drop(table);
-    explained
 }
 
-/// Appends words, and then a number.
-fn push_numbered(line: &mut String, words: &str, number: usize) -> Result<(), OutOfMemory> {
-    write!(line, "{words}{number}")
-}
-
-/// Appends a number that is past its limits, and the limits.
-fn push_limits<N: Display + Copy>(
-    line: &mut String,
-    number: N,
-    least: u64,
-    most: u64,
-) -> Result<(), OutOfMemory> {
-    write!(line, "{number}, not {least} to {most}")
-}
-
-/// Appends that a file was not read, and why.
-pub fn explain_file<D: Display>(
-    path: &str,
-    reason: &D,
-    line: &mut String,
-) -> Result<(), OutOfMemory> {
-    push_escaped(line, path)?;
-    write!(line, ": {reason}")
+/// Says why a file can't be opened, or else that it can't be read.
+pub fn explain_file<R: Alloc<A = Global> + Files + Eprint>(rt: &R, path: &str) {
+    let mut remark = Remark::new(rt.alloc());
+    remark.add_escaped(path);
+    match fs::open(rt, path) {
+        Ok(file) => {
+            drop(file);
+            remark.add(": it can't be read");
+        }
+        Err(error) => {
+            remark.add_value(": ", &error);
+            drop(error);
+        }
+    }
+    remark.say(rt);
+    drop(remark);
 }

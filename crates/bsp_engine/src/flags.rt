@@ -16,21 +16,14 @@ fn flag(flags: &mut [bool], pid: u64)
     }
 }
 
-/// Puts the flag of the process up of which an edit changes a word.
-fn flag_edit(flags: &mut [bool], edit: &Edit)
-    ensures { flags.new ≡ flagged flags.old (word_pids edit.now) }
-{
-    match edit {
-        Edit::Word { pid, .. } => flag(flags, *pid),
-        Edit::Arg { .. } | Edit::Limit(_) | Edit::Prices { .. } => {}
-    }
-}
-
+/// Puts the flag of each process up of which an edit changes a word.
 fn flag_edits(flags: &mut [bool], batch: &[Edit])
     ensures { flags.new ≡ flagged flags.old (flat_map word_pids batch.now) }
 {
     for edit in batch {
-        flag_edit(flags, edit);
+        if let Edit::Word { pid, .. } = edit {
+            flag(flags, *pid);
+        }
     }
 }
 

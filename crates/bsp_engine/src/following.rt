@@ -1,8 +1,7 @@
 //! Live sessions: the report of a document, and then a block for each line that is heard.
 
-ghost use Rattle.std.specs.Prelude.{◌≡◌, ◌≢◌, ◌⊎◌, ◌<◌, ◌≤◌, ◌+◌, ◌-◌, ◌^◌, length, IfSome, Err};
+ghost use Rattle.std.specs.Prelude.{◌≡◌, ◌≢◌, ◌⊎◌, ◌<◌, ◌≤◌, ◌+◌, ◌-◌, ◌^◌, IfSome, Err};
 ghost use Rattle.bsp_engine.specs.Followed.{Follows};
-ghost use Rattle.bsp_engine.specs.Limits.{most_document_bytes};
 ghost use Rattle.bsp_engine.specs.Talk.{HasFailed, HasNotWritten};
 
 use crate::attendant::attendant_of;
@@ -13,29 +12,10 @@ use crate::errors::{EngineError, JobFault};
 use crate::flow::Source;
 use crate::reading::read_all;
 use crate::terminal::Terminal;
-use bsp_options::{Detail, Options};
+use bsp_options::Options;
 use bsp_pool::Gate;
 use std::alloc::Global;
 use std::thread::Threads;
-
-/// Says the report of a document, and then answers each line.
-fn follow_document<C: Catalogue, R: Threads + Sync, T: Terminal, G: Gate>(
-    crew: &Crew<'_, R, G>,
-    detail: Detail,
-    bytes: &[u8],
-    terminal: &mut T,
-) -> Result<(), EngineError>
-    requires short { length bytes.now ≤ most_document_bytes }
-    ensures answer { Follows C.meaning C.Program.acts C.Program.ending C.Program.looks detail bytes.now
-        (T.log terminal.old) (T.log terminal.new) (terminal.new ≡ terminal.old) result }
-    ensures read { result ≡ Err EngineError.Read → HasFailed (T.log terminal.new) }
-    ensures write { result ≡ Err EngineError.Write → HasNotWritten (T.log terminal.new) }
-{
-    let mut attendant = attendant_of::<C, _, _>(crew, detail, bytes)?;
-    let talked = talk(crew, &mut attendant, terminal);
-    drop(attendant);
-    talked
-}
 
 /// Reads a document to its end, says its report and a line `ready`, and then answers each line that is heard with a block, until there are no more.
 /// From 1 to 16 workers share the work.
@@ -77,5 +57,8 @@ pub fn follow<C: Catalogue, R: Threads + Sync, S: Source, T: Terminal, G: Gate>(
         workers: options.workers,
         gate,
     };
-    follow_document::<C, _, _, _>(&crew, options.detail, document.as_slice(), terminal)
+    let mut attendant = attendant_of::<C, _, _>(&crew, options.detail, document.as_slice())?;
+    let talked = talk(&crew, &mut attendant, terminal);
+    drop(attendant);
+    talked
 }

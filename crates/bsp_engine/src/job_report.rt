@@ -1,7 +1,12 @@
 //! The report of a job.
 
-ghost use Rattle.std.specs.Prelude.{◌≡◌, IfOk, OnOk, None, false, true};
+ghost use Rattle.std.specs.Prelude.{◌≡◌, ◌<◌, ◌≤◌, ◌++◌, IfOk, IfErr, OnOk, None, false, true};
 ghost use Rattle.bsp_model.specs.Input.{input_fault};
+ghost use Rattle.bsp_step.specs.Turn.{turn_of};
+ghost use Rattle.bsp_run.specs.Run.{run};
+ghost use Rattle.bsp_run.specs.Result.{result_of};
+ghost use Rattle.bsp_run.specs.RunErrors.{input_fault_of};
+ghost use Rattle.bsp_incr.specs.Replies.{AreScratchReplies};
 ghost use Rattle.bsp_engine.specs.Blocks.{text_of};
 ghost use Rattle.bsp_engine.specs.Inside.Replies.{job_told, replies_of};
 
@@ -9,18 +14,41 @@ use crate::blocks::push_report;
 use crate::crew::Crew;
 use crate::jobs::Job;
 use crate::live::begin;
-use bsp_incr::{Reply, scratch_run_behind};
-use bsp_model::OutOfMemory;
+use bsp_incr::{Batch, Reply, scratch_run_behind};
+use bsp_model::{Input, OutOfMemory};
 use bsp_options::Detail;
 use bsp_pool::Gate;
-use bsp_run::RunError;
+use bsp_run::{RunError, RunResult};
+use bsp_scratch::wide_result;
 use bsp_step::Program;
 use std::alloc::{AllocError, Global};
 use std::thread::Threads;
 
+/// The replies to these batches, each run of which the workers make from scratch.
+fn replies_by_runs<P: Program, R: Threads + Sync, G: Gate>(
+    crew: &Crew<'_, R, G>,
+    program: &P,
+    input: Input,
+    batches: &[Batch],
+) -> Result<Vec<Reply>, RunError>
+    ensures law { IfOk result (λ all. AreScratchReplies (P.looks program.now)
+        (turn_of (P.acts program.now) (P.ending program.now))
+        input batches.now all.items) }
+    ensures lawful { OnOk result (input_fault input ≡ None) }
+    ensures input { IfErr result (λ e. input_fault input ≡ input_fault_of e) }
+{
+    let (rt, alloc, workers, gate) = (crew.rt, crew.alloc, crew.workers, crew.gate);
+    let make = |input: &Input| -> Result<RunResult, OutOfMemory>
+        requires lawful { input_fault input.now ≡ None }
+        requires workers { (0 < workers) × (workers ≤ 16) }
+        ensures { IfOk result (λ given. given ≡ result_of (run (turn_of (P.acts program.entry.now) (P.ending program.entry.now)) input.entry.now)) }
+    { wide_result(rt, alloc, program, input, workers, gate) };
+    scratch_run_behind(alloc, input, batches, &make, gate)
+}
+
 /// The replies to a job, each run of which is made from scratch.
 #[tactic(auto, using(bsp_incr::proofs::Replying::scratch_replies_fixed), unfolding(crate::specs::Inside::Replies::replies_of))]
-fn scratch_replies<P: Program + Drop, R, G: Gate>(
+fn scratch_replies<P: Program + Drop, R: Threads + Sync, G: Gate>(
     crew: &Crew<'_, R, G>,
     job: Job<P>,
 ) -> Result<Vec<Reply>, OutOfMemory>
@@ -32,7 +60,7 @@ fn scratch_replies<P: Program + Drop, R, G: Gate>(
         input,
         batches,
     } = job;
-    let replies = scratch_run_behind(crew.alloc, &program, input, batches.as_slice(), crew.gate);
+    let replies = replies_by_runs(crew, &program, input, batches.as_slice());
     drop(program);
     drop(batches);
     match replies {
@@ -42,44 +70,24 @@ fn scratch_replies<P: Program + Drop, R, G: Gate>(
     }
 }
 
-/// Leaves nothing in a text but the report of a job from scratch, which has no updates: the calling thread makes each run alone.
-fn put_scratch_report<P: Program + Drop, R, G: Gate>(
+/// Appends the report of a job from scratch, which has no updates: the workers make one run after the other.
+fn push_scratch_report<P: Program + Drop, R: Threads + Sync, G: Gate>(
     crew: &Crew<'_, R, G>,
     detail: Detail,
     job: Job<P>,
     text: &mut Vec<u8>,
 ) -> Result<(), OutOfMemory>
     requires lawful { input_fault job.input ≡ None }
-    ensures { OnOk result (text.new.items ≡ text_of detail (job_told P.acts P.ending P.looks true detail job)) }
+    ensures { OnOk result (text.new.items ≡ text.old.items ++
+        text_of detail (job_told P.acts P.ending P.looks true detail job)) }
 {
     let replies = scratch_replies(crew, job)?;
-    text.clear();
     let pushed = push_report(text, replies.as_slice(), detail);
     drop(replies);
     pushed
 }
 
-/// Leaves nothing in a text but the report of a job, as that of a session, which is let go.
-fn put_session_report<P: Program + Drop, R: Threads + Sync, G: Gate>(
-    crew: &Crew<'_, R, G>,
-    detail: Detail,
-    job: Job<P>,
-    text: &mut Vec<u8>,
-) -> Result<(), OutOfMemory>
-    requires lawful { input_fault job.input ≡ None }
-    ensures { OnOk result (text.new.items ≡ text_of detail (job_told P.acts P.ending P.looks false detail job)) }
-{
-    text.clear();
-    match begin(crew, detail, job, text, b"") {
-        Ok(live) => {
-            drop(live);
-            Ok(())
-        }
-        Err(error) => Err(error),
-    }
-}
-
-/// Leaves nothing in a text but the report of a job, by a session or from scratch.
+/// Leaves nothing in a text but the report of a job, by a session, which is let go, or from scratch.
 pub fn put_report<P: Program + Drop, R: Threads + Sync, G: Gate>(
     crew: &Crew<'_, R, G>,
     scratch: bool,
@@ -90,9 +98,15 @@ pub fn put_report<P: Program + Drop, R: Threads + Sync, G: Gate>(
     requires lawful { input_fault job.input ≡ None }
     ensures { OnOk result (text.new.items ≡ text_of detail (job_told P.acts P.ending P.looks scratch detail job)) }
 {
+    text.clear();
     if scratch {
-        put_scratch_report(crew, detail, job, text)
-    } else {
-        put_session_report(crew, detail, job, text)
+        return push_scratch_report(crew, detail, job, text);
+    }
+    match begin(crew, detail, job, text, b"") {
+        Ok(live) => {
+            drop(live);
+            Ok(())
+        }
+        Err(error) => Err(error),
     }
 }

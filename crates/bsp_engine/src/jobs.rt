@@ -21,13 +21,12 @@ ghost use Rattle.bsp_engine.specs.Refusal.{IfFault};
 ghost use Rattle.bsp_engine.specs.JobOf.{job_of_tree, job_of};
 ghost use Rattle.bsp_engine.specs.Inside.Faultless.{IsFaultless};
 ghost use Rattle.bsp_engine.specs.Tree.{tree_of};
-ghost use Rattle.bsp_engine.specs.Values.{batches_of, input_of};
 
 use crate::catalogue::Catalogue;
 use crate::errors::{JobError, JobFault};
 use crate::tree::{elements_at, read_tree};
 use bsp_incr::Batch;
-use bsp_model::{Input, OutOfMemory, Seq};
+use bsp_model::{Input, Seq};
 use inputs::read_input;
 use keys::check_keys;
 use own::own_text;
@@ -38,7 +37,7 @@ use sizes::check_sizes;
 pub use sizes::count_of_args;
 use std::alloc::Global;
 use toml::Table;
-pub use values::{Described, read_each};
+pub use values::{Described, edit_in, read_each};
 pub use wrong::{Path, Wrong};
 
 /// A program, its input, over which a run may start, and batches of edits.
@@ -66,21 +65,6 @@ pub fn check<C: Catalogue>(table: &Table) -> Result<(), Wrong<'_>>
     check_signs::<C>(table)
 }
 
-/// The values that a document describes beside its program. They are of use only where it has no fault.
-fn read_values(alloc: Global, table: &Table) -> Result<(Input, Seq<Batch>), OutOfMemory>
-    ensures input { IfOk result (λ r. r.0 ≡ input_of (table_view table.now)) }
-    ensures batches { IfOk result (λ r. r.1 ≡ batches_of (table_view table.now)) }
-{
-    let batches = read_each::<ArrayOf<EditForm>>(alloc, elements_at(table, "batches"))?;
-    match read_input(alloc, table) {
-        Ok(input) => Ok((input, batches)),
-        Err(error) => {
-            drop(batches);
-            Err(error)
-        }
-    }
-}
-
 fn job_in<C: Catalogue>(alloc: Global, table: &Table) -> Result<Job<C::Program>, JobError>
     ensures ok { IfOk result (λ j. job_of_tree C.meaning (Some (table_view table.now)) ≡ Ok j) }
     ensures lawful { IfOk result (λ j. input_fault j.input ≡ None) }
@@ -88,14 +72,19 @@ fn job_in<C: Catalogue>(alloc: Global, table: &Table) -> Result<Job<C::Program>,
 {
     check::<C>(table)?;
     let program = C::program(alloc, table)?;
-    match read_values(alloc, table) {
-        Ok((input, batches)) => Ok(Job {
+    let Ok(input) = read_input(alloc, table) else {
+        drop(program);
+        return Err(JobError::OutOfMemory);
+    };
+    match read_each::<ArrayOf<EditForm>>(alloc, elements_at(table, "batches")) {
+        Ok(batches) => Ok(Job {
             program,
             input,
             batches,
         }),
         Err(_) => {
             drop(program);
+            drop(input);
             Err(JobError::OutOfMemory)
         }
     }

@@ -246,25 +246,6 @@ pub fn begin<P: Program + Drop, R: Threads + Sync, G: Gate>(
     }
 }
 
-/// Takes the last accepted batch back that still stands, and appends what is answered.
-fn undo<P: Program + Drop, R: Threads + Sync, G: Gate>(
-    crew: &Crew<'_, R, G>,
-    live: &mut Live<P>,
-    text: &mut Vec<u8>,
-) -> Result<(), OutOfMemory>
-    ensures after { OnOk result (live.new ≡ after live.old Asked.Undo) }
-    ensures text { OnOk result (text.new.items ≡ text.old.items ++ answer_lines live.old.detail.places (last_result P.acts P.ending live.old) (answer_to (live_replying P.acts P.ending P.looks) live.old Asked.Undo)) }
-{
-    match live.undos.pop_front() {
-        Some(undo) => {
-            let advanced = advance(crew, live, text, undo.as_slice());
-            drop(undo);
-            advanced
-        }
-        None => push_unread(text, Unread::NothingToUndo),
-    }
-}
-
 /// Does what a line asks, and appends what is answered.
 pub fn push_answer<P: Program + Drop, R: Threads + Sync, G: Gate>(
     crew: &Crew<'_, R, G>,
@@ -281,7 +262,14 @@ pub fn push_answer<P: Program + Drop, R: Threads + Sync, G: Gate>(
             drop(batch);
             made
         }
-        Asked::Undo => undo(crew, live, text),
+        Asked::Undo => match live.undos.pop_front() {
+            Some(undo) => {
+                let advanced = advance(crew, live, text, undo.as_slice());
+                drop(undo);
+                advanced
+            }
+            None => push_unread(text, Unread::NothingToUndo),
+        },
         Asked::Nothing(unread) => push_unread(text, unread),
     }
 }

@@ -9,12 +9,12 @@ use bsp_incr::Place;
 use bsp_model::OutOfMemory;
 use bsp_text::push_field;
 
-/// Begins the line of a superstep.
-fn begin_line(text: &mut Vec<u8>, word: &str, step: u64) -> Result<(), OutOfMemory>
-    ensures { OnOk result (text.new.items ≡ text.old.items ++ (word.now ++ field step)) }
+/// Begins a line: a word and a number.
+pub fn begin_line(text: &mut Vec<u8>, word: &str, number: u64) -> Result<(), OutOfMemory>
+    ensures { OnOk result (text.new.items ≡ text.old.items ++ (word.now ++ field number)) }
 {
     text.extend_from_slice(word.as_bytes())?;
-    push_field(text, step)
+    push_field(text, number)
 }
 
 /// Appends the process of a place to the line of this superstep, or begins the line of another.

@@ -1,19 +1,15 @@
 //! What a live session shows of its run.
 
 ghost use Rattle.std.specs.Prelude.{◌≡◌, ◌++◌, OnOk};
-ghost use Rattle.bsp_engine.specs.Shown.{turn_text, unread_place, view_text};
+ghost use Rattle.bsp_engine.specs.Shown.{turn_text, view_text};
 
 use bsp_incr::Place;
 use bsp_model::OutOfMemory;
 use bsp_run::History;
 use bsp_text::{push_turn, push_view};
 
-/// Appends that there is no such place.
-fn push_unread_place(text: &mut Vec<u8>) -> Result<(), OutOfMemory>
-    ensures { OnOk result (text.new.items ≡ text.old.items ++ unread_place) }
-{
-    text.extend_from_slice(b"unread place\n")
-}
+/// What is answered where there is no such place.
+const UNREAD_PLACE: &[u8] = b"unread place\n";
 
 /// Appends the answer to a line that asks what the process at a place saw.
 pub fn push_view_text(
@@ -23,17 +19,14 @@ pub fn push_view_text(
 ) -> Result<(), OutOfMemory>
     ensures { OnOk result (text.new.items ≡ text.old.items ++ view_text history.now place) }
 {
-    let Some(place) = place else {
-        return push_unread_place(text);
-    };
-    let Some(views) = history.views(place.step) else {
-        return push_unread_place(text);
-    };
-    if place.pid >= views.len() as u64 {
-        return push_unread_place(text);
+    if let Some(place) = place
+        && let Some(views) = history.views(place.step)
+        && place.pid < views.len() as u64
+    {
+        let view = views.get(place.pid as usize);
+        return push_view(text, place.step, place.pid, &view);
     }
-    let view = views.get(place.pid as usize);
-    push_view(text, place.step, place.pid, &view)
+    text.extend_from_slice(UNREAD_PLACE)
 }
 
 /// Appends the answer to a line that asks what the turn of the process at a place left.
@@ -44,15 +37,12 @@ pub fn push_turn_text(
 ) -> Result<(), OutOfMemory>
     ensures { OnOk result (text.new.items ≡ text.old.items ++ turn_text history.now place) }
 {
-    let Some(place) = place else {
-        return push_unread_place(text);
-    };
-    let Some(outcomes) = history.outcomes(place.step) else {
-        return push_unread_place(text);
-    };
-    if place.pid >= outcomes.len() as u64 {
-        return push_unread_place(text);
+    if let Some(place) = place
+        && let Some(outcomes) = history.outcomes(place.step)
+        && place.pid < outcomes.len() as u64
+    {
+        let turn = outcomes.get(place.pid as usize);
+        return push_turn(text, place.step, place.pid, &turn);
     }
-    let turn = outcomes.get(place.pid as usize);
-    push_turn(text, place.step, place.pid, &turn)
+    text.extend_from_slice(UNREAD_PLACE)
 }

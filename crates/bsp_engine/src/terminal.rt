@@ -5,7 +5,6 @@ ghost use Rattle.bsp_engine.specs.Talk.{Event, Fails, Goes, heard, said};
 
 use crate::explain::explain_line;
 use crate::flow::Failed;
-use crate::tool::say;
 use bsp_model::Input;
 use std::alloc::Global;
 use std::io::{Read, Write};
@@ -71,9 +70,6 @@ impl<'a, E: Alloc<A = Global> + Eprint, R: Read, W: Write> Terminal for Console<
     }
 
     fn answered(&mut self, line: &[u8], answer: &[u8], input: &Input) {
-        let mut why = String::new(self.rt.alloc());
-        let explained = explain_line(self.rt.alloc(), line, answer, input, &mut why);
-        say(self.rt, explained, why.as_str());
-        drop(why);
+        explain_line(self.rt, line, answer, input);
     }
 }

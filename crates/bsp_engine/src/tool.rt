@@ -3,7 +3,7 @@
 //! Where there is no report, a fault line goes to standard error, and the exit status is 1 (the machine failed), 2 (the command line is refused)
 //! or 3 (the document is refused). Where the document has a fault, or the file can't be read, a second line says more, unless memory for it is refused.
 
-ghost use Rattle.std.specs.Prelude.{◌≡◌, ◌<◌, ◌≤◌};
+ghost use Rattle.std.specs.Prelude.{◌<◌, ◌≤◌};
 
 use crate::catalogue::Catalogue;
 use crate::counted::Counted;
@@ -13,12 +13,10 @@ use crate::explain::{explain, explain_file};
 use crate::following::follow;
 use crate::progress::{Progress, Watched};
 use crate::terminal::Console;
-use bsp_model::OutOfMemory;
 use bsp_options::{Options, Tool, read_options, words_status};
 use bsp_pool::Gate;
 use std::alloc::Global;
 use std::env::Env;
-use std::io::Read;
 use std::process::ExitCode;
 use std::rt::Files;
 use std::thread::Threads;
@@ -30,25 +28,9 @@ fn given_words<R: Env + Alloc<A = Global>>(rt: &R) -> io::Result<Vec<String>> {
     Ok(env::args(rt)?.collect(rt.alloc())?)
 }
 
-/// The words as texts.
-fn texts_of(alloc: Global, words: &[String]) -> Result<Vec<&str>, OutOfMemory> {
-    let mut texts = Vec::with_capacity(alloc, words.len())?;
-    for word in words {
-        texts.push(word.as_str())?;
-    }
-    Ok(texts)
-}
-
-/// Says on standard error what was told in a line, unless there is nothing to tell, or memory for it was refused.
-pub fn say<R: Eprint>(rt: &R, told: Result<(), OutOfMemory>, line: &str) {
-    if told.is_ok() && !line.is_empty() {
-        let _ = eprintln!(rt; "{line}");
-    }
-}
-
 /// Says on standard error why there is no report, or not all of it.
 fn failed<R: Eprint>(rt: &R, error: EngineError) -> ExitCode {
-    say(rt, Ok(()), error.line());
+    let _ = eprintln!(rt; "{}", error.line());
     ExitCode::from(error.status())
 }
 
@@ -84,81 +66,13 @@ fn ended<C: Catalogue, R: Alloc<A = Global> + Eprint>(
         return ExitCode::SUCCESS;
     };
     let status = failed(rt, error);
-    if !matches!(error, EngineError::Job(_)) {
-        return status;
+    if matches!(error, EngineError::Job(_)) {
+        explain::<C, R>(rt, document);
     }
-    let mut line = String::new(rt.alloc());
-    let explained = explain::<C>(rt.alloc(), document, &mut line);
-    say(rt, explained, line.as_str());
-    drop(line);
     status
 }
 
-/// Says why a file can't be opened, or else that it can't be read.
-fn name_file<R: Alloc<A = Global> + Files + Eprint>(rt: &R, path: &str) {
-    let mut line = String::new(rt.alloc());
-    let explained = match fs::open(rt, path) {
-        Ok(file) => {
-            drop(file);
-            explain_file(path, &"it can't be read", &mut line)
-        }
-        Err(error) => {
-            let explained = explain_file(path, &error, &mut line);
-            drop(error);
-            explained
-        }
-    };
-    say(rt, explained, line.as_str());
-    drop(line);
-}
-
-/// Runs the job of the document on standard input.
-fn run_input<C: Catalogue, R: Alloc<A = Global> + Input + Print + Eprint + Threads + Clock + Sync>(
-    rt: &R,
-    options: Options,
-    document: &mut Vec<u8>,
-    progress: &Progress<'_, R>,
-) -> Result<(), EngineError>
-    requires workers { (0 < options.workers) × (options.workers ≤ 16) }
-{
-    engine::<C, R, _, _, _>(
-        rt,
-        rt.alloc(),
-        options,
-        &mut Counted::new(rt.reader()),
-        &mut Counted::new(io::writer(rt)),
-        document,
-        progress,
-    )
-}
-
-/// Runs the job of the document that is read of a source, and then answers each line of standard input.
-fn follow_source<
-    C: Catalogue,
-    R: Alloc<A = Global> + Input + Print + Eprint + Threads + Clock + Sync,
-    T: Read,
->(
-    rt: &R,
-    options: Options,
-    source: &mut Counted<T>,
-    document: &mut Vec<u8>,
-    progress: &Progress<'_, R>,
-) -> Result<(), EngineError>
-    requires workers { (0 < options.workers) × (options.workers ≤ 16) }
-    requires source { source.old.failures ≡ 0 }
-{
-    follow::<C, R, _, _, _>(
-        rt,
-        rt.alloc(),
-        options,
-        source,
-        &mut Console::new(rt, rt.reader(), io::writer(rt)),
-        document,
-        progress,
-    )
-}
-
-/// The same of a file, of which is told whether it can't be read.
+/// Runs the job of the document in a file, and then answers each line of standard input. It is told whether the file can't be read.
 fn follow_file<
     C: Catalogue,
     R: Alloc<A = Global> + Files + Input + Print + Eprint + Threads + Clock + Sync,
@@ -177,8 +91,18 @@ fn follow_file<
         return Err(EngineError::Read);
     };
     let mut source = Counted::new(file);
-    let outcome = follow_source::<C, R, _>(rt, options, &mut source, document, progress);
+    let mut terminal = Console::new(rt, rt.reader(), io::writer(rt));
+    let outcome = follow::<C, R, _, _, _>(
+        rt,
+        rt.alloc(),
+        options,
+        &mut source,
+        &mut terminal,
+        document,
+        progress,
+    );
     *is_unread = source.has_failed();
+    drop(terminal);
     drop(source);
     outcome
 }
@@ -194,7 +118,15 @@ fn run_shown<
     let mut document = Vec::new(rt.alloc());
     let mut is_unread = false;
     let outcome = match path {
-        None => run_input::<C, R>(rt, options, &mut document, &progress),
+        None => engine::<C, R, _, _, _>(
+            rt,
+            rt.alloc(),
+            options,
+            &mut Counted::new(rt.reader()),
+            &mut Counted::new(io::writer(rt)),
+            &mut document,
+            &progress,
+        ),
         Some(path) => {
             let unread = &mut is_unread;
             follow_file::<C, R>(rt, options, path, &mut document, &progress, unread)
@@ -205,7 +137,7 @@ fn run_shown<
     drop(document);
     drop(progress);
     if is_unread {
-        name_file(rt, path.unwrap_or(""));
+        explain_file(rt, path.unwrap_or(""));
     }
     status
 }
@@ -224,13 +156,19 @@ fn option_of_sessions(options: Options, path: Option<&str>) -> Option<&'static s
     None
 }
 
-/// Runs a job, unless the options do not go together.
-fn run_options<
+/// Does what the words ask for, unless the options do not go together; the first word is the program's name.
+fn run_words<
     C: Catalogue,
     R: Alloc<A = Global> + Files + Input + Print + Eprint + Watched + Threads + Clock + Sync,
->(rt: &R, options: Options, path: Option<&str>) -> ExitCode
-    requires workers { (0 < options.workers) × (options.workers ≤ 16) }
-{
+>(rt: &R, tool: &Tool, words: &[&str]) -> ExitCode {
+    let (options, path) = match read_options(rt.alloc(), tool, words) {
+        Ok(read) => read,
+        Err(error) => {
+            let status = refused(rt, &error);
+            drop(error);
+            return status;
+        }
+    };
     match option_of_sessions(options, path) {
         Some(option) if options.scratch => {
             let _ = eprintln!(rt; "error: the argument '{option}' cannot be used with '--scratch'");
@@ -240,29 +178,18 @@ fn run_options<
     }
 }
 
-/// Does what the words ask for; the first word is the program's name.
-fn run_words<
-    C: Catalogue,
-    R: Alloc<A = Global> + Files + Input + Print + Eprint + Watched + Threads + Clock + Sync,
->(rt: &R, tool: &Tool, words: &[&str]) -> ExitCode {
-    match read_options(rt.alloc(), tool, words) {
-        Ok((options, path)) => run_options::<C, R>(rt, options, path),
-        Err(error) => {
-            let status = refused(rt, &error);
-            drop(error);
-            status
-        }
-    }
-}
-
 /// The same of the words of the command line.
 fn run_given<
     C: Catalogue,
     R: Alloc<A = Global> + Files + Input + Print + Eprint + Watched + Threads + Clock + Sync,
 >(rt: &R, tool: &Tool, words: &[String]) -> ExitCode {
-    let Ok(texts) = texts_of(rt.alloc(), words) else {
-        return failed(rt, EngineError::OutOfMemory);
-    };
+    let mut texts = Vec::new(rt.alloc());
+    for word in words {
+        if texts.push(word.as_str()).is_err() {
+            drop(texts);
+            return failed(rt, EngineError::OutOfMemory);
+        }
+    }
     let status = run_words::<C, R>(rt, tool, texts.as_slice());
     drop(texts);
     status

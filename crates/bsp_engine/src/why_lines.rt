@@ -5,11 +5,11 @@ ghost use Rattle.std.specs.List.{flat_map};
 ghost use Rattle.bsp_run.specs.Supersteps.{supersteps_of};
 ghost use Rattle.bsp_incr.specs.Exact.{HasDelivery, HasTurn, delivered_before};
 ghost use Rattle.bsp_causes.specs.DeliveryCauses.{HaveAsMany};
-ghost use Rattle.bsp_engine.specs.Inside.Causes.{IsUpdateTo};
-ghost use Rattle.bsp_engine.specs.WhyLines.{cause, named_cause, delivery_cause_words, step_words, turn_cause_words, why_delivery_line, why_lines, why_turn_line};
+ghost use Rattle.bsp_engine.specs.WhyLines.{cause, named_cause, delivery_cause_words, step_words, turn_cause_words, why_delivery_line, why_turn_line};
 
+use crate::places::begin_line;
 use bsp_causes::{DeliveryCauses, TurnCauses, delivery_causes, turn_causes};
-use bsp_incr::{Place, Update};
+use bsp_incr::Place;
 use bsp_model::OutOfMemory;
 use bsp_run::History;
 use bsp_step::Program;
@@ -60,53 +60,15 @@ fn push_delivery_causes(text: &mut Vec<u8>, causes: &DeliveryCauses) -> Result<(
 }
 
 /// Begins the line of a step at a place.
-fn begin_line(text: &mut Vec<u8>, step: &str, place: &Place) -> Result<(), OutOfMemory>
+fn begin_step(text: &mut Vec<u8>, step: &str, place: &Place) -> Result<(), OutOfMemory>
     ensures { OnOk result (text.new.items ≡ text.old.items ++ step_words step.now place.now) }
 {
-    text.extend_from_slice(step.as_bytes())?;
-    push_field(text, place.step)?;
+    begin_line(text, step, place.step)?;
     push_field(text, place.pid)
 }
 
-/// Appends why a turn was taken again.
-fn push_why_turn<P: Program>(
-    text: &mut Vec<u8>,
-    program: &P,
-    old: Option<&History>,
-    new: &History,
-    place: &Place,
-) -> Result<(), OutOfMemory>
-    requires known { HasTurn (supersteps_of new.now) place.now }
-    ensures { OnOk result (text.new.items ≡ text.old.items ++ why_turn_line (P.looks program.now) (option_map (λ h. h.now) old.entry) new.now place.now) }
-{
-    begin_line(text, "why turn", place)?;
-    let causes = turn_causes(*text.allocator(), program, old, new, *place)?;
-    let pushed = push_turn_causes(text, &causes);
-    drop(causes);
-    pushed?;
-    text.extend_from_slice(b"\n")
-}
-
-/// Appends why a delivery was made again.
-fn push_why_delivery(
-    text: &mut Vec<u8>,
-    old: Option<&History>,
-    new: &History,
-    place: &Place,
-) -> Result<(), OutOfMemory>
-    requires known { HasDelivery new.now.past place.now }
-    requires as_many { HaveAsMany (delivered_before (option_map (λ h. h.now) old)) new.now.past place.now }
-    ensures { OnOk result (text.new.items ≡ text.old.items ++ why_delivery_line (option_map (λ h. h.now) old.entry) new.now place.now) }
-{
-    begin_line(text, "why delivery", place)?;
-    let causes = delivery_causes(*text.allocator(), old, new, *place)?;
-    let pushed = push_delivery_causes(text, &causes);
-    drop(causes);
-    pushed?;
-    text.extend_from_slice(b"\n")
-}
-
-fn push_why_turns<P: Program>(
+/// Appends a line for each turn that was taken again.
+pub fn push_why_turns<P: Program>(
     text: &mut Vec<u8>,
     program: &P,
     old: Option<&History>,
@@ -117,12 +79,18 @@ fn push_why_turns<P: Program>(
     ensures { OnOk result (text.new.items ≡ text.old.items ++ flat_map (why_turn_line (P.looks program.now) (option_map (λ h. h.now) old.entry) new.now) places.now) }
 {
     for place in places {
-        push_why_turn(text, program, old, new, place)?;
+        begin_step(text, "why turn", place)?;
+        let causes = turn_causes(*text.allocator(), program, old, new, *place)?;
+        let pushed = push_turn_causes(text, &causes);
+        drop(causes);
+        pushed?;
+        text.push(b'\n')?;
     }
     Ok(())
 }
 
-fn push_why_deliveries(
+/// Appends a line for each delivery that was made again.
+pub fn push_why_deliveries(
     text: &mut Vec<u8>,
     old: Option<&History>,
     new: &History,
@@ -133,22 +101,12 @@ fn push_why_deliveries(
     ensures { OnOk result (text.new.items ≡ text.old.items ++ flat_map (why_delivery_line (option_map (λ h. h.now) old.entry) new.now) places.now) }
 {
     for place in places {
-        push_why_delivery(text, old, new, place)?;
+        begin_step(text, "why delivery", place)?;
+        let causes = delivery_causes(*text.allocator(), old, new, *place)?;
+        let pushed = push_delivery_causes(text, &causes);
+        drop(causes);
+        pushed?;
+        text.push(b'\n')?;
     }
     Ok(())
-}
-
-/// Appends a line for each turn that was taken again, and then one for each delivery that was made again.
-pub fn push_why<P: Program>(
-    text: &mut Vec<u8>,
-    program: &P,
-    old: Option<&History>,
-    new: &History,
-    update: &Update,
-) -> Result<(), OutOfMemory>
-    requires steps { IsUpdateTo (option_map (λ h. h.now) old) new.now update.now }
-    ensures { OnOk result (text.new.items ≡ text.old.items ++ why_lines (P.looks program.now) (option_map (λ h. h.now) old.entry) new.now update.now) }
-{
-    push_why_turns(text, program, old, new, update.executed.as_slice())?;
-    push_why_deliveries(text, old, new, update.redelivered.as_slice())
 }

@@ -1,5 +1,6 @@
 -- Texts that grow by a piece for each item.
-use Rattle.std.proofs.Common.{◌≡◌, ℕ, ◌+◌, ◌-◌, ◌^◌, ◌<◌, ◌≤◌, min, List, [], ◌∷◌, ◌++◌, length, take, drop, get_or, Result, Ok, Err, OnOk, sym, ap, ◌∙◌, append_assoc, arith}
+use Rattle.std.proofs.Common.{◌≡◌, ℕ, ◌+◌, ◌-◌, ◌^◌, ◌<◌, ◌≤◌, min, List, [], ◌∷◌, ◌++◌, length, take, drop, get_or, cond, Result, Ok, Err, OnOk, sym, ap, ◌∙◌, append_assoc, arith}
+use Rattle.std.specs.Result.{is_ok}
 use Rattle.std.specs.Prelude.{decimal, slice_set}
 use Rattle.std.specs.List.{flat_map}
 use Rattle.std.proofs.Math.Seq.{take-add}
@@ -42,6 +43,13 @@ three_pieces r old a b c one two three e f g = two_pieces r old (a ++ b) c two t
 pub three_parts : (old a b c one two three : List ℕ) → one ≡ old ++ a → two ≡ one ++ b → three ≡ two ++ c → three ≡ old ++ (a ++ (b ++ c))
 three_parts old a b c one two three e f g =
     g ∙ (ap (λ l. l ++ c) (f ∙ ap (λ l. l ++ b) e) ∙ (append_assoc (old ++ a) b c ∙ append_assoc old a (b ++ c)))
+
+-- a block: what it begins with, five pieces, and its end, which comes only at an `Ok`
+pub block_told : {X E : Type 0} (r : Result X E) (t0 t1 t2 t3 t4 t5 t6 t7 other a b c d e f end : List ℕ) → t1 ≡ t0 ++ a → t2 ≡ t1 ++ b → t3 ≡ t2 ++ c → t4 ≡ t3 ++ d → t5 ≡ t4 ++ e → t6 ≡ t5 ++ f
+    → t7 ≡ cond (is_ok r) (t6 ++ end) other → OnOk r (t7 ≡ t0 ++ (a ++ (b ++ c ++ d ++ e ++ f) ++ end))
+block_told (Ok x) t0 t1 t2 t3 t4 t5 t6 t7 other a b c d e f end h1 h2 h3 h4 h5 h6 h7 =
+    h7 ∙ ap (λ t. t ++ end) (h6 ∙ ap (λ t. t ++ f) (h5 ∙ ap (λ t. t ++ e) (h4 ∙ ap (λ t. t ++ d) (h3 ∙ ap (λ t. t ++ c) (h2 ∙ ap (λ t. t ++ b) h1))))) ∙ simp append_assoc
+block_told (Err x) t0 t1 t2 t3 t4 t5 t6 t7 other a b c d e f end h1 h2 h3 h4 h5 h6 h7 = tt
 
 -- numbers that are written from the last to the first, each with a space before it
 

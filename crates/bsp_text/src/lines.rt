@@ -48,20 +48,7 @@ fn write_bytes(room: &mut [u8], end: usize, bytes: &[u8]) -> usize
     start
 }
 
-/// Writes a line to the end of a room: a word, numbers, more numbers, and LF. Answers where it begins.
-fn write_line(room: &mut [u8], word: &[u8], numbers: &[u64], more: &[u64]) -> usize
-    requires { length word.now + 1 + 21 * (length numbers.now + length more.now) ≤ length room.old }
-    ensures within { result ≤ length room.old }
-    ensures written { drop result room.new ≡ line word.now (numbers.now ++ more.now) }
-{
-    let end = room.len();
-    let end = write_bytes(room, end, b"\n");
-    let end = write_fields(room, end, more);
-    let end = write_fields(room, end, numbers);
-    write_bytes(room, end, word)
-}
-
-/// Appends a line that is written into this room first.
+/// Appends a line that is written to the end of this room first: a word, numbers, more numbers, and LF.
 fn push_written(
     text: &mut Vec<u8>,
     room: &mut [u8],
@@ -72,7 +59,11 @@ fn push_written(
     requires { length word.now + 1 + 21 * (length numbers.now + length more.now) ≤ length room.old }
     ensures { OnOk result (text.new.items ≡ text.old.items ++ line word.now (numbers.now ++ more.now)) }
 {
-    let start = write_line(room, word, numbers, more);
+    let end = room.len();
+    let end = write_bytes(room, end, b"\n");
+    let end = write_fields(room, end, more);
+    let end = write_fields(room, end, numbers);
+    let start = write_bytes(room, end, word);
     text.extend_from_slice(&room[start..])
 }
 
@@ -85,41 +76,35 @@ pub fn push_field(text: &mut Vec<u8>, number: u64) -> Result<(), OutOfMemory>
     text.extend_from_slice(&room[start..])
 }
 
-/// Appends each of a few numbers after a space.
-fn push_few(text: &mut Vec<u8>, numbers: &[u64]) -> Result<(), OutOfMemory>
-    requires { length numbers.now ≤ 16 }
-    ensures { OnOk result (text.new.items ≡ text.old.items ++ fields numbers.now) }
-{
-    let mut room = [0; FIELD * FEW];
-    let start = write_fields(&mut room, FIELD * FEW, numbers);
-    text.extend_from_slice(&room[start..])
-}
-
 /// Appends each number after a space.
 pub fn push_fields(text: &mut Vec<u8>, numbers: &[u64]) -> Result<(), OutOfMemory>
     ensures { OnOk result (text.new.items ≡ text.old.items ++ fields numbers.now) }
 {
+    let mut room = [0; FIELD * FEW];
     let mut at = 0;
     while at < numbers.len() {
         let count = (numbers.len() - at).min(FEW);
-        push_few(text, &numbers[at..at + count])?;
+        let start = write_fields(&mut room, FIELD * FEW, &numbers[at..at + count]);
+        text.extend_from_slice(&room[start..])?;
         at += count;
     }
     Ok(())
 }
 
-/// Appends a line of any length: a word, numbers, more numbers, and LF.
+/// Appends a line of any length: a word, the numbers of three lists, and LF.
 fn push_in_pieces(
     text: &mut Vec<u8>,
     word: &[u8],
-    numbers: &[u64],
-    more: &[u64],
+    first: &[u64],
+    second: &[u64],
+    third: &[u64],
 ) -> Result<(), OutOfMemory>
-    ensures { OnOk result (text.new.items ≡ text.old.items ++ line word.now (numbers.now ++ more.now)) }
+    ensures { OnOk result (text.new.items ≡ text.old.items ++ line word.now (first.now ++ second.now ++ third.now)) }
 {
     text.extend_from_slice(word)?;
-    push_fields(text, numbers)?;
-    push_fields(text, more)?;
+    push_fields(text, first)?;
+    push_fields(text, second)?;
+    push_fields(text, third)?;
     text.extend_from_slice(b"\n")
 }
 
@@ -134,7 +119,7 @@ fn push_parts(
 {
     let count = numbers.len() + more.len();
     if word.len() >= FRAME || count > FEW {
-        return push_in_pieces(text, word, numbers, more);
+        return push_in_pieces(text, word, &[], numbers, more);
     }
     if count > FEWER {
         let mut room = [0; FRAME + FIELD * FEW];
@@ -166,11 +151,7 @@ pub fn push_joined_line(
     if second.is_empty() {
         return push_parts(text, word.as_bytes(), first, third);
     }
-    text.extend_from_slice(word.as_bytes())?;
-    push_fields(text, first)?;
-    push_fields(text, second)?;
-    push_fields(text, third)?;
-    text.extend_from_slice(b"\n")
+    push_in_pieces(text, word.as_bytes(), first, second, third)
 }
 
 /// Appends each word of a memory after a space.

@@ -2,7 +2,7 @@
 
 ghost use Rattle.std.specs.Prelude.{◌≡◌, ◌++◌, ◌∷◌, [], OnOk, codes};
 ghost use Rattle.bsp_text.specs.Lines.{numbered};
-ghost use Rattle.bsp_text.specs.DocumentText.{array_text, comma, document_block, document_text, entry};
+ghost use Rattle.bsp_text.specs.DocumentText.{array_text, comma, document_block, entry};
 
 use crate::lines::push_line;
 use bsp_model::{Input, Memory, OutOfMemory, Seq};
@@ -90,25 +90,18 @@ fn push_key<T: Written>(text: &mut Vec<u8>, key: &str, value: &T) -> Result<(), 
     text.extend_from_slice(b"\n")
 }
 
-/// Appends the document of an input, with this text of the keys that are the catalogue's own.
+/// Leaves nothing in a text but the document of an input, between the lines `document` and `end`. The keys that are the catalogue's own have this text.
 #[tactic(auto, unfolding(crate::specs::DocumentText::document_text))]
-fn push_document(text: &mut Vec<u8>, own: &[u8], input: &Input) -> Result<(), OutOfMemory>
-    ensures { OnOk result (text.new.items ≡ text.old.items ++ document_text own.now input.now) }
-{
-    push_line(text, "limit =", &[input.limit])?;
-    push_line(text, "g =", &[input.g])?;
-    push_line(text, "l =", &[input.l])?;
-    push_key(text, "memory", &input.mems)?;
-    push_key(text, "args", &input.args)?;
-    text.extend_from_slice(own)
-}
-
-/// Leaves nothing in a text but the document of an input, between the lines `document` and `end`.
 pub fn put_document(text: &mut Vec<u8>, own: &[u8], input: &Input) -> Result<(), OutOfMemory>
     ensures { OnOk result (text.new.items ≡ document_block own.now input.now) }
 {
     text.clear();
     text.extend_from_slice(b"document\n")?;
-    push_document(text, own, input)?;
+    push_line(text, "limit =", &[input.limit])?;
+    push_line(text, "g =", &[input.g])?;
+    push_line(text, "l =", &[input.l])?;
+    push_key(text, "memory", &input.mems)?;
+    push_key(text, "args", &input.args)?;
+    text.extend_from_slice(own)?;
     text.extend_from_slice(b"end\n")
 }

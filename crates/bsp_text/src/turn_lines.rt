@@ -5,7 +5,7 @@ ghost use Rattle.std.specs.List.{flat_map};
 ghost use Rattle.bsp_model.specs.StoredRanges.{ranges_stored};
 ghost use Rattle.bsp_model.specs.Stores.{words_stored};
 ghost use Rattle.bsp_text.specs.Lines.{fields};
-ghost use Rattle.bsp_text.specs.TurnLines.{ended_line, get_line, pop_line, printed_line, push_area_line, put_line, request_lines, send_line, store_lines, tag_line, turn_block, turn_lines};
+ghost use Rattle.bsp_text.specs.TurnLines.{ended_line, get_line, pop_line, printed_line, push_area_line, put_line, request_lines, send_line, store_lines, turn_block};
 
 use crate::fault_lines::push_fault;
 use crate::lines::{push_field, push_fields, push_joined_line, push_line};
@@ -118,16 +118,6 @@ fn push_pops(text: &mut Vec<u8>, pops: &[usize]) -> Result<(), OutOfMemory>
     Ok(())
 }
 
-/// Appends the choice of the next tag size, if one was made.
-fn push_tag(text: &mut Vec<u8>, tag: Option<u64>) -> Result<(), OutOfMemory>
-    ensures { OnOk result (text.new.items ≡ text.old.items ++ tag_line tag) }
-{
-    match tag {
-        Some(size) => push_line(text, "tagsize", &[size]),
-        None => Ok(()),
-    }
-}
-
 /// Appends each printed line.
 fn push_printed(text: &mut Vec<u8>, lines: &PrintedLinesRef<'_>) -> Result<(), OutOfMemory>
     ensures { OnOk result (text.new.items ≡ text.old.items ++ flat_map printed_line lines.now) }
@@ -147,18 +137,10 @@ fn push_requests(text: &mut Vec<u8>, turn: &OutcomeRef<'_>) -> Result<(), OutOfM
     push_sends(text, &turn.sends)?;
     push_pushes(text, turn.pushes)?;
     push_pops(text, turn.pops)?;
-    push_tag(text, turn.tag)
-}
-
-/// Appends the lines of an outcome.
-fn push_turn_lines(text: &mut Vec<u8>, turn: &OutcomeRef<'_>) -> Result<(), OutOfMemory>
-    ensures { OnOk result (text.new.items ≡ text.old.items ++ turn_lines turn.now) }
-{
-    push_ended(text, turn.fault, turn.ended)?;
-    push_stores(text, &turn.stores)?;
-    push_requests(text, turn)?;
-    push_printed(text, &turn.lines)?;
-    push_line(text, "work", &[turn.work])
+    match turn.tag {
+        Some(size) => push_line(text, "tagsize", &[size]),
+        None => Ok(()),
+    }
 }
 
 /// Appends the lines of an outcome between the lines `turn S P` and `end`.
@@ -171,6 +153,10 @@ pub fn push_turn(
     ensures { OnOk result (text.new.items ≡ text.old.items ++ turn_block step pid turn.now) }
 {
     push_line(text, "turn", &[step, pid])?;
-    push_turn_lines(text, turn)?;
+    push_ended(text, turn.fault, turn.ended)?;
+    push_stores(text, &turn.stores)?;
+    push_requests(text, turn)?;
+    push_printed(text, &turn.lines)?;
+    push_line(text, "work", &[turn.work])?;
     text.extend_from_slice(b"end\n")
 }

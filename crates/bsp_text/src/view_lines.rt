@@ -3,7 +3,7 @@
 ghost use Rattle.std.specs.Prelude.{◌≡◌, ◌++◌, OnOk};
 ghost use Rattle.std.specs.List.{flat_map};
 ghost use Rattle.bsp_text.specs.Lines.{numbered};
-ghost use Rattle.bsp_text.specs.ViewLines.{message_line, slot_line, view_block, view_lines};
+ghost use Rattle.bsp_text.specs.ViewLines.{message_line, slot_line, view_block};
 
 use crate::lines::{push_joined_line, push_line, push_memory_line};
 use bsp_model::{MessagesRef, OutOfMemory};
@@ -32,17 +32,6 @@ fn push_slots(text: &mut Vec<u8>, view: &View<'_>) -> Result<(), OutOfMemory>
     Ok(())
 }
 
-/// Appends the lines of a view.
-fn push_view_lines(text: &mut Vec<u8>, view: &View<'_>) -> Result<(), OutOfMemory>
-    ensures { OnOk result (text.new.items ≡ text.old.items ++ view_lines view.now) }
-{
-    push_line(text, "args", view.args)?;
-    push_memory_line(text, &[], &view.memory)?;
-    push_messages(text, &view.queue)?;
-    push_slots(text, view)?;
-    push_line(text, "tagsize", &[view.tag_size])
-}
-
 /// Appends the lines of a view between the lines `view S P` and `end`.
 pub fn push_view(
     text: &mut Vec<u8>,
@@ -53,6 +42,10 @@ pub fn push_view(
     ensures { OnOk result (text.new.items ≡ text.old.items ++ view_block step pid view.now) }
 {
     push_line(text, "view", &[step, pid])?;
-    push_view_lines(text, view)?;
+    push_line(text, "args", view.args)?;
+    push_memory_line(text, &[], &view.memory)?;
+    push_messages(text, &view.queue)?;
+    push_slots(text, view)?;
+    push_line(text, "tagsize", &[view.tag_size])?;
     text.extend_from_slice(b"end\n")
 }

@@ -5,7 +5,7 @@ use Rattle.bsp_step.specs.ViewParts.{ViewParts}
 use Rattle.bsp_step.specs.OutcomeParts.{OutcomeParts}
 use Rattle.bsp_run.specs.declared.result.RunResult.{RunResult}
 use Rattle.bsp_run.specs.Run.{Run}
-use Rattle.bsp_run.specs.Result.{costs_of, total_of}
+use Rattle.bsp_model.specs.declared.cost.CostRow.{CostRow}
 use Rattle.bsp_incr.specs.declared.edit.Edit.{Edit}
 use Rattle.bsp_incr.specs.declared.reply.Update.{Update}
 use Rattle.bsp_engine.specs.Changes.{count_line, other, other_number, others, piece_if, same_row}
@@ -50,8 +50,7 @@ pub record HaveSameUnflagged (flags : List Bool) (old new : RunResult) : Type 0 
   pub memories : AreSameUnflagged flags old.memories new.memories
   pub lines : AreSameUnflagged flags old.lines new.lines
 
--- the changes of the costs of a run against the run before, with the number of supersteps and the sum
-abbrev pub cost_changes : Run → Run → List ℕ
-cost_changes old new =
-    numbered (piece_if cost_line) 0 (others same_row (costs_of old) (costs_of new))
-    ++ count_line (other_number (length (costs_of old)) (length (costs_of new))) ++ line (codes "total") (total_of (costs_of new) ∷ [])
+-- the changes of costs against those before, with the number of supersteps and the sum
+abbrev pub cost_changes : List CostRow → List CostRow → ℕ → List ℕ
+cost_changes olds news total =
+    numbered (piece_if cost_line) 0 (others same_row olds news) ++ count_line (other_number (length olds) (length news)) ++ line (codes "total") (total ∷ [])

@@ -1,12 +1,11 @@
 //! What is wrong with the value on a line of a live session, in words: it is no batch, or its batch was refused.
 
-use super::{push_escaped, push_limits, push_numbered};
-use crate::jobs::{ArrayOf, Described, Each, EditForm, NotNegative, Shape};
+use super::remark::Remark;
+use crate::jobs::{ArrayOf, Each, EditForm, NotNegative, Shape, edit_in};
 use crate::tree::elements;
 use bsp_incr::Edit;
+use bsp_model::Input;
 use bsp_model::limits::{HIGHEST_PRICE, MOST_SUPERSTEPS};
-use bsp_model::{Input, OutOfMemory};
-use std::alloc::Global;
 use toml::Value;
 
 /// The word of an edit, if it has one.
@@ -17,117 +16,117 @@ fn word_of(edit: &Value) -> Option<&str> {
     }
 }
 
-/// Appends which of the edits it is. They count from 0, as in `refused`.
-fn push_edit(why: &mut String, edits: &[Value], place: usize) -> Result<(), OutOfMemory> {
-    if let Some(edit) = edits.get(place)
-        && let Some(word) = word_of(edit)
-    {
-        push_escaped(why, word)?;
-        why.push_str(", ")?;
+/// Tells nothing but which of the edits it is. They count from 0, as in `refused`.
+fn name_edit(remark: &mut Remark, edit: &Value, place: usize) {
+    remark.line.clear();
+    if let Some(word) = word_of(edit) {
+        remark.add_escaped(word);
+        remark.add(", ");
     }
-    push_numbered(why, "edit ", place)?;
-    why.push_str(": ")
+    remark.add_value("edit ", place);
+    remark.add(": ");
 }
 
 /// Which form the value has not.
-fn form_reason(edit: Option<&Value>) -> &'static str {
-    let Some(edit) = edit else {
+fn form_reason(edit: &Value) -> &'static str {
+    let Some(word) = word_of(edit) else {
         return "not an edit";
     };
-    let count = elements(edit).len();
-    match word_of(edit) {
-        None => "not an edit",
-        Some("word") | Some("arg") if count != 4 => "four values wanted",
-        Some("prices") if count != 3 => "three values wanted",
-        Some("limit") if count != 2 => "two values wanted",
-        Some("word") | Some("arg") | Some("prices") | Some("limit") => "not an integer",
-        Some(_) => "there is no such edit",
+    let (count, wanted) = match word {
+        "word" | "arg" => (4, "four values wanted"),
+        "prices" => (3, "three values wanted"),
+        "limit" => (2, "two values wanted"),
+        _ => return "there is no such edit",
+    };
+    if elements(edit).len() == count {
+        "not an integer"
+    } else {
+        wanted
     }
 }
 
-/// Appends how many parts of a kind a process has, where the one at this place is none of them.
-fn push_count(
-    why: &mut String,
+/// Tells how many parts of a kind a process has, where none of them is at this place. Where there is no such process, it tells how many there are.
+fn tell_part(
+    remark: &mut Remark,
+    input: &Input,
     pid: u64,
     kind: &str,
-    count: usize,
+    count: Option<usize>,
     place: u64,
-) -> Result<(), OutOfMemory> {
-    if place < count as u64 {
-        return Ok(());
+) {
+    match count {
+        None => {
+            remark.add_value("there are ", input.mems.len());
+            remark.add(" processes");
+        }
+        Some(count) if place >= count as u64 => {
+            remark.add_value("process ", pid);
+            remark.add_value(" has ", count);
+            remark.add(kind);
+        }
+        Some(_) => {}
     }
-    write!(why, "process {pid} has {count} {kind}")
 }
 
-/// Appends how many processes there are.
-fn push_processes(why: &mut String, input: &Input) -> Result<(), OutOfMemory> {
-    push_numbered(why, "there are ", input.mems.len())?;
-    why.push_str(" processes")
-}
-
-/// Appends a number that is past its limits.
-fn push_number(why: &mut String, number: u64, least: u64, most: u64) -> Result<(), OutOfMemory> {
-    if least <= number && number <= most {
-        return Ok(());
-    }
-    push_limits(why, number, least, most)
-}
-
-/// Appends why the edit is refused, if it is.
-fn push_refusal(why: &mut String, input: &Input, edit: Edit) -> Result<(), OutOfMemory> {
+/// Tells why the edit is refused, if it is.
+fn tell_refusal(remark: &mut Remark, input: &Input, edit: Edit) {
     match edit {
-        Edit::Word { pid, addr, .. } => match input.mems.as_slice().get(pid as usize) {
-            Some(memory) => push_count(why, pid, "words", memory.len(), addr),
-            None => push_processes(why, input),
-        },
-        Edit::Arg { pid, index, .. } => match input.args.as_slice().get(pid as usize) {
-            Some(args) => push_count(why, pid, "arguments", args.len(), index),
-            None => push_processes(why, input),
-        },
-        Edit::Limit(n) => push_number(why, n, 1, MOST_SUPERSTEPS),
-        Edit::Prices { g, .. } if g > HIGHEST_PRICE => push_limits(why, g, 0, HIGHEST_PRICE),
-        Edit::Prices { l, .. } => push_number(why, l, 0, HIGHEST_PRICE),
+        Edit::Word { pid, addr, .. } => {
+            let count = match input.mems.as_slice().get(pid as usize) {
+                Some(memory) => Some(memory.len()),
+                None => None,
+            };
+            tell_part(remark, input, pid, " words", count, addr);
+        }
+        Edit::Arg { pid, index, .. } => {
+            let count = match input.args.as_slice().get(pid as usize) {
+                Some(args) => Some(args.len()),
+                None => None,
+            };
+            tell_part(remark, input, pid, " arguments", count, index);
+        }
+        Edit::Limit(n) if n == 0 || n > MOST_SUPERSTEPS => {
+            remark.add_limits(n, 1, MOST_SUPERSTEPS);
+        }
+        Edit::Prices { g, .. } if g > HIGHEST_PRICE => remark.add_limits(g, 0, HIGHEST_PRICE),
+        Edit::Prices { l, .. } if l > HIGHEST_PRICE => remark.add_limits(l, 0, HIGHEST_PRICE),
+        Edit::Limit(_) | Edit::Prices { .. } => {}
     }
 }
 
-/// Makes the text the first refused edit and the reason.
-fn put_first_refusal(
-    alloc: Global,
-    why: &mut String,
-    edits: &[Value],
-    input: &Input,
-) -> Result<(), OutOfMemory> {
-    for (place, value) in edits.iter().enumerate() {
-        why.clear();
-        push_edit(why, edits, place)?;
-        let named = why.len();
-        push_refusal(why, input, EditForm::read(alloc, value)?)?;
-        if named < why.len() {
-            return Ok(());
+/// Tells the first refused edit and the reason.
+fn tell_first_refusal(remark: &mut Remark, edits: &[Value], input: &Input) {
+    for (place, edit) in edits.iter().enumerate() {
+        name_edit(remark, edit, place);
+        let named = remark.line.len();
+        tell_refusal(remark, input, edit_in(elements(edit)));
+        if named < remark.line.len() {
+            return;
         }
     }
-    why.clear();
-    Ok(())
+    remark.line.clear();
 }
 
-/// Makes the text what is wrong with a value that was not made as a batch, where this is the input.
-pub fn put_batch_fault(
-    alloc: Global,
-    why: &mut String,
-    value: &Value,
-    input: &Input,
-) -> Result<(), OutOfMemory> {
+/// Tells what is wrong with an edit of a batch.
+fn tell_edit(remark: &mut Remark, edits: &[Value], place: usize, reason: Option<&str>) {
+    if let Some(edit) = edits.get(place) {
+        name_edit(remark, edit, place);
+        remark.add(reason.unwrap_or(form_reason(edit)));
+    }
+}
+
+/// Tells what is wrong with a value that was not made as a batch, where this is the input.
+pub fn tell_batch_fault(remark: &mut Remark, value: &Value, input: &Input) {
     let edits = elements(value);
     if let Some(path) = ArrayOf::<EditForm>::misfit(value) {
-        let Some(place) = path.outer else {
-            return why.push_str("not an array of edits");
-        };
-        push_edit(why, edits, place)?;
-        return why.push_str(form_reason(edits.get(place)));
+        match path.outer {
+            Some(place) => tell_edit(remark, edits, place, None),
+            None => remark.add("not an array of edits"),
+        }
+    } else if let Some(path) = Each::<Each<NotNegative>>::misfit(value) {
+        let place = path.outer.unwrap_or(0);
+        tell_edit(remark, edits, place, Some("a negative number"));
+    } else {
+        tell_first_refusal(remark, edits, input);
     }
-    if let Some(path) = Each::<Each<NotNegative>>::misfit(value) {
-        push_edit(why, edits, path.outer.unwrap_or(0))?;
-        return why.push_str("a negative number");
-    }
-    put_first_refusal(alloc, why, edits, input)
 }

@@ -1,8 +1,6 @@
 //! Where a text is no TOML.
 
-use super::push_escaped;
-use bsp_model::OutOfMemory;
-use std::alloc::AllocError;
+use super::remark::Remark;
 
 /// The line and the column, both from 1, of the place after these bytes of a text. A column counts characters.
 fn position_after(before: &[u8]) -> (usize, usize) {
@@ -19,21 +17,24 @@ fn position_after(before: &[u8]) -> (usize, usize) {
     (line, column)
 }
 
-/// Appends where a text is no TOML document, and the first line of the reason, unless memory was refused. So many bytes stood before the text.
-pub fn push_syntax_error(
-    line: &mut String,
+/// Tells where a text is no TOML document, and the first line of the reason. So many bytes stood before the text. Where memory was refused there is no
+/// place, and nothing is told.
+pub fn tell_syntax_error(
+    remark: &mut Remark,
     text: &[u8],
     skipped: usize,
     error: &toml::de::Error,
-) -> Result<(), OutOfMemory> {
+) {
     let Some(span) = error.span() else {
-        return Err(AllocError);
+        return;
     };
     let start = span.start.saturating_sub(skipped).min(text.len());
     let (row, column) = position_after(&text[..start]);
-    write!(line, "line {row}, column {column}: ")?;
+    remark.add_value("line ", row);
+    remark.add_value(", column ", column);
+    remark.add(": ");
     match error.message().split_once("\n") {
-        Some((first, _)) => push_escaped(line, first),
-        None => push_escaped(line, error.message()),
+        Some((first, _)) => remark.add_escaped(first),
+        None => remark.add_escaped(error.message()),
     }
 }

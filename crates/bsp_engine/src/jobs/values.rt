@@ -81,7 +81,7 @@ impl<T: Described> Described for ArrayOf<T> {
 }
 
 /// The edit of one of the four forms.
-fn edit_in(values: &[Value]) -> Edit
+pub fn edit_in(values: &[Value]) -> Edit
     ensures { result ≡ edit_of (map view values.now) }
 {
     if begins_with(values, "word") {

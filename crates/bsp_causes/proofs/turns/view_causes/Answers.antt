@@ -6,11 +6,12 @@ use Rattle.bsp_deliver.proofs.SameDelivery.{Decides-pointwise, Decides-words}
 use Rattle.bsp_incr.specs.Inside.Comparing.{same_table, same_message}
 use Rattle.bsp_incr.proofs.Comparing.{Decides-table, Decides-message}
 use Rattle.bsp_causes.specs.TurnCauses.{other_words}
+use Rattle.bsp_causes.proofs.Handing.{and_given}
 use Rattle.bsp_causes.proofs.Sameness.{test_along}
 use Rattle.bsp_causes.proofs.turns.view_causes.Goals as goal
 
-pub returns-in-Ok : goal.returns-in-Ok
-returns-in-Ok g c =
+pub returns : goal.returns
+returns g c =
     let v = c.args.old.now in
     let w = c.args.new.now in
     let args : c.are_same_words.result ≡ same_words v.args w.args =
@@ -21,5 +22,12 @@ returns-in-Ok g c =
     test_along c.same-2.result (same_table v.table w.table) (ap (λ (x : ViewParts). x.table) c.old.view_is) (ap (λ (x : ViewParts). x.table) c.new.view_is) c.same-2.ensures (Decides-table v.table w.table) in
     let old_tag = ap (λ (x : ViewParts). x.tag_size) c.old.view_is in
     let new_tag = ap (λ (x : ViewParts). x.tag_size) c.new.view_is in
-    let words = c.in-Ok.ensures ∙ ap (λ xs. xs ++ other_words (g.P.Program.looks c.args.program.now v) v.memory w.memory) c.new-2.ensures in
-    λ i. record { is_new = false; args = not (args i); queue = not (queue i); table = not (table i); tag_size = not (old_tag i == new_tag i); words = words i }
+    let none = ap (λ xs. xs ++ other_words (g.P.Program.looks c.args.program.now v) v.memory w.memory) c.new-2.ensures in
+    and_given c.add_other_words-added.result _ c.and.result _ c.and.ensures (λ added. (λ i. record {
+      is_new = false;
+      args = not (args i);
+      queue = not (queue i);
+      table = not (table i);
+      tag_size = not (old_tag i == new_tag i);
+      words = (added ∙ none) i;
+    })) c.add_other_words-added.ensures

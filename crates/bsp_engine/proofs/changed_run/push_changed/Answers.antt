@@ -28,6 +28,6 @@ push_changed_lines-requires c =
 
 pub returns : goal.returns
 returns c =
-    changes_told c.push_changed_costs.result c.args.old.now c.args.new.now c.args.text.now.items _ _ _ _
+    changes_told c.push_cost_changes.result c.args.old.now c.args.new.now _ _ _ c.args.text.now.items _ _ _ _ c.costs.ensures c.costs-2.ensures c.total.ensures
     (c.in_ok-push_status.ensures ∙ ap (λ (s : Status). c.args.text.now.items ++ status_lines s) c.status.ensures)
-    c.in_ok-push_changed_memories.ensures c.in_ok-push_changed_lines.ensures c.push_changed_costs.ensures
+    c.in_ok-push_changed_memories.ensures c.in_ok-push_changed_lines.ensures c.push_cost_changes.ensures

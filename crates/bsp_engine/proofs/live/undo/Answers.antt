@@ -1,7 +1,0 @@
-use Rattle.bsp_engine.proofs.Made.{undone_text}
-use Rattle.bsp_engine.proofs.live.undo.Goals as goal
-
-pub returns-in-Some-clause-text : goal.returns-in-Some-clause-text
-returns-in-Some-clause-text g c =
-    undone_text g.P.Program.acts g.P.Program.ending g.P.Program.looks _ c.args.live.now c.in-Some.undo c.as_slice.result.now c.pop_front.new.self.items c.advance-advanced.result c.args.text.now.items c.advance-advanced.new.text.items
-    c.live.view_is c.in-Some.ensures.items c.as_slice.ensures c.advance-advanced.ensures.text
