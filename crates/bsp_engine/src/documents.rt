@@ -38,7 +38,7 @@ fn put_report_of<C: Catalogue, R: Threads + Sync, G: Gate>(
 
 /// Reads a document to its end, runs its job by 1 to 16 workers, and writes the report: all of it is made before the first write.
 ///
-/// From scratch each input is run from its start on the calling thread, and the report has no updates. With places each update tells its own, and with
+/// From scratch the workers run each input from its start, and the report has no updates. With places each update tells its own, and with
 /// changes each block after the first only what is another than before.
 /// At most 16,777,217 bytes are taken from the reader, and more than 16,777,216 are `TooLong`. The document is left in `document`.
 /// `Job` is answered where the bytes are no job, `Read` where a read failed, `Write` where a write failed or took no byte; then a beginning of

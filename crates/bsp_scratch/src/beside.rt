@@ -32,7 +32,7 @@ fn workers_beside<G: Gate, R: Threads>(rt: &R, workers: usize, gate: &G) -> usiz
     }
 }
 
-/// What a run gives that is under way, beside a crew that is there.
+/// The result of a run that is under way, beside a crew that is there.
 fn beside_crew<J: SharedRun, P: Program, G: Gate, R: Threads + Sync>(
     rt: &R,
     alloc: Global,
@@ -64,7 +64,7 @@ fn beside_crew<J: SharedRun, P: Program, G: Gate, R: Threads + Sync>(
     join(rt, attend, conduct).1
 }
 
-/// What a run gives that is under way, by so many workers beside the calling thread.
+/// The result of a run that is under way, by so many workers beside the calling thread.
 fn by_crew<J: SharedRun, P: Program, G: Gate, R: Threads + Sync>(
     rt: &R,
     alloc: Global,
@@ -87,7 +87,7 @@ fn by_crew<J: SharedRun, P: Program, G: Gate, R: Threads + Sync>(
     beside_crew(rt, alloc, program, input, views, kept, &crew, gate)
 }
 
-/// What `lawful_result` answers, by 1 to 16 workers, the calling thread among them. It goes on alone until workers are worth their start. Where
+/// The result of `lawful_result`, by 1 to 16 workers, the calling thread among them. It goes on alone until workers are worth their start. Where
 /// the gate tells no time they start at once.
 pub fn wide_result<P: Program, G: Gate, R: Threads + Sync>(
     rt: &R,

@@ -45,7 +45,7 @@ impl<J: SharedRun> Crew<J> {
         self.over.store(1, SeqCst);
     }
 
-    /// What the workers do until they are told to leave, each in a thread of its own where one can be made.
+    /// Lets the workers attend to their seats until they are told to leave, each in a thread of its own where one can be made.
     pub fn attend<P: Program, G: Gate, R: Threads + Sync>(
         &self,
         rt: &R,

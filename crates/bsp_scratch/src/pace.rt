@@ -9,7 +9,7 @@ const NANOS_ALONE: u128 = 200_000;
 /// How many nanoseconds a superstep takes at least, on average, that is worth workers.
 const NANOS_A_SUPERSTEP: u128 = 20_000;
 
-/// What a run that goes on alone knows of the time.
+/// The time that a run has gone on alone, and its supersteps so far.
 #[derive(Clone, Copy)]
 pub(crate) struct Pace {
     began: Option<Instant>,

@@ -11,7 +11,7 @@ const LOOKS_BEFORE_YIELD: u64 = 500;
 /// How many looks there are at most, where the gate tells no time.
 const MOST_LOOKS: u64 = 1_000_000;
 
-/// How many nanoseconds the calling thread waits at least, before it makes what is late itself.
+/// How many nanoseconds the calling thread waits at least, before it takes the late turns itself.
 const LEAST_NANOS: u128 = 20_000;
 
 /// Waits a little at a look in vain.

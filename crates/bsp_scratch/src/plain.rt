@@ -92,7 +92,7 @@ pub(crate) fn supersteps<J: SharedRun, P: Program, G: Gate>(
     Ok(views)
 }
 
-/// What a run gives whose supersteps are over.
+/// The result of a run whose supersteps are over.
 pub(crate) fn result_at_end(
     alloc: Global,
     views: Shared<Views>,
@@ -107,7 +107,7 @@ pub(crate) fn result_at_end(
     result
 }
 
-/// What a run gives that is under way.
+/// The result of a run that is under way.
 pub(crate) fn finish<J: SharedRun, P: Program, G: Gate>(
     alloc: Global,
     program: &P,
@@ -131,7 +131,7 @@ pub(crate) fn finish<J: SharedRun, P: Program, G: Gate>(
     }
 }
 
-/// What the run of a program on an input gives, where the input is known to be lawful. It keeps no record of the run: beside the lines and the costs, memory for
+/// The result of the run of a program on an input that is known to be lawful. It keeps no record of the run: beside the lines and the costs, memory for
 /// one superstep. The gate is passed before each turn.
 pub fn lawful_result<P: Program, G: Gate>(
     alloc: Global,

@@ -1,4 +1,4 @@
-//! Where the calling thread and a worker of a run hand each other a sheet.
+//! The place at which the calling thread and a worker of a run hand each other a sheet.
 
 ghost use Rattle.std.specs.Prelude.{◌≡◌, ◌≤◌, [], IfSome, length};
 ghost use Rattle.bsp_model.specs.Limits.{most_processes};
@@ -75,7 +75,7 @@ impl<J: SharedRun> Seat<J> {
         }
     }
 
-    /// What the worker does until the run is over: it works the parts that it is handed.
+    /// Works the parts that the worker is handed, until the run is over.
     pub fn attend<P: Program, G: Gate>(
         &self,
         alloc: Global,

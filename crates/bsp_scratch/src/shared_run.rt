@@ -2,7 +2,7 @@
 
 use std::marker::Brand;
 
-/// A run, as the types name it of what its workers hand each other.
+/// A run, as a type parameter of the sheets that its workers hand each other.
 pub(crate) trait SharedRun: Send {
     ghost use Rattle.std.specs.Prelude.{List, ℕ};
     ghost use Rattle.bsp_step.specs.ViewParts.{ViewParts};
@@ -11,7 +11,7 @@ pub(crate) trait SharedRun: Send {
     /// The turn of its program.
     ghost turn: { ViewParts → OutcomeParts };
 
-    /// What the processes see in each superstep.
+    /// The views of the processes in each superstep.
     ghost views: { ℕ → List ViewParts };
 }
 

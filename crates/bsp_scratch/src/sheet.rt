@@ -1,4 +1,4 @@
-//! What the calling thread and a worker of a run hand each other.
+//! The sheet that the calling thread and a worker of a run hand each other.
 
 ghost use Rattle.std.specs.Prelude.{◌≡◌, ◌≤◌, [], None, IfOk, IfSome, length};
 ghost use Rattle.std.specs.Option.{ForSome};
@@ -26,9 +26,9 @@ pub(crate) struct Sheet<J: SharedRun> {
     /// The processes of the part are those from `from` on, and before `to`.
     from: usize,
     to: usize,
-    /// What the processes see, until the turns are taken.
+    /// The views of all processes, until the turns are taken.
     views: Option<Shared<Views>>,
-    /// What the turns left, once they are taken.
+    /// The outcomes of the turns, once they are taken.
     turns: Option<OutcomeRows>,
     /// Lists in which turns can be gathered.
     room: Option<OutcomeRows>,
