@@ -10,11 +10,11 @@ use Rattle.std.proofs.lemmas.List.Elements.{All-push, All-take}
 use Rattle.std.proofs.lemmas.List.Folds.{list_any-append, list_any-from_Any, list_any_none}
 use Rattle.bsp_pool.specs.declared.share.Share.{Share}
 use Rattle.bsp_pool.specs.Numbers.{occurrences, IsDistinct}
-use Rattle.bsp_pool.specs.Shares.{IsShare, AreShares, HasEachNumber, numbers_of}
+use Rattle.bsp_pool.specs.Shares.{IsShare, HasEachNumber, numbers_of}
 use Rattle.bsp_pool.specs.Passes.{PassContent, drawn, joined, pass_of}
 use Rattle.bsp_pool.specs.declared.worker.Hand.{Hand}
 use Rattle.atomic_table.specs.Seated.{TableId}
-use Rattle.bsp_pool.specs.Inside.Hands.{Tells, IsHand, IsReady, IsNew, IsSplit}
+use Rattle.bsp_pool.specs.Inside.Hands.{Tells, IsHand, IsReady, IsSplit}
 use Rattle.bsp_pool.proofs.ClaimSteps.{occurrences-append, stands}
 
 pub tells_nothing : (end : ℕ) → Tells end [] [] false false
@@ -92,21 +92,21 @@ tells_both end a k b l g p h q one other =
           (either p q e);
     }
 
-numbers_more : {Rows : Type 0} (ss : List (Share Rows)) (s : Share Rows) → numbers_of (ss ++ s ∷ []) ≡ numbers_of ss ++ s.numbers.items
-numbers_more {Rows = Rows} ss s =
-    let own : Share Rows → List ℕ = λ s. s.numbers.items in
+numbers_more : {T : Type 0} (ss : List (Share T)) (s : Share T) → numbers_of (ss ++ s ∷ []) ≡ numbers_of ss ++ s.numbers.items
+numbers_more {T = T} ss s =
+    let own : Share T → List ℕ = λ s. s.numbers.items in
     flat_map-append own ss (s ∷ []) ∙ ap (λ l. numbers_of ss ++ l) (append-nil s.numbers.items)
 
 flag_more : {X : Type 0} (flag : X → Bool) (ss : List X) (s : X) → list_any flag (ss ++ s ∷ []) ≡ (list_any flag ss || flag s)
 flag_more flag ss s = list_any-append flag ss (s ∷ []) ∙ ap (λ b. list_any flag ss || b) (or-false (flag s))
 
 -- one share more
-pub tells_more : {Rows : Type 0} (end : ℕ) (drawn mine : List ℕ) (ss : List (Share Rows)) (s : Share Rows)
+pub tells_more : {T : Type 0} (end : ℕ) (drawn mine : List ℕ) (ss : List (Share T)) (s : Share T)
     → Tells end drawn (numbers_of ss) (list_any (λ s. s.gave_up) ss) (list_any (λ s. s.past_end) ss) → Tells end mine s.numbers.items s.gave_up s.past_end
     → Tells end (drawn ++ mine) (numbers_of (ss ++ s ∷ [])) (list_any (λ s. s.gave_up) (ss ++ s ∷ [])) (list_any (λ s. s.past_end) (ss ++ s ∷ []))
-tells_more {Rows = Rows} end drawn mine ss s all own =
-    let gave_up : Share Rows → Bool = λ s. s.gave_up in
-    let past_end : Share Rows → Bool = λ s. s.past_end in
+tells_more {T = T} end drawn mine ss s all own =
+    let gave_up : Share T → Bool = λ s. s.gave_up in
+    let past_end : Share T → Bool = λ s. s.past_end in
     let both = tells_both end drawn (numbers_of ss) mine s.numbers.items (list_any gave_up ss) (list_any past_end ss) s.gave_up s.past_end all own in
     let P : List ℕ → Type 0 = λ k. Tells end (drawn ++ mine) k (list_any gave_up (ss ++ s ∷ [])) (list_any past_end (ss ++ s ∷ [])) in
     let Q : Bool → Type 0 = λ g. Tells end (drawn ++ mine) (numbers_of ss ++ s.numbers.items) g (list_any past_end (ss ++ s ∷ [])) in
@@ -114,16 +114,13 @@ tells_more {Rows = Rows} end drawn mine ss s all own =
     subst P (sym (numbers_more ss s)) (subst Q (sym (flag_more gave_up ss s)) (subst R (sym (flag_more past_end ss s)) both))
 
 -- the shares after one more, and the pass that its pass was joined to
-pub tells_joined : {Rows : Type 0} (end : ℕ) (before other after : PassContent) (ss new : List (Share Rows)) (s : Share Rows)
+pub tells_joined : {T : Type 0} (end : ℕ) (before other after : PassContent) (ss new : List (Share T)) (s : Share T)
     → Tells end before.numbers (numbers_of ss) (list_any (λ s. s.gave_up) ss) (list_any (λ s. s.past_end) ss) → Tells end other.numbers s.numbers.items s.gave_up s.past_end
     → after ≡ joined before other → new ≡ ss ++ s ∷ [] → Tells end after.numbers (numbers_of new) (list_any (λ s. s.gave_up) new) (list_any (λ s. s.past_end) new)
-tells_joined {Rows = Rows} end before other after ss new s all own is items =
+tells_joined {T = T} end before other after ss new s all own is items =
     let P : PassContent → Type 0 = λ p. Tells end p.numbers (numbers_of new) (list_any (λ s. s.gave_up) new) (list_any (λ s. s.past_end) new) in
-    let Q : List (Share Rows) → Type 0 = λ l. Tells end (before.numbers ++ other.numbers) (numbers_of l) (list_any (λ s. s.gave_up) l) (list_any (λ s. s.past_end) l) in
+    let Q : List (Share T) → Type 0 = λ l. Tells end (before.numbers ++ other.numbers) (numbers_of l) (list_any (λ s. s.gave_up) l) (list_any (λ s. s.past_end) l) in
     subst P (sym is) (subst Q (sym items) (tells_more end before.numbers other.numbers ss s all own))
-
-pub shares_more : {Rows T : Type 0} (outputs : Rows → List T) (outs : List T) (ss : List (Share Rows)) (s : Share Rows) → AreShares outputs outs ss → IsShare outputs outs s → AreShares outputs outs (ss ++ s ∷ [])
-shares_more outputs outs ss s h own = record { each = All-push (IsShare outputs outs) ss s h.each own }
 
 found_below : (y n : ℕ) (xs : List ℕ) → All (λ x. x < n) xs → 0 < occurrences y xs → y < n
 found_below y n [] all has = absurd (omega arith)
@@ -140,9 +137,9 @@ pub same_tells : (end : ℕ) (d k k' : List ℕ) (g g' p p' : Bool) → k' ≡ k
 same_tells end d k k' g g' p p' e f q t = rw (e, f, q) t
 
 -- a worker after a draw
-pub hand_after : {Rows T : Type 0} (deck : TableId) (outputs : Rows → List T) (outs : List T) (old new : Hand Rows) (n : ℕ) → IsHand deck outputs outs old → new.pass ≡ drawn old.pass n → IsShare outputs outs new.share
-    → Tells (length outs) (old.pass.numbers ++ n ∷ []) new.share.numbers.items new.share.gave_up new.share.past_end → IsHand deck outputs outs new
-hand_after deck outputs outs old new n h is share told =
+pub hand_after : {T : Type 0} (deck : TableId) (outs : List T) (old new : Hand T) (n : ℕ) → IsHand deck outs old → new.pass ≡ drawn old.pass n → IsShare outs new.share
+    → Tells (length outs) (old.pass.numbers ++ n ∷ []) new.share.numbers.items new.share.gave_up new.share.past_end → IsHand deck outs new
+hand_after deck outs old new n h is share told =
     record {
       of_deck = ap (λ (p : PassContent). p.deck) is ∙ h.of_deck;
       unit = ap (λ (p : PassContent). p.units) is ∙ h.unit;
@@ -150,33 +147,33 @@ hand_after deck outputs outs old new n h is share told =
       tells = subst (λ (p : PassContent). Tells (length outs) p.numbers new.share.numbers.items new.share.gave_up new.share.past_end) (sym is) told;
     }
 
-pub hand_past : {Rows T : Type 0} (deck : TableId) (outputs : Rows → List T) (outs : List T) (old new : Hand Rows) (end n : ℕ) → IsHand deck outputs outs old → new.pass ≡ drawn old.pass n → length outs ≡ end → end ≤ n
-    → new.share ≡ record old.share { past_end = true } → IsHand deck outputs outs new
-hand_past {Rows = Rows} deck outputs outs old new end n h is same past share =
-    let P : Share Rows → Type 0 = λ s. Tells (length outs) (old.pass.numbers ++ n ∷ []) s.numbers.items s.gave_up s.past_end in
-    hand_after deck outputs outs old new n h is (subst (IsShare outputs outs) (sym share) (record { in_order = h.share.in_order }))
+pub hand_past : {T : Type 0} (deck : TableId) (outs : List T) (old new : Hand T) (end n : ℕ) → IsHand deck outs old → new.pass ≡ drawn old.pass n → length outs ≡ end → end ≤ n
+    → new.share ≡ record old.share { past_end = true } → IsHand deck outs new
+hand_past {T = T} deck outs old new end n h is same past share =
+    let P : Share T → Type 0 = λ s. Tells (length outs) (old.pass.numbers ++ n ∷ []) s.numbers.items s.gave_up s.past_end in
+    hand_after deck outs old new n h is (subst (IsShare outs) (sym share) (record { in_order = h.share.in_order }))
     (subst P (sym share) (tells_past (length outs) old.pass.numbers old.share.numbers.items old.share.gave_up old.share.past_end n h.tells (omega arith)))
 
-pub hand_gave_up : {Rows T : Type 0} (deck : TableId) (outputs : Rows → List T) (outs : List T) (old new : Hand Rows) (n : ℕ) → IsHand deck outputs outs old → new.pass ≡ drawn old.pass n → new.share.numbers.items ≡ old.share.numbers.items
-    → outputs new.share.rows ≡ outputs old.share.rows → new.share.gave_up ≡ true → new.share.past_end ≡ old.share.past_end → IsHand deck outputs outs new
-hand_gave_up deck outputs outs old new n h is numbers rows gave_up past =
-    hand_after deck outputs outs old new n h is (record { in_order = ap (map (slice_get outs)) numbers ∙ (h.share.in_order ∙ sym (ap (map Some) rows)) })
+pub hand_gave_up : {T : Type 0} (deck : TableId) (outs : List T) (old new : Hand T) (n : ℕ) → IsHand deck outs old → new.pass ≡ drawn old.pass n → IsShare outs new.share
+    → new.share.numbers.items ≡ old.share.numbers.items → new.share.gave_up ≡ true → new.share.past_end ≡ old.share.past_end → IsHand deck outs new
+hand_gave_up deck outs old new n h is own numbers gave_up past =
+    hand_after deck outs old new n h is own
     (same_tells (length outs) (old.pass.numbers ++ n ∷ []) old.share.numbers.items new.share.numbers.items true new.share.gave_up old.share.past_end new.share.past_end numbers gave_up past
     (tells_given_up (length outs) old.pass.numbers old.share.numbers.items old.share.gave_up old.share.past_end n h.tells))
 
-pub hand_kept : {Rows T : Type 0} (deck : TableId) (outputs : Rows → List T) (outs : List T) (old new : Hand Rows) (n : ℕ) → IsHand deck outputs outs old → new.pass ≡ drawn old.pass n → IsShare outputs outs new.share
-    → new.share.numbers.items ≡ old.share.numbers.items ++ n ∷ [] → new.share.gave_up ≡ old.share.gave_up → new.share.past_end ≡ old.share.past_end → IsHand deck outputs outs new
-hand_kept deck outputs outs old new n h is own numbers gave_up past =
-    hand_after deck outputs outs old new n h is own
+pub hand_kept : {T : Type 0} (deck : TableId) (outs : List T) (old new : Hand T) (n : ℕ) → IsHand deck outs old → new.pass ≡ drawn old.pass n → IsShare outs new.share
+    → new.share.numbers.items ≡ old.share.numbers.items ++ n ∷ [] → new.share.gave_up ≡ old.share.gave_up → new.share.past_end ≡ old.share.past_end → IsHand deck outs new
+hand_kept deck outs old new n h is own numbers gave_up past =
+    hand_after deck outs old new n h is own
     (same_tells (length outs) (old.pass.numbers ++ n ∷ []) (old.share.numbers.items ++ n ∷ []) new.share.numbers.items old.share.gave_up new.share.gave_up old.share.past_end new.share.past_end numbers gave_up past
     (tells_kept (length outs) old.pass.numbers old.share.numbers.items old.share.gave_up old.share.past_end n h.tells))
 
 -- one worker more
-pub ready_more : {Rows T : Type 0} (deck : TableId) (outputs : Rows → List T) (outs : List T) (hands new : List (Hand Rows)) (h : Hand Rows) → All (IsReady deck outputs outs) hands → IsNew deck outputs outs h → new ≡ hands ++ h ∷ []
-    → All (IsReady deck outputs outs) new
-ready_more deck outputs outs hands new h all own is =
-    let ready : IsReady deck outputs outs h = record { right = own.right; room = (let none : length h.pass.numbers ≡ 0 = ap length own.fresh in omega arith) } in
-    subst (All (IsReady deck outputs outs)) (sym is) (All-push (IsReady deck outputs outs) hands h all ready)
+pub ready_more : {T : Type 0} (deck : TableId) (outs : List T) (hands new : List (Hand T)) (h : Hand T) → All (IsReady deck outs) hands → IsHand deck outs h → h.pass.numbers ≡ [] → new ≡ hands ++ h ∷ []
+    → All (IsReady deck outs) new
+ready_more deck outs hands new h all own fresh is =
+    let ready : IsReady deck outs h = record { right = own; room = (let none : length h.pass.numbers ≡ 0 = ap length fresh in omega arith) } in
+    subst (All (IsReady deck outs)) (sym is) (All-push (IsReady deck outs) hands h all ready)
 
 pub split_more : (deck : TableId) (before after : PassContent) (n m : ℕ) → IsSplit deck before n → after ≡ pass_of before.deck (before.units - 1) [] → m ≡ n + 1 → n < 16 → IsSplit deck after m
 split_more deck before after n m h is more few =
@@ -189,15 +186,15 @@ pub front_all : {X : Type 0} (P : X → Type 0) (n : ℕ) (xs ys : List X) → n
 front_all P n xs ys within all = subst (All P) (sym (take-append-le n xs ys within)) (All-take P n xs all)
 
 -- at the end no number stands twice
-pub gathered_once : {Rows : Type 0} (end : ℕ) (drawn : List ℕ) (ss : List (Share Rows)) (g p : Bool) → Tells end drawn (numbers_of ss) g p → IsDistinct drawn → IsDistinct (numbers_of ss)
+pub gathered_once : {T : Type 0} (end : ℕ) (drawn : List ℕ) (ss : List (Share T)) (g p : Bool) → Tells end drawn (numbers_of ss) g p → IsDistinct drawn → IsDistinct (numbers_of ss)
 gathered_once end drawn ss g p h distinct x = let o = h.once x in let d = distinct x in omega arith
 
 -- and where none was given up each is there
-pub gathered_each : {Rows : Type 0} (end count : ℕ) (drawn : List ℕ) (ss : List (Share Rows)) → Tells end drawn (numbers_of ss) (list_any (λ s. s.gave_up) ss) (list_any (λ s. s.past_end) ss)
+pub gathered_each : {T : Type 0} (end count : ℕ) (drawn : List ℕ) (ss : List (Share T)) → Tells end drawn (numbers_of ss) (list_any (λ s. s.gave_up) ss) (list_any (λ s. s.past_end) ss)
     → All (λ x. x < count) drawn → ((x : ℕ) → x < count → occurrences x drawn ≡ 1) → HasEachNumber end ss
-gathered_each {Rows = Rows} end count drawn ss h below each ended none x lt =
-    let gave_up : Share Rows → Bool = λ s. s.gave_up in
-    let past_end : Share Rows → Bool = λ s. s.past_end in
+gathered_each {T = T} end count drawn ss h below each ended none x lt =
+    let gave_up : Share T → Bool = λ s. s.gave_up in
+    let past_end : Share T → Bool = λ s. s.past_end in
     let there : (y : ℕ) × (end ≤ y) × (0 < occurrences y drawn) = h.ended (list_any-from_Any past_end ss ended) in
     let last = found_below there.0 count drawn below there.2 in
     let past = there.1 in

@@ -1,3 +1,7 @@
 pub mod ClaimSteps
 pub mod ShareLists
 pub mod HandSteps
+pub mod TurnLists
+pub mod KeptLists
+pub mod RoundSteps
+pub mod EventLaws

@@ -1,3 +1,6 @@
 pub mod Claim
 pub mod Views
 pub mod Hands
+pub mod Holding
+pub mod Kept
+pub mod Turning

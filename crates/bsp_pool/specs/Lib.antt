@@ -1,5 +1,7 @@
 pub mod Numbers
 pub mod Passes
 pub mod Shares
-pub mod Runs
+pub mod Rounds
+pub mod Machine
+pub mod EventLists
 pub mod Inside

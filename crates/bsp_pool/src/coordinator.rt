@@ -1,34 +1,35 @@
-//! A phase, by the thread that calls it.
+//! What the workers of a phase gather, by the thread that calls it.
 
 ghost use Rattle.std.specs.Prelude.{◌<◌, ◌≤◌, All, length, map};
 ghost use Rattle.bsp_pool.specs.Numbers.{IsDistinct};
-ghost use Rattle.bsp_pool.specs.Shares.{AreShares, HasEachNumber, numbers_of};
+ghost use Rattle.bsp_pool.specs.Shares.{IsShare, HasEachNumber, numbers_of};
 
 use crate::Deck;
 use crate::share::Share;
-use crate::work::{Gate, Gathering};
+use crate::work::Work;
 use crate::worker::{Jobs, run_workers};
+use bsp_gate::Gate;
 use std::alloc::Global;
 use std::thread::Threads;
 
-/// What workers gather of the outputs of these inputs: for each worker a share, its rows with the numbers of the
-/// outputs in them. There are `workers` (1 to 16), but no more than inputs. Each draws numbers from one deck, passes
-/// the gate with the number, and works that input. Where the gate tells the time, the calling thread begins alone, and
-/// starts the others once what is left seems worth it. No number stands in two shares.
+/// What workers gather of the outputs of these inputs: for each worker a share, the outputs with their numbers. There
+/// are `workers` (1 to 16), but no more than inputs. Each draws numbers from one deck, passes the gate with the number,
+/// and works that input. Where the gate tells the time, the calling thread begins alone, and starts the others once
+/// what is left seems worth it. No number stands in two shares.
 ///
 /// Where a worker drew past the end and none gave a number up, the shares have every number. A number that no share
-/// has is for the caller to work. Where memory for the deck, the lists or the first rows is refused, there is no share.
-pub fn gather<W: Gathering, G: Gate, R: Threads + Sync>(
+/// has is for the caller to work. Where memory for the deck or the lists is refused, there is no share.
+pub(crate) fn gather<W: Work, G: Gate, R: Threads + Sync>(
     rt: &R,
     alloc: Global,
     work: &W,
     inputs: &[W::In],
     workers: usize,
     gate: &G,
-) -> Vec<Share<W::Rows>>
+) -> Vec<Share<W::Out>>
     requires workers { (0 < workers) × (workers ≤ 16) }
     requires accepts { All (W.accepts work.now) inputs.now }
-    ensures shares { AreShares (W.outputs work.now) (map (W.does work.now) inputs.now) result.items }
+    ensures shares { All (IsShare (map (W.does work.now) inputs.now)) result.items }
     ensures once { IsDistinct (numbers_of result.items) }
     ensures each { HasEachNumber (length inputs.now) result.items }
 {

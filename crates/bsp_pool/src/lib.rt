@@ -1,20 +1,30 @@
-//! A worker pool over one claim word.
+//! A worker pool over one claim word, and the pool as a machine.
 //!
-//! `gather` works a list of inputs by 1 to 16 threads, and hands over what each worker has gathered. Its workers draw
-//! the numbers of the inputs from a `Deck`, each with a `Pass`. `run_from` finds consecutive outputs in their shares.
+//! `phase` works a list of inputs by 1 to 16 threads and gives the outputs in the order of the inputs. Its workers draw
+//! the numbers of the inputs from a `Deck`, each with a `Pass`. `Core` is the pool as a machine on one thread, event by
+//! event.
 #![tactic(auto)]
 
 mod claim;
 mod coordinator;
 mod deck;
+mod event;
+mod machine;
 mod pass_view;
+mod phases;
+mod round;
+mod row;
 mod share;
+mod turning;
 mod watch;
 mod work;
 mod worker;
 
-pub use coordinator::gather;
+pub use bsp_gate::{Gate, Open, Timed};
 pub use deck::{Deck, Pass};
-pub use share::{Run, Share, run_from};
+pub use event::{CoreRefusal, Event};
+pub use machine::Core;
+pub use phases::phase;
+pub use row::Row;
 pub use std::alloc::AllocError as OutOfMemory;
-pub use work::{Gate, Gathering, Open, Timed};
+pub use work::Work;

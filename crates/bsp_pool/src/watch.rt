@@ -1,7 +1,7 @@
 //! When a phase starts threads. Its calling thread begins alone, and looks at the time as it goes: what a thread costs to
 //! start has to be worth it.
 
-use crate::work::Gate;
+use bsp_gate::Gate;
 use std::time::Instant;
 
 /// How many nanoseconds the calling thread works alone at least.

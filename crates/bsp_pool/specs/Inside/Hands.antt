@@ -1,12 +1,12 @@
 -- What workers hold. This profile's own.
-use Rattle.std.specs.Prelude.{◌≡◌, ◌+◌, ◌<◌, ◌≤◌, ◌^◌, ℕ, Bool, true, false, List, [], length}
+use Rattle.std.specs.Prelude.{◌≡◌, ◌+◌, ◌<◌, ◌≤◌, ◌^◌, ℕ, All, Bool, true, false, List, [], length}
 use Rattle.std.specs.List.{list_any}
 use Rattle.atomic_table.specs.Seated.{TableId}
 use Rattle.bsp_pool.specs.declared.share.Share.{Share}
 use Rattle.bsp_pool.specs.declared.worker.Hand.{Hand}
 use Rattle.bsp_pool.specs.Numbers.{all_units, occurrences}
 use Rattle.bsp_pool.specs.Passes.{PassContent}
-use Rattle.bsp_pool.specs.Shares.{IsShare, AreShares, numbers_of}
+use Rattle.bsp_pool.specs.Shares.{IsShare, numbers_of}
 
 -- What the numbers kept tell of those drawn, by one worker or by several: none is kept that was not drawn, and unless one was given up each below
 -- the end that was drawn is kept. Where a worker drew a number past the end, such a number was drawn
@@ -22,21 +22,16 @@ pub record HasUnits (deck : TableId) (units : ℕ) (pass : PassContent) : Type 0
   pub enough : units ≤ pass.units
 
 -- a worker with a pass of this deck and a right share
-pub record IsHand {Rows T : Type 0} (deck : TableId) (outputs : Rows → List T) (outs : List T) (hand : Hand Rows) : Type 0 where
+pub record IsHand {T : Type 0} (deck : TableId) (outs : List T) (hand : Hand T) : Type 0 where
   pub of_deck : hand.pass.deck ≡ deck
   pub unit : hand.pass.units ≡ 1
-  pub share : IsShare outputs outs hand.share
+  pub share : IsShare outs hand.share
   pub tells : Tells (length outs) hand.pass.numbers hand.share.numbers.items hand.share.gave_up hand.share.past_end
 
 -- one that may draw 2 ^ 31 numbers more
-pub record IsReady {Rows T : Type 0} (deck : TableId) (outputs : Rows → List T) (outs : List T) (hand : Hand Rows) : Type 0 where
-  pub right : IsHand deck outputs outs hand
+pub record IsReady {T : Type 0} (deck : TableId) (outs : List T) (hand : Hand T) : Type 0 where
+  pub right : IsHand deck outs hand
   pub room : length hand.pass.numbers ≤ 2 ^ 31
-
--- one that has drawn nothing yet
-pub record IsNew {Rows T : Type 0} (deck : TableId) (outputs : Rows → List T) (outs : List T) (hand : Hand Rows) : Type 0 where
-  pub right : IsHand deck outputs outs hand
-  pub fresh : hand.pass.numbers ≡ []
 
 -- so many workers with a unit each, and the pass of which theirs were made
 pub record IsSplit (deck : TableId) (pass : PassContent) (workers : ℕ) : Type 0 where
@@ -45,8 +40,8 @@ pub record IsSplit (deck : TableId) (pass : PassContent) (workers : ℕ) : Type 
   pub units : pass.units + workers ≡ all_units
 
 -- right shares, and the pass that all passes were joined to
-pub record IsGathered {Rows T : Type 0} (deck : TableId) (outputs : Rows → List T) (outs : List T) (pass : PassContent) (shares : List (Share Rows)) : Type 0 where
+pub record IsGathered {T : Type 0} (deck : TableId) (outs : List T) (pass : PassContent) (shares : List (Share T)) : Type 0 where
   pub of_deck : pass.deck ≡ deck
   pub units : pass.units ≡ all_units
-  pub right : AreShares outputs outs shares
+  pub right : All (IsShare outs) shares
   pub tells : Tells (length outs) pass.numbers (numbers_of shares) (list_any (λ s. s.gave_up) shares) (list_any (λ s. s.past_end) shares)

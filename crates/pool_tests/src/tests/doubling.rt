@@ -1,7 +1,6 @@
 ghost use Rattle.std.specs.Prelude.{◌*◌, ◌<◌, ◌≤◌};
 
-use bsp_pool::{Gate, OutOfMemory};
-use bsp_rounds::{Work, phase};
+use bsp_pool::{Gate, OutOfMemory, Work, phase};
 use std::alloc::{AllocError, Global};
 use std::sync::atomic::AtomicU64;
 use std::sync::atomic::Ordering::SeqCst;

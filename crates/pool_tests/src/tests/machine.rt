@@ -1,6 +1,5 @@
 use crate::tests::doubling::Doubling;
-use bsp_pool::OutOfMemory;
-use bsp_rounds::{Core, CoreRefusal, Event, Row};
+use bsp_pool::{Core, CoreRefusal, Event, OutOfMemory, Row};
 use std::alloc::Global;
 
 /// An event, whether it is allowed, and how many phases are committed after it.

@@ -12,5 +12,5 @@ returns-clause-each g c =
     let drawn = c.run_workers.new.pass.numbers in
     let shares = c.run_workers.new.shares.items in
     let P : ℕ → Type 0 = λ n. Tells n drawn (numbers_of shares) (list_any (λ s. s.gave_up) shares) (list_any (λ s. s.past_end) shares) in
-    let told = subst P (length-map inputs (g.W.Gathering.does c.args.work.now)) c.run_workers.ensures.tells in
+    let told = subst P (length-map inputs (g.W.Work.does c.args.work.now)) c.run_workers.ensures.tells in
     gathered_each (length inputs) c.close.result drawn shares told c.close.ensures.below (c.close.ensures.whole c.run_workers.ensures.units)

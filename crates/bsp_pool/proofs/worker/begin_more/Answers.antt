@@ -9,8 +9,8 @@ loop-worker-preserved g c =
     let within = c.loop-worker-test.true in
     let most = c.requires.workers in
     record {
-      split = split_more c.args.jobs.now.deck c.loop-worker.pass c.begin.new.pass c.loop-worker.hands.len _ c.loop-worker.invariant.split c.in-Some.ensures.some long (omega arith);
-      ready = ready_more _ _ _ c.loop-worker.hands.items _ c.in-Some.hand c.loop-worker.invariant.ready c.in-Some.ensures.hand c.push_reserved.ensures.items;
+      split = split_more c.args.jobs.now.deck c.loop-worker.pass c.begin.new.pass c.loop-worker.hands.len _ c.loop-worker.invariant.split c.begin.ensures.pass long (omega arith);
+      ready = ready_more _ _ c.loop-worker.hands.items _ c.begin.result c.loop-worker.invariant.ready c.begin.ensures.hand c.begin.ensures.fresh c.push_reserved.ensures.items;
       many = omega arith;
       end = omega arith;
       room = c.push_reserved.ensures.capacity ∙ c.loop-worker.invariant.room;

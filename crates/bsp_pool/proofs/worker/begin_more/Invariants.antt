@@ -6,7 +6,7 @@ use Rattle.bsp_pool.proofs.worker.begin_more.Given as goal
 abbrev pub invariant-loop-worker : goal.invariant-loop-worker
 invariant-loop-worker g l = record {
   split : IsSplit l.fn.jobs.deck l.pass (vec_len l.hands);
-  ready : All (IsReady l.fn.jobs.deck (g.W.Gathering.outputs l.fn.jobs.work.now) (map (g.W.Gathering.does l.fn.jobs.work.now) l.fn.jobs.inputs.now)) l.hands.items;
+  ready : All (IsReady l.fn.jobs.deck (map (g.W.Work.does l.fn.jobs.work.now) l.fn.jobs.inputs.now)) l.hands.items;
   many : vec_len l.hands ≡ l._worker;
   end : l._worker ≤ max (vec_len l.fn.hands) l.workers;
   room : vec_capacity l.hands ≡ vec_capacity l.fn.hands;

@@ -4,6 +4,6 @@ use Rattle.bsp_pool.proofs.worker.draw_all.Given as goal
 
 abbrev pub invariant-loop-draws : goal.invariant-loop-draws
 invariant-loop-draws g l = record {
-  hand : IsHand l.fn.jobs.deck (g.W.Gathering.outputs l.fn.jobs.work.now) (map (g.W.Gathering.does l.fn.jobs.work.now) l.fn.jobs.inputs.now) l.hand;
+  hand : IsHand l.fn.jobs.deck (map (g.W.Work.does l.fn.jobs.work.now) l.fn.jobs.inputs.now) l.hand;
   many : length l.hand.pass.numbers ≤ length l.fn.hand.pass.numbers + l.draws;
 }

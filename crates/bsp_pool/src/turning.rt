@@ -1,0 +1,74 @@
+//! How the outputs of a phase are put together. What may fail for want of memory comes first, so that the
+//! kept outputs stay where they are until nothing can fail.
+
+ghost use Rattle.std.specs.Prelude.{◌≡◌, ◌≤◌, [], IfOk, All, length};
+ghost use Rattle.std.specs.Vec.{vec_capacity};
+ghost use Rattle.bsp_pool.specs.Inside.Turning.{missing_of, merged_of};
+
+use crate::OutOfMemory;
+use crate::work::Work;
+use std::alloc::Global;
+
+/// What is missing beside the outputs that are kept.
+#[derive(Drop)]
+pub(crate) struct Missing<T> {
+    /// The output of each number for which none is kept.
+    made: Vec<Option<T>>,
+    /// Room for all outputs.
+    room: Vec<T>,
+}
+
+/// The output of each input for which none was kept.
+pub(crate) fn work_missing<W: Work>(
+    alloc: Global,
+    work: &W,
+    inputs: &[W::In],
+    kept: &[Option<W::Out>],
+) -> Result<Missing<W::Out>, OutOfMemory>
+    requires accepts { All (W.accepts work.now) inputs.now }
+    requires kept { length kept.now ≡ length inputs.now }
+    ensures made { IfOk result (λ missing. missing.made.items ≡ missing_of (W.does work.now) inputs.now kept.now) }
+    ensures empty { IfOk result (λ missing. missing.room.items ≡ []) }
+    ensures room { IfOk result (λ missing. length inputs.now ≤ vec_capacity missing.room) }
+{
+    let mut made = Vec::with_capacity(alloc, inputs.len())?;
+    for (number, input) in inputs.iter().enumerate() {
+        match &kept[number] {
+            Some(_) => made.push_reserved(None),
+            None => match work.work(alloc, input) {
+                Ok(output) => made.push_reserved(Some(output)),
+                Err(error) => {
+                    drop(made);
+                    return Err(error);
+                }
+            },
+        }
+    }
+    match Vec::with_capacity(alloc, inputs.len()) {
+        Ok(room) => Ok(Missing { made, room }),
+        Err(error) => {
+            drop(made);
+            Err(error)
+        }
+    }
+}
+
+/// The kept outputs in order, with what was made where none was kept.
+pub(crate) fn merged<T: Drop>(kept: Vec<Option<T>>, missing: Missing<T>) -> Vec<T>
+    requires empty { missing.room.items ≡ [] }
+    requires room { length kept.items ≤ vec_capacity missing.room }
+    ensures { result.items ≡ merged_of kept.items missing.made.items }
+{
+    let Missing {
+        made,
+        room: mut outputs,
+    } = missing;
+    let mut others = made.into_iter();
+    for output in kept {
+        let other = others.next().flatten();
+        if let Some(output) = output.or(other) {
+            outputs.push_reserved(output);
+        }
+    }
+    outputs
+}

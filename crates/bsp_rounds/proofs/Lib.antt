@@ -1,4 +1,0 @@
-pub mod TurnLists
-pub mod KeptLists
-pub mod RoundSteps
-pub mod EventLaws

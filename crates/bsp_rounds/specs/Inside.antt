@@ -1,4 +1,0 @@
-pub mod Turning
-pub mod Lists
-pub mod Holding
-pub mod Kept

@@ -1,4 +1,0 @@
-pub mod Rounds
-pub mod Machine
-pub mod EventLists
-pub mod Inside
