@@ -102,7 +102,7 @@ class Try(Building):
     def test_the_kernel_and_what_it_names_is_compiled_over_the_small_library(self):
         self.rt("cat src/main.rt", "cat", "sort ../../crates.txt", f"echo '{Run.TRIED.format(3)}' >&2")
         made = ["#![tactic(auto)]", "", "mod kernel;", "mod parts;", "", "fn main(rt: HostRuntime) -> std::process::ExitCode {"]
-        made += ["    quick::run_quick(&rt, &kernel::Tool)", "}", "limit = 1", "low:", "quick: bsp_model bsp_step bsp_pool bsp_run bsp_scratch", "tool: quick low"]
+        made += ["    quick::run_quick(&rt, &kernel::Tool)", "}", "limit = 1", "low:", "quick: bsp_gate bsp_model bsp_step bsp_run bsp_scratch", "tool: quick low"]
         self.assertEqual(self.try_it("tool"), (3, made))
 
     def test_another_program(self):

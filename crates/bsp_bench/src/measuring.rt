@@ -3,9 +3,9 @@
 use crate::inputs;
 use crate::kernel::Squaring;
 use anyhow::{Context, Result, bail, ensure};
+use bsp_gate::{Open, Timed};
 use bsp_incr::{Edit, Session};
 use bsp_model::{Input, OutOfMemory};
-use bsp_pool::{Open, Timed};
 use bsp_programs::{Broadcast, MatVec, Prefix};
 use bsp_step::Program;
 use bsp_whole::{run_plain, run_result, run_wide};

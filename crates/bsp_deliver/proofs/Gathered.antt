@@ -133,13 +133,6 @@ pub record ArePlacedTo (n i : ℕ) (ps places : List ℕ) : Type 0 where
   pub here : (j : ℕ) → j < i → get_or places (get_or ps j 0) 0 ≡ j
   pub other : (d : ℕ) → d < n → (get_or places d 0 ≡ length ps) ⊎ (get_or ps (get_or places d 0) 0 ≡ d)
 
-pub placed_none : (n : ℕ) (ps : List ℕ) → ArePlacedTo n 0 ps (replicate n (length ps))
-placed_none n ps = record {
-  count = length-replicate n (length ps);
-  here = λ j l. omega (arith, l);
-  other = λ d l. inl (get_or-replicate n d (length ps) 0 l);
-}
-
 pub placed_more : (n i : ℕ) (ps places : List ℕ) → i < length ps → All (λ d. d < n) ps → IsAscending ps → ArePlacedTo n i ps places → ArePlacedTo n (i + 1) ps (set places (get_or ps i 0) i)
 placed_more n i ps places l known up h =
     let p = get_or ps i 0 in

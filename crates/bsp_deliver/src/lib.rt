@@ -20,6 +20,5 @@ pub use faults::{has_sync, next_tag_size, sync_fault};
 pub use gathering::deliver_some;
 pub use moving::deliver_moving;
 pub use same::{are_same_puts, are_same_sends, is_same_answer};
-pub use sorting::{SortedRequests, deliver_sorted, sort_requests};
 pub use touched::touched_by_changes;
 pub use writing::memory_with_gets;

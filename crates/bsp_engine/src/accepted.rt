@@ -13,20 +13,19 @@ ghost use Rattle.bsp_engine.specs.Inside.Touched.{IsUpdateBetween};
 ghost use Rattle.bsp_engine.specs.Untouched.{AreRunsAround};
 
 use crate::changed_run::push_changed;
-use crate::crew::Crew;
 use crate::update_lines::push_update;
 use crate::whole_run::push_run;
-use bsp_incr::{Edit, EditError, Session, Update};
+use bsp_gate::Gate;
+use bsp_incr::{Edit, EditError, Session, Update, Workers};
 use bsp_model::OutOfMemory;
 use bsp_options::Detail;
-use bsp_pool::Gate;
 use bsp_run::History;
 use bsp_step::Program;
 use std::thread::Threads;
 
 /// Applies a batch of edits. The history that it replaced, if it replaced one, goes to `before`.
 pub fn apply<P: Program + Drop, R: Threads + Sync, G: Gate>(
-    crew: &Crew<'_, R, G>,
+    workers: &Workers<'_, R, G>,
     session: &mut Session<P>,
     batch: &[Edit],
     before: &mut Option<History>,
@@ -42,7 +41,14 @@ pub fn apply<P: Program + Drop, R: Threads + Sync, G: Gate>(
     // That the input is lawful, and the history its run, is known where they are read.
     let _input = session.input();
     let _history = session.history();
-    session.apply_keeping(crew.rt, crew.alloc, batch, crew.workers, crew.gate, before)
+    session.apply_keeping(
+        workers.rt,
+        workers.alloc,
+        batch,
+        workers.count,
+        workers.gate,
+        before,
+    )
 }
 
 /// Appends the lines of the reply to an accepted batch of a session of so many processes.

@@ -12,14 +12,14 @@ ghost use Rattle.bsp_engine.specs.Live.{due_of};
 use crate::asked::{asked_of, asks_for_text};
 use crate::asked_text::put_asked_text;
 use crate::catalogue::Catalogue;
-use crate::crew::Crew;
 use crate::errors::JobError;
 use crate::jobs::read_job_and_keys;
 use crate::live::{Live, begin, push_answer};
+use bsp_crew::DEPTH_OF_RUNS;
+use bsp_gate::Gate;
+use bsp_incr::Workers;
 use bsp_model::OutOfMemory;
 use bsp_options::Detail;
-use bsp_pool::Gate;
-use bsp_run::DEPTH_OF_RUNS;
 use bsp_step::Program;
 use bsp_text::push_line;
 use std::alloc::AllocError;
@@ -39,7 +39,7 @@ pub struct Attendant<P: Program> {
 
 /// Who answers the lines of a document's session. The first text is to be said next.
 pub fn attendant_of<C: Catalogue, R: Threads + Sync, G: Gate>(
-    crew: &Crew<'_, R, G>,
+    workers: &Workers<'_, R, G>,
     detail: Detail,
     bytes: &[u8],
 ) -> Result<Attendant<C::Program>, JobError>
@@ -48,10 +48,10 @@ pub fn attendant_of<C: Catalogue, R: Threads + Sync, G: Gate>(
         ≡ due_of C.Program.acts C.Program.ending (live_replying C.Program.acts C.Program.ending C.Program.looks) detail own job))) }
     ensures fault { IfErr result (λ e. IfFault e (λ f. job_of C.meaning bytes.now ≡ Err f)) }
 {
-    let (job, own) = read_job_and_keys::<C>(crew.alloc, bytes)?;
+    let (job, own) = read_job_and_keys::<C>(workers.alloc, bytes)?;
     let last = job.batches.len() as u64;
-    let mut text = Vec::new(crew.alloc);
-    let live = begin(crew, detail, job, &mut text, b"ready\n")?;
+    let mut text = Vec::new(workers.alloc);
+    let live = begin(workers, detail, job, &mut text, b"ready\n")?;
     Ok(Attendant {
         live,
         last,
@@ -62,7 +62,7 @@ pub fn attendant_of<C: Catalogue, R: Threads + Sync, G: Gate>(
 
 /// Writes the answer to a line that asks for no text, as the block with the next number.
 fn write_next_block<P: Program + Drop, R: Threads + Sync, G: Gate>(
-    crew: &Crew<'_, R, G>,
+    workers: &Workers<'_, R, G>,
     attendant: &mut Attendant<P>,
     line: &[u8],
 ) -> Result<(), OutOfMemory>
@@ -76,15 +76,15 @@ fn write_next_block<P: Program + Drop, R: Threads + Sync, G: Gate>(
     };
     attendant.last = number;
     attendant.text.clear();
-    crew.gate.enter(DEPTH_OF_RUNS, number);
+    workers.gate.enter(DEPTH_OF_RUNS, number);
     push_line(&mut attendant.text, "run", &[number])?;
-    let asked = asked_of(crew.alloc, line)?;
-    push_answer(crew, &mut attendant.live, &mut attendant.text, asked)
+    let asked = asked_of(workers.alloc, line)?;
+    push_answer(workers, &mut attendant.live, &mut attendant.text, asked)
 }
 
 /// Writes the answer to a line, which has no LF.
 pub fn respond<P: Program + Drop, R: Threads + Sync, G: Gate>(
-    crew: &Crew<'_, R, G>,
+    workers: &Workers<'_, R, G>,
     attendant: &mut Attendant<P>,
     line: &[u8],
 ) -> Result<(), OutOfMemory>
@@ -92,7 +92,7 @@ pub fn respond<P: Program + Drop, R: Threads + Sync, G: Gate>(
         due_at P.acts P.ending P.looks attendant.old (line.now ∷ later) ≡ due_from P.acts P.ending P.looks attendant.new later) }
 {
     if !asks_for_text(line) {
-        return write_next_block(crew, attendant, line);
+        return write_next_block(workers, attendant, line);
     }
     let own = attendant.own.as_slice();
     let input = attendant.live.input();

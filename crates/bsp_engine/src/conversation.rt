@@ -6,11 +6,11 @@ ghost use Rattle.bsp_engine.specs.Inside.Talk.{Answered, BreaksOff, GoesOn, Says
 ghost use Rattle.bsp_engine.specs.Talk.{TalksUntil};
 
 use crate::attendant::{Attendant, respond};
-use crate::crew::Crew;
 use crate::errors::EngineError;
 use crate::limits::MOST_DOCUMENT_BYTES;
 use crate::terminal::Terminal;
-use bsp_pool::Gate;
+use bsp_gate::Gate;
+use bsp_incr::Workers;
 use bsp_step::Program;
 use std::thread::Threads;
 
@@ -37,7 +37,7 @@ fn say_all<T: Terminal>(terminal: &mut T, text: &[u8]) -> Result<(), EngineError
 
 /// Answers a line.
 fn answer<P: Program + Drop, R: Threads + Sync, G: Gate, T: Terminal>(
-    crew: &Crew<'_, R, G>,
+    workers: &Workers<'_, R, G>,
     attendant: &mut Attendant<P>,
     terminal: &mut T,
     line: &[u8],
@@ -45,8 +45,8 @@ fn answer<P: Program + Drop, R: Threads + Sync, G: Gate, T: Terminal>(
     ensures ok { OnOk result (Answered (due_at P.acts P.ending P.looks attendant.old) (due_at P.acts P.ending P.looks attendant.new) line.now (T.log terminal.old) (T.log terminal.new)) }
     ensures err { IfErr result (λ e. Stopped (due_at P.acts P.ending P.looks attendant.old) line.now (T.log terminal.old) (T.log terminal.new) e) }
 {
-    let answered = respond(crew, attendant, line);
-    crew.gate.leave();
+    let answered = respond(workers, attendant, line);
+    workers.gate.leave();
     match answered {
         Ok(()) => {
             let text = attendant.text.as_slice();
@@ -60,7 +60,7 @@ fn answer<P: Program + Drop, R: Threads + Sync, G: Gate, T: Terminal>(
 
 /// Takes the bytes that were heard, one after the other: an LF ends a line, which is answered. Of a line that is too long no more is kept.
 fn attend_all<P: Program + Drop, R: Threads + Sync, G: Gate, T: Terminal>(
-    crew: &Crew<'_, R, G>,
+    workers: &Workers<'_, R, G>,
     attendant: &mut Attendant<P>,
     terminal: &mut T,
     begun: &mut Vec<u8>,
@@ -71,7 +71,7 @@ fn attend_all<P: Program + Drop, R: Threads + Sync, G: Gate, T: Terminal>(
 {
     for byte in bytes {
         if *byte == b'\n' {
-            answer(crew, attendant, terminal, begun.as_slice())?;
+            answer(workers, attendant, terminal, begun.as_slice())?;
             begun.clear();
             continue;
         }
@@ -87,7 +87,7 @@ fn attend_all<P: Program + Drop, R: Threads + Sync, G: Gate, T: Terminal>(
 
 /// Waits for bytes, for which there is room in `chunk`, and answers the lines that end in them. Whether there were bytes: at the end the line that was begun is answered.
 fn attend_more<P: Program + Drop, R: Threads + Sync, G: Gate, T: Terminal>(
-    crew: &Crew<'_, R, G>,
+    workers: &Workers<'_, R, G>,
     attendant: &mut Attendant<P>,
     terminal: &mut T,
     begun: &mut Vec<u8>,
@@ -105,27 +105,27 @@ fn attend_more<P: Program + Drop, R: Threads + Sync, G: Gate, T: Terminal>(
         if line.is_empty() {
             return Ok(false);
         }
-        let ended = answer(crew, attendant, terminal, line);
+        let ended = answer(workers, attendant, terminal, line);
         return ended.and(Ok(false));
     }
-    let attended = attend_all(crew, attendant, terminal, begun, &chunk[..n]);
+    let attended = attend_all(workers, attendant, terminal, begun, &chunk[..n]);
     attended.and(Ok(true))
 }
 
 /// Says what is to be said next, and then answers each line that is heard before it waits for more, up to the end.
 pub fn talk<P: Program + Drop, R: Threads + Sync, G: Gate, T: Terminal>(
-    crew: &Crew<'_, R, G>,
+    workers: &Workers<'_, R, G>,
     attendant: &mut Attendant<P>,
     terminal: &mut T,
 ) -> Result<(), EngineError>
     ensures { TalksUntil (due_from P.acts P.ending P.looks attendant.old) (T.log terminal.old) (T.log terminal.new) result }
 {
-    crew.gate.leave();
+    workers.gate.leave();
     say_all(terminal, attendant.text.as_slice())?;
-    let mut begun = Vec::new(crew.alloc);
+    let mut begun = Vec::new(workers.alloc);
     let mut chunk = [0u8; CHUNK];
     for _ in 0..u64::MAX {
-        let more = attend_more(crew, attendant, terminal, &mut begun, &mut chunk)?;
+        let more = attend_more(workers, attendant, terminal, &mut begun, &mut chunk)?;
         if !more {
             return Ok(());
         }

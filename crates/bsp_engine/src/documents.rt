@@ -9,21 +9,21 @@ ghost use Rattle.bsp_engine.specs.Reported.{IsAnswered};
 ghost use Rattle.bsp_engine.specs.Inside.Report.{report_of};
 
 use crate::catalogue::Catalogue;
-use crate::crew::Crew;
 use crate::errors::{EngineError, JobError, JobFault};
 use crate::flow::{Sink, Source};
 use crate::job_report::put_report;
 use crate::jobs::read_job;
 use crate::reading::read_all;
 use crate::writing::write_text;
+use bsp_gate::Gate;
+use bsp_incr::Workers;
 use bsp_options::Options;
-use bsp_pool::Gate;
 use std::alloc::Global;
 use std::thread::Threads;
 
 /// Leaves nothing in a text but the report of a document, or answers why it has none.
 fn put_report_of<C: Catalogue, R: Threads + Sync, G: Gate>(
-    crew: &Crew<'_, R, G>,
+    workers: &Workers<'_, R, G>,
     bytes: &[u8],
     options: Options,
     text: &mut Vec<u8>,
@@ -32,8 +32,8 @@ fn put_report_of<C: Catalogue, R: Threads + Sync, G: Gate>(
     ensures ok { OnOk result (report_of C.meaning C.Program.acts C.Program.ending C.Program.looks options.scratch options.detail bytes.now ≡ Ok text.new.items) }
     ensures fault { IfErr result (λ e. IfFault e (λ f. report_of C.meaning C.Program.acts C.Program.ending C.Program.looks options.scratch options.detail bytes.now ≡ Err (EngineError.Job f))) }
 {
-    let job = read_job::<C>(crew.alloc, bytes)?;
-    Ok(put_report(crew, options.scratch, options.detail, job, text)?)
+    let job = read_job::<C>(workers.alloc, bytes)?;
+    Ok(put_report(workers, options.scratch, options.detail, job, text)?)
 }
 
 /// Reads a document to its end, runs its job by 1 to 16 workers, and writes the report: all of it is made before the first write.
@@ -75,14 +75,14 @@ pub fn engine<C: Catalogue, R: Threads + Sync, S: Source, K: Sink, G: Gate>(
     ensures write_calm { result ≢ Err EngineError.Write → K.failures writer.new ≡ K.failures writer.old }
 {
     read_all(reader, document)?;
-    let crew = Crew {
+    let workers = Workers {
         rt,
         alloc,
-        workers: options.workers,
+        count: options.workers,
         gate,
     };
     let mut text = Vec::new(alloc);
-    put_report_of::<C, _, _>(&crew, document.as_slice(), options, &mut text)?;
+    put_report_of::<C, _, _>(&workers, document.as_slice(), options, &mut text)?;
     gate.leave();
     match write_text(writer, text.as_slice()) {
         Ok(()) => Ok(()),

@@ -7,13 +7,13 @@ ghost use Rattle.bsp_engine.specs.Talk.{HasFailed, HasNotWritten};
 use crate::attendant::attendant_of;
 use crate::catalogue::Catalogue;
 use crate::conversation::talk;
-use crate::crew::Crew;
 use crate::errors::{EngineError, JobFault};
 use crate::flow::Source;
 use crate::reading::read_all;
 use crate::terminal::Terminal;
+use bsp_gate::Gate;
+use bsp_incr::Workers;
 use bsp_options::Options;
-use bsp_pool::Gate;
 use std::alloc::Global;
 use std::thread::Threads;
 
@@ -51,14 +51,14 @@ pub fn follow<C: Catalogue, R: Threads + Sync, S: Source, T: Terminal, G: Gate>(
     ensures write_failed { result ≡ Err EngineError.Write → HasNotWritten (T.log terminal.new) }
 {
     read_all(source, document)?;
-    let crew = Crew {
+    let workers = Workers {
         rt,
         alloc,
-        workers: options.workers,
+        count: options.workers,
         gate,
     };
-    let mut attendant = attendant_of::<C, _, _>(&crew, options.detail, document.as_slice())?;
-    let talked = talk(&crew, &mut attendant, terminal);
+    let mut attendant = attendant_of::<C, _, _>(&workers, options.detail, document.as_slice())?;
+    let talked = talk(&workers, &mut attendant, terminal);
     drop(attendant);
     talked
 }

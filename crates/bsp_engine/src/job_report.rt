@@ -11,13 +11,12 @@ ghost use Rattle.bsp_engine.specs.Blocks.{text_of};
 ghost use Rattle.bsp_engine.specs.Inside.Replies.{job_told, replies_of};
 
 use crate::blocks::push_report;
-use crate::crew::Crew;
 use crate::jobs::Job;
 use crate::live::begin;
-use bsp_incr::{Batch, Reply, scratch_run_behind};
+use bsp_gate::Gate;
+use bsp_incr::{Batch, Reply, Workers, scratch_run_behind};
 use bsp_model::{Input, OutOfMemory};
 use bsp_options::Detail;
-use bsp_pool::Gate;
 use bsp_run::{RunError, RunResult};
 use bsp_scratch::wide_result;
 use bsp_step::Program;
@@ -26,7 +25,7 @@ use std::thread::Threads;
 
 /// The replies to these batches, each run of which the workers make from scratch.
 fn replies_by_runs<P: Program, R: Threads + Sync, G: Gate>(
-    crew: &Crew<'_, R, G>,
+    workers: &Workers<'_, R, G>,
     program: &P,
     input: Input,
     batches: &[Batch],
@@ -37,19 +36,19 @@ fn replies_by_runs<P: Program, R: Threads + Sync, G: Gate>(
     ensures lawful { OnOk result (input_fault input ≡ None) }
     ensures input { IfErr result (λ e. input_fault input ≡ input_fault_of e) }
 {
-    let (rt, alloc, workers, gate) = (crew.rt, crew.alloc, crew.workers, crew.gate);
+    let (rt, alloc, count, gate) = (workers.rt, workers.alloc, workers.count, workers.gate);
     let make = |input: &Input| -> Result<RunResult, OutOfMemory>
         requires lawful { input_fault input.now ≡ None }
-        requires workers { (0 < workers) × (workers ≤ 16) }
+        requires workers { (0 < count) × (count ≤ 16) }
         ensures { IfOk result (λ given. given ≡ result_of (run (turn_of (P.acts program.entry.now) (P.ending program.entry.now)) input.entry.now)) }
-    { wide_result(rt, alloc, program, input, workers, gate) };
+    { wide_result(rt, alloc, program, input, count, gate) };
     scratch_run_behind(alloc, input, batches, &make, gate)
 }
 
 /// The replies to a job, each run of which is made from scratch.
 #[tactic(auto, using(bsp_incr::proofs::Replying::scratch_replies_fixed), unfolding(crate::specs::Inside::Replies::replies_of))]
 fn scratch_replies<P: Program + Drop, R: Threads + Sync, G: Gate>(
-    crew: &Crew<'_, R, G>,
+    workers: &Workers<'_, R, G>,
     job: Job<P>,
 ) -> Result<Vec<Reply>, OutOfMemory>
     requires lawful { input_fault job.input ≡ None }
@@ -60,7 +59,7 @@ fn scratch_replies<P: Program + Drop, R: Threads + Sync, G: Gate>(
         input,
         batches,
     } = job;
-    let replies = replies_by_runs(crew, &program, input, batches.as_slice());
+    let replies = replies_by_runs(workers, &program, input, batches.as_slice());
     drop(program);
     drop(batches);
     match replies {
@@ -72,7 +71,7 @@ fn scratch_replies<P: Program + Drop, R: Threads + Sync, G: Gate>(
 
 /// Appends the report of a job from scratch, which has no updates: the workers make one run after the other.
 fn push_scratch_report<P: Program + Drop, R: Threads + Sync, G: Gate>(
-    crew: &Crew<'_, R, G>,
+    workers: &Workers<'_, R, G>,
     detail: Detail,
     job: Job<P>,
     text: &mut Vec<u8>,
@@ -81,7 +80,7 @@ fn push_scratch_report<P: Program + Drop, R: Threads + Sync, G: Gate>(
     ensures { OnOk result (text.new.items ≡ text.old.items ++
         text_of detail (job_told P.acts P.ending P.looks true detail job)) }
 {
-    let replies = scratch_replies(crew, job)?;
+    let replies = scratch_replies(workers, job)?;
     let pushed = push_report(text, replies.as_slice(), detail);
     drop(replies);
     pushed
@@ -89,7 +88,7 @@ fn push_scratch_report<P: Program + Drop, R: Threads + Sync, G: Gate>(
 
 /// Leaves nothing in a text but the report of a job, by a session, which is let go, or from scratch.
 pub fn put_report<P: Program + Drop, R: Threads + Sync, G: Gate>(
-    crew: &Crew<'_, R, G>,
+    workers: &Workers<'_, R, G>,
     scratch: bool,
     detail: Detail,
     job: Job<P>,
@@ -100,9 +99,9 @@ pub fn put_report<P: Program + Drop, R: Threads + Sync, G: Gate>(
 {
     text.clear();
     if scratch {
-        return push_scratch_report(crew, detail, job, text);
+        return push_scratch_report(workers, detail, job, text);
     }
-    match begin(crew, detail, job, text, b"") {
+    match begin(workers, detail, job, text, b"") {
         Ok(live) => {
             drop(live);
             Ok(())

@@ -13,7 +13,6 @@ mod change_lines;
 mod changed_run;
 mod conversation;
 mod counted;
-mod crew;
 mod documents;
 mod errors;
 mod explain;

@@ -14,16 +14,16 @@ ghost use Rattle.bsp_engine.specs.Live.{after, after_batch, after_batches, answe
 use crate::accepted::{apply, push_accepted};
 use crate::asked::{Asked, Unread};
 use crate::block_lines::push_refusal;
-use crate::crew::Crew;
 use crate::jobs::Job;
 use crate::unread::push_unread;
 use crate::update_lines::push_update;
 use crate::whole_run::push_run;
-use bsp_incr::{Batch, Edit, EditError, Session, Update};
+use bsp_crew::DEPTH_OF_RUNS;
+use bsp_gate::Gate;
+use bsp_incr::{Batch, Edit, EditError, Session, Update, Workers};
 use bsp_model::{Input, OutOfMemory};
 use bsp_options::Detail;
-use bsp_pool::Gate;
-use bsp_run::{DEPTH_OF_RUNS, History, RunError};
+use bsp_run::{History, RunError};
 use bsp_step::Program;
 use bsp_text::push_line;
 use std::alloc::{AllocError, Global};
@@ -69,7 +69,7 @@ impl<P: Program + Drop> Live<P> {
 
 /// The session of a lawful input, and what was done for it.
 fn open<P: Program + Drop, R: Threads + Sync, G: Gate>(
-    crew: &Crew<'_, R, G>,
+    workers: &Workers<'_, R, G>,
     detail: Detail,
     program: P,
     input: Input,
@@ -78,12 +78,19 @@ fn open<P: Program + Drop, R: Threads + Sync, G: Gate>(
     ensures live { IfOk result (λ r. r.0 ≡ opened detail program input) }
     ensures update { IfOk result (λ r. r.1 ≡ update_of (P.looks program) None (run (turn_of (P.acts program) (P.ending program)) input)) }
 {
-    match Session::open(crew.rt, crew.alloc, program, input, crew.workers, crew.gate) {
+    match Session::open(
+        workers.rt,
+        workers.alloc,
+        program,
+        input,
+        workers.count,
+        workers.gate,
+    ) {
         Ok((session, update)) => {
             let live = Live {
                 session,
                 detail,
-                undos: VecDeque::new(crew.alloc),
+                undos: VecDeque::new(workers.alloc),
             };
             Ok((live, update))
         }
@@ -133,7 +140,7 @@ fn keep_undo<P: Program + Drop>(
 
 /// Applies a batch of edits, and appends the lines of its reply.
 fn advance<P: Program + Drop, R: Threads + Sync, G: Gate>(
-    crew: &Crew<'_, R, G>,
+    workers: &Workers<'_, R, G>,
     live: &mut Live<P>,
     text: &mut Vec<u8>,
     batch: &[Edit],
@@ -142,7 +149,7 @@ fn advance<P: Program + Drop, R: Threads + Sync, G: Gate>(
     ensures text { OnOk result (text.new.items ≡ text.old.items ++ reply_lines live.old.detail.places (last_result P.acts P.ending live.old) (live_reply P.acts P.ending P.looks live.old batch.now)) }
 {
     let mut before = None;
-    let update = match apply(crew, &mut live.session, batch, &mut before) {
+    let update = match apply(workers, &mut live.session, batch, &mut before) {
         Ok(update) => update,
         Err(EditError::Refused(refusal)) => {
             drop(before);
@@ -166,7 +173,7 @@ fn advance<P: Program + Drop, R: Threads + Sync, G: Gate>(
 
 /// Makes a batch, and appends the lines of its reply. What takes it back is kept, unless it is refused.
 fn make<P: Program + Drop, R: Threads + Sync, G: Gate>(
-    crew: &Crew<'_, R, G>,
+    workers: &Workers<'_, R, G>,
     live: &mut Live<P>,
     text: &mut Vec<u8>,
     batch: &[Edit],
@@ -174,13 +181,13 @@ fn make<P: Program + Drop, R: Threads + Sync, G: Gate>(
     ensures after { OnOk result (live.new ≡ after_batch live.old batch.now) }
     ensures text { OnOk result (text.new.items ≡ text.old.items ++ reply_lines live.old.detail.places (last_result P.acts P.ending live.old) (live_reply P.acts P.ending P.looks live.old batch.now)) }
 {
-    keep_undo(crew.alloc, live, batch)?;
-    advance(crew, live, text, batch)
+    keep_undo(workers.alloc, live, batch)?;
+    advance(workers, live, text, batch)
 }
 
 /// Makes batches, and appends the block of each; the first has the number 1.
 fn make_all<P: Program + Drop, R: Threads + Sync, G: Gate>(
-    crew: &Crew<'_, R, G>,
+    workers: &Workers<'_, R, G>,
     live: &mut Live<P>,
     text: &mut Vec<u8>,
     batches: &[Batch],
@@ -189,16 +196,16 @@ fn make_all<P: Program + Drop, R: Threads + Sync, G: Gate>(
     ensures text { OnOk result (text.new.items ≡ text.old.items ++ blocks_after live.old.detail 1 (last_result P.acts P.ending live.old) (live_replies P.acts P.ending P.looks live.old batches.now)) }
 {
     for (index, batch) in batches.iter().enumerate() {
-        crew.gate.enter(DEPTH_OF_RUNS, index as u64 + 1);
+        workers.gate.enter(DEPTH_OF_RUNS, index as u64 + 1);
         push_line(text, "run", &[index as u64 + 1])?;
-        make(crew, live, text, batch.as_slice())?;
+        make(workers, live, text, batch.as_slice())?;
     }
     Ok(())
 }
 
 /// Appends the report of a job whose session was opened with this update, and then the end.
 fn tell_all<P: Program + Drop, R: Threads + Sync, G: Gate>(
-    crew: &Crew<'_, R, G>,
+    workers: &Workers<'_, R, G>,
     live: &mut Live<P>,
     update: &Update,
     batches: &[Batch],
@@ -211,13 +218,13 @@ fn tell_all<P: Program + Drop, R: Threads + Sync, G: Gate>(
         ++ blocks_after live.old.detail 1 (last_result P.acts P.ending live.old) (live_replies P.acts P.ending P.looks live.old batches.now) ++ end.now) }
 {
     push_opening(live, update, text)?;
-    make_all(crew, live, text, batches)?;
+    make_all(workers, live, text, batches)?;
     text.extend_from_slice(end)
 }
 
 /// Opens the session of a job, makes its batches, and appends its report and the end.
 pub fn begin<P: Program + Drop, R: Threads + Sync, G: Gate>(
-    crew: &Crew<'_, R, G>,
+    workers: &Workers<'_, R, G>,
     detail: Detail,
     job: Job<P>,
     text: &mut Vec<u8>,
@@ -232,9 +239,9 @@ pub fn begin<P: Program + Drop, R: Threads + Sync, G: Gate>(
         input,
         batches,
     } = job;
-    match open(crew, detail, program, input) {
+    match open(workers, detail, program, input) {
         Ok((mut live, update)) => {
-            let told = tell_all(crew, &mut live, &update, batches.as_slice(), text, end);
+            let told = tell_all(workers, &mut live, &update, batches.as_slice(), text, end);
             drop(update);
             drop(batches);
             told.and(Ok(live))
@@ -248,7 +255,7 @@ pub fn begin<P: Program + Drop, R: Threads + Sync, G: Gate>(
 
 /// Does what a line asks, and appends what is answered.
 pub fn push_answer<P: Program + Drop, R: Threads + Sync, G: Gate>(
-    crew: &Crew<'_, R, G>,
+    workers: &Workers<'_, R, G>,
     live: &mut Live<P>,
     text: &mut Vec<u8>,
     asked: Asked,
@@ -258,13 +265,13 @@ pub fn push_answer<P: Program + Drop, R: Threads + Sync, G: Gate>(
 {
     match asked {
         Asked::Batch(batch) => {
-            let made = make(crew, live, text, batch.as_slice());
+            let made = make(workers, live, text, batch.as_slice());
             drop(batch);
             made
         }
         Asked::Undo => match live.undos.pop_front() {
             Some(undo) => {
-                let advanced = advance(crew, live, text, undo.as_slice());
+                let advanced = advance(workers, live, text, undo.as_slice());
                 drop(undo);
                 advanced
             }

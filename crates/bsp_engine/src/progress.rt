@@ -1,7 +1,7 @@
 //! Progress: long work shows on standard error the run and the superstep that it is at.
 
-use bsp_pool::Gate;
-use bsp_run::DEPTH_OF_RUNS;
+use bsp_crew::DEPTH_OF_RUNS;
+use bsp_gate::Gate;
 use std::io::IsTerminal;
 use std::sync::atomic::{AtomicU64, Ordering};
 use std::time::{Clock, Instant};

@@ -31,3 +31,4 @@ pub mod MovedAlike
 pub mod Alike
 pub mod TakingOver
 pub mod Facts
+pub mod GoingOn

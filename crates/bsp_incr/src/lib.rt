@@ -10,4 +10,5 @@ mod superstep;
 
 pub use edit::{Batch, Edit, EditError, EditFault, EditRefusal};
 pub use reply::{Place, Reply, Update};
+pub use rerun::{Workers, recorded_alone, recorded_run};
 pub use session::{Session, scratch_run_behind};

@@ -1,9 +1,8 @@
 //! A run that is made again, against the record of the run before.
 
-ghost use Rattle.std.specs.Prelude.{◌≡◌, IfOk, OnOk, OnErr, None, Some, option_map, true};
+ghost use Rattle.std.specs.Prelude.{◌≡◌, IfOk, OnOk, OnErr, None, Some, option_map};
 ghost use Rattle.bsp_model.specs.Input.{input_fault};
-ghost use Rattle.bsp_run.specs.Run.{start, run};
-ghost use Rattle.bsp_run.specs.Condition.{is_ended};
+ghost use Rattle.bsp_run.specs.Run.{run};
 ghost use Rattle.bsp_run.specs.Law.{IsBspRun};
 ghost use Rattle.bsp_incr.specs.Inside.Changes.{update_of};
 ghost use Rattle.bsp_incr.specs.Edits.{refusal_of, edited};
@@ -14,53 +13,26 @@ ghost use Rattle.bsp_run.specs.TurnBy.{turn_by};
 mod finishing;
 mod given;
 mod opening;
+mod remaking;
 mod under_way;
 mod workers;
 
-use crate::compare::{Marks, marks_of_edits};
+use crate::compare::{Marks, all_marks, marks_of_edits};
 use crate::edit::{make_edits, restore};
 use crate::rerun::finishing::finished;
 use crate::rerun::opening::opened;
-use crate::superstep::advance;
+use crate::rerun::remaking::{Remade, remake_all, remake_alone};
 use crate::{Edit, Update};
-use bsp_model::{Input, OutOfMemory, ProcessSet};
-use bsp_pool::Gate;
-use bsp_run::{History, Tape};
+use bsp_gate::Gate;
+use bsp_model::{Input, OutOfMemory};
+use bsp_run::History;
 use bsp_step::Program;
 pub use given::Given;
+use std::alloc::Global;
 use std::mem::replace;
 use std::thread::Threads;
 pub use under_way::UnderWay;
 pub use workers::Workers;
-
-/// The supersteps of a run that has just been opened, and what was done for them. The processes in `first` begin with something else than in the run
-/// before.
-fn remake_all<P: Program, G: Gate, R: Threads + Sync>(
-    given: &Given<'_, P, R, G>,
-    tape: &mut Tape,
-    first: ProcessSet,
-) -> Result<Update, OutOfMemory>
-    requires started { tape.old ≡ start given.now.input }
-    requires first { AreFirstMarked given.now.before given.now.input first }
-    ensures ended { OnOk result (is_ended tape.new.phase ≡ true) }
-    ensures run { OnOk result (tape.new ≡ run (turn_by P.Program given.now.program) given.now.input) }
-    ensures update { IfOk result
-        (λ update. update ≡ update_of (P.looks given.now.program) given.now.before tape.new) }
-{
-    let mut under_way = UnderWay::new(given.workers.alloc, first);
-    while tape.is_open() {
-        match advance(given, tape, &mut under_way) {
-            Ok(()) => {}
-            Err(error) => {
-                drop(under_way);
-                return Err(error);
-            }
-        }
-    }
-    let UnderWay { update, spare, .. } = under_way;
-    drop(spare);
-    Ok(update)
-}
 
 /// The run of a program on a lawful input, made against the run before, if there was one, of the same program and as many processes: a turn is
 /// taken only where the recorded one does not serve, and a delivery is made only where it depends on something else.
@@ -81,29 +53,78 @@ pub fn rerun<P: Program, G: Gate, R: Threads + Sync>(
 {
     let Marks { args, first } = marks;
     let given = Given {
-        workers,
+        alloc: workers.alloc,
+        gate: workers.gate,
         program,
         input,
         old,
         other_args: &args,
     };
-    let mut tape = opened(&given, &first)?;
-    match remake_all(&given, &mut tape, first) {
-        Ok(update) => {
-            let executed = update.executed.as_slice();
-            match finished(old, tape, input.mems.len(), executed) {
-                Ok(history) => Ok((history, update)),
-                Err(error) => {
-                    drop(update);
-                    Err(error)
-                }
-            }
-        }
+    let tape = opened(&given, &first)?;
+    let Remade { tape, update } = remake_all(workers.rt, given, workers.count, tape, first)?;
+    match finished(old, tape, input.mems.len(), update.executed.as_slice()) {
+        Ok(history) => Ok((history, update)),
         Err(error) => {
-            drop(tape);
+            drop(update);
             Err(error)
         }
     }
+}
+
+/// The run of a program on a lawful input, and what was done for it: every turn, and every delivery.
+pub fn recorded_run<P: Program, G: Gate, R: Threads + Sync>(
+    workers: Workers<'_, R, G>,
+    program: &P,
+    input: &Input,
+) -> Result<(History, Update), OutOfMemory>
+    requires lawful { input_fault input.now ≡ None }
+    ensures run { IfOk result (λ r. r.0 ≡ run (turn_by P.Program program.now) input.now) }
+    ensures update { IfOk result (λ r. r.1 ≡ update_of (P.looks program.now) None r.0) }
+{
+    rerun(workers, program, None, input, all_marks(input))
+}
+
+/// The run of `rerun`, by the calling thread.
+fn rerun_alone<P: Program, G: Gate>(
+    alloc: Global,
+    program: &P,
+    old: Option<&History>,
+    input: &Input,
+    marks: Marks,
+    gate: &G,
+) -> Result<History, OutOfMemory>
+    requires lawful { input_fault input.now ≡ None }
+    requires args { AreArgsMarked (option_map (λ k. k.now) old) input.now marks.args }
+    requires first { AreFirstMarked (option_map (λ k. k.now) old) input.now marks.first }
+    requires before { IsBefore (turn_by P.Program program.now) input.now (option_map (λ k. k.now) old) }
+    ensures { IfOk result (λ history. history ≡ run (turn_by P.Program program.now) input.now) }
+{
+    let Marks { args, first } = marks;
+    let given = Given {
+        alloc,
+        gate,
+        program,
+        input,
+        old,
+        other_args: &args,
+    };
+    let tape = opened(&given, &first)?;
+    let Remade { tape, update } = remake_alone(&given, tape, first)?;
+    drop(update);
+    tape.finish()
+}
+
+/// The run of a program on a lawful input, by the calling thread.
+pub fn recorded_alone<P: Program, G: Gate>(
+    alloc: Global,
+    program: &P,
+    input: &Input,
+    gate: &G,
+) -> Result<History, OutOfMemory>
+    requires lawful { input_fault input.now ≡ None }
+    ensures { IfOk result (λ history. history ≡ run (turn_by P.Program program.now) input.now) }
+{
+    rerun_alone(alloc, program, None, input, all_marks(input), gate)
 }
 
 /// Edits an input and makes its run again, against the run of the input as it was, which goes to `before`. After `OutOfMemory` nothing has changed.

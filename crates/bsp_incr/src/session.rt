@@ -2,12 +2,11 @@
 
 mod replies;
 
-use crate::compare::all_marks;
 use crate::edit::{are_there, refusal_of};
-use crate::rerun::{Workers, rerun, rerun_edited};
+use crate::rerun::{Workers, recorded_run, rerun_edited};
 use crate::{Edit, EditError, Update};
+use bsp_gate::Gate;
 use bsp_model::{Input, OutOfMemory};
-use bsp_pool::Gate;
 use bsp_run::{History, RunError};
 use bsp_step::Program;
 pub use replies::scratch_run_behind;
@@ -76,8 +75,7 @@ impl<P: Program + Drop> Session<P> {
             count: workers,
             gate,
         };
-        let marks = all_marks(&input);
-        match rerun(workers, &program, None, &input, marks) {
+        match recorded_run(workers, &program, &input) {
             Ok((history, update)) => {
                 let session = Session {
                     program,

@@ -1,10 +1,11 @@
 //! One superstep of a run that is made again, against the record of the run before.
 
-ghost use Rattle.std.specs.Prelude.{◌≡◌, IfOk, OnOk, None, length, true};
+ghost use Rattle.std.specs.Prelude.{◌≡◌, IfOk, IfSome, OnOk, None, length, true};
 ghost use Rattle.bsp_run.specs.Condition.{AreOutcomesOf, is_open, is_turned};
 ghost use Rattle.bsp_run.specs.Ending.{end_of};
 ghost use Rattle.bsp_run.specs.Run.{after_turns, open_views, advance};
 ghost use Rattle.bsp_run.specs.TurnBy.{turn_by};
+ghost use Rattle.bsp_crew.specs.Parts.{AreOfRun};
 ghost use Rattle.bsp_incr.specs.Inside.Given.{views_beside, IsMidway};
 ghost use Rattle.bsp_incr.specs.Inside.Known.{AreDoubtful, AreMarkedAlone, KnowsTable};
 
@@ -16,11 +17,11 @@ use crate::compare::{Doubtful, KnownTable, alike_beside, open_superstep};
 use crate::rerun::{Given, UnderWay};
 use crate::superstep::ending::make_deliveries;
 use crate::superstep::turns::turns_again;
+use bsp_crew::{Crew, SharedRun};
+use bsp_gate::Gate;
 use bsp_model::OutOfMemory;
-use bsp_pool::Gate;
 use bsp_run::{Phase, Tape};
 use bsp_step::{Outcomes, Program};
-use std::thread::Threads;
 
 /// Takes the outcomes of the open superstep. True where it ends by delivery, which is asked only where it is not known; else the run has ended.
 fn end_turns(tape: &mut Tape, outcomes: Outcomes, is_delivery: bool) -> Result<bool, OutOfMemory>
@@ -38,12 +39,14 @@ fn end_turns(tape: &mut Tape, outcomes: Outcomes, is_delivery: bool) -> Result<b
 }
 
 /// Takes the turns of the open superstep, and makes its deliveries. A process that is not doubtful sees in it what it saw in the run before.
-fn remake_superstep<P: Program, G: Gate, R: Threads + Sync>(
-    given: &Given<'_, P, R, G>,
+fn remake_superstep<P: Program, J: SharedRun, G: Gate>(
+    given: &Given<'_, P, G>,
     tape: &mut Tape,
     doubtful: &Doubtful,
     under_way: &mut UnderWay,
+    crew: Option<&Crew<J>>,
 ) -> Result<(), OutOfMemory>
+    requires crew { IfSome crew (λ _. AreOfRun (turn_by P.Program given.now.program) given.now.input J.turn J.views) }
     requires open { is_open tape.old.phase ≡ true }
     requires doubtful { AreDoubtful (views_beside given.now tape.old) (open_views tape.old) doubtful.now }
     requires few { AreMarkedAlone (views_beside given.now tape.old) (open_views tape.old)
@@ -55,23 +58,39 @@ fn remake_superstep<P: Program, G: Gate, R: Threads + Sync>(
 {
     let superstep = open_superstep(given, tape);
     let executed = &mut under_way.update.executed;
-    let outcomes = turns_again(given, &superstep, doubtful, executed, &mut under_way.spare)?;
+    let outcomes = turns_again(
+        given,
+        &superstep,
+        doubtful,
+        executed,
+        &mut under_way.spare,
+        crew,
+    )?;
     let alike = alike_beside(given, tape, doubtful, &outcomes);
     under_way.table = alike.next_table();
     let goes_on = end_turns(tape, outcomes, alike.ends)?;
     if !goes_on {
         return Ok(());
     }
-    make_deliveries(given, tape, &doubtful.processes, alike.costs, under_way)?;
+    make_deliveries(
+        given,
+        tape,
+        &doubtful.processes,
+        alike.costs,
+        under_way,
+        crew,
+    )?;
     Ok(())
 }
 
 /// The open superstep of a run that is made again. Where nobody sees something else than in the run before, it is taken over whole.
-pub fn advance<P: Program, G: Gate, R: Threads + Sync>(
-    given: &Given<'_, P, R, G>,
+pub fn advance<P: Program, J: SharedRun, G: Gate>(
+    given: &Given<'_, P, G>,
     tape: &mut Tape,
     under_way: &mut UnderWay,
+    crew: Option<&Crew<J>>,
 ) -> Result<(), OutOfMemory>
+    requires crew { IfSome crew (λ _. AreOfRun (turn_by P.Program given.now.program) given.now.input J.turn J.views) }
     requires open { is_open tape.old.phase ≡ true }
     requires under_way { IsMidway P.Program given.now tape.old under_way.old }
     requires table { KnowsTable given.now.before tape.old under_way.old.table }
@@ -88,6 +107,6 @@ pub fn advance<P: Program, G: Gate, R: Threads + Sync>(
             under_way.table = KnownTable::AsBefore;
             Ok(())
         }
-        _ => remake_superstep(given, tape, &doubtful, under_way),
+        _ => remake_superstep(given, tape, &doubtful, under_way, crew),
     }
 }

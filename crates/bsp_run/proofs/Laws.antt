@@ -21,7 +21,8 @@ use Rattle.bsp_run.specs.Inside.Record.{IsRecord, IsEndIn}
 use Rattle.bsp_run.specs.Condition.{is_ended, IsRun, IsInPhase, AreOutcomesOf}
 use Rattle.bsp_deliver.specs.Condition.{AreDeliverable}
 use Rattle.bsp_run.proofs.Conditions.{AreDeliverable-from_turns}
-use Rattle.bsp_run.proofs.Runs.{IsBetween, start-between, advance-between, ended-between}
+use Rattle.bsp_run.specs.Inside.Left.{IsBetween}
+use Rattle.bsp_run.proofs.Runs.{start-between, advance-between, ended-between}
 use Rattle.bsp_run.proofs.Records.{IsRecord-run}
 
 -- a place past the last of these supersteps

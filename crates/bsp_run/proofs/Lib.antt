@@ -20,4 +20,3 @@ pub mod SameLines
 pub mod SharedCells
 pub mod RunErrors
 pub mod Gathered
-pub mod WorkerRows

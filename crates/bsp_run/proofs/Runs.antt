@@ -12,6 +12,7 @@ use Rattle.bsp_run.specs.declared.phase.Phase.TheVariants.{Open, Turned, Ended}
 use Rattle.bsp_run.specs.declared.superstep.Superstep.{Superstep}
 use Rattle.bsp_run.specs.Ending.{end_of}
 use Rattle.bsp_run.specs.Run.{Run, start, run, open_views, after_turns, after_delivery, phase_after, delivered_if, advanced_if, advance, times, is_limit}
+use Rattle.bsp_run.specs.Inside.Left.{IsBetween, LeadsTo}
 use Rattle.bsp_run.specs.Supersteps.{superstep_at, open_superstep, superstep_shown}
 use Rattle.bsp_run.specs.Condition.{is_turned, is_open, is_ended}
 
@@ -60,11 +61,6 @@ ended_otherwise : (p : Phase) → is_open p ≡ false → is_turned p ≡ false 
 ended_otherwise Open h k = cc
 ended_otherwise Turned h k = cc
 ended_otherwise (Ended status) h k = refl
-
--- Between supersteps a run is open or has ended; while it is open, so many supersteps are left to the limit.
-pub record IsBetween (n : ℕ) (r : Run) : Type 0 where
-  pub between : is_turned r.phase ≡ false
-  pub left : is_open r.phase ≡ true → (1 ≤ n) × (length r.past + n ≡ r.limit)
 
 never_open : (e : Option Status) → is_open (phase_after e) ≡ false
 never_open None = refl
@@ -136,12 +132,6 @@ times_more turn m n r e = ap (λ k. times k (advance turn) r) e
 pub times-closed : (turn : ViewParts → OutcomeParts) (n : ℕ) (r : Run) → is_open r.phase ≡ false → times n (advance turn) r ≡ r
 times-closed turn zero r h = refl
 times-closed turn (suc n) r h = ap (times n (advance turn)) (advance-closed turn r h) ∙ times-closed turn n r h
-
--- Between supersteps: those that are left make the run that is whole.
-pub record LeadsTo (turn : ViewParts → OutcomeParts) (r whole : Run) : Type 0 where
-  pub left : ℕ
-  pub between : IsBetween left r
-  pub rest : times left (advance turn) r ≡ whole
 
 pub start-leads : (turn : ViewParts → OutcomeParts) (input : Input) → 1 ≤ input.limit → LeadsTo turn (start input) (run turn input)
 unfolding run

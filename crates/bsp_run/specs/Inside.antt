@@ -8,3 +8,4 @@ pub mod Lines
 pub mod SharedCells
 pub mod Views
 pub mod ViewsRef
+pub mod Left

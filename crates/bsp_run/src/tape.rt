@@ -149,7 +149,7 @@ impl Tape {
     }
 
     /// The views of the open superstep, by process. It takes no memory.
-    pub fn open_views(&self) -> &Views
+    pub fn open_views(&self) -> &Shared<Views>
         ensures views { result.now ≡ open_views self.now }
         ensures limits { self.now.phase ≡ Phase.Open → All IsView result.now }
     {

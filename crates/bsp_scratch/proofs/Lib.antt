@@ -1,4 +1,3 @@
-pub mod PartLists
 pub mod PrintedLines
 pub mod UnrecordedRuns
 pub mod Underway

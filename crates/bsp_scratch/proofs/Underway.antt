@@ -7,16 +7,16 @@ use Rattle.bsp_step.specs.OutcomeParts.{OutcomeParts}
 use Rattle.bsp_run.specs.declared.result.Status.{Status}
 use Rattle.bsp_run.specs.declared.phase.Phase.TheVariants.{Open, Turned}
 use Rattle.bsp_scratch.specs.declared.unrecorded.Unrecorded.{Unrecorded}
-use Rattle.bsp_run.specs.Run.{Run, start, open_views, run}
-use Rattle.bsp_scratch.specs.Parts.{views_at}
+use Rattle.bsp_run.specs.Run.{Run, start, run}
+use Rattle.bsp_run.specs.Law.{views_in}
+use Rattle.bsp_run.proofs.Records.{open_views-in}
 use Rattle.bsp_scratch.specs.Inside.IsUnrecorded.{IsUnrecorded, IsUnrecordedIn, HasEnded, AreTaken}
 use Rattle.bsp_scratch.specs.Inside.Underway.{HasLeft, IsUnderway, Stands}
 use Rattle.bsp_scratch.proofs.UnrecordedRuns.{turned_so, underway_start, underway_open, ended_is_run, limit_is_run}
 
 -- the processes see what they see in that superstep of the run
-pub views_then : (turn : ViewParts → OutcomeParts) (input : Input) (step n : ℕ) (vs : List ViewParts) (kept : Unrecorded) → HasLeft turn input step n vs kept → vs ≡ views_at turn input step
-unfolding views_at
-views_then turn input step n vs kept u = u.same.views ∙ ap open_views u.made
+pub views_then : (turn : ViewParts → OutcomeParts) (input : Input) (step n : ℕ) (vs : List ViewParts) (kept : Unrecorded) → HasLeft turn input step n vs kept → vs ≡ views_in turn input step
+views_then turn input step n vs kept u = u.same.views ∙ open_views-in turn input u.so_far u.made ∙ ap (views_in turn input) u.count
 
 -- what is kept before the first superstep
 pub underway_from_start : (turn : ViewParts → OutcomeParts) (input : Input) (vs : List ViewParts) (kept : Unrecorded) → 1 ≤ input.limit → kept.end ≡ None → kept.step ≡ 0 → IsUnrecorded (start input) vs kept → IsUnderway turn input vs kept
@@ -51,21 +51,10 @@ pub goes_on : (turn : ViewParts → OutcomeParts) (input : Input) (step n : ℕ)
     → AreTaken (is_some now.end) (turned_so turn u.so_far) vs now → (now.end ≡ None) × IsUnrecordedIn Turned (turned_so turn u.so_far) vs now now.taken.outcomes
 goes_on turn input step n vs old now u none taken = subst (λ (b : Bool). AreTaken b (turned_so turn u.so_far) vs now) none taken
 
--- no pace calls workers where there is none
-pub no_call : {X : Type 0} (Q : Type 0) (given now : Option X) (calls : Bool) → IfNone given (now ≡ None) → IfNone now (calls ≡ false) → calls ≡ true → IfNone given Q
-no_call Q (Some x) now calls same never called = tt
-no_call Q None now calls same never called =
-    let off : calls ≡ false = subst (λ (o : Option _). IfNone o (calls ≡ false)) same never in absurd (cc)
-
 -- nothing is said of a status that there is
 pub no_end : {X : Type 0} (Q : Type 0) (given : Option X) (end : Option Status) → is_some end ≡ true → IfNone given (end ≡ None → Q)
 no_end Q (Some x) end some = tt
 no_end Q None end some = λ none. absurd (cc)
-
--- what there is none of stays so
-pub still_none : {X : Type 0} (given now next : Option X) → IfNone given (now ≡ None) → IfNone now (next ≡ None) → IfNone given (next ≡ None)
-still_none (Some x) now next same none = tt
-still_none None now next same none = subst (λ (o : Option _). IfNone o (next ≡ None)) same none
 
 over_so : (turn : ViewParts → OutcomeParts) (input : Input) (vs : List ViewParts) (kept : Unrecorded) (o : Option Status) → kept.end ≡ o → Stands turn input vs kept o → (o ≡ None → input.limit ≤ kept.step) → HasEnded o (run turn input) vs kept
 over_so turn input vs kept None is stands over =

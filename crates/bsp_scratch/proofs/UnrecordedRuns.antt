@@ -40,6 +40,7 @@ use Rattle.bsp_run.proofs.Conditions.{length-views_of, count_of_outcomes, AreDel
 use Rattle.bsp_run.proofs.Laws.{supersteps-limit, outcomes-last, outcomes-ended}
 use Rattle.bsp_run.proofs.Opens.{start_is_run, state_seen-views_of}
 use Rattle.bsp_run.proofs.Phases.{turned_is_run, is_turned_run, next_is_run, count-next_state, end_of-limit}
+use Rattle.bsp_run.proofs.Records.{superstep, past-delivered, IsRecord-start, IsRecord-goes_on}
 use Rattle.bsp_run.proofs.Runs.{advance-delivers, advance-ends, times_more, times-closed, turns_closed}
 use Rattle.bsp_run.proofs.Turns.{views_within, AreOutcomesOf-turns}
 
@@ -66,7 +67,8 @@ unfolding run start
 underway_start turn input n vs kept e h same =
     record {
       so_far = start input;
-      made = refl;
+      count = refl;
+      made = IsRecord-start turn input h;
       rest = ap (λ m. times m (advance turn) (start input)) e;
       left = omega (arith, e);
       phase = sym (opened_while (n == 0) n refl (omega (arith, e, h)));
@@ -269,21 +271,17 @@ taken_on turn r vs kept now h have made ends ep et =
     taken_by now.end r (turned_so turn r) vs now refl (sym ends)
     (subst (λ (us : List OutcomeParts). IsUnrecordedIn (phase_after now.end) (after_turns r us) vs now os) (turns_are turn r vs kept os h made) (kept_then r vs kept now os now.end h have (sym ends) ep et))
 
--- the last of several supersteps
-times_last : (turn : ViewParts → OutcomeParts) (n : ℕ) (r : Run) → times (n + 1) (advance turn) r ≡ advance turn (times n (advance turn) r)
-times_last turn zero r = times_more turn (zero + 1) zero r (omega arith)
-times_last turn (suc n) r =
-    times_more turn (suc n + 1) (n + 1) r (omega arith) ∙ times_last turn n (advance turn r)
-
 -- The next superstep has opened, or the limit is reached.
 pub underway_next : (turn : ViewParts → OutcomeParts) (input : Input) (step n : ℕ) (vs ws : List ViewParts) (old new : Unrecorded) (u : HasLeft turn input step (n + 1) vs old) → (turned_so turn u.so_far).phase ≡ Turned
     → IsUnrecorded (after_delivery (turned_so turn u.so_far)) ws new → HasLeft turn input (step + 1) n ws new
 underway_next turn input step n vs ws old new u turned same =
     let r : Run = u.so_far in
+    let os : List OutcomeParts = map turn (open_views r) in
     let next : advance turn r ≡ after_delivery (turned_so turn r) = advance-delivers turn r (underway_open turn input step n vs old u) (ap is_turned turned) in
     record {
       so_far = after_delivery (turned_so turn r);
-      made = sym next ∙ ap (advance turn) u.made ∙ sym (times_last turn step (start input));
+      count = ap (λ (ss : List Superstep). length ss) (past-delivered r os) ∙ length-append r.past (superstep (open_views r) os ∷ []) ∙ ap (λ k. k + 1) u.count;
+      made = IsRecord-goes_on turn input r u.made (underway_open turn input step n vs old u) (ap is_turned turned);
       rest = ap (times n (advance turn)) (sym next) ∙ sym (times_more turn (n + 1) n r (omega arith)) ∙ u.rest;
       left = left_next r (map turn (open_views r)) n u.left;
       phase = phase_next r (map turn (open_views r)) n u.left;

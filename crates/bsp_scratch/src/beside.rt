@@ -3,34 +3,21 @@
 ghost use Rattle.std.specs.Prelude.{◌≡◌, ◌≤◌, ◌<◌, None, IfOk};
 ghost use Rattle.bsp_model.specs.Input.{input_fault};
 ghost use Rattle.bsp_step.specs.Turn.{turn_of};
-ghost use Rattle.bsp_scratch.specs.Parts.{AreOfRun};
+ghost use Rattle.bsp_crew.specs.Parts.{AreOfRun};
 ghost use Rattle.bsp_run.specs.Run.{run};
 ghost use Rattle.bsp_scratch.specs.Inside.Underway.{IsUnderway};
 ghost use Rattle.bsp_run.specs.Result.{result_of};
 
-use crate::crew::Crew;
-use crate::pace::Pace;
 use crate::plain::{finish, lawful_result, result_at_end, supersteps};
-use crate::shared_run::SharedRun;
 use crate::unrecorded::Unrecorded;
+use bsp_crew::{Crew, Pace, SharedRun, workers_beside};
+use bsp_gate::Gate;
 use bsp_model::{Input, OutOfMemory, Shared};
-use bsp_pool::Gate;
 use bsp_run::{Recording, RunResult, Views, numbers};
 use bsp_step::Program;
 use std::alloc::Global;
 use std::marker::Brand;
-use std::thread::{Threads, available_parallelism, join};
-
-/// How many workers a run has beside the calling thread: where the gate tells the time, no more than there are processors.
-fn workers_beside<G: Gate, R: Threads>(rt: &R, workers: usize, gate: &G) -> usize {
-    if gate.now().is_none() {
-        return workers.saturating_sub(1);
-    }
-    match available_parallelism(rt) {
-        Ok(processors) => workers.min(processors.get()).saturating_sub(1),
-        Err(_) => 0,
-    }
-}
+use std::thread::{Threads, join};
 
 /// The result of a run that is under way, beside a crew that is there.
 fn beside_crew<J: SharedRun, P: Program, G: Gate, R: Threads + Sync>(
@@ -108,7 +95,7 @@ pub fn wide_result<P: Program, G: Gate, R: Threads + Sync>(
     let processes = numbers(input.mems.len());
     let views = Shared::new(alloc, Views::first(alloc, input, Recording::None)?)?;
     let mut kept = Unrecorded::new(alloc, input, processes);
-    let pace = Some(Pace::new(gate));
+    let pace = Some(Pace::new(gate, Recording::None));
     let alone = supersteps::<Brand, P, G>(
         alloc, program, input, views, &mut kept, None, pace, gate,
     );

@@ -2,15 +2,8 @@
 #![tactic(auto)]
 
 mod beside;
-mod crew;
-mod pace;
-mod parts;
-mod patience;
 mod plain;
 mod printed;
-mod seat;
-mod shared_run;
-mod sheet;
 mod tally;
 mod unrecorded;
 

@@ -1,20 +1,18 @@
 //! A run of which no record is kept, on one thread or beside a crew.
 
-ghost use Rattle.std.specs.Prelude.{◌≡◌, ◌≤◌, false, is_some, None, IfNone, IfOk, IfSome, OnOk, map};
+ghost use Rattle.std.specs.Prelude.{◌≡◌, ◌≤◌, is_some, None, IfNone, IfOk, IfSome, OnOk, map};
 ghost use Rattle.bsp_model.specs.Input.{input_fault};
 ghost use Rattle.bsp_step.specs.Turn.{turn_of};
-ghost use Rattle.bsp_scratch.specs.Parts.{AreOfRun};
+ghost use Rattle.bsp_crew.specs.Parts.{AreOfRun};
 ghost use Rattle.bsp_run.specs.Run.{Run, start, after_turns, open_views, run};
 ghost use Rattle.bsp_scratch.specs.Inside.IsUnrecorded.{IsUnrecorded, HasEnded, AreTaken};
 ghost use Rattle.bsp_scratch.specs.Inside.Underway.{IsUnderway, Stands};
 ghost use Rattle.bsp_run.specs.Result.{result_of};
 
-use crate::crew::Crew;
-use crate::pace::Pace;
-use crate::shared_run::SharedRun;
 use crate::unrecorded::{Unrecorded, all_turns};
+use bsp_crew::{Crew, Pace, SharedRun, calls_workers};
+use bsp_gate::Gate;
 use bsp_model::{Input, OutOfMemory, Shared};
-use bsp_pool::Gate;
 use bsp_run::{Phase, Recording, RunResult, Views, numbers};
 use bsp_step::Program;
 use std::alloc::Global;
@@ -37,22 +35,11 @@ fn unrecorded_turns<J: SharedRun, P: Program, G: Gate>(
         → OnOk result (AreTaken (is_some kept.new.end)
         (after_turns r (map (turn_of (P.acts program.now) (P.ending program.now)) (open_views r))) views.now kept.new) }
 {
-    let step = kept.step;
+    let (step, processes) = (kept.step, kept.processes);
     let taken = &mut kept.taken;
-    all_turns(alloc, program, views, taken, step, crew, gate)?;
+    all_turns(alloc, program, views, processes, taken, step, crew, gate)?;
     kept.end = views.end(alloc, &kept.taken.outcomes)?;
     Ok(())
-}
-
-/// Whether workers are worth their start, where there is a pace.
-fn calls_workers<G: Gate>(pace: &mut Option<Pace>, gate: &G) -> bool
-    ensures never { IfNone pace.old (result ≡ false) }
-    ensures none { IfNone pace.old (pace.new ≡ None) }
-{
-    match pace {
-        Some(pace) => pace.is_worth_workers(gate),
-        None => false,
-    }
 }
 
 /// The supersteps that are left of a run; with a pace, those until workers are worth their start. It answers the views at which they end.

@@ -1,26 +1,23 @@
 //! A run of which no record is kept: what its reply needs, superstep by superstep.
 
-ghost use Rattle.std.specs.Prelude.{◌≡◌, ◌≤◌, ◌<◌, ◌+◌, ◌++◌, [], IfOk, IfSome, None, OnOk, length, map};
+ghost use Rattle.std.specs.Prelude.{◌≡◌, ◌≤◌, ◌<◌, ◌+◌, [], IfOk, IfSome, None, OnOk, length, map};
 ghost use Rattle.std.specs.Bool.{OnTrue, OnFalse};
 ghost use Rattle.std.specs.List.{range_with_len};
 ghost use Rattle.bsp_model.specs.Input.{input_fault};
 ghost use Rattle.bsp_step.specs.Turn.{turn_of};
 ghost use Rattle.bsp_run.specs.Run.{Run, start, open_views, after_delivery};
 ghost use Rattle.bsp_run.specs.Setting.{next_views};
-ghost use Rattle.bsp_run.specs.Shares.{turns_of};
 ghost use Rattle.bsp_run.specs.Result.{result_of};
 ghost use Rattle.bsp_run.specs.Inside.Settings.{AreTurned};
 ghost use Rattle.bsp_scratch.specs.Inside.IsUnrecorded.{IsUnrecorded, IsUnrecordedIn, HasEnded};
 
-use crate::crew::Crew;
-use crate::parts::turns_between;
-use crate::shared_run::SharedRun;
 use crate::tally::Tally;
+use bsp_crew::{Crew, SharedRun, wide_turns};
 use bsp_deliver::{Cells, deliver_moving};
-use bsp_model::limits::{MOST_PROCESSES, MOST_SUPERSTEPS};
+use bsp_gate::Gate;
+use bsp_model::limits::MOST_SUPERSTEPS;
 use bsp_model::{Input, Memories, OutOfMemory, Shared};
-use bsp_pool::Gate;
-use bsp_run::{DEPTH_OF_SUPERSTEPS, Phase, RunResult, Status, Views, add_memories};
+use bsp_run::{Phase, RunResult, Status, Views, add_memories};
 use bsp_step::{Outcome, OutcomeRows, Outcomes, Program};
 use std::alloc::Global;
 use std::mem;
@@ -44,50 +41,30 @@ pub(crate) struct Unrecorded {
     pub(crate) end: Option<Status>,
 }
 
-/// Adds the turns of all processes to `rows`: by the crew beside the calling thread, where there is one.
-fn take_turns<J: SharedRun, P: Program, G: Gate>(
-    alloc: Global,
-    rows: &mut OutcomeRows,
-    spare: &mut Option<Outcome>,
-    program: &P,
-    views: &Shared<Views>,
-    step: u64,
-    crew: Option<&Crew<J>>,
-    gate: &G,
-) -> Result<(), OutOfMemory>
-    requires few { length views.now ≤ MOST_PROCESSES }
-    requires turn { IfSome crew (λ _. J.turn ≡ turn_of (P.acts program.now) (P.ending program.now)) }
-    requires seen { IfSome crew (λ _. views.now ≡ J.views step) }
-    ensures { OnOk result (rows.new ≡ rows.old
-        ++ turns_of (turn_of (P.acts program.now) (P.ending program.now)) views.now (range_with_len 0 (length views.now))) }
-{
-    match crew {
-        Some(crew) => crew.take_turns(alloc, rows, spare, program, views, step, gate),
-        None => turns_between(alloc, rows, spare, program, views, 0, views.len(), gate),
-    }
-}
-
 /// The turns of all processes, gathered in the room of the turns that were taken before.
 pub(crate) fn all_turns<J: SharedRun, P: Program, G: Gate>(
     alloc: Global,
     program: &P,
     views: &Shared<Views>,
+    processes: &[usize],
     taken: &mut Taken,
     step: u64,
     crew: Option<&Crew<J>>,
     gate: &G,
 ) -> Result<(), OutOfMemory>
-    requires few { length views.now ≤ MOST_PROCESSES }
+    requires processes { processes.now ≡ range_with_len 0 (length views.now) }
     requires turn { IfSome crew (λ _. J.turn ≡ turn_of (P.acts program.now) (P.ending program.now)) }
     requires seen { IfSome crew (λ _. views.now ≡ J.views step) }
     ensures { OnOk result (taken.new.outcomes
         ≡ map (turn_of (P.acts program.now) (P.ending program.now)) views.now) }
 {
-    gate.enter(DEPTH_OF_SUPERSTEPS, step);
     let before = mem::replace(&mut taken.outcomes, Outcomes::new());
     let mut rows = before.into_room(alloc, views.len())?;
     let spare = &mut taken.spare;
-    match take_turns(alloc, &mut rows, spare, program, views, step, crew, gate) {
+    let turns = wide_turns(
+        alloc, &mut rows, spare, program, views, processes, step, crew, gate,
+    );
+    match turns {
         Ok(()) => {}
         Err(error) => {
             drop(rows);

@@ -1,3 +1,2 @@
 mod AddressedRequests
 mod Queues
-mod Supersteps

@@ -5,14 +5,12 @@ mod addressed;
 mod delivery;
 mod inboxes;
 mod parcels;
-mod plain;
+mod runs;
 mod sessions;
-mod wide;
 
 pub use addressed::inbox;
 pub use delivery::{deliver, deliver_inbox};
 pub use inboxes::Inbox;
 pub use parcels::{answers_same, parcel_same};
-pub use plain::{run_plain, run_result};
+pub use runs::{run_plain, run_result, run_result_wide, run_wide};
 pub use sessions::{scratch_run, session_run};
-pub use wide::{run_result_wide, run_wide};

@@ -11,26 +11,14 @@ ghost use Rattle.bsp_incr.specs.Exact.{IsExact};
 ghost use Rattle.bsp_incr.specs.Replies.{input_after, AreReplies, AreScratchReplies};
 ghost use Rattle.bsp_incr.specs.Inside.Replies.{done, reply_to, replies_from, replies};
 
-use bsp_incr::{Batch, EditError, Reply, Session, Update, scratch_run_behind};
+use bsp_gate::{Gate, Open};
+use bsp_incr::{Batch, EditError, Reply, Session, Update, Workers, scratch_run_behind};
 use bsp_model::{Input, OutOfMemory};
-use bsp_pool::{Gate, Open};
 use bsp_run::{History, RunError, RunResult};
 use bsp_scratch::lawful_result;
 use bsp_step::Program;
 use std::alloc::{AllocError, Global};
 use std::thread::Threads;
-
-/// A runtime, where memory comes from, how many workers may be started, and the gate that each job passes.
-#[derive(Drop)]
-struct Workers<'a, R, G> {
-    rt: &'a R,
-    alloc: Global,
-    /// 1 to 16.
-    count: usize,
-    gate: &'a G,
-    ghost some: { 0 < count },
-    ghost few: { count ≤ 16 },
-}
 
 /// The reply that gives a history.
 fn done(history: &History, update: Update) -> Result<Reply, OutOfMemory>

@@ -95,8 +95,8 @@ impl Alike {
 }
 
 /// What is the same of the turns of the open superstep. Nothing is, where the run before did not end it by delivery.
-pub fn alike_beside<P: Program, R, G>(
-    given: &Given<'_, P, R, G>,
+pub fn alike_beside<P: Program, G>(
+    given: &Given<'_, P, G>,
     tape: &Tape,
     doubtful: &Doubtful,
     new: &Outcomes,

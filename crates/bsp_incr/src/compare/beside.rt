@@ -4,6 +4,7 @@ ghost use Rattle.std.specs.Prelude.{◌≡◌, ◌<◌, [], All, IfNone, IfSome,
 ghost use Rattle.bsp_deliver.specs.Condition.{AreDeliverable};
 ghost use Rattle.bsp_step.specs.ViewParts.{IsView};
 ghost use Rattle.bsp_run.specs.Run.{open_views};
+ghost use Rattle.bsp_run.specs.Law.{views_in};
 ghost use Rattle.bsp_run.specs.Condition.{is_open};
 ghost use Rattle.bsp_run.specs.Inside.Record.{IsRecord};
 ghost use Rattle.bsp_run.specs.TurnBy.{turn_by};
@@ -12,6 +13,7 @@ ghost use Rattle.bsp_incr.specs.Inside.Marks.{HaveOneTable};
 
 use crate::compare::before::{outcomes_before, views_before};
 use crate::rerun::Given;
+use bsp_model::Shared;
 use bsp_run::{Tape, Views, ViewsRef};
 use bsp_step::{Outcomes, Program};
 
@@ -21,7 +23,7 @@ pub struct OpenSuperstep<'old, 'new> {
     /// Its number.
     pub step: u64,
     /// What the processes see.
-    pub views: &'new Views,
+    pub views: &'new Shared<Views>,
     /// What the turns of the superstep before left in this run: those of this one will take about as much room.
     pub like: &'new Outcomes,
     /// What they saw in the run before; none where it took no turns of such a superstep.
@@ -34,8 +36,8 @@ pub struct OpenSuperstep<'old, 'new> {
 }
 
 /// The open superstep of this run, beside that of the run before.
-pub fn open_superstep<'old, 'new, P: Program, R, G>(
-    given: &Given<'old, P, R, G>,
+pub fn open_superstep<'old, 'new, P: Program, G>(
+    given: &Given<'old, P, G>,
     tape: &'new Tape,
 ) -> OpenSuperstep<'old, 'new>
     requires open { is_open tape.now.phase ≡ true }
@@ -43,6 +45,8 @@ pub fn open_superstep<'old, 'new, P: Program, R, G>(
     ensures given { IsMaking P.Program given.now }
     ensures step { result.step ≡ length tape.now.past }
     ensures views { result.views.now ≡ open_views tape.now }
+    ensures seen { result.views.now
+        ≡ views_in (turn_by P.Program given.now.program) given.now.input result.step }
     ensures limits { All IsView result.views.now }
     ensures old_views { result.old_views ≡ views_beside given.now tape.now }
     ensures recorded { IfSome result.old_outcomes (λ o. (0 < length result.old_views)
@@ -60,8 +64,8 @@ pub fn open_superstep<'old, 'new, P: Program, R, G>(
 }
 
 /// The outcomes that the run before delivered in the superstep with the number of the open one; none where it ended no such superstep by delivery.
-pub fn delivered_beside<'old, P: Program, R, G>(
-    given: &Given<'old, P, R, G>,
+pub fn delivered_beside<'old, P: Program, G>(
+    given: &Given<'old, P, G>,
     tape: &Tape,
 ) -> Option<&'old Outcomes>
     ensures outcomes { IfSome result (λ o. o.now ≡ delivered_beside given.now tape.now) }

@@ -1,15 +1,16 @@
 //! What stays the same in all supersteps of a run that is made again.
 
-use crate::rerun::workers::Workers;
 use bsp_model::{Input, ProcessSet};
 use bsp_run::History;
 use bsp_step::Program;
+use std::alloc::Global;
 use std::marker::Model;
 
-/// The program and the input of a run that is made again, the run before, and who works.
+/// The program and the input of a run that is made again, the run before, where memory comes from, and the gate that each job passes.
 #[derive(Drop)]
-pub struct Given<'a, P: Program, R, G> {
-    pub workers: Workers<'a, R, G>,
+pub struct Given<'a, P: Program, G> {
+    pub alloc: Global,
+    pub gate: &'a G,
     pub program: &'a P,
     pub input: &'a Input,
     pub old: Option<&'a History>,
@@ -17,7 +18,7 @@ pub struct Given<'a, P: Program, R, G> {
     pub other_args: &'a ProcessSet,
 }
 
-impl<'a, P: Program, R, G> Model for Given<'a, P, R, G> {
+impl<'a, P: Program, G> Model for Given<'a, P, G> {
     ghost use Rattle.std.specs.Prelude.{option_map};
     ghost use Rattle.bsp_incr.specs.Inside.Given.{Making, IsMaking};
 

@@ -37,8 +37,8 @@ fn args_again(
 
 /// A run of an input whose superstep 0 is open. Of the run before, if there was one, it takes what the processes see that are not marked, and the
 /// arguments of those who have no others.
-pub fn opened<P: Program, R, G>(
-    given: &Given<'_, P, R, G>,
+pub fn opened<P: Program, G>(
+    given: &Given<'_, P, G>,
     marks: &ProcessSet,
 ) -> Result<Tape, OutOfMemory>
     requires { AreFirstMarked given.now.before given.now.input marks.now }
@@ -46,19 +46,14 @@ pub fn opened<P: Program, R, G>(
 {
     let input = given.input;
     let Some(history) = given.old else {
-        return Tape::open_lawful(given.workers.alloc, input);
+        return Tape::open_lawful(given.alloc, input);
     };
     let Some(like) = history.views(0) else {
-        return Tape::open_lawful(given.workers.alloc, input);
+        return Tape::open_lawful(given.alloc, input);
     };
-    let args = args_again(
-        given.workers.alloc,
-        history.args(),
-        &input.args,
-        given.other_args,
-    )?;
-    match marks.members(given.workers.alloc) {
-        Ok(marked) => Tape::open_like(given.workers.alloc, input, args, like, marked),
+    let args = args_again(given.alloc, history.args(), &input.args, given.other_args)?;
+    match marks.members(given.alloc) {
+        Ok(marked) => Tape::open_like(given.alloc, input, args, like, marked),
         Err(error) => {
             drop(args);
             Err(error)

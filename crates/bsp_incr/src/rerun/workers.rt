@@ -12,6 +12,6 @@ pub struct Workers<'a, R, G> {
     /// 1 to 16.
     pub count: usize,
     pub gate: &'a G,
-    ghost some: { 0 < count },
-    ghost few: { count ≤ 16 },
+    pub ghost some: { 0 < count },
+    pub ghost few: { count ≤ 16 },
 }

@@ -12,9 +12,10 @@ ghost use Rattle.bsp_incr.specs.Inside.Replies.{reply_to, replies};
 
 use crate::edit::{make_edits, refusal_of};
 use crate::{Batch, Reply};
+use bsp_crew::DEPTH_OF_RUNS;
+use bsp_gate::Gate;
 use bsp_model::{Input, OutOfMemory};
-use bsp_pool::Gate;
-use bsp_run::{DEPTH_OF_RUNS, RunError, RunResult};
+use bsp_run::{RunError, RunResult};
 use std::alloc::Global;
 
 /// Adds the reply that gives the run of a lawful input, made afresh by `make`.

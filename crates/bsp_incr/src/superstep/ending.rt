@@ -1,9 +1,12 @@
 //! How a superstep of a run that is made again ends: its deliveries, and the opening of the next.
 
-ghost use Rattle.std.specs.Prelude.{◌≡◌, ◌≤◌, ◌<◌, ◌++◌, IfOk, OnOk, length, true};
+ghost use Rattle.std.specs.Prelude.{◌≡◌, ◌≤◌, ◌<◌, ◌++◌, IfOk, IfSome, OnOk, length, map, true};
 ghost use Rattle.bsp_model.specs.ProcessSet.{processes_in, union};
 ghost use Rattle.bsp_deliver.specs.Requests.{each_below};
 ghost use Rattle.bsp_run.specs.Run.{after_delivery, open_views};
+ghost use Rattle.bsp_run.specs.Law.{views_in};
+ghost use Rattle.bsp_crew.specs.Parts.{AreOfRun};
+ghost use Rattle.bsp_run.specs.TurnBy.{turn_by};
 ghost use Rattle.bsp_run.specs.Setting.{next_setting, next_views};
 ghost use Rattle.bsp_run.specs.Shares.{deliveries_to};
 ghost use Rattle.bsp_run.specs.Result.{cost_of_delivery, IsSmall};
@@ -17,12 +20,12 @@ ghost use Rattle.bsp_incr.specs.Inside.Known.{IsKnown, KnowsNextTable};
 use crate::Place;
 use crate::compare::{KnownTable, add_places, delivered_beside, has_table, views_after};
 use crate::rerun::{Given, UnderWay};
+use bsp_crew::{Crew, SharedRun, wide_deliveries};
 use bsp_deliver::{Cells, touched_by_changes};
+use bsp_gate::Gate;
 use bsp_model::{CostRow, OutOfMemory, ProcessSet, Seq};
-use bsp_pool::Gate;
-use bsp_run::{Phase, Setting, Tape, Views, wide_deliveries};
+use bsp_run::{Phase, Setting, Tape, Views};
 use bsp_step::Program;
-use std::thread::Threads;
 
 /// Deliveries that were made.
 #[derive(Drop)]
@@ -34,8 +37,8 @@ struct Deliveries {
 }
 
 /// To whom the deliveries of the superstep whose turns are taken have to be made. Where the run before made none in it, that is everyone.
-fn touched_beside<P: Program, R, G>(
-    given: &Given<'_, P, R, G>,
+fn touched_beside<P: Program, G>(
+    given: &Given<'_, P, G>,
     tape: &Tape,
     doubtful: &ProcessSet,
 ) -> ProcessSet
@@ -52,7 +55,7 @@ fn touched_beside<P: Program, R, G>(
 }
 
 /// The cost of the superstep whose turns are taken: that of the run before, at the prices in force, where it is known to be the same.
-fn cost<P: Program, R, G>(given: &Given<'_, P, R, G>, tape: &Tape, is_same: bool) -> CostRow
+fn cost<P: Program, G>(given: &Given<'_, P, G>, tape: &Tape, is_same: bool) -> CostRow
     requires turned { tape.now.phase ≡ Phase.Turned }
     requires same { is_same ≡ true → AllCostAlike (delivered_beside given.now tape.now) tape.now.outcomes }
     ensures value { result ≡ cost_of_delivery tape.now.g tape.now.l tape.now.outcomes }
@@ -92,8 +95,8 @@ fn next_setting(
 
 /// What the processes see in the next superstep, after the deliveries that were made: what the other processes see lies where it lay in the run before.
 /// `known` is what is known of the table there.
-fn next_views_like<P: Program, R, G>(
-    given: &Given<'_, P, R, G>,
+fn next_views_like<P: Program, G>(
+    given: &Given<'_, P, G>,
     tape: &Tape,
     old_next: &Views,
     deliveries: Deliveries,
@@ -124,8 +127,8 @@ fn next_views_like<P: Program, R, G>(
 }
 
 /// Opens the next superstep, after the deliveries that were made. `known` is what is known of the table there.
-fn open_next<P: Program, R, G>(
-    given: &Given<'_, P, R, G>,
+fn open_next<P: Program, G>(
+    given: &Given<'_, P, G>,
     tape: &mut Tape,
     is_same_cost: bool,
     deliveries: Deliveries,
@@ -157,51 +160,50 @@ fn open_next<P: Program, R, G>(
 }
 
 /// The deliveries of the superstep whose turns are taken to the processes of a set, which the workers make. Their places are added.
-fn deliveries_among<P: Program, G: Gate, R: Threads + Sync>(
-    given: &Given<'_, P, R, G>,
+fn deliveries_among<P: Program, J: SharedRun, G: Gate>(
+    given: &Given<'_, P, G>,
     tape: &Tape,
     touched: &ProcessSet,
     redelivered: &mut Seq<Place>,
+    crew: Option<&Crew<J>>,
 ) -> Result<Deliveries, OutOfMemory>
+    requires crew { IfSome crew (λ _. AreOfRun (turn_by P.Program given.now.program) given.now.input J.turn J.views) }
     requires turned { tape.now.phase ≡ Phase.Turned }
     requires many { length touched.now ≡ length tape.now.outcomes }
+    requires taken { tape.now.outcomes ≡ map (turn_by P.Program given.now.program)
+        (views_in (turn_by P.Program given.now.program) given.now.input (length tape.now.past)) }
     ensures processes { IfOk result (λ all. all.processes.items ≡ processes_in touched.now) }
     ensures cells { IfOk result (λ all. all.cells ≡ deliveries_to tape.now.outcomes all.processes.items) }
     ensures places { OnOk result (redelivered.new
         ≡ redelivered.old ++ places_of (length tape.now.past) (processes_in touched.now)) }
 {
-    let workers = &given.workers;
-    add_places(redelivered, tape.step() as u64, touched)?;
-    let processes = touched.members(workers.alloc)?;
-    let mut cells = Cells::new(workers.alloc);
-    match wide_deliveries(
-        workers.rt,
-        workers.alloc,
-        &mut cells,
-        tape.outcomes(),
-        processes.as_slice(),
-        workers.count,
-        workers.gate,
-    ) {
-        Ok(()) => Ok(Deliveries { processes, cells }),
+    let step = tape.step() as u64;
+    add_places(redelivered, step, touched)?;
+    let processes = touched.members(given.alloc)?;
+    let asked = processes.as_slice();
+    match wide_deliveries(given.alloc, tape.outcomes(), asked, step, crew, given.gate) {
+        Ok(cells) => Ok(Deliveries { processes, cells }),
         Err(error) => {
             drop(processes);
-            drop(cells);
             Err(error)
         }
     }
 }
 
 /// The deliveries of the superstep whose turns are taken, and the marks of the next.
-pub fn make_deliveries<P: Program, G: Gate, R: Threads + Sync>(
-    given: &Given<'_, P, R, G>,
+pub fn make_deliveries<P: Program, J: SharedRun, G: Gate>(
+    given: &Given<'_, P, G>,
     tape: &mut Tape,
     doubtful: &ProcessSet,
     is_same_cost: bool,
     under_way: &mut UnderWay,
+    crew: Option<&Crew<J>>,
 ) -> Result<(), OutOfMemory>
+    requires crew { IfSome crew (λ _. AreOfRun (turn_by P.Program given.now.program) given.now.input J.turn J.views) }
     requires turned { tape.old.phase ≡ Phase.Turned }
     requires many { length tape.old.outcomes ≡ length given.now.input.mems }
+    requires taken { tape.old.outcomes ≡ map (turn_by P.Program given.now.program)
+        (views_in (turn_by P.Program given.now.program) given.now.input (length tape.old.past)) }
     requires doubtful { OutcomesDifferAtMost (delivered_beside given.now tape.old) tape.old.outcomes doubtful.now }
     requires cost { is_same_cost ≡ true → AllCostAlike (delivered_beside given.now tape.old) tape.old.outcomes }
     requires known { KnowsNextTable given.now.before tape.old under_way.old.table }
@@ -216,6 +218,6 @@ pub fn make_deliveries<P: Program, G: Gate, R: Threads + Sync>(
     let touched = touched_beside(given, tape, doubtful);
     under_way.marks = touched.union(given.other_args);
     let redelivered = &mut under_way.update.redelivered;
-    let deliveries = deliveries_among(given, tape, &touched, redelivered)?;
+    let deliveries = deliveries_among(given, tape, &touched, redelivered, crew)?;
     open_next(given, tape, is_same_cost, deliveries, &mut under_way.table)
 }

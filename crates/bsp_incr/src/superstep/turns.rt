@@ -4,6 +4,8 @@ ghost use Rattle.std.specs.Prelude.{◌≡◌, ◌<◌, ◌++◌, [], All, IfNon
 ghost use Rattle.bsp_model.specs.ProcessSet.{processes_in};
 ghost use Rattle.bsp_model.specs.Replaced.{replaced};
 ghost use Rattle.bsp_deliver.specs.Requests.{each_below};
+ghost use Rattle.bsp_run.specs.Law.{views_in};
+ghost use Rattle.bsp_crew.specs.Parts.{AreOfRun};
 ghost use Rattle.bsp_run.specs.Shares.{turns_of};
 ghost use Rattle.bsp_incr.specs.Inside.Changes.{differ_in, processes_where};
 ghost use Rattle.bsp_run.specs.TurnBy.{turn_by};
@@ -15,12 +17,10 @@ use crate::Place;
 use crate::compare::{Doubtful, OpenSuperstep, add_places, serves};
 use crate::rerun::Given;
 use crate::superstep::reuse::add_served;
+use bsp_crew::{Crew, SharedRun, wide_turns};
+use bsp_gate::Gate;
 use bsp_model::{OutOfMemory, ProcessSet, Seq, TryCopy};
-use bsp_pool::Gate;
-use bsp_run::{TurnRows, wide_turns};
 use bsp_step::{Outcome, OutcomeRows, Outcomes, Program};
-use std::mem::replace;
-use std::thread::Threads;
 
 /// Whether the turn of a process has to be taken, which may be asked of the doubtful ones alone. The tables are not compared where all processes are known
 /// to see the same.
@@ -46,8 +46,8 @@ fn needs_turn<P: Program>(
 }
 
 /// The turns of processes for which the recorded ones serve.
-fn served_turns<P: Program, R, G>(
-    given: &Given<'_, P, R, G>,
+fn served_turns<P: Program, G>(
+    given: &Given<'_, P, G>,
     superstep: &OpenSuperstep<'_, '_>,
     old_outcomes: &Outcomes,
     processes: &[usize],
@@ -58,7 +58,7 @@ fn served_turns<P: Program, R, G>(
     ensures { IfOk result (λ all. all
         ≡ turns_of (turn_by P.Program given.now.program) superstep.now.views.now processes.now) }
 {
-    let mut served = OutcomeRows::with_capacity(given.workers.alloc, processes.len())?;
+    let mut served = OutcomeRows::with_capacity(given.alloc, processes.len())?;
     for process in processes {
         match add_served(
             &mut served,
@@ -78,8 +78,8 @@ fn served_turns<P: Program, R, G>(
 }
 
 /// The recorded outcomes, with new ones for the processes for which the recorded turns serve.
-fn with_served_turns<P: Program, R, G>(
-    given: &Given<'_, P, R, G>,
+fn with_served_turns<P: Program, G>(
+    given: &Given<'_, P, G>,
     superstep: &OpenSuperstep<'_, '_>,
     old_outcomes: &Outcomes,
     served: &ProcessSet,
@@ -95,9 +95,9 @@ fn with_served_turns<P: Program, R, G>(
     if served.is_empty() {
         return old_outcomes.copy();
     }
-    let processes = served.members(given.workers.alloc)?;
+    let processes = served.members(given.alloc)?;
     match served_turns(given, superstep, old_outcomes, processes.as_slice()) {
-        Ok(turns) => old_outcomes.replaced(given.workers.alloc, processes, turns),
+        Ok(turns) => old_outcomes.replaced(given.alloc, processes, turns),
         Err(error) => {
             drop(processes);
             Err(error)
@@ -106,45 +106,33 @@ fn with_served_turns<P: Program, R, G>(
 }
 
 /// The turns of these processes, which the workers take, in the lists of the spare outcome.
-fn taken_turns<P: Program, G: Gate, R: Threads + Sync>(
-    given: &Given<'_, P, R, G>,
+fn taken_turns<P: Program, J: SharedRun, G: Gate>(
+    given: &Given<'_, P, G>,
     superstep: &OpenSuperstep<'_, '_>,
     processes: &[usize],
     spare: &mut Option<Outcome>,
+    crew: Option<&Crew<J>>,
 ) -> Result<OutcomeRows, OutOfMemory>
+    requires crew { IfSome crew (λ _. AreOfRun (turn_by P.Program given.now.program) given.now.input J.turn J.views) }
     requires known { All (λ p. p < length superstep.now.views.now) processes.now }
+    requires seen { superstep.now.views.now
+        ≡ views_in (turn_by P.Program given.now.program) given.now.input superstep.now.step }
     ensures { IfOk result (λ all. all
         ≡ turns_of (turn_by P.Program given.now.program) superstep.now.views.now processes.now) }
 {
-    let workers = &given.workers;
-    let room = superstep.like.room_for(workers.alloc, processes.len())?;
-    let mut rows = TurnRows {
-        outcomes: room,
-        spare: spare.take(),
-    };
-    match wide_turns(
-        workers.rt,
-        workers.alloc,
+    let mut rows = superstep.like.room_for(given.alloc, processes.len())?;
+    let taken = wide_turns(
+        given.alloc,
         &mut rows,
+        spare,
         given.program,
         superstep.views,
         processes,
-        workers.count,
-        workers.gate,
-    ) {
-        Ok(()) => {
-            let TurnRows {
-                outcomes,
-                spare: left,
-            } = rows;
-            drop(replace(spare, left));
-            Ok(outcomes)
-        }
-        Err(error) => {
-            drop(rows);
-            Err(error)
-        }
-    }
+        superstep.step,
+        crew,
+        given.gate,
+    );
+    taken.and(Ok(rows))
 }
 
 /// The doubtful processes of an open superstep, by whether their turns have to be taken.
@@ -173,8 +161,8 @@ impl Needs {
     }
 
     /// Who of the doubtful processes has to take a turn.
-    fn among<P: Program, R, G>(
-        given: &Given<'_, P, R, G>,
+    fn among<P: Program, G>(
+        given: &Given<'_, P, G>,
         superstep: &OpenSuperstep<'_, '_>,
         doubtful: &Doubtful,
     ) -> Needs
@@ -198,8 +186,8 @@ impl Needs {
 }
 
 /// The recorded outcomes, with new ones of the processes whose turns were taken, and of those for which the recorded turns serve.
-fn over_recorded<P: Program, R, G>(
-    given: &Given<'_, P, R, G>,
+fn over_recorded<P: Program, G>(
+    given: &Given<'_, P, G>,
     superstep: &OpenSuperstep<'_, '_>,
     old_outcomes: &Outcomes,
     served: &ProcessSet,
@@ -217,7 +205,7 @@ fn over_recorded<P: Program, R, G>(
     ensures { IfOk result (λ all. all ≡ map (turn_by P.Program given.now.program) superstep.now.views.now) }
 {
     match with_served_turns(given, superstep, old_outcomes, served) {
-        Ok(renewed) => renewed.replaced(given.workers.alloc, processes, taken),
+        Ok(renewed) => renewed.replaced(given.alloc, processes, taken),
         Err(error) => {
             drop(processes);
             drop(taken);
@@ -227,25 +215,29 @@ fn over_recorded<P: Program, R, G>(
 }
 
 /// The turns of a superstep: the workers take those that have to be taken, and their places are added.
-pub fn turns_again<P: Program, G: Gate, R: Threads + Sync>(
-    given: &Given<'_, P, R, G>,
+pub fn turns_again<P: Program, J: SharedRun, G: Gate>(
+    given: &Given<'_, P, G>,
     superstep: &OpenSuperstep<'_, '_>,
     doubtful: &Doubtful,
     executed: &mut Seq<Place>,
     spare: &mut Option<Outcome>,
+    crew: Option<&Crew<J>>,
 ) -> Result<Outcomes, OutOfMemory>
+    requires crew { IfSome crew (λ _. AreOfRun (turn_by P.Program given.now.program) given.now.input J.turn J.views) }
     requires recorded { IfSome superstep.now.old_outcomes (λ o. (0 < length superstep.now.old_views)
         × (o.now ≡ map (turn_by P.Program given.now.program) superstep.now.old_views)) }
     requires none { IfNone superstep.now.old_outcomes (superstep.now.old_views ≡ []) }
     requires doubtful { AreDoubtful superstep.now.old_views superstep.now.views.now doubtful.now }
+    requires seen { superstep.now.views.now
+        ≡ views_in (turn_by P.Program given.now.program) given.now.input superstep.now.step }
     ensures turns { IfOk result (λ all. all ≡ map (turn_by P.Program given.now.program) superstep.now.views.now) }
     ensures executed { OnOk result (executed.new ≡ executed.old
         ++ differ_in (P.looks given.now.program) superstep.now.step superstep.now.old_views superstep.now.views.now) }
 {
     let needs = Needs::among(given, superstep, doubtful);
     add_places(executed, superstep.step, &needs.taken)?;
-    let processes = needs.taken.members(given.workers.alloc)?;
-    match taken_turns(given, superstep, processes.as_slice(), spare) {
+    let processes = needs.taken.members(given.alloc)?;
+    match taken_turns(given, superstep, processes.as_slice(), spare, crew) {
         Ok(taken) => match superstep.old_outcomes {
             Some(old) => over_recorded(given, superstep, old, &needs.served, processes, taken),
             None => {

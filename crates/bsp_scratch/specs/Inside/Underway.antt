@@ -7,13 +7,15 @@ use Rattle.bsp_run.specs.declared.result.Status.{Status}
 use Rattle.bsp_run.specs.declared.result.Status.TheVariants.{Limit}
 use Rattle.bsp_run.specs.declared.phase.Phase.TheVariants.{Open, Ended}
 use Rattle.bsp_scratch.specs.declared.unrecorded.Unrecorded.{Unrecorded}
-use Rattle.bsp_run.specs.Run.{Run, start, advance, times, run}
+use Rattle.bsp_run.specs.Run.{Run, advance, times, run}
+use Rattle.bsp_run.specs.Inside.Record.{IsRecord}
 use Rattle.bsp_scratch.specs.Inside.IsUnrecorded.{IsUnrecorded, HasEnded}
 
 -- What is kept is that of the run so far, which so many supersteps make the run.
 pub record HasLeft (turn : ViewParts → OutcomeParts) (input : Input) (step n : ℕ) (vs : List ViewParts) (kept : Unrecorded) : Type 0 where
   pub so_far : Run
-  pub made : so_far ≡ times step (advance turn) (start input)
+  pub count : length so_far.past ≡ step
+  pub made : IsRecord turn input so_far
   pub rest : times n (advance turn) so_far ≡ run turn input
   pub left : length so_far.past + n ≡ so_far.limit
   pub phase : so_far.phase ≡ (if n == 0 then Ended Limit else Open)

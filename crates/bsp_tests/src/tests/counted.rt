@@ -1,7 +1,7 @@
 //! A program that is watched, with its workers.
 
+use bsp_gate::Gate;
 use bsp_model::{End, OutOfMemory};
-use bsp_pool::Gate;
 use bsp_step::{Ctx, Program, View};
 use std::alloc::{AllocError, Global};
 use std::sync::atomic::Ordering::SeqCst;

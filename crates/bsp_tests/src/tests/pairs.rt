@@ -1,6 +1,6 @@
 //! A gate where workers meet.
 
-use bsp_pool::Gate;
+use bsp_gate::Gate;
 use std::sync::atomic::AtomicU64;
 use std::sync::atomic::Ordering::SeqCst;
 use std::thread;

@@ -6,7 +6,7 @@ use super::known::{COUNT_OF_KNOWN, End, Known, known_run};
 use super::running::{Way, is_run};
 use super::sessions::{CountedSession, is_changed, is_changed_at_last, opened};
 use super::sittings::{Change, Sitting, UPDATES};
-use bsp_pool::Open;
+use bsp_gate::Open;
 use bsp_run::RunError;
 use bsp_step::Program;
 use std::alloc::Global;

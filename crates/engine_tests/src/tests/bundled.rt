@@ -4,7 +4,7 @@ ghost use Rattle.std.specs.Prelude.{◌<◌, ◌≤◌};
 
 use super::failing::{sink, source};
 use bsp_engine::{ByName, Detail, EngineError, Named, Options, engine};
-use bsp_pool::Gate;
+use bsp_gate::Gate;
 use bsp_programs::Bundled;
 use std::alloc::Global;
 use std::thread::Threads;

@@ -2,7 +2,7 @@
 
 use super::bundled::{Flow, STEADY, writes};
 use bsp_engine::EngineError;
-use bsp_pool::Open;
+use bsp_gate::Open;
 use std::alloc::Global;
 use std::process::Abort;
 use std::thread::Threads;

@@ -4,7 +4,7 @@ use super::bundled::{AllBundled, ONE_WORKER, STEADY};
 use super::failing::source;
 use super::logged::LoggedTerminal;
 use bsp_engine::{EngineError, follow};
-use bsp_pool::Open;
+use bsp_gate::Open;
 use std::alloc::Global;
 use std::process::Abort;
 use std::thread::Threads;

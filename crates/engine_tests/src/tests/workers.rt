@@ -1,7 +1,7 @@
 //! The report of a document by two workers that have to meet.
 
 use super::bundled::{STEADY, writes};
-use bsp_pool::Gate;
+use bsp_gate::Gate;
 use std::sync::atomic::AtomicU64;
 use std::sync::atomic::Ordering::SeqCst;
 use std::thread;

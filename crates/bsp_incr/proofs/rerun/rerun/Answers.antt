@@ -1,4 +1,4 @@
-use Rattle.std.proofs.Common.{◌≡◌, ◌∙◌, arith, sym, subst, Option, Some}
+use Rattle.std.proofs.Common.{◌≡◌, ◌∙◌, ap, arith, sym, subst, Option, Some}
 use Rattle.std.specs.Prelude.{option_map}
 use Rattle.bsp_model.specs.declared.input.Input.{Input}
 use Rattle.bsp_model.proofs.Inputs.{lawful_input}
@@ -27,16 +27,17 @@ finished-requires-clause-executed g c = λ r e.
     let turn = turn_of acts ending in
     let laws = g.met.P.Program g.world.𝓛 g.world.𝓜 g.world.𝓡 ((λ s x. x), (λ x. x), (λ x. x), λ x. x) in
     let input : Input = c.args.input.now in
-    let tape : Run = c.remake_all.new.tape in
-    let update : Update = c.in-Ok.update in
-    let law : IsBspRun turn input tape = subst (IsBspRun turn input) (sym c.in-Ok.ensures.run) (IsBspRun-run turn input c.requires.lawful) in
-    let updated : update ≡ update_of looks (Some r) tape = subst (λ (o : Option Run). update ≡ update_of looks o tape) e c.in-Ok.ensures.update in
-    subst (LinesStayBut r tape) (sym c.as_slice-executed.ensures)
+    let tape : Run = c.in_ok-tape-2.field-0.tape in
+    let update : Update = c.in_ok-tape-2.field-0.update in
+    let law : IsBspRun turn input tape = subst (IsBspRun turn input) (sym c.in_ok-tape-2.ensures.run) (IsBspRun-run turn input c.requires.lawful) in
+    let updated : update ≡ update_of looks (Some r) tape = subst (λ (o : Option Run). update ≡ update_of looks o tape) e c.in_ok-tape-2.ensures.updated in
+    subst (LinesStayBut r tape) (sym c.as_slice.ensures)
     (lines_stay acts ending looks input r tape update (laws.footprint c.args.program.now) c.requires.lawful (subst (IsBefore turn input) e c.requires.before) law updated)
 
-pub returns-in-Ok-finished-clause-run : goal.returns-in-Ok-finished-clause-run
-returns-in-Ok-finished-clause-run g c = c.in-Ok-finished.ensures ∙ c.in-Ok.ensures.run
+pub returns-in-Ok-clause-run : goal.returns-in-Ok-clause-run
+returns-in-Ok-clause-run g c =
+    c.in-Ok.ensures ∙ c.in_ok-tape-2.ensures.run
 
-pub returns-in-Ok-finished-clause-update : goal.returns-in-Ok-finished-clause-update
-returns-in-Ok-finished-clause-update g c =
-    subst (λ (r : Run). c.in-Ok.update ≡ update_of (g.P.Program.looks c.args.program.now) (option_map (λ k. k.now) c.args.old) r) (sym c.in-Ok-finished.ensures) c.in-Ok.ensures.update
+pub returns-in-Ok-clause-update : goal.returns-in-Ok-clause-update
+returns-in-Ok-clause-update g c =
+    c.in_ok-tape-2.ensures.updated ∙ ap (update_of (g.P.Program.looks c.args.program.now) (option_map (λ k. k.now) c.args.old)) (sym c.in-Ok.ensures)

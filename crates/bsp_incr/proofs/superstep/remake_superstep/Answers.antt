@@ -1,9 +1,10 @@
-use Rattle.std.proofs.Common.{◌++◌, ◌∙◌, All, List, Option, ap, sym, subst, map, length}
+use Rattle.std.proofs.Common.{◌≡◌, ◌++◌, ◌∙◌, All, List, Option, ap, sym, subst, map, length}
 use Rattle.bsp_model.specs.ProcessSet.{union}
 use Rattle.bsp_step.specs.OutcomeParts.{OutcomeParts}
 use Rattle.bsp_step.specs.ViewParts.{IsView}
 use Rattle.bsp_deliver.specs.Requests.{each_below}
 use Rattle.bsp_run.specs.Run.{Run, after_turns, after_delivery, open_views}
+use Rattle.bsp_run.specs.Law.{views_in}
 use Rattle.bsp_run.specs.Condition.{AreOutcomesOf, is_turned}
 use Rattle.bsp_run.specs.TurnBy.{turn_by}
 use Rattle.bsp_run.proofs.Runs.{open_phase, advance-delivers, advance-ends}
@@ -53,6 +54,15 @@ make_deliveries-requires-clause-many g c κs within =
     let turn = turn_by g.P.Program c.args.given.now.program in
     let is = c.in_ok-goes_on.ensures.turned ∙ ap (after_turns c.args.tape.now) (c.in_ok-outcomes.ensures.turns ∙ ap (map turn) c.open_superstep-superstep.ensures.views) in
     turned_same (λ n (os : List OutcomeParts). length os) c.args.tape.now c.end_turns.new.tape (map turn (open_views c.args.tape.now)) is ∙ count-turns turn c.args.given.now.input c.args.tape.now c.requires.under_way.made
+
+pub make_deliveries-requires-clause-taken : goal.make_deliveries-requires-clause-taken
+make_deliveries-requires-clause-taken g c κs within =
+    let turn = turn_by g.P.Program c.args.given.now.program in
+    let input = c.args.given.now.input in
+    let r : Run = c.args.tape.now in
+    let is = c.in_ok-goes_on.ensures.turned ∙ ap (after_turns r) (c.in_ok-outcomes.ensures.turns ∙ ap (map turn) c.open_superstep-superstep.ensures.views) in
+    turned_still (λ n (os : List OutcomeParts). os ≡ map turn (views_in turn input n)) r c.end_turns.new.tape (map turn (open_views r)) is
+    (ap (map turn) (open_views-in turn input r c.requires.under_way.made))
 
 pub make_deliveries-requires-clause-doubtful : goal.make_deliveries-requires-clause-doubtful
 make_deliveries-requires-clause-doubtful g c κs within =

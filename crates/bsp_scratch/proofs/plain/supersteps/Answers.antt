@@ -6,7 +6,8 @@ use Rattle.bsp_step.specs.Turn.{turn_of}
 use Rattle.bsp_scratch.specs.declared.unrecorded.Unrecorded.{Unrecorded}
 use Rattle.bsp_scratch.specs.Inside.Underway.{HasLeft}
 use Rattle.bsp_scratch.proofs.UnrecordedRuns.{turned_so, underway_open, underway_next}
-use Rattle.bsp_scratch.proofs.Underway.{views_then, one_left, is_opened, stands_ended, goes_on, no_call, no_end, still_none}
+use Rattle.bsp_crew.proofs.Paces.{no_call, still_none}
+use Rattle.bsp_scratch.proofs.Underway.{views_then, one_left, is_opened, stands_ended, goes_on, no_end}
 use Rattle.bsp_scratch.proofs.plain.supersteps.Goals as goal
 
 pub returns-then-calls_workers-clause-over : goal.returns-then-calls_workers-clause-over

@@ -1,4 +1,4 @@
-use Rattle.std.proofs.Common.{List, refl, sym, subst, ap, length, arith}
+use Rattle.std.proofs.Common.{List, refl, sym, subst}
 use Rattle.bsp_step.specs.ViewParts.{ViewParts}
 use Rattle.bsp_step.specs.OutcomeParts.{OutcomeParts}
 use Rattle.bsp_step.specs.Turn.{turn_of}
@@ -6,15 +6,13 @@ use Rattle.bsp_scratch.specs.declared.unrecorded.Unrecorded.{Unrecorded}
 use Rattle.bsp_run.specs.Run.{Run}
 use Rattle.bsp_run.specs.Inside.Settings.{HaveTurns}
 use Rattle.bsp_scratch.specs.Inside.IsUnrecorded.{IsUnrecorded}
-use Rattle.bsp_run.proofs.Conditions.{length-views_of}
-use Rattle.bsp_scratch.proofs.UnrecordedRuns.{have_turns, taken_on}
+use Rattle.bsp_scratch.proofs.UnrecordedRuns.{processes_are, have_turns, taken_on}
 use Rattle.bsp_scratch.proofs.plain.unrecorded_turns.Goals as goal
 
-pub all_turns-requires-clause-few : goal.all_turns-requires-clause-few
-all_turns-requires-clause-few g c κs within =
-    let r : Run = c.requires.opened.0 in
-    let same : IsUnrecorded r c.args.views.now c.args.kept.now = c.requires.opened.1.1 in
-    omega (arith, same.run.state.few, ap length same.views, length-views_of r.args (length r.past) r.state)
+pub all_turns-requires-clause-processes : goal.all_turns-requires-clause-processes
+all_turns-requires-clause-processes g c κs within =
+    let opened = c.requires.opened in
+    processes_are opened.0 c.args.views.now c.args.kept.now opened.1.1
 
 pub end-requires : goal.end-requires
 end-requires g c =

@@ -12,9 +12,9 @@ wide_deliveries-requires-clause-processes g c κs within =
     let set : List Bool = c.args.touched.now in
     let now = c.outcomes.ensures.outcomes ∙ outcomes_shown-turned r c.requires.turned in
     let long : length set ≡ length c.outcomes.result.now = c.requires.many ∙ sym (ap (λ (os : List OutcomeParts). length os) now) in
-    subst (λ n. All (λ p. p < n) c.as_slice.result.now) long (listed_below (length set) (λ p. get_or set p false) c.as_slice.result.now (c.as_slice.ensures.value ∙ c.in_ok-processes.ensures))
+    subst (λ n. All (λ p. p < n) c.as_slice-asked.result.now) long (listed_below (length set) (λ p. get_or set p false) c.as_slice-asked.result.now (c.as_slice-asked.ensures.value ∙ c.in_ok-processes.ensures))
 
 pub wide_deliveries-requires-clause-ascending : goal.wide_deliveries-requires-clause-ascending
 wide_deliveries-requires-clause-ascending g c κs within =
     let set : List Bool = c.args.touched.now in
-    subst IsAscending (sym (c.as_slice.ensures.value ∙ c.in_ok-processes.ensures)) (processes_where-ascending (length set) (λ p. get_or set p false))
+    subst IsAscending (sym (c.as_slice-asked.ensures.value ∙ c.in_ok-processes.ensures)) (processes_where-ascending (length set) (λ p. get_or set p false))
