@@ -3,9 +3,7 @@ use Rattle.bsp_step.specs.ViewParts.{ViewParts}
 use Rattle.bsp_step.specs.OutcomeParts.{OutcomeParts}
 use Rattle.bsp_step.specs.Turn.{turn_of}
 use Rattle.bsp_scratch.specs.declared.unrecorded.Unrecorded.{Unrecorded}
-use Rattle.bsp_run.specs.Run.{Run}
 use Rattle.bsp_run.specs.Inside.Settings.{HaveTurns}
-use Rattle.bsp_scratch.specs.Inside.IsUnrecorded.{IsUnrecorded}
 use Rattle.bsp_scratch.proofs.UnrecordedRuns.{processes_are, have_turns, taken_on}
 use Rattle.bsp_scratch.proofs.plain.unrecorded_turns.Goals as goal
 

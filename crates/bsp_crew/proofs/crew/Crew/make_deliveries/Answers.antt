@@ -1,4 +1,4 @@
-use Rattle.std.proofs.Common.{◌≡◌, ◌≤◌, ◌-◌, ◌++◌, ◌∙◌, [], List, ℕ, ap, sym, subst, arith, length, map, take, take_all}
+use Rattle.std.proofs.Common.{◌≡◌, ◌≤◌, ◌-◌, ◌++◌, ◌∙◌, [], List, ℕ, ap, subst, arith, length, take, take_all}
 use Rattle.std.specs.Prelude.{slice_range}
 use Rattle.bsp_model.specs.declared.request.Message.{Message}
 use Rattle.bsp_step.specs.OutcomeParts.{OutcomeParts}

@@ -1,5 +1,4 @@
 use Rattle.std.proofs.Common.{refl, sym, subst}
-use Rattle.bsp_run.specs.Run.{Run}
 use Rattle.bsp_incr.specs.Inside.Given.{IsMaking}
 use Rattle.bsp_incr.specs.Inside.Marks.{AreFirstMarked}
 use Rattle.bsp_incr.proofs.GoingOn.{going_on_start}
