@@ -17,7 +17,7 @@ def live(count):
 
 DOCUMENTS = Part(("ci/documents",), 9_100)
 FIRST = (Part(("ci/test_gate",), 92), Part(("ci/statement",), 2), Part(("ci/python",), 77))  # before anything is proved
-PROOFS = Part(("rt", "ci"), 110)  # 30 crates and 80 must-fail edits
+PROOFS = Part(("rt", "ci"), 109)  # 29 crates and 80 must-fail edits
 LAST = (
     DOCUMENTS,
     Part(("ci/random", "300"), 1_800),
