@@ -3,8 +3,8 @@ use Rattle.std.proofs.Common.{◌≡◌, ℕ, ◌+◌, ◌<◌, ◌≤◌, true,
 use Rattle.std.specs.Prelude.{Option, Some, None, slice_get, option_map, unwrap_or, if◌then◌else◌, Bool}
 use Rattle.std.specs.List.{list_all}
 use Rattle.std.proofs.lemmas.Bool.{cases_lt, lt-ltb, le-ltb}
-use Rattle.bsp_pool.specs.declared.event.Event.{Event}
-use Rattle.bsp_pool.specs.declared.event.Event.TheVariants.{Draw, Ran, Left, Turn}
+use Rattle.bsp_pool.specs.declared.machine.Event.{Event}
+use Rattle.bsp_pool.specs.declared.machine.Event.TheVariants.{Draw, Ran, Left, Turn}
 use Rattle.bsp_pool.specs.declared.round.Worker.{Worker}
 use Rattle.bsp_pool.specs.declared.round.Worker.TheVariants.{Ready, Holding, PastEnd, Gone}
 use Rattle.bsp_pool.specs.Rounds.{RoundParts, is_gone, after_draw, after_run, after_leave}

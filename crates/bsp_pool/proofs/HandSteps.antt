@@ -1,6 +1,6 @@
 -- What workers keep of the numbers that they draw, step by step.
 use Rattle.std.proofs.Common.{take, ◌+◌, ◌-◌, ◌≡◌, ℕ, ◌<◌, ◌≤◌, List, [], ◌∷◌, ◌++◌, length, Bool, true, false, refl, sym, ap, ◌∙◌, subst, arith, inl, inr, ⊎_elim, zero, suc}
-use Rattle.std.specs.Prelude.{All, Some, ◌||◌, ◌⊎◌, map, slice_get}
+use Rattle.std.specs.Prelude.{All, ◌||◌, ◌⊎◌}
 use Rattle.std.specs.List.{list_any}
 use Rattle.std.proofs.lemmas.Bool.Decides.{nat_tests}
 use Rattle.std.proofs.Math.Bool.{or-false}
@@ -8,7 +8,7 @@ use Rattle.std.proofs.lemmas.Grind.{flat_map-append}
 use Rattle.std.proofs.lemmas.List.{append-nil, take-append-le}
 use Rattle.std.proofs.lemmas.List.Elements.{All-push, All-take}
 use Rattle.std.proofs.lemmas.List.Folds.{list_any-append, list_any-from_Any, list_any_none}
-use Rattle.bsp_pool.specs.declared.share.Share.{Share}
+use Rattle.bsp_pool.specs.declared.worker.Share.{Share}
 use Rattle.bsp_pool.specs.Numbers.{occurrences, IsDistinct}
 use Rattle.bsp_pool.specs.Shares.{IsShare, HasEachNumber, numbers_of}
 use Rattle.bsp_pool.specs.Passes.{PassContent, drawn, joined, pass_of}

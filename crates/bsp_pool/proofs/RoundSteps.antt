@@ -6,8 +6,8 @@ use Rattle.std.proofs.lemmas.Bool.{cases_lt, lt-ltb, le-ltb}
 use Rattle.std.proofs.lemmas.List.{length-set, length-replicate, map_more}
 use Rattle.bsp_pool.specs.declared.round.Worker.{Worker}
 use Rattle.bsp_pool.specs.declared.round.Worker.TheVariants.{Ready, Holding, PastEnd, Gone}
-use Rattle.bsp_pool.specs.declared.event.CoreRefusal.{CoreRefusal}
-use Rattle.bsp_pool.specs.declared.event.CoreRefusal.TheVariants.{NotNow, OutOfMemory}
+use Rattle.bsp_pool.specs.declared.machine.CoreRefusal.{CoreRefusal}
+use Rattle.bsp_pool.specs.declared.machine.CoreRefusal.TheVariants.{NotNow, OutOfMemory}
 use Rattle.bsp_pool.specs.Rounds.{RoundParts, opened, Applies, after_draw, after_run, after_leave, finished, IsRoundSound}
 use Rattle.bsp_pool.specs.Inside.Holding.{number_of}
 use Rattle.bsp_pool.specs.Machine.{Machine, starting, with_round, inputs_of, turned, IsSound}

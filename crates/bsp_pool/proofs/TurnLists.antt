@@ -34,14 +34,19 @@ merged_of-missing_of does (x ∷ xs) [] e = absurd (omega arith)
 merged_of-missing_of does (x ∷ xs) (None ∷ os) e = ap (λ l. does x ∷ l) (merged_of-missing_of does xs os (omega arith))
 merged_of-missing_of does (x ∷ xs) (Some o ∷ os) e = ap (λ l. o ∷ l) (merged_of-missing_of does xs os (omega arith))
 
+-- the outputs of a turn
+pub merged-outputs : {In Out : Type 0} (does : In → Out) (xs : List In) (os kept seen made : List (Option Out)) (outputs : List Out) → outputs ≡ merged_of kept made → kept ≡ os → made ≡ missing_of does xs seen → seen ≡ os → length os ≡ length xs → outputs ≡ finished does xs os
+merged-outputs does xs os kept seen made outputs is kept-is made-is seen-is places = rw (is, kept-is, made-is, seen-is) (merged_of-missing_of does xs os places)
+
 pub missing_of-all : {In Out : Type 0} (does : In → Out) (xs : List In) (os : List (Option Out)) (n : ℕ) → length xs ≤ n → take n (missing_of does xs os) ≡ missing_of does xs os
 missing_of-all does xs os n past = take_all n (missing_of does xs os) (omega (arith, length-missing_of does xs os))
 
 -- one more output in the list of those that are missing
-pub missing_of-more : {In Out : Type 0} (does : In → Out) (xs : List In) (os : List (Option Out)) (k : ℕ) (made : List (Option Out)) (x : In) (o out : Option Out) → k < length xs → length os ≡ length xs → made ≡ take k (missing_of does xs os)
-    → x ≡ slice_index_or xs k x → o ≡ slice_index_or os k o → out ≡ made_unless o (does x) → made ++ out ∷ [] ≡ take (k + 1) (missing_of does xs os)
-missing_of-more does xs os k made x o out lt same so_far at at' is =
-    output_more (missing_of does xs os) made k out so_far
+pub missing_of-more : {In Out : Type 0} (does : In → Out) (xs : List In) (os : List (Option Out)) (k : ℕ) (made new : List (Option Out)) (x : In) (o out : Option Out) → k < length xs → length os ≡ length xs → made ≡ take k (missing_of does xs os)
+    → x ≡ slice_index_or xs k x → o ≡ slice_index_or os k o → out ≡ made_unless o (does x) → new ≡ made ++ out ∷ [] → new ≡ take (k + 1) (missing_of does xs os)
+missing_of-more does xs os k made new x o out lt same so_far at at' is longer =
+    longer
+    ∙ output_more (missing_of does xs os) made k out so_far
     (slice_get-missing_of does xs os k x o lt same ∙ ap Some (ap (λ o. made_unless o (does (slice_index_or xs k x))) (sym at') ∙ (ap (λ x. made_unless o (does x)) (sym at) ∙ sym is)))
 
 -- what a Turn leaves is the machine turned

@@ -1,7 +1,7 @@
 -- Lists of events on a round machine. This profile's own.
 use Rattle.std.specs.Prelude.{◌≡◌, ℕ, ◌+◌, List, [], ◌∷◌, length, Option, Some, None, unwrap_or}
-use Rattle.bsp_pool.specs.declared.event.Event.{Event}
-use Rattle.bsp_pool.specs.declared.event.Event.TheVariants.{Draw, Ran, Left, Turn}
+use Rattle.bsp_pool.specs.declared.machine.Event.{Event}
+use Rattle.bsp_pool.specs.declared.machine.Event.TheVariants.{Draw, Ran, Left, Turn}
 use Rattle.bsp_pool.specs.Machine.{Machine, step, IsSound}
 
 -- the machine after these events, one after the other. A refused event changes nothing

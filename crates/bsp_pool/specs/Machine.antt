@@ -1,8 +1,8 @@
 -- The round machine: a list of phases, each a list of inputs, worked one after the other, each in a round. This profile's own.
 use Rattle.std.specs.Prelude.{◌≡◌, ℕ, ◌+◌, ◌≤◌, nat_lt, if◌then◌else◌, List, [], ◌∷◌, ◌++◌, length, map, take, slice_get, slice_index_or, Option, Some, None, option_map}
 use Rattle.std.specs.List.{list_all}
-use Rattle.bsp_pool.specs.declared.event.Event.{Event}
-use Rattle.bsp_pool.specs.declared.event.Event.TheVariants.{Draw, Ran, Left, Turn}
+use Rattle.bsp_pool.specs.declared.machine.Event.{Event}
+use Rattle.bsp_pool.specs.declared.machine.Event.TheVariants.{Draw, Ran, Left, Turn}
 use Rattle.bsp_pool.specs.Rounds.{RoundParts, opened, after_draw, after_run, after_leave, is_gone, finished, IsRoundSound}
 
 -- The machine: its work, all phases, the outputs committed so far, and the round of the open phase, which is the first

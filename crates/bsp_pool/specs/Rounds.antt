@@ -1,7 +1,7 @@
 -- A round: the inputs of one phase, whose numbers the workers draw. This profile's own.
 use Rattle.std.specs.Prelude.{◌≡◌, ℕ, ◌<◌, ◌≤◌, nat_lt, Bool, true, false, if◌then◌else◌, List, [], ◌∷◌, ◌++◌, length, map, replicate, slice_get, slice_set, Option, Some, None, IsSome, unwrap_or, option_map, Result, Ok, Err}
-use Rattle.bsp_pool.specs.declared.event.CoreRefusal.{CoreRefusal}
-use Rattle.bsp_pool.specs.declared.event.CoreRefusal.TheVariants.{NotNow, OutOfMemory}
+use Rattle.bsp_pool.specs.declared.machine.CoreRefusal.{CoreRefusal}
+use Rattle.bsp_pool.specs.declared.machine.CoreRefusal.TheVariants.{NotNow, OutOfMemory}
 use Rattle.bsp_pool.specs.declared.round.Worker.{Worker}
 use Rattle.bsp_pool.specs.declared.round.Worker.TheVariants.{Ready, Holding, PastEnd, Gone}
 

@@ -1,7 +1,7 @@
 -- What workers hand over. This profile's own.
 use Rattle.std.specs.Prelude.{◌≡◌, ◌<◌, ℕ, true, false, List, Some, slice_get, All, Any, map}
 use Rattle.std.specs.List.{flat_map}
-use Rattle.bsp_pool.specs.declared.share.Share.{Share}
+use Rattle.bsp_pool.specs.declared.worker.Share.{Share}
 use Rattle.bsp_pool.specs.Numbers.{occurrences}
 
 -- A share has the outputs of its numbers, in order. outs are the outputs of all inputs

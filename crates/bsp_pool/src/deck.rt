@@ -5,8 +5,7 @@ ghost use Rattle.bsp_pool.specs.Numbers.{all_units, numbers_a_unit, occurrences,
 ghost use Rattle.bsp_pool.specs.Passes.{pass_of, drawn, kept, given, joined};
 
 use crate::OutOfMemory;
-use crate::claim::{ClaimRule, Draw, JoinPasses, Look, ShareUnit};
-use crate::pass_view::PassView;
+use crate::claim::{ClaimRule, Draw, JoinPasses, Look, PassView, ShareUnit};
 use atomic_table::{Seat, Table};
 use std::alloc::Global;
 use std::convert::Infallible;
@@ -98,10 +97,9 @@ impl Deck {
         ensures joined { pass.new ≡ joined pass.old other }
         ensures apart { AreApart pass.old.numbers other.numbers }
     {
-        let Pass { seat } = other;
         self.table
             .shared
-            .join_seat::<JoinPasses>(&mut pass.seat, seat);
+            .join_seat::<JoinPasses>(&mut pass.seat, other.seat);
         self.table.shared.load::<Look>(&mut pass.seat, 0);
     }
 
@@ -113,9 +111,7 @@ impl Deck {
         ensures below { All (λ x. x < result) pass.numbers }
         ensures whole { pass.units ≡ all_units → (x : ℕ) → x < result → occurrences x pass.numbers ≡ 1 }
     {
-        let Deck { table } = self;
-        let Pass { seat } = pass;
-        let closed = table.close_with(seat);
+        let closed = self.table.close_with(pass.seat);
         let drawn = closed.word(0);
         closed.free();
         drawn

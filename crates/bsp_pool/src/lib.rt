@@ -6,15 +6,11 @@
 #![tactic(auto)]
 
 mod claim;
-mod coordinator;
 mod deck;
-mod event;
 mod machine;
-mod pass_view;
 mod phases;
 mod round;
 mod row;
-mod share;
 mod turning;
 mod watch;
 mod work;
@@ -22,8 +18,7 @@ mod worker;
 
 pub use bsp_gate::{Gate, Open, Timed};
 pub use deck::{Deck, Pass};
-pub use event::{CoreRefusal, Event};
-pub use machine::Core;
+pub use machine::{Core, CoreRefusal, Event};
 pub use phases::phase;
 pub use row::Row;
 pub use std::alloc::AllocError as OutOfMemory;

@@ -1,18 +1,49 @@
 //! The round machine.
 
 ghost use Rattle.std.specs.Prelude.{◌≡◌, ◌<◌, ◌≤◌, List, [], All, IfOk, length, map, slice_index_or, take};
-ghost use Rattle.bsp_pool.specs.declared.event.Event.{Event};
+ghost use Rattle.bsp_pool.specs.declared.machine.CoreRefusal.TheVariants.{OutOfMemory};
+ghost use Rattle.bsp_pool.specs.declared.machine.Event.{Event};
 ghost use Rattle.bsp_pool.specs.EventLists.{KeepsRounds};
 ghost use Rattle.bsp_pool.specs.Rounds.{Applies};
 ghost use Rattle.bsp_pool.specs.Machine.{starting, step, round_step, IsSound};
 
 use crate::OutOfMemory;
-use crate::event::{CoreRefusal, Event};
 use crate::round::{Round, turn};
 use crate::row::Row;
 use crate::work::Work;
-use std::alloc::Global;
+use std::alloc::{AllocError, Global};
 use std::marker::Model;
+
+/// What may happen in a round machine. Workers have the numbers from 0 on.
+#[derive(Clone, Copy, Debug)]
+pub enum Event {
+    /// The worker takes the next number: one `fetch_add` of 1 on the claim word.
+    Draw(usize),
+    /// The worker works the input of the number that it holds, and keeps the output.
+    Ran(usize),
+    /// The worker leaves, and gives up a number that it holds.
+    Left(usize),
+    /// Once all have left: what has no output is worked, the outputs are committed, and the next phase opens. (It is the
+    /// machine that turns to its next phase. What a process does in a superstep is called a turn too.)
+    Turn,
+}
+
+/// Why an event was refused. The machine is then as before.
+#[derive(Clone, Copy, Debug, PartialEq, Eq)]
+pub enum CoreRefusal {
+    /// The event isn't allowed now, or all phases are committed.
+    NotNow,
+    /// The event is allowed, and memory for it was refused.
+    OutOfMemory,
+}
+
+impl From<AllocError> for CoreRefusal {
+    ghost from_gives = { λ _ refusal. refusal ≡ OutOfMemory };
+
+    fn from(_error: AllocError) -> CoreRefusal {
+        CoreRefusal::OutOfMemory
+    }
+}
 
 /// The round machine: the pool, step by step, on one thread. It has a list of phases, each a list of inputs. In the
 /// round of the open phase workers draw its numbers, work their inputs and leave, and a turn commits the outputs.
@@ -97,19 +128,14 @@ impl<W: Work + Drop> Core<W> {
             return Err(CoreRefusal::NotNow);
         }
         match event {
-            Event::Draw(worker) => self.draw(worker),
+            Event::Draw(worker) => {
+                let inputs = inputs_at(self.phases.as_slice(), self.committed.len());
+                self.round.draw(worker, inputs.len())
+            }
             Event::Ran(worker) => self.run(worker),
-            Event::Left(worker) => self.leave(worker),
+            Event::Left(worker) => self.round.leave(worker),
             Event::Turn => self.turn(),
         }
-    }
-
-    fn draw(&mut self, worker: usize) -> Result<(), CoreRefusal>
-        requires { length self.old.committed < length self.old.phases }
-        ensures { Applies (round_step (W.does self.old.work) self.old (Event.Draw worker)) self.old result self.new }
-    {
-        let inputs = inputs_at(self.phases.as_slice(), self.committed.len());
-        self.round.draw(worker, inputs.len())
     }
 
     fn run(&mut self, worker: usize) -> Result<(), CoreRefusal>
@@ -123,13 +149,6 @@ impl<W: Work + Drop> Core<W> {
         let output = self.work.work(self.alloc, &inputs[number])?;
         self.round.keep(worker, number, output);
         Ok(())
-    }
-
-    fn leave(&mut self, worker: usize) -> Result<(), CoreRefusal>
-        requires { length self.old.committed < length self.old.phases }
-        ensures { Applies (round_step (W.does self.old.work) self.old (Event.Left worker)) self.old result self.new }
-    {
-        self.round.leave(worker)
     }
 
     fn turn(&mut self) -> Result<(), CoreRefusal>

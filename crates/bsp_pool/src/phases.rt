@@ -5,11 +5,10 @@ ghost use Rattle.bsp_pool.specs.Shares.{IsShare};
 ghost use Rattle.bsp_pool.specs.Inside.Kept.{AreKept};
 
 use crate::OutOfMemory;
-use crate::coordinator::gather;
 use crate::round::no_outputs;
-use crate::share::Share;
 use crate::turning::{merged, work_missing};
 use crate::work::Work;
+use crate::worker::{Share, gather};
 use bsp_gate::Gate;
 use std::alloc::Global;
 use std::thread::Threads;

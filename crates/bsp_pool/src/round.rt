@@ -6,7 +6,7 @@ ghost use Rattle.bsp_pool.specs.Rounds.{opened, after_draw, after_leave, with_ou
 ghost use Rattle.bsp_pool.specs.Inside.Holding.{number_of};
 
 use crate::OutOfMemory;
-use crate::event::CoreRefusal;
+use crate::machine::CoreRefusal;
 use crate::turning::{merged, work_missing};
 use crate::work::Work;
 use std::alloc::Global;
@@ -16,13 +16,10 @@ use std::mem;
 /// What a worker is at.
 #[derive(Clone, Copy)]
 pub(crate) enum Worker {
-    /// It may draw.
     Ready,
     /// It holds this number, whose input it is to work.
     Holding(usize),
-    /// It has drawn a number past the end.
     PastEnd,
-    /// It has left.
     Gone,
 }
 
@@ -65,7 +62,6 @@ impl<T: Drop> Round<T> {
         }
     }
 
-    /// The worker takes the next number.
     pub(crate) fn draw(&mut self, worker: usize, inputs: usize) -> Result<(), CoreRefusal>
         ensures { Applies (after_draw inputs self.old worker (slice_get self.old.workers worker))
             self.old result self.new }
@@ -84,7 +80,6 @@ impl<T: Drop> Round<T> {
         Ok(())
     }
 
-    /// The number that the worker holds.
     pub(crate) fn held(&self, worker: usize) -> Option<usize>
         ensures { result ≡ number_of (slice_get self.now.workers worker) }
     {
@@ -104,7 +99,6 @@ impl<T: Drop> Round<T> {
         self.outputs[number] = Some(output);
     }
 
-    /// The worker leaves.
     pub(crate) fn leave(&mut self, worker: usize) -> Result<(), CoreRefusal>
         ensures { Applies (after_leave self.old worker (slice_get self.old.workers worker))
             self.old result self.new }
@@ -118,7 +112,6 @@ impl<T: Drop> Round<T> {
         }
     }
 
-    /// Whether all workers have left.
     pub(crate) fn is_over(&self) -> bool
         ensures { result ≡ list_all is_gone self.now.workers }
     {
@@ -146,17 +139,11 @@ pub(crate) fn turn<W: Work>(
     ensures err { OnErr result (round.new ≡ round.old) }
 {
     let places = no_outputs(alloc, next_inputs)?;
-    match work_missing(alloc, work, inputs, round.outputs.as_slice()) {
-        Ok(missing) => {
-            round.draws.clear();
-            round.workers.fill(Worker::Ready);
-            Ok(merged(mem::replace(&mut round.outputs, places), missing))
-        }
-        Err(error) => {
-            drop(places);
-            Err(error)
-        }
-    }
+    let missing = work_missing(alloc, work, inputs, round.outputs.as_slice())?;
+    round.draws.clear();
+    round.workers.fill(Worker::Ready);
+    let kept = mem::replace(&mut round.outputs, places);
+    Ok(merged(kept, missing))
 }
 
 /// A list of so many places, in which no output is kept.

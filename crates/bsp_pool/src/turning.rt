@@ -33,24 +33,13 @@ pub(crate) fn work_missing<W: Work>(
 {
     let mut made = Vec::with_capacity(alloc, inputs.len())?;
     for (number, input) in inputs.iter().enumerate() {
-        match &kept[number] {
-            Some(_) => made.push_reserved(None),
-            None => match work.work(alloc, input) {
-                Ok(output) => made.push_reserved(Some(output)),
-                Err(error) => {
-                    drop(made);
-                    return Err(error);
-                }
-            },
-        }
+        made.push_reserved(match &kept[number] {
+            Some(_) => None,
+            None => Some(work.work(alloc, input)?),
+        });
     }
-    match Vec::with_capacity(alloc, inputs.len()) {
-        Ok(room) => Ok(Missing { made, room }),
-        Err(error) => {
-            drop(made);
-            Err(error)
-        }
-    }
+    let room = Vec::with_capacity(alloc, inputs.len())?;
+    Ok(Missing { made, room })
 }
 
 /// The kept outputs in order, with what was made where none was kept.
@@ -59,11 +48,8 @@ pub(crate) fn merged<T: Drop>(kept: Vec<Option<T>>, missing: Missing<T>) -> Vec<
     requires room { length kept.items ≤ vec_capacity missing.room }
     ensures { result.items ≡ merged_of kept.items missing.made.items }
 {
-    let Missing {
-        made,
-        room: mut outputs,
-    } = missing;
-    let mut others = made.into_iter();
+    let mut outputs = missing.room;
+    let mut others = missing.made.into_iter();
     for output in kept {
         let other = others.next().flatten();
         if let Some(output) = output.or(other) {

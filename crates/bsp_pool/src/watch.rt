@@ -40,30 +40,24 @@ impl Watch {
     /// The watch of the first of so many workers. Where it is the only one, it never looks. Where the gate tells no time,
     /// it calls the others at once.
     pub(crate) fn new<G: Gate>(gate: &G, workers: usize) -> Watch {
+        let mut watch = Watch {
+            looks: None,
+            next_look: if workers < 2 { usize::MAX } else { 0 },
+            workers: 1,
+        };
         if workers < 2 {
-            return Watch {
-                looks: None,
-                next_look: usize::MAX,
-                workers: 1,
-            };
+            return watch;
         }
-        match gate.now() {
-            Some(now) => Watch {
-                looks: Some(Looks {
-                    began: now,
-                    last: now,
-                    jobs: 0,
-                    worth: usize::MAX,
-                }),
-                next_look: 1,
-                workers: 1,
-            },
-            None => Watch {
-                looks: None,
-                next_look: 0,
-                workers: 1,
-            },
+        if let Some(now) = gate.now() {
+            watch.next_look = 1;
+            watch.looks = Some(Looks {
+                began: now,
+                last: now,
+                jobs: 0,
+                worth: usize::MAX,
+            });
         }
+        watch
     }
 
     /// Whether the worker, which has done so many jobs, shares those that are left with others.
@@ -78,10 +72,7 @@ impl Watch {
     /// Looks at the time: how many workers the jobs that are left are worth, by the pace since the last look and by that
     /// before it. Where the gate tells no time, they are worth any number.
     fn look<G: Gate>(&mut self, gate: &G, done: usize, left: usize) -> usize {
-        let Some(looks) = self.looks else {
-            return usize::MAX;
-        };
-        let Some(now) = gate.now() else {
+        let (Some(looks), Some(now)) = (self.looks, gate.now()) else {
             return usize::MAX;
         };
         let jobs = done.saturating_sub(looks.jobs).max(1);

@@ -3,12 +3,11 @@
 
 ghost use Rattle.std.specs.Prelude.{◌≡◌, ◌+◌, ◌<◌, ◌≤◌, ◌-◌, ◌^◌, [], ◌∷◌, ◌++◌, All, OnErr, OnOk, length, map, max, vec_len};
 ghost use Rattle.std.specs.Vec.{vec_capacity};
-ghost use Rattle.bsp_pool.specs.Numbers.{all_units};
+ghost use Rattle.bsp_pool.specs.Numbers.{IsDistinct};
 ghost use Rattle.bsp_pool.specs.Passes.{pass_of};
-ghost use Rattle.bsp_pool.specs.Shares.{IsShare};
+ghost use Rattle.bsp_pool.specs.Shares.{HasEachNumber, IsShare, numbers_of};
 ghost use Rattle.bsp_pool.specs.Inside.Hands.{HasUnits, IsHand, IsReady, IsSplit, IsGathered};
 
-use crate::share::Share;
 use crate::watch::Watch;
 use crate::work::Work;
 use crate::{Deck, OutOfMemory, Pass};
@@ -24,6 +23,19 @@ pub(crate) struct Jobs<'a, W: Work, G: Gate> {
     pub(crate) work: &'a W,
     pub(crate) inputs: &'a [W::In],
     pub(crate) gate: &'a G,
+}
+
+/// What a worker hands over at its end.
+#[derive(Drop)]
+pub(crate) struct Share<T> {
+    /// The numbers of the inputs that it worked, in the order of drawing.
+    pub(crate) numbers: Vec<usize>,
+    /// Their outputs, in the same order.
+    pub(crate) outputs: Vec<T>,
+    /// Whether it gave up a number that it drew, for want of memory.
+    pub(crate) gave_up: bool,
+    /// Whether it drew a number past the end.
+    pub(crate) past_end: bool,
 }
 
 /// What a worker holds: the right to draw, and what it will hand over.
@@ -118,26 +130,6 @@ fn begin<W: Work, G: Gate>(jobs: &Jobs<W, G>, pass: &mut Pass) -> Hand<W::Out>
     }
 }
 
-/// Further workers, up to so many.
-fn begin_more<W: Work, G: Gate>(
-    jobs: &Jobs<W, G>,
-    pass: &mut Pass,
-    hands: &mut Vec<Hand<W::Out>>,
-    workers: usize,
-)
-    requires workers { workers ≤ 16 }
-    requires room { workers ≤ vec_capacity hands.old }
-    requires split { IsSplit jobs.now.deck pass.old (vec_len hands.old) }
-    requires ready { All (IsReady jobs.now.deck (map (W.does jobs.now.work.now) jobs.now.inputs.now)) hands.old.items }
-    ensures split { IsSplit jobs.now.deck pass.new (vec_len hands.new) }
-    ensures ready { All (IsReady jobs.now.deck (map (W.does jobs.now.work.now) jobs.now.inputs.now)) hands.new.items }
-    ensures len { vec_len hands.new ≤ max (vec_len hands.old) workers }
-{
-    for _worker in hands.len()..workers {
-        hands.push_reserved(begin(jobs, pass));
-    }
-}
-
 /// Where there are to be several workers, the others begin, and all draw, each in a thread of its own where threads can
 /// be made.
 fn draw_beside<W: Work, G: Gate, R: Threads + Sync>(
@@ -159,7 +151,9 @@ fn draw_beside<W: Work, G: Gate, R: Threads + Sync>(
     if workers < 2 {
         return;
     }
-    begin_more(jobs, pass, hands, workers);
+    for _worker in hands.len()..workers {
+        hands.push_reserved(begin(jobs, pass));
+    }
     let threads = hands.len().max(1);
     for_each_mut(
         rt,
@@ -194,30 +188,51 @@ fn hand_over<W: Work, G: Gate>(
     }
 }
 
-/// So many workers at most, and the shares that they hand over. The calling thread is the first of them and begins
-/// alone. It starts threads for the others once its watch calls them.
-pub(crate) fn run_workers<W: Work, G: Gate, R: Threads + Sync>(
+/// What workers gather of the outputs of these inputs: for each worker a share, the outputs with their numbers. There
+/// are `workers` (1 to 16), but no more than inputs. Each draws numbers from one deck, passes the gate with the number,
+/// and works that input. Where the gate tells the time, the calling thread begins alone, and starts the others once
+/// what is left seems worth it. No number stands in two shares.
+///
+/// Where a worker drew past the end and none gave a number up, the shares have every number. A number that no share
+/// has is for the caller to work. Where memory for the deck or the lists is refused, there is no share.
+pub(crate) fn gather<W: Work, G: Gate, R: Threads + Sync>(
     rt: &R,
-    jobs: &Jobs<W, G>,
-    pass: &mut Pass,
+    alloc: Global,
+    work: &W,
+    inputs: &[W::In],
     workers: usize,
-    shares: &mut Vec<Share<W::Out>>,
-)
+    gate: &G,
+) -> Vec<Share<W::Out>>
     requires workers { (0 < workers) × (workers ≤ 16) }
-    requires accepts { All (W.accepts jobs.now.work.now) jobs.now.inputs.now }
-    requires pass { pass.old ≡ pass_of jobs.now.deck all_units [] }
-    requires empty { shares.old.items ≡ [] }
-    requires room { workers ≤ vec_capacity shares.old }
-    ensures { IsGathered jobs.now.deck (map (W.does jobs.now.work.now) jobs.now.inputs.now)
-        pass.new shares.new.items }
+    requires accepts { All (W.accepts work.now) inputs.now }
+    ensures shares { All (IsShare (map (W.does work.now) inputs.now)) result.items }
+    ensures once { IsDistinct (numbers_of result.items) }
+    ensures each { HasEachNumber (length inputs.now) result.items }
 {
-    let Ok(mut hands) = Vec::with_capacity(jobs.alloc, workers) else {
-        return;
+    // A worker beyond the number of inputs would find nothing to draw.
+    let useful = workers.min(inputs.len()).max(1);
+    let Ok(mut shares) = Vec::with_capacity(alloc, useful) else {
+        return Vec::new(alloc);
     };
-    let mut first = begin(jobs, pass);
-    let mut watch = Watch::new(jobs.gate, workers);
-    draw_all(jobs, &mut first, &mut watch);
+    let Ok(mut hands) = Vec::with_capacity(alloc, useful) else {
+        return shares;
+    };
+    let Ok((deck, mut pass)) = Deck::open(alloc) else {
+        return shares;
+    };
+    let jobs = Jobs {
+        alloc,
+        deck,
+        work,
+        inputs,
+        gate,
+    };
+    let mut first = begin(&jobs, &mut pass);
+    let mut watch = Watch::new(gate, useful);
+    draw_all(&jobs, &mut first, &mut watch);
     hands.push_reserved(first);
-    draw_beside(rt, jobs, pass, &mut hands, watch.workers.min(workers));
-    hand_over(jobs, pass, hands, shares);
+    draw_beside(rt, &jobs, &mut pass, &mut hands, watch.workers.min(useful));
+    hand_over(&jobs, &mut pass, hands, &mut shares);
+    jobs.deck.close(pass);
+    shares
 }

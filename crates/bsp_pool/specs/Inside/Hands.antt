@@ -2,7 +2,7 @@
 use Rattle.std.specs.Prelude.{◌≡◌, ◌+◌, ◌<◌, ◌≤◌, ◌^◌, ℕ, All, Bool, true, false, List, [], length}
 use Rattle.std.specs.List.{list_any}
 use Rattle.atomic_table.specs.Seated.{TableId}
-use Rattle.bsp_pool.specs.declared.share.Share.{Share}
+use Rattle.bsp_pool.specs.declared.worker.Share.{Share}
 use Rattle.bsp_pool.specs.declared.worker.Hand.{Hand}
 use Rattle.bsp_pool.specs.Numbers.{all_units, occurrences}
 use Rattle.bsp_pool.specs.Passes.{PassContent}

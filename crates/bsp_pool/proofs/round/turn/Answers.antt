@@ -1,16 +1,12 @@
 use Rattle.std.proofs.Common.{◌≡◌, ◌∙◌, ap}
-use Rattle.bsp_pool.specs.Inside.Turning.{merged_of, missing_of}
 use Rattle.bsp_pool.specs.Rounds.{RoundParts}
-use Rattle.bsp_pool.proofs.TurnLists.{merged_of-missing_of}
+use Rattle.bsp_pool.proofs.TurnLists.{merged-outputs}
 use Rattle.bsp_pool.proofs.round.turn.Goals as goal
 
-pub returns-in-Ok-clause-outputs : goal.returns-in-Ok-clause-outputs
-returns-in-Ok-clause-outputs g c =
-    let does = g.W.Work.does c.args.work.now in
-    let inputs = c.args.inputs.now in
+pub returns-clause-outputs : goal.returns-clause-outputs
+returns-clause-outputs g c =
     let os = c.args.round.now.outputs in
-    let made = c.in-Ok.missing.made.items in
-    let seen = c.as_slice.ensures.value ∙ ap (λ (r : RoundParts g.row.W-Out.Denot). r.outputs) c.round.view_is in
     let shown = ap (λ (r : RoundParts g.row.W-Out.Denot). r.outputs) c.round.view_is in
-    let kept : c.replace.result.items ≡ os = cc in
-    c.merged.ensures ∙ (ap (λ l. merged_of l made) kept ∙ (ap (merged_of os) (c.in-Ok.ensures.made ∙ ap (missing_of does inputs) seen) ∙ merged_of-missing_of does inputs os c.requires.places))
+    let seen : c.as_slice.result.now ≡ os = c.as_slice.ensures.value ∙ shown in
+    let kept : c.replace-kept.result.items ≡ os = cc in
+    merged-outputs (g.W.Work.does c.args.work.now) c.args.inputs.now os c.replace-kept.result.items c.as_slice.result.now c.in_ok-missing.missing.made.items c.merged.result.items c.merged.ensures kept c.in_ok-missing.ensures.made seen c.requires.places

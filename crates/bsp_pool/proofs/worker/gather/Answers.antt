@@ -4,13 +4,13 @@ use Rattle.std.proofs.lemmas.List.{length-map}
 use Rattle.bsp_pool.specs.Shares.{numbers_of}
 use Rattle.bsp_pool.specs.Inside.Hands.{Tells}
 use Rattle.bsp_pool.proofs.HandSteps.{gathered_each}
-use Rattle.bsp_pool.proofs.coordinator.gather.Goals as goal
+use Rattle.bsp_pool.proofs.worker.gather.Goals as goal
 
 pub returns-clause-each : goal.returns-clause-each
 returns-clause-each g c =
     let inputs = c.args.inputs.now in
-    let drawn = c.run_workers.new.pass.numbers in
-    let shares = c.run_workers.new.shares.items in
+    let drawn = c.hand_over.new.pass.numbers in
+    let shares = c.hand_over.new.shares.items in
     let P : ℕ → Type 0 = λ n. Tells n drawn (numbers_of shares) (list_any (λ s. s.gave_up) shares) (list_any (λ s. s.past_end) shares) in
-    let told = subst P (length-map inputs (g.W.Work.does c.args.work.now)) c.run_workers.ensures.tells in
-    gathered_each (length inputs) c.close.result drawn shares told c.close.ensures.below (c.close.ensures.whole c.run_workers.ensures.units)
+    let told = subst P (length-map inputs (g.W.Work.does c.args.work.now)) c.hand_over.ensures.tells in
+    gathered_each (length inputs) c.close.result drawn shares told c.close.ensures.below (c.close.ensures.whole c.hand_over.ensures.units)

@@ -1,7 +1,7 @@
 use Rattle.std.proofs.Common.{◌≡◌, ◌≤◌, All, map, max, vec_len}
 use Rattle.std.specs.Vec.{vec_capacity}
 use Rattle.bsp_pool.specs.Inside.Hands.{IsReady, IsSplit}
-use Rattle.bsp_pool.proofs.worker.begin_more.Given as goal
+use Rattle.bsp_pool.proofs.worker.draw_beside.Given as goal
 
 abbrev pub invariant-loop-worker : goal.invariant-loop-worker
 invariant-loop-worker g l = record {
