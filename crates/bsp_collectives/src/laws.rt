@@ -4,7 +4,8 @@
 ghost use Rattle.bsp_collectives.specs.Costs.{AllGatherCosts, ExchangeCosts, ExchangePartsCosts, GatherCosts};
 ghost use Rattle.bsp_collectives.specs.WhatArrives.{AllGatherArrives, AllGatherArrivesApart, AllReduceArrives, BroadcastArrives, ExchangeArrives, ExchangePartsArrive, ExchangePartsArriveApart, ForwardArrives, GatherArrives, GatherArrivesApart, GatherArrivesAtTheRootAlone, ReduceArrives, ScanArrives, ScatterArrives, SpreadArrives, TurnsSendTheirActs};
 
-/// A turn without a fault sends the messages of its acts, and no others: so the outcomes of turns that make a half are those of which the laws below speak.
+/// A turn without a fault sends the messages of its acts, and no others: so the outcomes of turns that make a half are those of which the laws below
+/// speak.
 pub fn turns_send_their_acts()
     ensures { TurnsSendTheirActs }
 {}
@@ -14,14 +15,12 @@ pub fn broadcast_arrives()
     ensures { BroadcastArrives }
 {}
 
-/// Broadcast in two supersteps: after the first, block d of the root's words arrives at process d, in blocks of the least size with which they make one for each process.
-pub fn spread_arrives()
-    ensures { SpreadArrives }
-{}
-
+/// Broadcast in two supersteps: after the first, block d of the root's words arrives at process d, in blocks of the least size with which they make
+/// one for each process.
 /// After the second, where such blocks of some words came to the processes, all of these words arrive at each process.
-pub fn forward_arrives()
-    ensures { ForwardArrives }
+pub fn spread_arrives()
+    ensures first { SpreadArrives }
+    ensures second { ForwardArrives }
 {}
 
 /// Scatter: block d of the root's words arrives at process d.
@@ -29,64 +28,37 @@ pub fn scatter_arrives()
     ensures { ScatterArrives }
 {}
 
-/// Gather: the words of all processes arrive at the root, those of process 0 first.
+/// Gather: the words of all processes arrive at the root, those of process 0 first, and each message has the words of one process. Nothing arrives
+/// elsewhere.
+/// The h-relation: the root receives the words and tags of all other processes, and each of these sends its own.
 pub fn gather_arrives()
-    ensures { GatherArrives }
+    ensures root { GatherArrives }
+    ensures elsewhere { GatherArrivesAtTheRootAlone }
+    ensures apart { GatherArrivesApart }
+    ensures costs { GatherCosts }
 {}
 
-/// Nothing arrives elsewhere.
-pub fn gather_arrives_at_the_root_alone()
-    ensures { GatherArrivesAtTheRootAlone }
-{}
-
-/// All-gather: the words of all processes arrive at each, those of process 0 first.
+/// All-gather: the words of all processes arrive at each, those of process 0 first, and each message has the words of one process. The h-relation:
+/// each process sends its words and a tag to each other process.
 pub fn all_gather_arrives()
-    ensures { AllGatherArrives }
+    ensures words { AllGatherArrives }
+    ensures apart { AllGatherArrivesApart }
+    ensures costs { AllGatherCosts }
 {}
 
-/// Total exchange: block d of the words of all processes arrives at process d, that of process 0 first.
+/// Total exchange: block d of the words of all processes arrives at process d, that of process 0 first. The h-relation: each process sends block d of
+/// its words and a tag to each other process d.
 pub fn exchange_arrives()
-    ensures { ExchangeArrives }
+    ensures words { ExchangeArrives }
+    ensures costs { ExchangeCosts }
 {}
 
-/// Total exchange of parts of any lengths: part d of the words of all processes arrives at process d, that of process 0 first.
+/// Total exchange of parts of any lengths: part d of the words of all processes arrives at process d, that of process 0 first, and each message has a
+/// part of one process. The h-relation is that of a total exchange, of parts.
 pub fn exchange_parts_arrive()
-    ensures { ExchangePartsArrive }
-{}
-
-/// Gather: each message that arrives at the root has the words of one process, that of process 0 first.
-pub fn gather_arrives_apart()
-    ensures { GatherArrivesApart }
-{}
-
-/// All-gather: the same at each process.
-pub fn all_gather_arrives_apart()
-    ensures { AllGatherArrivesApart }
-{}
-
-/// Parts of any lengths: each message that arrives at process d has part d of the words of one process.
-pub fn exchange_parts_arrive_apart()
-    ensures { ExchangePartsArriveApart }
-{}
-
-/// The h-relation of a gather: the root receives the words and tags of all other processes, and each of these sends its own.
-pub fn gather_costs()
-    ensures { GatherCosts }
-{}
-
-/// The h-relation of an all-gather: each process sends its words and a tag to each other process.
-pub fn all_gather_costs()
-    ensures { AllGatherCosts }
-{}
-
-/// The h-relation of a total exchange: each process sends block d of its words and a tag to each other process d.
-pub fn exchange_costs()
-    ensures { ExchangeCosts }
-{}
-
-/// The h-relation of an exchange of parts of any lengths: the same of part d.
-pub fn exchange_parts_costs()
-    ensures { ExchangePartsCosts }
+    ensures words { ExchangePartsArrive }
+    ensures apart { ExchangePartsArriveApart }
+    ensures costs { ExchangePartsCosts }
 {}
 
 /// Reduce: what the operation makes of what arrives at the root is what it makes of the words of all processes.

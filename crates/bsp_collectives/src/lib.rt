@@ -8,11 +8,9 @@ mod receiving;
 mod sending;
 
 pub use laws::{
-    all_gather_arrives, all_gather_arrives_apart, all_gather_costs, all_reduce_arrives,
-    broadcast_arrives, exchange_arrives, exchange_costs, exchange_parts_arrive,
-    exchange_parts_arrive_apart, exchange_parts_costs, forward_arrives, gather_arrives,
-    gather_arrives_apart, gather_arrives_at_the_root_alone, gather_costs, reduce_arrives,
-    scan_arrives, scatter_arrives, spread_arrives, turns_send_their_acts,
+    all_gather_arrives, all_reduce_arrives, broadcast_arrives, exchange_arrives,
+    exchange_parts_arrive, gather_arrives, reduce_arrives, scan_arrives, scatter_arrives,
+    spread_arrives, turns_send_their_acts,
 };
 pub use local::{block, in_order, lead, print_lines};
 pub use operation::Operation;

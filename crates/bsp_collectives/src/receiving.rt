@@ -21,7 +21,7 @@ pub fn receive(alloc: Global, ctx: &mut Ctx<'_>) -> Result<Words, Stop>
 {
     let mut words = Vec::new(alloc);
     while let Some(len) = first_len(ctx) {
-        take_message(alloc, ctx, len, &mut words)?;
+        words.extend_from_slice(take_message(alloc, ctx, len)?.as_slice())?;
     }
     Ok(Words::from_vec(words))
 }
@@ -32,9 +32,9 @@ pub fn receive_parts(alloc: Global, ctx: &mut Ctx<'_>) -> Result<Blocks<Words>, 
     ensures ran { Runs ctx.old (moves ctx.old.left) (apart ctx.old.left) ctx.new result }
     ensures taken { OnOk result (ctx.new ≡ emptied ctx.old) }
 {
-    let mut parts = Blocks::new(alloc);
+    let mut parts = Blocks::<Words>::new(alloc);
     while let Some(len) = first_len(ctx) {
-        take_part(alloc, ctx, len, &mut parts)?;
+        parts.push(take_message(alloc, ctx, len)?.as_slice())?;
     }
     Ok(parts)
 }
@@ -44,8 +44,7 @@ pub fn combine(alloc: Global, ctx: &mut Ctx<'_>, operation: Operation) -> Result
     ensures ran { Runs ctx.old (moves ctx.old.left) (combined operation (joined ctx.old.left)) ctx.new result }
     ensures taken { OnOk result (ctx.new ≡ emptied ctx.old) }
 {
-    let words = receive(alloc, ctx)?;
-    Ok(operation.combine(words.as_slice()))
+    Ok(operation.combine(receive(alloc, ctx)?.as_slice()))
 }
 
 /// The middle of a broadcast in two supersteps: takes all messages that are left, and sends their words to all processes.
@@ -64,38 +63,13 @@ fn first_len(ctx: &Ctx<'_>) -> Option<usize>
     Some(len)
 }
 
-/// Takes the first message, which has so many words, and puts them at the end of `words`.
-fn take_message(
-    alloc: Global,
-    ctx: &mut Ctx<'_>,
-    len: usize,
-    words: &mut Vec<u64>,
-) -> Result<(), Stop>
+/// Takes the first message, which has so many words.
+fn take_message(alloc: Global, ctx: &mut Ctx<'_>, len: usize) -> Result<Words, Stop>
     requires { len ≡ length (first_words ctx.old.left) }
-    ensures ran { Runs ctx.old (act.move_into len ∷ []) tt ctx.new result }
-    ensures words { OnOk result (words.new.items ≡ words.old.items ++ first_words ctx.old.left) }
+    ensures ran { Runs ctx.old (act.move_into len ∷ []) (first_words ctx.old.left) ctx.new result }
     ensures left { OnOk result (ctx.new ≡ record ctx.old { left = drop 1 ctx.old.left }) }
 {
-    let mut part = vec![in alloc; 0; len]?;
-    ctx.move_into(&mut part)?;
-    words.extend_from_slice(&part)?;
-    Ok(())
-}
-
-/// Takes the first message, which has so many words, and adds them to the parts.
-fn take_part(
-    alloc: Global,
-    ctx: &mut Ctx<'_>,
-    len: usize,
-    parts: &mut Blocks<Words>,
-) -> Result<(), Stop>
-    requires { len ≡ length (first_words ctx.old.left) }
-    ensures ran { Runs ctx.old (act.move_into len ∷ []) tt ctx.new result }
-    ensures parts { OnOk result (parts.new ≡ parts.old ++ first_words ctx.old.left ∷ []) }
-    ensures left { OnOk result (ctx.new ≡ record ctx.old { left = drop 1 ctx.old.left }) }
-{
-    let mut part = vec![in alloc; 0; len]?;
-    ctx.move_into(&mut part)?;
-    parts.push(&part)?;
-    Ok(())
+    let mut words = vec![in alloc; 0; len]?;
+    ctx.move_into(&mut words)?;
+    Ok(Words::from_vec(words))
 }

@@ -1,9 +1,9 @@
-//! Laws of batches.
+//! Calls on batches.
 
 ghost use Rattle.std.specs.Prelude.{◌≡◌, ◌++◌, IfOk};
 ghost use Rattle.std.specs.List.{list_any};
 ghost use Rattle.bsp_incr.specs.Undo.{same_part};
-ghost use Rattle.bsp_laws.specs.Batches.{IsSequence, last_edits, IsInPlaceOf, AcceptanceStays, LengthsStay, LastWins, LastWinsInBatch, EditsCommute};
+ghost use Rattle.bsp_laws.specs.Batches.{IsSequence, last_edits, IsInPlaceOf};
 
 use bsp_incr::{Batch, Edit};
 use bsp_model::{OutOfMemory, Seq};
@@ -20,58 +20,27 @@ pub fn join(alloc: Global, first: &[Edit], second: &[Edit]) -> Result<Batch, Out
     Ok(Seq::from_vec(both))
 }
 
-/// Whether a batch is accepted does not depend on the batches before it.
-pub fn acceptance_stays()
-    ensures { AcceptanceStays }
-{}
-
-/// No batch changes the number of processes, or the length of a memory or of a list of arguments.
-pub fn lengths_stay()
-    ensures { LengthsStay }
-{}
-
-/// Of two edits of one part the last wins, also in a batch.
-pub fn last_edit_wins()
-    ensures two { LastWins }
-    ensures batch { LastWinsInBatch }
-{}
-
-/// Edits of different parts may be made in either order.
-pub fn edits_of_different_parts_commute()
-    ensures { EditsCommute }
-{}
-
-/// Whether two edits are of one part.
 fn are_of_one_part(edit: &Edit, other: &Edit) -> bool
     ensures { result ≡ same_part edit.now other.now }
 {
     match (*edit, *other) {
         (
-            Edit::Word {
-                pid,
-                addr,
-                value: _,
-            },
+            Edit::Word { pid, addr, .. },
             Edit::Word {
                 pid: p,
                 addr: a,
-                value: _,
+                ..
             },
         ) => { pid == p && addr == a }
         (
-            Edit::Arg {
-                pid,
-                index,
-                value: _,
-            },
+            Edit::Arg { pid, index, .. },
             Edit::Arg {
                 pid: p,
                 index: i,
-                value: _,
+                ..
             },
         ) => { pid == p && index == i }
-        (Edit::Limit(_), Edit::Limit(_)) => true,
-        (Edit::Prices { g: _, l: _ }, Edit::Prices { g: _, l: _ }) => true,
+        (Edit::Limit(_), Edit::Limit(_)) | (Edit::Prices { .. }, Edit::Prices { .. }) => true,
         _ => false,
     }
 }

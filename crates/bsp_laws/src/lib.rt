@@ -2,23 +2,13 @@
 #![tactic(auto)]
 
 mod batches;
-mod causes;
-mod costs;
-mod reach;
-mod runs;
-mod updates;
+mod laws;
 
-pub use batches::{
-    acceptance_stays, coalesce, edits_of_different_parts_commute, join, last_edit_wins,
-    lengths_stay,
-};
-pub use causes::updates_have_causes;
-pub use costs::{nothing_costs_nothing, openings_cost_the_run, updates_cost_at_most_the_run};
-pub use reach::{
-    no_turn_without_a_cause, out_of_reach_sees_the_same, tables_stay, updates_are_within_reach,
-};
-pub use runs::one_run;
-pub use updates::{
-    limits_and_prices_go_on, lower_limits_do_nothing, no_turn_serves_more,
-    nothing_for_the_same_run, turns_are_reused,
+pub use batches::{coalesce, join};
+pub use laws::{
+    acceptance_stays, edits_of_different_parts_commute, last_edit_wins, lengths_stay,
+    limits_and_prices_go_on, lower_limits_do_nothing, no_turn_serves_more, no_turn_without_a_cause,
+    nothing_costs_nothing, nothing_for_the_same_run, one_run, openings_cost_the_run,
+    out_of_reach_sees_the_same, tables_stay, turns_are_reused, updates_are_within_reach,
+    updates_cost_at_most_the_run, updates_have_causes,
 };

@@ -10,13 +10,9 @@ use std::alloc::Global;
 /// One of the bundled programs. Its answers are that program's.
 #[derive(Clone, Copy)]
 pub enum Bundled {
-    /// One process tells a word to all others.
     Broadcast(Broadcast),
-    /// Each process prints the sum of all words up to its own.
     Prefix(Prefix),
-    /// The processes multiply a matrix by a vector.
     MatVec(MatVec),
-    /// Each process prints its distance to the last element of a linked list.
     Rank(Rank),
 }
 

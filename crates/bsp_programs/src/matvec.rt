@@ -1,17 +1,18 @@
 //! A matrix by a vector.
 
 ghost use Rattle.std.specs.Prelude.{◌≡◌};
+ghost use Rattle.std.specs.List.{range_with_len};
 ghost use Rattle.bsp_step.specs.Calls.{Runs};
-ghost use Rattle.bsp_programs.specs.MatVec.{matvec_plan};
+ghost use Rattle.bsp_programs.specs.MatVec.{matvec_plan, matvec_checking, matvec_sending, sends_to_all};
 
 mod layout;
 mod multiplying;
 mod receiving;
-mod sending;
 
 use bsp_model::{End, OutOfMemory};
 use bsp_step::{Ctx, Program, Stop, View, settle};
-use layout::Layout;
+use layout::{Layout, is_within};
+use receiving::receive_and_multiply;
 use std::alloc::Global;
 
 /// The processes multiply a square matrix by a vector, modulo 2^64, and each prints its words of the product.
@@ -41,11 +42,15 @@ impl Program for MatVec {
         if block > 64 {
             return false;
         }
-        let layout = Layout::new(view.nprocs, block);
+        let layout = Layout {
+            nprocs: view.nprocs,
+            block,
+        };
+        let own = layout.block_start();
         match view.step {
             0 => false,
-            1 => layout.is_in_block(address),
-            _ => layout.is_in_matrix(address) || layout.is_in_vector(address),
+            1 => is_within(own, block, address),
+            _ => { address < own || is_within(layout.vector_start(), layout.columns(), address) }
         }
     }
 
@@ -64,10 +69,48 @@ fn run(alloc: Global, ctx: &mut Ctx<'_>) -> Result<End, Stop>
     if block > 64 {
         return Ok(End::Abort(2));
     }
-    let layout = Layout::new(ctx.nprocs(), block);
+    let layout = Layout {
+        nprocs: ctx.nprocs(),
+        block,
+    };
     match ctx.step() {
-        0 => sending::check_memory(ctx, layout),
-        1 => sending::send_block(ctx, layout),
-        _ => receiving::receive_and_multiply(alloc, ctx, layout),
+        0 => check_memory(ctx, layout),
+        1 => send_block(ctx, layout),
+        _ => receive_and_multiply(alloc, ctx, layout),
     }
+}
+
+/// Finds out whether the memory has all words that are needed, and chooses tags of one word.
+fn check_memory(ctx: &mut Ctx<'_>, layout: Layout) -> Result<End, Stop>
+    ensures { let plan = matvec_checking layout.nprocs layout.block ctx.old.memory in Runs ctx.old plan.acts plan.ending ctx.new result }
+{
+    let needed = layout.product_start() + layout.block;
+    if needed > 0 && ctx.load(needed - 1).is_none() {
+        return Ok(End::Abort(1));
+    }
+    ctx.set_tagsize(1)?;
+    Ok(End::Sync)
+}
+
+/// Sends the own block of the vector to every process.
+fn send_block(ctx: &mut Ctx<'_>, layout: Layout) -> Result<End, Stop>
+    requires { layout.nprocs ≡ ctx.old.view.nprocs }
+    ensures { let plan = matvec_sending layout.nprocs ctx.old.view.pid layout.block ctx.old.memory in Runs ctx.old plan.acts plan.ending ctx.new result }
+{
+    let Some(block) = ctx.words_at(layout.block_start(), layout.block)? else {
+        return Ok(End::Abort(1));
+    };
+    send_to_all(ctx, block.as_slice())?;
+    Ok(End::Sync)
+}
+
+/// Sends the words to every process, with the own number as their tag.
+fn send_to_all(ctx: &mut Ctx<'_>, words: &[u64]) -> Result<(), Stop>
+    ensures { Runs ctx.old (sends_to_all ctx.old.view.pid words.now (range_with_len 0 ctx.old.view.nprocs)) tt ctx.new result }
+{
+    let own = ctx.pid();
+    for pid in 0..ctx.nprocs() {
+        ctx.send(pid, &[own], words)?;
+    }
+    Ok(())
 }

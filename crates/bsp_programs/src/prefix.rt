@@ -63,13 +63,10 @@ fn run(ctx: &mut Ctx<'_>) -> Result<End, Stop>
     if !has_received(ctx.step(), ctx.pid()) {
         return send_or_print(ctx);
     }
-    let Some(own) = ctx.load(0) else {
-        return Ok(End::Abort(1));
-    };
-    let Some(received) = ctx.load(1) else {
-        return Ok(End::Abort(1));
-    };
-    keep_sum(ctx, own.wrapping_add(received))
+    match (ctx.load(0), ctx.load(1)) {
+        (Some(own), Some(received)) => keep_sum(ctx, own.wrapping_add(received)),
+        _ => Ok(End::Abort(1)),
+    }
 }
 
 /// Makes the sum the own word, and goes on.

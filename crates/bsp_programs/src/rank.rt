@@ -59,16 +59,12 @@ fn run(ctx: &mut Ctx<'_>) -> Result<End, Stop>
 fn add_received(ctx: &mut Ctx<'_>) -> Result<End, Stop>
     ensures { let plan = rank_adding ctx.old.view ctx.old.memory in Runs ctx.old plan.acts plan.ending ctx.new result }
 {
-    let Some(successor) = ctx.load(2) else {
-        return Ok(End::Abort(1));
-    };
-    let Some(own) = ctx.load(1) else {
-        return Ok(End::Abort(1));
-    };
-    let Some(received) = ctx.load(3) else {
-        return Ok(End::Abort(1));
-    };
-    jump(ctx, successor, own.wrapping_add(received))
+    match (ctx.load(2), ctx.load(1), ctx.load(3)) {
+        (Some(successor), Some(own), Some(received)) => {
+            jump(ctx, successor, own.wrapping_add(received))
+        }
+        _ => Ok(End::Abort(1)),
+    }
 }
 
 /// Makes these the own successor and rank, and goes on.

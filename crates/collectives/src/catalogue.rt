@@ -1,10 +1,9 @@
 //! The programs of this tool by name.
 
-ghost use Rattle.std.specs.Prelude.{◌≡◌};
-
 use crate::combining::Combining;
 use crate::moving::Moving;
 use crate::parting::Parting;
+use bsp_engine::ByName;
 use bsp_model::{End, OutOfMemory};
 use bsp_step::{Ctx, Program, View};
 use std::alloc::Global;
@@ -12,21 +11,23 @@ use std::alloc::Global;
 /// A program that makes one collective call. Its answers are that program's.
 #[derive(Clone, Copy)]
 pub enum Collective {
-    /// One that moves words.
     Moving(Moving),
-    /// One that combines them.
     Combining(Combining),
-    /// One that moves parts of any lengths.
     Parting(Parting),
 }
 
-impl Collective {
+impl ByName for Collective {
     ghost use Rattle.collectives.specs.Catalogue.{program_named};
 
-    /// The program with this name. It takes no memory.
-    pub fn by_name(name: &str) -> Option<Collective>
-        ensures { result ≡ program_named name.now }
-    {
+    type Program = Collective;
+
+    ghost named = { program_named };
+
+    fn names() -> &'static str {
+        "broadcast, broadcast_in_two, scatter, gather, all_gather, exchange, reduce, all_reduce, scan and exchange_parts"
+    }
+
+    fn by_name(name: &str) -> Option<Collective> {
         match name {
             "broadcast" => Some(Collective::Moving(Moving::Broadcast)),
             "broadcast_in_two" => Some(Collective::Moving(Moving::BroadcastInTwo)),

@@ -17,11 +17,8 @@ use std::alloc::Global;
 /// A missing operation ends the turn by `Abort(2)`, a missing word by `Abort(1)`, another operation by `Abort(3)`.
 #[derive(Clone, Copy)]
 pub enum Combining {
-    /// What is made of the words of all, at the root.
     Reduce,
-    /// The same, at every process.
     AllReduce,
-    /// What is made of the words of the processes up to the own one.
     Scan,
 }
 

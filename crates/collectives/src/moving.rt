@@ -3,7 +3,7 @@
 ghost use Rattle.std.specs.Prelude.{◌≡◌};
 ghost use Rattle.bsp_model.specs.declared.fault.End.TheVariants.{Sync};
 ghost use Rattle.bsp_step.specs.Calls.{Runs};
-ghost use Rattle.collectives.specs.Moving.{moving_plan, beginning, half, ending, is_root, is_sender};
+ghost use Rattle.collectives.specs.Moving.{moving_plan, beginning, half, ending, is_sender};
 
 use bsp_collectives::{
     all_gather, block_size, broadcast, exchange, forward, gather, receive, scatter, spread,
@@ -14,22 +14,16 @@ use std::alloc::Global;
 
 /// A program that makes a collective call by which words are moved. Argument 0 is the number of own words, which are the first of the memory.
 /// What arrives is stored after them and printed, and then the process halts. Argument 1 is the root, or process 0 where it is missing. Blocks are as small
-/// as they can be where each process has one.
+/// as they can be where each process has one. `BroadcastInTwo` is `spread` and then `forward`.
 ///
 /// A missing number of words ends the turn by `Abort(2)`, a missing word by `Abort(1)`.
 #[derive(Clone, Copy)]
 pub enum Moving {
-    /// The root tells its words to all.
     Broadcast,
-    /// The same in two supersteps.
     BroadcastInTwo,
-    /// The root deals its words in blocks.
     Scatter,
-    /// All tell their words to the root.
     Gather,
-    /// All tell their words to all.
     AllGather,
-    /// All deal their words in blocks.
     Exchange,
 }
 
@@ -63,7 +57,9 @@ impl Moving {
         ensures { result ≡ is_sender self view.now }
     {
         match self {
-            Moving::Broadcast | Moving::BroadcastInTwo | Moving::Scatter => is_root(view),
+            Moving::Broadcast | Moving::BroadcastInTwo | Moving::Scatter => {
+                view.pid == view.args.get(1).copied().unwrap_or(0)
+            }
             Moving::Gather | Moving::AllGather | Moving::Exchange => true,
         }
     }
@@ -110,16 +106,6 @@ impl Moving {
             Moving::Exchange => exchange(ctx, words, size)?,
         }
         Ok(End::Sync)
-    }
-}
-
-/// Whether the process is the root.
-fn is_root(view: &View<'_>) -> bool
-    ensures { result ≡ is_root view.now }
-{
-    match view.args.get(1) {
-        Some(&root) => view.pid == root,
-        None => view.pid == 0,
     }
 }
 

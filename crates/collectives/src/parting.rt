@@ -67,7 +67,6 @@ fn deal(alloc: Global, ctx: &mut Ctx<'_>, count: u64) -> Result<End, Stop>
     Ok(End::Sync)
 }
 
-/// The lengths of the parts.
 #[tactic(auto, using(crate::proofs::Lengths::one_more_length))]
 fn lengths(alloc: Global, ctx: &Ctx<'_>) -> Result<Vec<usize>, OutOfMemory>
     ensures { IfOk result (λ found. found.items ≡ lengths ctx.now.view.args ctx.now.view.nprocs) }
@@ -88,7 +87,6 @@ fn print(alloc: Global, ctx: &mut Ctx<'_>) -> Result<End, Stop>
     Ok(End::Halt)
 }
 
-/// Prints each of the parts.
 #[tactic(auto, using(bsp_step::proofs::Laws::running, crate::proofs::Lengths::print_first))]
 fn print_parts(ctx: &mut Ctx<'_>, parts: &BlocksRef<'_, Words>) -> Result<(), Stop>
     ensures { Runs ctx.old (map act.print parts.now) tt ctx.new result }

@@ -10,9 +10,6 @@ use bsp_model::{Change, End, OutOfMemory};
 use bsp_step::{Ctx, Program, Stop, View, settle};
 use std::alloc::Global;
 
-/// Cells are added up in blocks of at most so many words. A block ends where an address is a multiple of that, as a page of a memory does.
-const BLOCK: u64 = 64;
-
 /// Heat in a rod of cells, which are dealt to the processes in a row. In each time step every cell takes a quarter of the sum of the word
 /// before it, twice its own and the word after it, modulo 2^64 and rounded down. After the last one each process prints the sum of its cells.
 ///
@@ -209,17 +206,6 @@ fn put_above(ctx: &mut Ctx<'_>) -> Result<End, Stop>
     Ok(End::Sync)
 }
 
-/// How many of the words from `start` up to `end` are in the block of the first of them.
-fn count_in_block(start: u64, end: u64) -> u64
-    requires { start < end }
-    ensures some { 1 ≤ result }
-    ensures few { result ≤ BLOCK }
-    ensures within { start + result ≤ end }
-{
-    (BLOCK - start % BLOCK).min(end - start)
-}
-
-/// The sum of the own cells, modulo 2^64.
 fn sum_of_cells(ctx: &Ctx<'_>) -> u64
     requires { 3 ≤ length ctx.now.memory }
     ensures { result ≡ sum (own_cells ctx.now.memory) % 2 ^ 64 }
@@ -228,16 +214,15 @@ fn sum_of_cells(ctx: &Ctx<'_>) -> u64
     let mut sum: u64 = 0;
     let mut start = 1;
     while start < end {
-        let count = count_in_block(start, end);
+        let count = ctx.piece_len(start).min(end - start).min(64);
         sum = sum.wrapping_add(sum_of_block(ctx, start, count));
         start += count;
     }
     sum
 }
 
-/// The sum of `count` words from `start` on, modulo 2^64.
 fn sum_of_block(ctx: &Ctx<'_>, start: u64, count: u64) -> u64
-    requires few { count ≤ BLOCK }
+    requires few { count ≤ 64 }
     requires within { start + count ≤ length ctx.now.memory }
     ensures { result ≡ sum (take count (drop start ctx.now.memory)) % 2 ^ 64 }
 {
@@ -247,7 +232,6 @@ fn sum_of_block(ctx: &Ctx<'_>, start: u64, count: u64) -> u64
     sum_of(words)
 }
 
-/// The sum of words, modulo 2^64.
 fn sum_of(words: &[u64]) -> u64
     ensures { result ≡ sum words.now % 2 ^ 64 }
 {

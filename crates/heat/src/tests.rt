@@ -1,7 +1,8 @@
 //! The run of the stored document, and runs whose allocations are counted.
 
-use crate::rod::run_heat;
+use crate::kernel::Heat;
 use bsp_model::{Input, Memory, OutOfMemory, Seq, Words};
+use bsp_right::run_computing;
 use bsp_run::History;
 use std::alloc::Global;
 use std::test::Fail;
@@ -57,7 +58,7 @@ fn word_printed(history: &History, pid: u64) -> Option<u64> {
 
 #[test]
 fn rod_of_the_stored_document(rt: HostRuntime) -> Result<(), Fail> {
-    let history = run_heat(rt.alloc(), &stored_input(rt.alloc())?)?;
+    let history = run_computing(rt.alloc(), &Heat, &stored_input(rt.alloc())?)?;
     for pid in 0..4 {
         for address in 0..5 {
             assert_eq!(rt;
@@ -86,7 +87,7 @@ fn run_long(alloc: Global, processes: usize, limit: u64) -> Result<(), Fail> {
         g: 4,
         l: 10,
     };
-    run_heat(alloc, &input)?;
+    run_computing(alloc, &Heat, &input)?;
     Ok(())
 }
 

@@ -8,10 +8,7 @@ use bsp_engine::{ByName, Named, Tool, after_help, run_tool};
 use kernel::OddEven;
 use std::process::ExitCode;
 
-/// The programs of this tool by their names.
-struct Programs;
-
-impl ByName for Programs {
+impl ByName for OddEven {
     ghost use Rattle.oddeven.specs.Programs.{program_named};
 
     type Program = OddEven;
@@ -23,33 +20,28 @@ impl ByName for Programs {
     }
 
     fn by_name(name: &str) -> Option<OddEven> {
-        match name {
-            "oddeven" => Some(OddEven),
-            _ => None,
-        }
+        (name == "oddeven").then_some(OddEven)
     }
 }
 
-const AFTER_HELP: &str = after_help!(
-    "  program      oddeven",
-    "
+const TOOL: Tool = Tool {
+    name: "oddeven",
+    about: "Sorts words that are dealt to processes in a row, and does so again after each batch of edits",
+    after_help: after_help!(
+        "  program      oddeven",
+        "
 The first half of a memory holds the words of a process, and the other half is room for those of a neighbour. All
 memories have one length. Its one argument is the number of rounds: as many as there are processes sort all words.
 ",
-    "  program = \"oddeven\"
+        "  program = \"oddeven\"
   limit = 16
   g = 4
   l = 10
   memory = [[9, 4, 7, 0, 0, 0], [8, 1, 6, 0, 0, 0]]
   args = [[2], [2]]"
-);
-
-const TOOL: Tool = Tool {
-    name: "oddeven",
-    about: "Sorts words that are dealt to processes in a row, and does so again after each batch of edits",
-    after_help: AFTER_HELP,
+    ),
 };
 
 fn main(rt: HostRuntime) -> ExitCode {
-    run_tool::<Named<Programs>, _>(&rt, &TOOL)
+    run_tool::<Named<OddEven>, _>(&rt, &TOOL)
 }

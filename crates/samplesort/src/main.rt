@@ -8,10 +8,7 @@ use bsp_engine::{ByName, Named, Tool, after_help, run_tool};
 use kernel::SampleSort;
 use std::process::ExitCode;
 
-/// The programs of this tool by their names.
-struct Programs;
-
-impl ByName for Programs {
+impl ByName for SampleSort {
     ghost use Rattle.samplesort.specs.Programs.{program_named};
 
     type Program = SampleSort;
@@ -23,34 +20,29 @@ impl ByName for Programs {
     }
 
     fn by_name(name: &str) -> Option<SampleSort> {
-        match name {
-            "samplesort" => Some(SampleSort),
-            _ => None,
-        }
+        (name == "samplesort").then_some(SampleSort)
     }
 }
 
-const AFTER_HELP: &str = after_help!(
-    "  program      samplesort",
-    "
+const TOOL: Tool = Tool {
+    name: "samplesort",
+    about: "Sorts words by regular sampling, and does so again after each batch of edits",
+    after_help: after_help!(
+        "  program      samplesort",
+        "
 Argument 0, where there is one, is the number of own words, which are the first of the memory; without it all words
 are own words. Each process prints its part of the words of all in order, 64 in a line, and keeps it in its memory
 where it fits.
 ",
-    "  program = \"samplesort\"
+        "  program = \"samplesort\"
   limit = 16
   g = 4
   l = 10
   memory = [[9, 4, 7, 0, 0], [8, 1, 0], [3, 5, 2, 6]]
   args = [[3], [2], []]"
-);
-
-const TOOL: Tool = Tool {
-    name: "samplesort",
-    about: "Sorts words by regular sampling, and does so again after each batch of edits",
-    after_help: AFTER_HELP,
+    ),
 };
 
 fn main(rt: HostRuntime) -> ExitCode {
-    run_tool::<Named<Programs>, _>(&rt, &TOOL)
+    run_tool::<Named<SampleSort>, _>(&rt, &TOOL)
 }

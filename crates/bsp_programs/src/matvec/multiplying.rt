@@ -34,7 +34,6 @@ fn answer(ctx: &mut Ctx<'_>, layout: Layout, product: &[u64]) -> Result<End, Sto
     Ok(End::Halt)
 }
 
-/// The inner products of the rows and the vector.
 fn product_of(
     alloc: Global,
     layout: Layout,
@@ -53,7 +52,6 @@ fn product_of(
     Ok(product)
 }
 
-/// The sum of the products of the words side by side, modulo 2^64.
 fn inner_product(row: &[u64], vector: &[u64]) -> u64
     ensures { result ≡ inner_product row.now vector.now }
 {

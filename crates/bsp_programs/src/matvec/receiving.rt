@@ -21,34 +21,15 @@ pub(super) fn receive_and_multiply(
 ) -> Result<End, Stop>
     ensures { let plan = matvec_receiving layout.nprocs layout.block ctx.old.memory ctx.old.left in Runs ctx.old plan.acts plan.ending ctx.new result }
 {
-    let mut buffer = [0; 64];
-    receive(alloc, ctx, layout, &mut buffer[..layout.block as usize])
-}
-
-/// The same, with a buffer of one block.
-fn receive(
-    alloc: Global,
-    ctx: &mut Ctx<'_>,
-    layout: Layout,
-    buffer: &mut [u64],
-) -> Result<End, Stop>
-    requires { length buffer.old ≡ layout.block }
-    ensures { let plan = matvec_receiving layout.nprocs layout.block ctx.old.memory ctx.old.left in Runs ctx.old plan.acts plan.ending ctx.new result }
-{
-    while has_message(ctx) {
+    let mut words = [0; 64];
+    let words = &mut words[..layout.block as usize];
+    while ctx.get_tag().is_some() {
         let Some(sender) = sender_of_first(ctx, layout) else {
             return Ok(End::Abort(3));
         };
-        take_block(ctx, layout.place_of(sender), buffer)?;
+        take_block(ctx, layout.place_of(sender), words)?;
     }
     multiply(alloc, ctx, layout)
-}
-
-/// Whether a message is left.
-fn has_message(ctx: &Ctx<'_>) -> bool
-    ensures { result ≡ not (nat_eq (length ctx.now.left) 0) }
-{
-    ctx.get_tag().is_some()
 }
 
 /// The process whose block the first message is.
@@ -65,14 +46,14 @@ fn sender_of_first(ctx: &Ctx<'_>, layout: Layout) -> Option<u64>
     (sender < layout.nprocs).then_some(sender)
 }
 
-/// Takes the first message, which is as long as the buffer, and stores its words from `start` on.
-fn take_block(ctx: &mut Ctx<'_>, start: u64, buffer: &mut [u64]) -> Result<(), Stop>
-    requires { length (first_words ctx.old.left) ≡ length buffer.old }
-    ensures ran { Runs ctx.old (act.move_into (length buffer.old) ∷ stores start (first_words ctx.old.left)) tt ctx.new result }
+/// Takes the first message, which is as long as the words, and stores its words from `start` on.
+fn take_block(ctx: &mut Ctx<'_>, start: u64, words: &mut [u64]) -> Result<(), Stop>
+    requires { length (first_words ctx.old.left) ≡ length words.old }
+    ensures ran { Runs ctx.old (act.move_into (length words.old) ∷ stores start (first_words ctx.old.left)) tt ctx.new result }
     ensures memory { OnOk result (ctx.new.memory ≡ stored ctx.old.memory start (first_words ctx.old.left)) }
     ensures left { OnOk result (ctx.new.left ≡ drop 1 ctx.old.left) }
     ensures view { OnOk result (ctx.new.view ≡ ctx.old.view) }
 {
-    ctx.move_into(buffer)?;
-    ctx.store_words(start, buffer)
+    ctx.move_into(words)?;
+    ctx.store_words(start, words)
 }

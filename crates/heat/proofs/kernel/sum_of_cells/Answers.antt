@@ -7,7 +7,7 @@ pub loop-start-preserved : goal.loop-start-preserved
 loop-start-preserved c =
     let m = c.args.ctx.now.memory in
     let start = c.loop-start.start in
-    let count = c.count_in_block-count.result in
+    let count = c.min-count.result in
     let before = sum (take (start - 1) (drop 1 m)) in
     let block = sum (take count (drop start m)) in
     record {

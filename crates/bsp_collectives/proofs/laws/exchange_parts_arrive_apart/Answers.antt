@@ -1,5 +1,0 @@
-use Rattle.bsp_collectives.proofs.Arriving.{exchange_parts-arrives_apart}
-use Rattle.bsp_collectives.proofs.laws.exchange_parts_arrive_apart.Goals as goal
-
-pub returns : goal.returns
-returns c = exchange_parts-arrives_apart

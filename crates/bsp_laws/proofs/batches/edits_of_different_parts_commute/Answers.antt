@@ -1,5 +1,0 @@
-use Rattle.bsp_incr.proofs.EditParts.{commute}
-use Rattle.bsp_laws.proofs.batches.edits_of_different_parts_commute.Goals as goal
-
-pub returns : goal.returns
-returns c = commute

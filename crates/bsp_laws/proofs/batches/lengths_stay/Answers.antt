@@ -1,5 +1,0 @@
-use Rattle.bsp_laws.proofs.Sequences.{lengths_stay}
-use Rattle.bsp_laws.proofs.batches.lengths_stay.Goals as goal
-
-pub returns : goal.returns
-returns c = lengths_stay

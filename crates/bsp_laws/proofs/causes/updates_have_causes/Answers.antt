@@ -1,5 +1,0 @@
-use Rattle.bsp_laws.proofs.Caused.{causes_of_updates}
-use Rattle.bsp_laws.proofs.causes.updates_have_causes.Goals as goal
-
-pub returns : goal.returns
-returns c = causes_of_updates

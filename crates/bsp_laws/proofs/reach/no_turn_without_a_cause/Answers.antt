@@ -1,5 +1,0 @@
-use Rattle.bsp_laws.proofs.Reaching.{no_cause}
-use Rattle.bsp_laws.proofs.reach.no_turn_without_a_cause.Goals as goal
-
-pub returns : goal.returns
-returns c = no_cause

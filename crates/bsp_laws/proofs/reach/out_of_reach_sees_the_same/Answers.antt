@@ -1,5 +1,0 @@
-use Rattle.bsp_laws.proofs.Reaching.{sees_the_same}
-use Rattle.bsp_laws.proofs.reach.out_of_reach_sees_the_same.Goals as goal
-
-pub returns : goal.returns
-returns c = sees_the_same

@@ -1,5 +1,0 @@
-use Rattle.bsp_laws.proofs.Reaching.{tables_stay}
-use Rattle.bsp_laws.proofs.reach.tables_stay.Goals as goal
-
-pub returns : goal.returns
-returns c = tables_stay

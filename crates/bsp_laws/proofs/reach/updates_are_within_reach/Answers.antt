@@ -1,5 +1,0 @@
-use Rattle.bsp_laws.proofs.Reaching.{within_reach}
-use Rattle.bsp_laws.proofs.reach.updates_are_within_reach.Goals as goal
-
-pub returns : goal.returns
-returns c = within_reach

@@ -1,5 +1,0 @@
-use Rattle.bsp_run.proofs.OneRun.{one_run}
-use Rattle.bsp_laws.proofs.runs.one_run.Goals as goal
-
-pub returns : goal.returns
-returns c = one_run

@@ -1,5 +1,0 @@
-use Rattle.bsp_laws.proofs.Undone.{goes_on_after}
-use Rattle.bsp_laws.proofs.updates.limits_and_prices_go_on.Goals as goal
-
-pub returns : goal.returns
-returns c = goes_on_after

@@ -1,5 +1,0 @@
-use Rattle.bsp_laws.proofs.Undone.{nothing_done}
-use Rattle.bsp_laws.proofs.updates.nothing_for_the_same_run.Goals as goal
-
-pub returns : goal.returns
-returns c = nothing_done

@@ -1,5 +1,0 @@
-use Rattle.bsp_incr.proofs.LawOfReuse.{law_reused}
-use Rattle.bsp_laws.proofs.updates.turns_are_reused.Goals as goal
-
-pub returns : goal.returns
-returns c = law_reused

@@ -1,0 +1,122 @@
+//! What the bundled programs compute.
+
+ghost use Rattle.std.specs.Prelude.{◌≡◌, ◌<◌, ◌^◌, All, None, IfOk, IfErr, OnOk, slice_index};
+ghost use Rattle.bsp_model.specs.Input.{input_fault};
+ghost use Rattle.bsp_run.specs.RunErrors.{input_fault_of};
+ghost use Rattle.bsp_right.specs.Told.{Tells};
+ghost use Rattle.bsp_right.specs.Summed.{Sums};
+ghost use Rattle.bsp_right.specs.Multiplied.{Multiplies};
+ghost use Rattle.bsp_right.specs.Ranked.{Ranks};
+
+use crate::{Computes, run_computing};
+use bsp_model::{Input, Memory};
+use bsp_programs::{Broadcast, Bundled, MatVec, Prefix, Rank};
+use bsp_run::{History, RunError};
+use std::alloc::Global;
+
+/// Where all processes name one root, the run of a broadcast halts, and every process ends with the root's word as its word 0 and has printed it
+/// once. The total cost is `(P - 1) * g + 2 * l`.
+impl Computes for Broadcast {
+    ghost use Rattle.bsp_right.specs.Told.{Tells};
+
+    ghost computes = { λ _. Tells };
+
+    fn law(_input: &Input) {}
+}
+
+/// A broadcast, run on one thread. `Input(f)` comes exactly where the input's check answers f; or `OutOfMemory`.
+pub fn run_broadcast(alloc: Global, input: &Input) -> Result<History, RunError>
+    ensures lawful { OnOk result (input_fault input.now ≡ None) }
+    ensures computes { IfOk result (λ history. Tells input.now history) }
+    ensures input { IfErr result (λ e. input_fault input.now ≡ input_fault_of e) }
+{
+    run_computing(alloc, &Broadcast, input)
+}
+
+/// The run of prefix sums halts, and every process ends with the sum of the words 0 of the processes up to itself, modulo 2^64, as its word 0, and
+/// has printed it once. With k the least number such that 2^k is not below P, the total cost is `k * (g + l + 1) + l`.
+impl Computes for Prefix {
+    ghost use Rattle.bsp_right.specs.Summed.{Sums};
+
+    ghost computes = { λ _. Sums };
+
+    fn law(input: &Input) {
+        read_first_words(input.mems.as_slice());
+    }
+}
+
+/// Reads the first word of each memory, so that it is known to have 64 bits.
+fn read_first_words(memories: &[Memory])
+    ensures { All (λ memory. slice_index memory 0 < 2 ^ 64) memories.now }
+{
+    for memory in memories {
+        let _word = first_word(memory);
+    }
+}
+
+fn first_word(memory: &Memory) -> u64
+    ensures value { result ≡ slice_index memory.now 0 }
+    ensures bits { slice_index memory.now 0 < 2 ^ 64 }
+{
+    memory.load(0).unwrap_or(0)
+}
+
+/// Prefix sums, run on one thread. `Input(f)` comes exactly where the input's check answers f; or `OutOfMemory`.
+pub fn run_prefix(alloc: Global, input: &Input) -> Result<History, RunError>
+    ensures lawful { OnOk result (input_fault input.now ≡ None) }
+    ensures computes { IfOk result (λ history. Sums input.now history) }
+    ensures input { IfErr result (λ e. input_fault input.now ≡ input_fault_of e) }
+{
+    run_computing(alloc, &Prefix, input)
+}
+
+/// Where all processes name one number b of rows and their memories have room, the run of a product halts, and every process ends with its b words
+/// of the product of the whole matrix and the whole vector, modulo 2^64, and has printed them as one line. The total cost is
+/// `P * b * b + (P - 1) * (b + 1) * g + 2 * l`.
+impl Computes for MatVec {
+    ghost use Rattle.bsp_right.specs.Multiplied.{Multiplies};
+
+    ghost computes = { λ _. Multiplies };
+
+    fn law(_input: &Input) {}
+}
+
+/// A product, run on one thread. `Input(f)` comes exactly where the input's check answers f; or `OutOfMemory`.
+pub fn run_matvec(alloc: Global, input: &Input) -> Result<History, RunError>
+    ensures lawful { OnOk result (input_fault input.now ≡ None) }
+    ensures computes { IfOk result (λ history. Multiplies input.now history) }
+    ensures input { IfErr result (λ e. input_fault input.now ≡ input_fault_of e) }
+{
+    run_computing(alloc, &MatVec, input)
+}
+
+/// Where the processes are the elements of one linked list, wherever in the list each of them stands, the run of list ranking halts, and every
+/// process ends with the number of its successors as its word 1, and has printed it once. With k the least number such that 2^k is not below P, the
+/// total cost is `(2^(k + 1) - 2) * g + (k + 1) * l + k`.
+impl Computes for Rank {
+    ghost use Rattle.bsp_right.specs.Ranked.{Ranks};
+
+    ghost computes = { λ _. Ranks };
+
+    fn law(_input: &Input) {}
+}
+
+/// List ranking, run on one thread. `Input(f)` comes exactly where the input's check answers f; or `OutOfMemory`.
+pub fn run_rank(alloc: Global, input: &Input) -> Result<History, RunError>
+    ensures lawful { OnOk result (input_fault input.now ≡ None) }
+    ensures computes { IfOk result (λ history. Ranks input.now history) }
+    ensures input { IfErr result (λ e. input_fault input.now ≡ input_fault_of e) }
+{
+    run_computing(alloc, &Rank, input)
+}
+
+/// The claims of the four programs.
+impl Computes for Bundled {
+    ghost use Rattle.bsp_right.specs.Claims.{bundled_claim};
+
+    ghost computes = { bundled_claim };
+
+    fn law(input: &Input) {
+        Prefix::law(input);
+    }
+}
