@@ -14,11 +14,9 @@ pub(crate) trait Addressed {
 
     ghost issued: { OutcomeParts → List Self };
 
-    /// How many requests of this kind a turn issued.
     fn count(outcome: &OutcomeRef<'_>) -> usize
         ensures { result ≡ length (issued outcome.now) };
 
-    /// The process that the request at a place is addressed to.
     fn addressee_at(outcome: &OutcomeRef<'_>, place: usize) -> u64
         requires { place < length (issued outcome.now) }
         ensures { (r : Self) × (r ≡ slice_index_or (issued outcome.now) place r) × (result ≡ addressee r) };

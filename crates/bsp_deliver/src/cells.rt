@@ -1,11 +1,9 @@
 //! The next memories and queues of several processes.
 
-ghost use Rattle.std.specs.Prelude.{◌≡◌, ◌<◌, ◌≤◌, ◌++◌, ◌∷◌, [], All, length, slice_index_or, IfOk, OnErr, OnOk};
-ghost use Rattle.bsp_model.specs.Replaced.{replaced, IsAscending};
+ghost use Rattle.std.specs.Prelude.{◌≡◌, ◌<◌, ◌++◌, ◌∷◌, [], IfOk, OnErr, OnOk, length, slice_index_or};
 
 use bsp_model::{
     ByProcess, Memories, Memory, MemoryRef, MessageColumn, MessagesRef, OutOfMemory, Share,
-    add_replaced,
 };
 use bsp_step::Queue;
 use std::alloc::Global;
@@ -107,37 +105,30 @@ impl Cells {
         self.queues.put(self.memories.len(), queue)?;
         self.memories.push_copy(memory)
     }
-
-    /// These memories and queues, but for new ones of some processes, which are in ascending order.
-    pub fn replaced(
-        &self,
-        alloc: Global,
-        processes: &[usize],
-        cells: &Cells,
-    ) -> Result<Cells, OutOfMemory>
-        requires known { All (λ p. p < length self.now) processes.now }
-        requires ascending { IsAscending processes.now }
-        requires count { length cells.now ≡ length processes.now }
-        ensures { IfOk result (λ c. c ≡ replaced self.now processes.now cells.now) }
-    {
-        let mut all = Cells::new(alloc);
-        let memories = all.memories.reserve_like(&self.memories, Share::whole());
-        let reserved = memories.and(all.queues.reserve_like(&self.queues, Share::whole()));
-        let added = reserved.and(add_replaced(&mut all, self, processes, cells));
-        added.and(Ok(all))
-    }
 }
 
 impl ByProcess for Cells {
-    ghost use Rattle.std.specs.Prelude.{List, ℕ};
+    ghost use Rattle.std.specs.Prelude.{List, ℕ, refl};
+    ghost use Rattle.bsp_model.specs.Replaced.{replaced};
     ghost use Rattle.bsp_model.specs.declared.request.Message.{Message};
 
     ghost Item = { (List ℕ) × (List Message) };
 
     ghost items = { λ c. c };
 
+    ghost lay = { replaced };
+
+    ghost lays = { λ _ _ _. refl };
+
     fn count(&self) -> usize {
         self.len()
+    }
+
+    fn room_like(&self, alloc: Global) -> Result<Cells, OutOfMemory> {
+        let mut room = Cells::new(alloc);
+        let memories = room.memories.reserve_like(&self.memories, Share::whole());
+        let reserved = memories.and(room.queues.reserve_like(&self.queues, Share::whole()));
+        reserved.and(Ok(room))
     }
 
     fn append_range(&mut self, more: &Cells, from: usize, to: usize) -> Result<(), OutOfMemory> {

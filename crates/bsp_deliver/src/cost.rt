@@ -27,7 +27,6 @@ enum Targets {
 }
 
 impl Targets {
-    /// Whether words to a process are counted.
     #[inline(always)]
     fn contain(&self, process: u64) -> bool
         ensures { result ≡ is_target self.now process }
@@ -62,7 +61,6 @@ impl Sums {
         }
     }
 
-    /// Counts the words of a sender's puts.
     #[inline(always)]
     fn count_puts(&mut self, targets: &Targets, sender: u64, puts: &PutsRef<'_>)
         requires small { All (λ p. IsSmall (put_transfer sender p)) puts.now }
@@ -75,7 +73,6 @@ impl Sums {
         }
     }
 
-    /// Counts the words of a process's gets.
     #[inline(always)]
     fn count_gets(&mut self, targets: &Targets, sender: u64, gets: &[Get])
         requires small { All (λ g. IsSmall (get_transfer sender g)) gets.now }
@@ -87,7 +84,6 @@ impl Sums {
         }
     }
 
-    /// Counts the words of a sender's messages, tags and payloads.
     #[inline(always)]
     fn count_sends(&mut self, targets: &Targets, sender: u64, sends: &SendsRef<'_>)
         requires small { All (λ m. IsSmall (send_transfer sender m)) sends.now }
@@ -101,7 +97,6 @@ impl Sums {
         }
     }
 
-    /// No words.
     fn none() -> Sums
         ensures { result ≡ no_words }
     {

@@ -22,7 +22,6 @@ pub fn has_sync(outcomes: &Outcomes) -> bool
     false
 }
 
-/// Whether some process ended by halt.
 fn has_halt(outcomes: &Outcomes) -> bool
     ensures { result ≡ list_any (λ o. not (is_sync o.ended)) outcomes.now }
 {

@@ -58,7 +58,6 @@ fn mark_unaligned<R: Addressed>(
     }
 }
 
-/// Marks the processes to which a sender's requests differ.
 #[inline(always)]
 fn mark_changes<R: Addressed>(marks: &mut ProcessSet, old: &OutcomeRef<'_>, new: &OutcomeRef<'_>)
     requires { All (λ r. R.addressee r < length marks.old) (R.issued old.now) }

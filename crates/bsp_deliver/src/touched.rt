@@ -30,7 +30,6 @@ fn read_same_words(old: &Outcomes, new: &Outcomes, changed: &ProcessSet, gets: &
     true
 }
 
-/// Whether two outcomes have the same memory and the same gets.
 #[inline(always)]
 fn have_same_own(old: &OutcomeRef<'_>, new: &OutcomeRef<'_>) -> bool
     ensures { IsTrue result ↔ HasSameOwn old.now new.now }

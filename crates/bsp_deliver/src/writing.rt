@@ -163,7 +163,6 @@ fn write_all(
     Ok(())
 }
 
-/// The set of these processes, of so many.
 fn set_of(count: usize, processes: &[usize]) -> ProcessSet
     requires few { count ≤ MOST_PROCESSES }
     requires known { All (λ d. d < count) processes.now }
@@ -208,7 +207,6 @@ fn write_some(
     write_puts_to(memories, places.as_slice(), &targets, outcomes)
 }
 
-/// Makes `memories` those of these processes after delivery.
 pub(crate) fn memories_after(
     alloc: Global,
     outcomes: &Outcomes,

@@ -4,6 +4,7 @@ pub mod Blocks
 pub mod Columns
 pub mod Cut
 pub mod LawfulInput
+pub mod Layers
 pub mod Memories
 pub mod Pages
 pub mod Ranges

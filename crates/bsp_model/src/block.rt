@@ -9,47 +9,29 @@ pub trait Block: Sized {
     /// What a block has beside its words.
     type Head: Copy + Same;
 
-    /// The block of a head and words.
     ghost of: { (Self.Head × (List ℕ)) → Self };
 
     /// Which heads and words stand for a block: a tag is no longer than the words.
     ghost IsKept: { (Self.Head × (List ℕ)) → Type 0 };
 
-    /// The head and the words of a block.
     ghost row_of: { Self → Self.Head × (List ℕ) };
 
     /// A block tells its head and its words, so that equal blocks are kept alike.
     ghost kept: { (row : Self.Head × (List ℕ)) → IsKept row → row_of (of row) ≡ row };
 }
 
-/// What a put has beside its words.
 #[derive(Clone, Copy)]
 pub struct PutHead {
-    /// The process that is written to.
     pub target: u64,
-    /// The address of the first word there.
     pub start: u64,
 }
 
 /// What a message on its way has beside its words, of which the first are its tag.
 #[derive(Clone, Copy)]
 pub struct SendHead {
-    /// The process that gets it.
     pub target: u64,
-    /// The number of words of the tag.
     pub tag_len: usize,
 }
-
-/// What a message in a queue has beside its words, of which the first are its tag.
-#[derive(Clone, Copy)]
-pub struct MessageHead {
-    /// The number of words of the tag.
-    pub tag_len: usize,
-}
-
-/// What a printed line has beside its words: nothing.
-#[derive(Clone, Copy)]
-pub struct LineHead;
 
 impl Same for PutHead {
     fn same(&self, other: &PutHead) -> bool {
@@ -63,14 +45,8 @@ impl Same for SendHead {
     }
 }
 
-impl Same for MessageHead {
-    fn same(&self, other: &MessageHead) -> bool {
-        self.tag_len == other.tag_len
-    }
-}
-
-impl Same for LineHead {
-    fn same(&self, _other: &LineHead) -> bool {
+impl Same for () {
+    fn same(&self, _other: &()) -> bool {
         true
     }
 }
@@ -106,29 +82,30 @@ impl Block for Send {
 }
 
 impl Block for Message {
-    type Head = MessageHead;
+    /// The number of words of the tag.
+    type Head = usize;
 
     ghost use Rattle.std.specs.Prelude.{take, drop, length, ◌≤◌, ◌++◌};
 
-    ghost of = { λ row. record { tag = take row.0.tag_len row.1; words = drop row.0.tag_len row.1 } };
+    ghost of = { λ row. record { tag = take row.0 row.1; words = drop row.0 row.1 } };
 
-    ghost IsKept = { λ row. row.0.tag_len ≤ length row.1 };
+    ghost IsKept = { λ row. row.0 ≤ length row.1 };
 
-    ghost row_of = { λ message. (record { tag_len = length message.tag }, message.tag ++ message.words) };
+    ghost row_of = { λ message. (length message.tag, message.tag ++ message.words) };
 
     ghost use Rattle.bsp_model.specs.Inside.Tagged.{tagged_again};
 
-    ghost kept = { λ row inside. tagged_again (λ len ws. (record { tag_len = len }, ws)) row.0.tag_len row.1 inside };
+    ghost kept = { λ row inside. tagged_again (λ len ws. (len, ws)) row.0 row.1 inside };
 }
 
 impl Block for Words {
-    type Head = LineHead;
+    type Head = ();
 
     ghost of = { λ row. row.1 };
 
     ghost IsKept = { λ _. Unit {0} };
 
-    ghost row_of = { λ words. (record {}, words) };
+    ghost row_of = { λ words. (tt, words) };
 
     ghost use Rattle.std.specs.Prelude.{refl};
 

@@ -3,18 +3,12 @@
 ghost use Rattle.std.specs.Prelude.{◌≡◌, ◌<◌, ◌≤◌, ◌+◌, ◌^◌, ◌++◌, ◌∷◌, [], ℕ, length, Some, EachIndex, IsTrue, ◌↔◌, OnErr, OnOk, nat_eq, slice_get, slice_index_or, vec_capacity, vec_len};
 ghost use Rattle.bsp_model.specs.Inside.Blocks.{AreEnds, behind, start_at};
 
-mod lines;
-mod messages;
-mod puts;
-mod sends;
+mod kinds;
 
 use crate::block::Block;
-use crate::seq::{append_items, are_same};
-use crate::words::are_same_words;
+use crate::seq::{append_items, are_same, are_same_words};
 use crate::{OutOfMemory, Same, TryCopy};
-pub use messages::MessageView;
-pub use puts::PutView;
-pub use sends::SendView;
+pub use kinds::{MessageView, PutView, SendView};
 use std::alloc::Global;
 use std::marker::Model;
 
@@ -46,9 +40,7 @@ impl<X: Block> Model for Blocks<X> {
 /// Blocks in order, read where they lie.
 #[derive(Drop)]
 pub struct BlocksRef<'a, X: Block> {
-    /// The heads, each with the place where the words of its block end.
     pub(crate) heads: &'a [(X::Head, usize)],
-    /// The words of the first block, then those of the second, and so on.
     pub(crate) words: &'a [u64],
 }
 
@@ -63,7 +55,6 @@ impl<'a, X: Block> Model for BlocksRef<'a, X> {
     ghost invariant = { λ b. AreBlocks X.IsKept b.heads.now b.words.now };
 }
 
-/// Where the words of the block at a place start, and where they end, among `count` words.
 #[inline]
 fn bounds<H>(heads: &[(H, usize)], count: usize, place: usize) -> (usize, usize)
     requires ends { AreEnds 0 heads.now count }
@@ -77,7 +68,6 @@ fn bounds<H>(heads: &[(H, usize)], count: usize, place: usize) -> (usize, usize)
     (start, heads[place].1)
 }
 
-/// Adds heads whose words lie behind `before` words of earlier blocks. There is room for them.
 fn add_heads<H: Copy>(heads: &mut Vec<(H, usize)>, before: usize, more: &[(H, usize)])
     requires room { vec_len heads.old + length more.now ≤ vec_capacity heads.old }
     requires fits { EachIndex more.now (λ k. (head : H × ℕ) → before + (slice_index_or more.now k head).1 < 2 ^ 64) }
@@ -130,7 +120,6 @@ impl<X: Block> Blocks<X> {
         self.words.clear();
     }
 
-    /// Adds the block of a head and the words of `front` followed by those of `back`. After `OutOfMemory` nothing has changed.
     #[inline]
     fn add(&mut self, head: X::Head, front: &[u64], back: &[u64]) -> Result<(), OutOfMemory>
         requires { X.IsKept (head, front.now ++ back.now) }
@@ -178,7 +167,6 @@ impl<'a, X: Block> BlocksRef<'a, X> {
         self.heads.is_empty()
     }
 
-    /// The head and the words of a block.
     #[inline]
     fn parts(&self, place: usize) -> (&'a X::Head, &'a [u64])
         requires { place < length self.now }
@@ -211,8 +199,8 @@ impl<'a, X: Block> Same for BlocksRef<'a, X> {
 impl<X: Block> TryCopy for Blocks<X> {
     fn copy(&self) -> Result<Blocks<X>, OutOfMemory> {
         let mut copy = Blocks::new(*self.words.allocator());
-        let appended = copy.append(&self.as_ref());
-        appended.and(Ok(copy))
+        copy.append(&self.as_ref())?;
+        Ok(copy)
     }
 }
 

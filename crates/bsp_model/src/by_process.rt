@@ -1,10 +1,11 @@
 //! What several processes have, by process, and how that of some is replaced.
 
-ghost use Rattle.std.specs.Prelude.{◌≡◌, ◌<◌, ◌≤◌, ◌++◌, [], All, List, OnErr, OnOk, length, slice_range};
+ghost use Rattle.std.specs.Prelude.{ℕ, ◌≡◌, ◌<◌, ◌≤◌, ◌++◌, [], All, IfOk, List, OnErr, OnOk, length, slice_range};
 ghost use Rattle.bsp_model.specs.Replaced.{replaced, IsAscending};
 
 use crate::OutOfMemory;
 use crate::places::end_of_run;
+use std::alloc::Global;
 
 /// What several processes have, by process, in lists behind which what consecutive processes have elsewhere is copied in one piece.
 pub trait ByProcess: Sized {
@@ -12,9 +13,18 @@ pub trait ByProcess: Sized {
 
     ghost items: { Self → List Item };
 
+    // What all have, with what is new in the place of that of its processes.
+    ghost lay: { Self → List ℕ → Self → Self };
+
+    ghost lays: { (all : Self) (processes : List ℕ) (new : Self) → items (lay all processes new) ≡ replaced (items all) processes (items new) };
+
     /// The number of processes.
     fn count(&self) -> usize
         ensures { result ≡ length (items self.now) };
+
+    /// Nothing, with as much room.
+    fn room_like(&self, alloc: Global) -> Result<Self, OutOfMemory>
+        ensures { IfOk result (λ room. items room ≡ []) };
 
     /// Adds what others have from `from` on, and before `to`. Full pages of memories are shared. After `OutOfMemory` nothing has changed.
     fn append_range(&mut self, more: &Self, from: usize, to: usize) -> Result<(), OutOfMemory>
@@ -46,4 +56,21 @@ pub fn add_replaced<T: ByProcess>(
         place = end;
     }
     all.append_range(old, all.count(), old.count())
+}
+
+/// What all processes have, but for what is new of some, which are in ascending order.
+pub fn with_replaced<T: ByProcess + Drop>(
+    alloc: Global,
+    old: &T,
+    processes: &[usize],
+    new: &T,
+) -> Result<T, OutOfMemory>
+    requires known { All (λ p. p < length (T.items old.now)) processes.now }
+    requires ascending { IsAscending processes.now }
+    requires count { length (T.items new.now) ≡ length processes.now }
+    ensures { IfOk result (λ all. T.items all ≡ replaced (T.items old.now) processes.now (T.items new.now)) }
+{
+    let mut all = old.room_like(alloc)?;
+    let added = add_replaced(&mut all, old, processes, new);
+    added.and(Ok(all))
 }

@@ -1,7 +1,5 @@
 //! The cost of a superstep.
 
-use crate::{OutOfMemory, TryCopy};
-
 /// What a superstep cost, in units of one operation on a local word (the usual additive BSP cost formula, which is later than Valiant 1990).
 #[derive(Clone, Copy, PartialEq, Eq)]
 pub struct CostRow {
@@ -11,10 +9,4 @@ pub struct CostRow {
     pub h: u64,
     /// `work + h * g + l` where the superstep ended by delivery, else `work`.
     pub cost: u64,
-}
-
-impl TryCopy for CostRow {
-    fn copy(&self) -> Result<CostRow, OutOfMemory> {
-        Ok(*self)
-    }
 }

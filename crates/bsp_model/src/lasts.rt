@@ -31,25 +31,7 @@ impl Model for Lasts {
     ghost invariant = { λ l. l.count ≤ length l.own.items };
 }
 
-/// Puts the words that processes from `from` on, and before `to`, have at the end of rows. After `OutOfMemory` some of them are put.
-fn append_each(
-    rows: &mut Rows<u64>,
-    more: &Lasts,
-    from: usize,
-    to: usize,
-) -> Result<(), OutOfMemory>
-    requires order { from ≤ to }
-    requires inside { to ≤ length more.now }
-    ensures ok { OnOk result (rows.new ≡ rows.old ++ slice_range more.now from to) }
-    ensures kept { take (length rows.old) rows.new ≡ rows.old }
-{
-    for number in from..to {
-        rows.push(more.row(number))?;
-    }
-    Ok(())
-}
-
-/// Puts a list of words itself at a place among lists, and hands out the room of the one that stood there. After `OutOfMemory` nothing has changed.
+/// Puts a list of words itself at a place among lists, and hands out the room of the one that stood there.
 fn put_list(lists: &mut Vec<Words>, place: usize, words: &mut Vec<u64>) -> Result<(), OutOfMemory>
     requires { place ≤ length lists.old.items }
     ensures ok { OnOk result (take (place + 1) lists.new.items ≡ take place lists.old.items ++ words.old.items ∷ []) }
@@ -65,13 +47,12 @@ fn put_list(lists: &mut Vec<Words>, place: usize, words: &mut Vec<u64>) -> Resul
         return Ok(());
     }
     let list = &mut lists[place];
-    list.swap(words);
+    mem::swap(&mut list.items, words);
     words.clear();
     Ok(())
 }
 
 impl Lasts {
-    /// No words of any process, which take no memory.
     pub fn new(alloc: Global) -> Lasts
         ensures { result ≡ [] }
     {
@@ -82,7 +63,6 @@ impl Lasts {
         }
     }
 
-    /// Takes the words of all processes away. Their room stays.
     pub fn clear(&mut self)
         ensures { self.new ≡ [] }
     {
@@ -90,21 +70,18 @@ impl Lasts {
         self.rows.clear();
     }
 
-    /// Makes room for so many processes more, with one word each.
     pub fn reserve(&mut self, count: usize) -> Result<(), OutOfMemory>
         ensures { self.new ≡ self.old }
     {
         self.rows.reserve(count)
     }
 
-    /// Makes room for a share of the words that others have in one list.
     pub fn reserve_like(&mut self, like: &Lasts, share: Share) -> Result<(), OutOfMemory>
         ensures { self.new ≡ self.old }
     {
         self.rows.reserve_like(&like.rows, share)
     }
 
-    /// The number of processes.
     #[inline(always)]
     pub fn len(&self) -> usize
         ensures { result ≡ length self.now }
@@ -112,7 +89,6 @@ impl Lasts {
         self.count + self.rows.len()
     }
 
-    /// The words of a process.
     #[inline(always)]
     pub fn row(&self, number: usize) -> &[u64]
         requires { number < length self.now }
@@ -122,10 +98,9 @@ impl Lasts {
             let words = &self.own[number];
             return words.as_slice();
         }
-        self.rows.as_ref().row(number - self.count)
+        self.rows.known_row(number - self.count)
     }
 
-    /// Adds copies of the words of one process more. After `OutOfMemory` nothing has changed.
     #[inline(always)]
     pub fn push(&mut self, words: &[u64]) -> Result<(), OutOfMemory>
         ensures ok { OnOk result (self.new ≡ self.old ++ words.now ∷ []) }
@@ -134,8 +109,7 @@ impl Lasts {
         self.rows.push(words)
     }
 
-    /// Adds the words of one process more, and takes them out of their list: the list itself where they are as many as a page has, so that they are a
-    /// memory in one piece. After `OutOfMemory` nothing has changed.
+    /// Takes the list itself where its words are as many as a page has, so that they are a memory in one piece.
     #[inline(always)]
     pub fn push_from(&mut self, words: &mut Vec<u64>) -> Result<(), OutOfMemory>
         ensures ok { OnOk result (self.new ≡ self.old ++ words.old.items ∷ []) }
@@ -153,31 +127,17 @@ impl Lasts {
         Ok(())
     }
 
-    /// Adds the words of one process more, which stand in a list. The list itself is taken where it is a memory in one piece, and gets room back.
-    /// After `OutOfMemory` it may have any words.
-    fn take_list(&mut self, list: &mut Words) -> Result<(), OutOfMemory>
-        ensures { OnOk result (self.new ≡ self.old ++ list.old ∷ []) }
-    {
-        let mut words = Vec::new(list.allocator());
-        list.swap(&mut words);
-        let taken = self.push_from(&mut words);
-        list.swap(&mut words);
-        taken
-    }
-
-    /// Adds the words of all processes of `more`, of which lists of their own are handed on. `more` may then have any words. After `OutOfMemory`
-    /// some of them are added.
+    /// Hands on lists of their own: `more` may then have any words.
     pub fn append(&mut self, more: &mut Lasts) -> Result<(), OutOfMemory>
         ensures { OnOk result (self.new ≡ self.old ++ more.old) }
     {
         for number in 0..more.count {
-            self.take_list(&mut more.own[number])?;
+            let list = &mut more.own[number];
+            self.push_from(&mut list.items)?;
         }
-        self.rows
-            .append_range(&more.rows.as_ref(), 0, more.rows.len())
+        self.rows.append_range(&more.rows, 0, more.rows.len())
     }
 
-    /// Makes `items` the words of a process from `place` on.
     #[inline(always)]
     pub fn replace(&mut self, number: usize, place: usize, items: &[u64])
         requires known { number < length self.old }
@@ -187,13 +147,12 @@ impl Lasts {
     {
         if number < self.count {
             let words = &mut self.own[number];
-            words.replace(place, items);
+            replace_items(words.items.as_mut_slice(), place, items);
             return;
         }
         self.rows.replace(number - self.count, place, items);
     }
 
-    /// Adds copies of the words that processes from `from` on, and before `to`, have. After `OutOfMemory` nothing has changed.
     pub fn append_range(&mut self, more: &Lasts, from: usize, to: usize) -> Result<(), OutOfMemory>
         requires order { from ≤ to }
         requires inside { to ≤ length more.now }
@@ -201,12 +160,14 @@ impl Lasts {
         ensures err { OnErr result (self.new ≡ self.old) }
     {
         if more.count == 0 {
-            return self.rows.append_range(&more.rows.as_ref(), from, to);
+            return self.rows.append_range(&more.rows, from, to);
         }
         let before = self.rows.len();
-        if let Err(error) = append_each(&mut self.rows, more, from, to) {
-            self.rows.truncate(before);
-            return Err(error);
+        for number in from..to {
+            if let Err(error) = self.rows.push(more.row(number)) {
+                self.rows.truncate(before);
+                return Err(error);
+            }
         }
         Ok(())
     }

@@ -48,7 +48,6 @@ impl Model for LocalMemory {
     ghost invariant = { λ l. AreRanges l.ranges.items (words_beside l.ranges.items l.values.items l.memory) };
 }
 
-/// Whether words that are stored from `start` on go on behind the one range without words of its own, or are the first.
 #[inline(always)]
 fn go_on(ranges: &[Range], values: &[u64], start: u64) -> bool
     ensures { OnTrue result (GoOn ranges.now values.now start) }
@@ -63,7 +62,7 @@ fn go_on(ranges: &[Range], values: &[u64], start: u64) -> bool
     }
 }
 
-/// Keeps the words of one range that goes without: those that the memory has there. After `OutOfMemory` nothing has changed.
+/// Keeps the words of one range that goes without: those that the memory has there.
 fn keep_words(ranges: &[Range], values: &mut Vec<u64>, memory: &Memory) -> Result<(), OutOfMemory>
     requires { AreRanges ranges.now (words_beside ranges.now values.old.items memory.now) }
     ensures kept { OnOk result (values.new.items ≡ words_beside ranges.now values.old.items memory.now) }
@@ -78,7 +77,6 @@ fn keep_words(ranges: &[Range], values: &mut Vec<u64>, memory: &Memory) -> Resul
     Ok(())
 }
 
-/// Makes `words` those of a memory from `start` on, and keeps them as stores. After `OutOfMemory` the same stores and words are there.
 #[inline(never)]
 fn store_apart(
     ranges: &mut Vec<Range>,
@@ -184,41 +182,6 @@ impl LocalMemory {
         Ok(())
     }
 
-    /// Makes the change in the `len` words from `start` on where they lie, as far as that can be. False, and nothing changes, where they lie in
-    /// several pieces, or the words of earlier stores are kept. After `OutOfMemory` nothing has changed.
-    #[inline]
-    fn change_in_place<C: Change>(
-        &mut self,
-        start: u64,
-        len: usize,
-        change: &C,
-    ) -> Result<bool, OutOfMemory>
-        requires inside { start + len ≤ length self.old.memory }
-        requires short { length self.old.memory < 2 ^ 64 }
-        ensures made { let words = C.makes change.now (take len (drop start self.old.memory)) in
-            IfOk result (λ made. made ≡ true → self.new ≡ record {
-              memory = memory_written self.old.memory start words;
-              stores = self.old.stores ++ records start words;
-            }) }
-        ensures count { let words = C.makes change.now (take len (drop start self.old.memory)) in
-            IfOk result (λ made. made ≡ true → length words ≡ len) }
-        ensures left { IfOk result (λ made. made ≡ false → self.new ≡ self.old) }
-        ensures err { OnErr result (self.new ≡ self.old) }
-    {
-        if len == 0 {
-            return Ok(false);
-        }
-        if !go_on(self.ranges.as_slice(), self.values.as_slice(), start) {
-            return Ok(false);
-        }
-        self.ranges.reserve(1)?;
-        if !self.memory.change(start as usize, len, change)? {
-            return Ok(false);
-        }
-        add_words(&mut self.ranges, start, len);
-        Ok(true)
-    }
-
     /// Makes the change in the `len` words from `start` on, and keeps the words that it makes as stores. After `OutOfMemory` nothing has changed.
     #[inline]
     pub fn change<C: Change>(
@@ -238,8 +201,12 @@ impl LocalMemory {
             OnOk result (length words ≡ len) }
         ensures err { OnErr result (self.new ≡ self.old) }
     {
-        if self.change_in_place(start, len, change)? {
-            return Ok(());
+        if len > 0 && go_on(self.ranges.as_slice(), self.values.as_slice(), start) {
+            self.ranges.reserve(1)?;
+            if self.memory.change(start as usize, len, change)? {
+                add_words(&mut self.ranges, start, len);
+                return Ok(());
+            }
         }
         let mut words = vec![in *self.values.allocator(); 0; len]?;
         self.memory.read(start, words.as_mut_slice());
@@ -247,8 +214,7 @@ impl LocalMemory {
         self.store(start, words.as_slice())
     }
 
-    /// Adds the memory to those of other processes, and takes its words and the stores away. After `OutOfMemory` the others have not changed, and
-    /// the memory may have any words, but no more than before.
+    /// Hands the memory on, and takes the stores away. After `OutOfMemory` it may have any words, but no more than before.
     #[inline(always)]
     pub fn move_to(&mut self, memories: &mut Memories) -> Result<(), OutOfMemory>
         ensures ok { OnOk result (memories.new ≡ memories.old ++ self.old.memory ∷ []) }
@@ -264,14 +230,10 @@ impl LocalMemory {
 impl TryCopy for LocalMemory {
     fn copy(&self) -> Result<LocalMemory, OutOfMemory> {
         let alloc = *self.values.allocator();
-        let memory = self.memory.copy()?;
-        let mut ranges = Vec::new(alloc);
-        ranges.extend_from_slice(self.ranges.as_slice())?;
-        let values = self.values.as_slice().to_vec(alloc)?;
         Ok(LocalMemory {
-            memory,
-            ranges,
-            values,
+            memory: self.memory.copy()?,
+            ranges: self.ranges.as_slice().to_vec(alloc)?,
+            values: self.values.as_slice().to_vec(alloc)?,
         })
     }
 }

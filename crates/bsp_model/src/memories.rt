@@ -6,10 +6,11 @@ ghost use Rattle.bsp_model.specs.Memory.{memory_written};
 
 use crate::lasts::Lasts;
 use crate::page::{Page, WORDS_OF_A_PAGE};
-use crate::paging::{cut_write, is_within, shared_pages, take_pages, write_row};
-use crate::{ByProcess, Memory, MemoryRef, OutOfMemory, Share, SharedColumn, TryCopy};
+use crate::paging::{copied_pages, cut_write, is_within, write_row};
+use crate::{ByProcess, Memory, MemoryRef, OutOfMemory, Share, SharedColumn, SharedSeq, TryCopy};
 use std::alloc::{AllocError, Global};
 use std::marker::Model;
+use std::mem;
 
 /// The memories of several processes, by process. Copies share the pages that are full. A memory that lies in one piece has none.
 pub struct Memories {
@@ -103,8 +104,7 @@ impl Memories {
         }
     }
 
-    /// Adds the memory of one process more, and takes its words out of `memory`, in which the room for the words behind full pages stays. After
-    /// `OutOfMemory` these memories have not changed, and `memory` may have any words, but no more than before.
+    /// Takes the words out of `memory`, in which room stays. After `OutOfMemory` `memory` may have any words, but no more than before.
     #[inline(always)]
     pub fn push_from(&mut self, memory: &mut Memory) -> Result<(), OutOfMemory>
         ensures ok { OnOk result (self.new ≡ self.old ++ memory.old ∷ []) }
@@ -113,7 +113,8 @@ impl Memories {
         ensures few { length memory.new ≤ length memory.old }
     {
         memory.len = memory.last.len();
-        let full = take_pages(&mut memory.pages)?;
+        let none = Vec::new(*memory.pages.allocator());
+        let full = SharedSeq::from_vec(mem::replace(&mut memory.pages, none))?;
         self.pages.put(self.lasts.len(), full)?;
         self.lasts.push_from(&mut memory.last)?;
         memory.len = 0;
@@ -126,13 +127,12 @@ impl Memories {
         ensures ok { OnOk result (self.new ≡ self.old ++ memory.now ∷ []) }
         ensures err { OnErr result (self.new ≡ self.old) }
     {
-        let full = shared_pages(self.pages.allocator(), memory.pages)?;
+        let full = SharedSeq::from_vec(copied_pages(self.pages.allocator(), memory.pages)?)?;
         self.pages.put(self.lasts.len(), full)?;
         self.lasts.push(memory.last)
     }
 
-    /// Adds the memories of `more`, and leaves none there. Full pages are shared, and a memory that lies in one piece is handed on. After
-    /// `OutOfMemory` there are none here either.
+    /// Adds the memories of `more`, and leaves none there: pages are shared, lists of words handed on. After `OutOfMemory` there are none here either.
     pub fn append(&mut self, more: &mut Memories) -> Result<(), OutOfMemory>
         ensures ok { OnOk result (self.new ≡ self.old ++ more.old) }
         ensures err { OnErr result (self.new ≡ []) }
@@ -151,8 +151,7 @@ impl Memories {
         Err(AllocError)
     }
 
-    /// Makes `words` the words of a process's memory from `start` on. False, and nothing changes, where they pass the end; after `OutOfMemory`
-    /// nothing has changed. Other copies of the memory stay as they are.
+    /// Makes `words` the words of a process's memory from `start` on. False where they pass the end; then, and after `OutOfMemory`, nothing has changed.
     #[inline]
     pub fn write(&mut self, pid: usize, start: u64, words: &[u64]) -> Result<bool, OutOfMemory>
         requires { pid < length self.old }
@@ -170,7 +169,6 @@ impl Memories {
         Ok(true)
     }
 
-    /// The same, where the memory may have full pages.
     #[inline(never)]
     fn write_paged(&mut self, pid: usize, start: u64, words: &[u64]) -> Result<bool, OutOfMemory>
         requires { pid < length self.old }
@@ -191,14 +189,25 @@ impl Memories {
 }
 
 impl ByProcess for Memories {
-    ghost use Rattle.std.specs.Prelude.{List, ℕ};
+    ghost use Rattle.std.specs.Prelude.{List, ℕ, refl};
+    ghost use Rattle.bsp_model.specs.Replaced.{replaced};
 
     ghost Item = { List ℕ };
 
     ghost items = { λ m. m };
 
+    ghost lay = { replaced };
+
+    ghost lays = { λ _ _ _. refl };
+
     fn count(&self) -> usize {
         self.len()
+    }
+
+    fn room_like(&self, alloc: Global) -> Result<Memories, OutOfMemory> {
+        let mut room = Memories::new(alloc);
+        let reserved = room.reserve_like(self, Share::whole());
+        reserved.and(Ok(room))
     }
 
     fn append_range(&mut self, more: &Memories, from: usize, to: usize) -> Result<(), OutOfMemory> {
@@ -214,7 +223,7 @@ impl ByProcess for Memories {
 impl TryCopy for Memories {
     fn copy(&self) -> Result<Memories, OutOfMemory> {
         let mut copy = Memories::new(self.pages.allocator());
-        let copied = copy.copy_from(self);
-        copied.and(Ok(copy))
+        copy.copy_from(self)?;
+        Ok(copy)
     }
 }

@@ -6,7 +6,7 @@ ghost use Rattle.bsp_model.specs.Memory.{memory_written};
 
 use crate::change::change_part;
 use crate::page::{Page, WORDS_OF_A_PAGE};
-use crate::paging::{cut_write, full_pages, is_within, load_pages, write_pages};
+use crate::paging::{copied_pages, cut_write, is_within, write_pages};
 use crate::seq::{append_items, replace_items};
 use crate::{Change, MemoryRef, OutOfMemory, Same, TryCopy};
 use std::alloc::Global;
@@ -19,7 +19,6 @@ pub struct Memory {
     pub(crate) pages: Vec<Page>,
     /// The words behind them: fewer than a page has, or all of a memory that lies in one piece. They are this memory's alone.
     pub(crate) last: Vec<u64>,
-    /// The number of all words.
     pub(crate) len: usize,
 }
 
@@ -43,7 +42,6 @@ impl Model for Memory {
 /// How many words are copied at once. The C library copies more by a string instruction, which takes longer to begin.
 const WORDS_AT_ONCE: usize = 128;
 
-/// Puts words at the end of a list. After `OutOfMemory` some of them are put.
 #[inline(always)]
 fn append_words(words: &mut Vec<u64>, more: &[u64]) -> Result<(), OutOfMemory>
     ensures { OnOk result (words.new.items ≡ words.old.items ++ more.now) }
@@ -54,7 +52,6 @@ fn append_words(words: &mut Vec<u64>, more: &[u64]) -> Result<(), OutOfMemory>
     append_in_parts(words, more)
 }
 
-/// Puts many words at the end of a list, part by part. After `OutOfMemory` some of them are put.
 #[inline(never)]
 fn append_in_parts(words: &mut Vec<u64>, more: &[u64]) -> Result<(), OutOfMemory>
     ensures { OnOk result (words.new.items ≡ words.old.items ++ more.now) }
@@ -87,22 +84,28 @@ impl Memory {
         ensures { IfOk result (λ m. m ≡ words.now) }
     {
         let (full, last) = words.as_chunks::<WORDS_OF_A_PAGE>();
+        let mut pages = Vec::with_capacity(alloc, full.len())?;
+        for part in full {
+            pages.push_reserved(Page::new(alloc, *part)?);
+        }
         Ok(Memory {
-            pages: full_pages(alloc, full)?,
+            pages,
             last: last.to_vec(alloc)?,
             len: words.len(),
         })
     }
 
-    /// Makes the words of `source` the words of this memory. The pages that are full are shared with `source`; the words behind them are copied into
-    /// the room of this memory. After `OutOfMemory` it may have any words.
+    /// Takes over the words of `source`: full pages are shared, the words behind them copied. After `OutOfMemory` it may have any words.
     #[inline(always)]
     pub fn load_from(&mut self, source: &MemoryRef<'_>) -> Result<(), OutOfMemory>
         ensures { OnOk result (self.new ≡ source.now) }
     {
         self.last.clear();
         self.len = 0;
-        load_pages(&mut self.pages, source.pages)?;
+        if !self.pages.is_empty() || !source.pages.is_empty() {
+            self.pages.clear();
+            self.pages = copied_pages(source.alloc, source.pages)?;
+        }
         self.len = WORDS_OF_A_PAGE * source.pages.len();
         if let Err(error) = append_words(&mut self.last, source.last) {
             self.last.clear();
@@ -166,8 +169,7 @@ impl Memory {
         self.write(address, slice::from_ref(&value))
     }
 
-    /// Makes the change in the `len` words from `start` on where they lie. False, and nothing changes, where they lie in several full pages; after
-    /// `OutOfMemory` nothing has changed.
+    /// Makes the change where the words lie. False where they lie in several full pages; then, and after `OutOfMemory`, nothing has changed.
     #[inline]
     pub(crate) fn change<C: Change>(
         &mut self,
@@ -214,7 +216,6 @@ impl Memory {
         Ok(true)
     }
 
-    /// The same, where there may be full pages.
     #[inline(never)]
     fn write_paged(&mut self, start: u64, words: &[u64]) -> Result<bool, OutOfMemory>
         ensures within { IfOk result (λ found. found ≡ nat_le (start + length words.now) (length self.old)) }

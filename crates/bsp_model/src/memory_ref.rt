@@ -14,13 +14,9 @@ use std::marker::Model;
 /// The words of a memory, wherever they lie.
 #[derive(Drop)]
 pub struct MemoryRef<'a> {
-    /// What a memory of these words is kept by.
     pub(crate) alloc: Global,
-    /// The pages that are full.
     pub(crate) pages: &'a [Page],
-    /// The words behind them: fewer than a page has, or all of a memory that lies in one piece.
     pub(crate) last: &'a [u64],
-    /// The number of all words.
     pub(crate) len: usize,
 }
 
@@ -36,7 +32,19 @@ impl<'a> Model for MemoryRef<'a> {
 }
 
 impl<'a> MemoryRef<'a> {
-    /// The same words, to be read by another.
+    #[inline(always)]
+    pub(crate) fn of_words(&self, words: &'a [u64]) -> MemoryRef<'a>
+        ensures words { result ≡ words.now }
+        ensures fits { length result < 2 ^ 64 }
+    {
+        MemoryRef {
+            alloc: self.alloc,
+            pages: &[],
+            last: words,
+            len: words.len(),
+        }
+    }
+
     #[inline(always)]
     pub(crate) fn again(&self) -> MemoryRef<'a>
         ensures same { result ≡ self.now }
@@ -75,7 +83,6 @@ impl<'a> MemoryRef<'a> {
         Some(self.last[address as usize - (self.len - self.last.len())])
     }
 
-    /// The words from `address` on, as far as they lie in one piece: at least to the end of the page that they are in.
     #[inline(always)]
     fn piece_from(&self, address: u64) -> &'a [u64]
         ensures there { result.now ≡ take (length result.now) (drop address self.now) }
@@ -104,7 +111,6 @@ impl<'a> MemoryRef<'a> {
             .min(WORDS_OF_A_PAGE - address as usize % WORDS_OF_A_PAGE)]
     }
 
-    /// The words from `address` on, but at most so many, as far as they lie in one piece: at least one where there is any.
     #[inline(always)]
     pub(crate) fn piece(&self, address: u64, most: usize) -> &'a [u64]
         ensures there { result.now ≡ take (length result.now) (drop address self.now) }
@@ -115,8 +121,7 @@ impl<'a> MemoryRef<'a> {
         &words[..words.len().min(most)]
     }
 
-    /// The number of words from `address` on that lie in one piece: all of them, or as many as the page has from there on. It may differ between
-    /// memories of the same words.
+    /// How many words from `address` on lie in one piece: at least those up to the end of the page. Memories of the same words may differ in it.
     pub fn piece_len(&self, address: u64) -> usize
         ensures some { address < length self.now → 0 < result }
         ensures inside { result ≤ length self.now - address }
@@ -142,16 +147,25 @@ impl<'a> MemoryRef<'a> {
         true
     }
 
-    /// Whether another memory of as many words has the same, though they lie in other pieces.
+    /// Whether the `len` words from `start` on are those that another memory has from `other_start` on, though they lie in other pieces.
     #[inline(never)]
-    fn has_same_words(&self, other: &MemoryRef<'_>) -> bool
-        requires { length self.now ≡ length other.now }
-        ensures { IsTrue result ↔ (self.now ≡ other.now) }
+    pub(crate) fn has_same_words(
+        &self,
+        start: u64,
+        other: &MemoryRef<'_>,
+        other_start: u64,
+        len: usize,
+    ) -> bool
+        requires inside { start + len ≤ length self.now }
+        requires inside_other { other_start + len ≤ length other.now }
+        requires fits { length self.now < 2 ^ 64 }
+        requires fits_other { length other.now < 2 ^ 64 }
+        ensures { IsTrue result ↔ (take len (drop start self.now) ≡ take len (drop other_start other.now)) }
     {
         let mut done = 0;
-        while done < self.len {
-            let right = other.piece(done as u64, self.len - done);
-            let left = self.piece(done as u64, right.len());
+        while done < len {
+            let right = other.piece(other_start + done as u64, len - done);
+            let left = self.piece(start + done as u64, right.len());
             if !are_same_words(left, &right[..left.len()]) {
                 return false;
             }
@@ -165,8 +179,8 @@ impl<'a> MemoryRef<'a> {
         ensures { IfOk result (λ m. m ≡ self.now) }
     {
         let mut memory = Memory::new(self.alloc);
-        let loaded = memory.load_from(self);
-        loaded.and(Ok(memory))
+        memory.load_from(self)?;
+        Ok(memory)
     }
 
     /// A memory of these words in one piece, which shares none of them, or `OutOfMemory`. It serves where each superstep writes most of the words.
@@ -189,7 +203,7 @@ impl<'a> Same for MemoryRef<'a> {
             return false;
         }
         if self.pages.len() != other.pages.len() {
-            return self.has_same_words(other);
+            return self.has_same_words(0, other, 0, self.len);
         }
         if !are_same_pages(self.pages, other.pages) {
             return false;

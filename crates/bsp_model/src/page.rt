@@ -5,11 +5,10 @@ ghost use Rattle.std.specs.Prelude.{◌≡◌, ◌+◌, ◌≤◌, ◌<◌, ◌+
 use crate::change::change_part;
 use crate::seq::replace_items;
 use crate::{Change, OutOfMemory, TryCopy, are_same_words};
-use std::alloc::{AllocError, Global};
+use std::alloc::Global;
 use std::marker::Model;
 use std::sync::Arc;
 
-/// How many words a page has.
 pub const WORDS_OF_A_PAGE: usize = 64;
 
 /// A page of 64 words. Its copies share them.
@@ -30,17 +29,14 @@ impl Model for Page {
 }
 
 impl Page {
-    /// A page of these words.
     pub fn new(alloc: Global, words: [u64; WORDS_OF_A_PAGE]) -> Result<Page, OutOfMemory>
         ensures { IfOk result (λ p. p ≡ words) }
     {
-        match Arc::new(alloc, words) {
-            Ok(words) => Ok(Page { words }),
-            Err(_) => Err(AllocError),
-        }
+        Ok(Page {
+            words: Arc::new(alloc, words)?,
+        })
     }
 
-    /// The words.
     #[inline(always)]
     fn as_slice(&self) -> &[u64]
         ensures words { result.now ≡ self.now }
@@ -50,7 +46,6 @@ impl Page {
         words.as_slice()
     }
 
-    /// Whether two pages have the same words.
     pub fn is_same(&self, other: &Page) -> bool
         ensures same { IsTrue result ↔ (self.now ≡ other.now) }
         ensures len { length self.now ≡ WORDS_OF_A_PAGE }
@@ -59,7 +54,6 @@ impl Page {
         are_same_words(self.as_slice(), other.as_slice())
     }
 
-    /// The word at a place.
     pub fn load(&self, place: usize) -> u64
         requires { place < WORDS_OF_A_PAGE }
         ensures { result ≡ slice_index self.now place }
@@ -68,7 +62,6 @@ impl Page {
         words[place]
     }
 
-    /// The words from a place on.
     #[inline(always)]
     pub fn words_from(&self, place: usize) -> &[u64]
         requires { place < WORDS_OF_A_PAGE }
@@ -78,45 +71,7 @@ impl Page {
         &self.as_slice()[place..]
     }
 
-    /// A page of these words, but for those from `start` on, which are `words`.
-    #[inline(never)]
-    pub fn with_words(
-        &self,
-        alloc: Global,
-        start: usize,
-        words: &[u64],
-    ) -> Result<Page, OutOfMemory>
-        requires { start + length words.now ≤ WORDS_OF_A_PAGE }
-        ensures words { IfOk result (λ p. p ≡ take start self.now ++ words.now ++ drop (start + length words.now) self.now) }
-        ensures len { length self.now ≡ WORDS_OF_A_PAGE }
-    {
-        let mut all: [u64; WORDS_OF_A_PAGE] = *self.words;
-        replace_items(&mut all, start, words);
-        Page::new(alloc, all)
-    }
-
-    /// A page of these words, but for `len` from `start` on, in which the change is made.
-    #[inline(never)]
-    fn with_change<C: Change>(
-        &self,
-        alloc: Global,
-        start: usize,
-        len: usize,
-        change: &C,
-    ) -> Result<Page, OutOfMemory>
-        requires { start + len ≤ WORDS_OF_A_PAGE }
-        ensures words { let changed = C.makes change.now (take len (drop start self.now)) in
-            IfOk result (λ p. p ≡ take start self.now ++ changed ++ drop (start + len) self.now) }
-        ensures count { length (C.makes change.now (take len (drop start self.now))) ≡ len }
-        ensures len { length self.now ≡ WORDS_OF_A_PAGE }
-    {
-        let mut all: [u64; WORDS_OF_A_PAGE] = *self.words;
-        change_part(&mut all, start, len, change);
-        Page::new(alloc, all)
-    }
-
-    /// Makes the change in `len` words from `start` on: in place where nobody shares the page, else in a new page. After `OutOfMemory` nothing has
-    /// changed.
+    /// Makes the change in `len` words from `start` on: in place where nobody shares the page, else in a new one.
     pub fn change<C: Change>(
         &mut self,
         alloc: Global,
@@ -132,18 +87,17 @@ impl Page {
         ensures len { length self.old ≡ WORDS_OF_A_PAGE }
     {
         match Arc::get_mut(&mut self.words) {
-            Some(all) => {
-                change_part(all, start, len, change);
-            }
+            Some(all) => change_part(all, start, len, change),
             None => {
-                *self = self.with_change(alloc, start, len, change)?;
+                let mut all: [u64; WORDS_OF_A_PAGE] = *self.words;
+                change_part(&mut all, start, len, change);
+                *self = Page::new(alloc, all)?;
             }
         }
         Ok(())
     }
 
-    /// Makes `words` the words from `start` on: in place where nobody shares the page, else in a new page. After `OutOfMemory` nothing has
-    /// changed.
+    /// Makes `words` the words from `start` on: in place where nobody shares the page, else in a new one.
     pub fn write(&mut self, alloc: Global, start: usize, words: &[u64]) -> Result<(), OutOfMemory>
         requires { start + length words.now ≤ WORDS_OF_A_PAGE }
         ensures ok { OnOk result (self.new ≡ take start self.old ++ words.now ++ drop (start + length words.now) self.old) }
@@ -151,11 +105,11 @@ impl Page {
         ensures len { length self.old ≡ WORDS_OF_A_PAGE }
     {
         match Arc::get_mut(&mut self.words) {
-            Some(all) => {
-                replace_items(all, start, words);
-            }
+            Some(all) => replace_items(all, start, words),
             None => {
-                *self = self.with_words(alloc, start, words)?;
+                let mut all: [u64; WORDS_OF_A_PAGE] = *self.words;
+                replace_items(&mut all, start, words);
+                *self = Page::new(alloc, all)?;
             }
         }
         Ok(())

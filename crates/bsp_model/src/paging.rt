@@ -7,24 +7,10 @@ ghost use Rattle.bsp_model.specs.Inside.Pages.{paged_word, word_after, AreWritte
 
 use crate::page::{Page, WORDS_OF_A_PAGE};
 use crate::seq::append_copies;
-use crate::{OutOfMemory, SharedColumn, SharedSeq};
+use crate::{OutOfMemory, SharedColumn, SharedSeq, TryCopy};
 use std::alloc::Global;
-use std::mem;
 use std::sync::Arc;
 
-/// A page for each of these parts of a list of words.
-pub fn full_pages(alloc: Global, parts: &[[u64; WORDS_OF_A_PAGE]]) -> Result<Vec<Page>, OutOfMemory>
-    ensures { IfOk result (λ pages. pages.items ≡ parts.now) }
-{
-    let mut pages = Vec::with_capacity(alloc, parts.len())?;
-    for part in parts {
-        pages.push_reserved(Page::new(alloc, *part)?);
-    }
-    Ok(pages)
-}
-
-/// New pages for `count` of these, from the one with the number `first` on, in which the words from `start` on, counted from the first of
-/// them, are `words`.
 fn new_pages(
     alloc: Global,
     pages: &[Page],
@@ -46,14 +32,14 @@ fn new_pages(
         let place = start.saturating_sub(WORDS_OF_A_PAGE * k);
         let here = (words.len() - before).min(WORDS_OF_A_PAGE - place);
         let part = &words[before..before + here];
-        let page = &pages[first + k];
-        new.push_reserved(page.with_words(alloc, place, part)?);
+        let mut page = pages[first + k].copy()?;
+        page.write(alloc, place, part)?;
+        new.push_reserved(page);
     }
     Ok(new)
 }
 
-/// Makes `words` the words of full pages from `start` on: in place where they lie in one page that nobody shares, else in new pages, which are
-/// all made before the first of them is put in its place. After `OutOfMemory` nothing has changed.
+/// Writes in place where the words lie in one page that nobody shares; else in new pages, which are all made before the first is put in its place.
 pub fn write_pages(
     alloc: Global,
     pages: &mut [Page],
@@ -80,59 +66,16 @@ pub fn write_pages(
     Ok(())
 }
 
-/// Copies of these pages, which share their words, in a list of their own. For no page it takes no memory.
-fn copied_pages(alloc: Global, pages: &[Page]) -> Result<Vec<Page>, OutOfMemory>
+/// Copies that share their words. For no page they take no memory.
+pub fn copied_pages(alloc: Global, pages: &[Page]) -> Result<Vec<Page>, OutOfMemory>
     ensures { IfOk result (λ new. new.items ≡ pages.now) }
 {
     let mut new = Vec::with_capacity(alloc, pages.len())?;
-    let appended = append_copies(&mut new, pages);
-    appended.and(Ok(new))
+    append_copies(&mut new, pages)?;
+    Ok(new)
 }
 
-/// Copies of these pages, which share their words, in a list that its copies share. For no page it takes no memory.
-#[inline]
-pub fn shared_pages(alloc: Global, pages: &[Page]) -> Result<SharedSeq<Page>, OutOfMemory>
-    ensures { IfOk result (λ new. new ≡ pages.now) }
-{
-    SharedSeq::from_vec(copied_pages(alloc, pages)?)
-}
-
-/// Makes copies of `source`, which share their words, the pages of a list. After `OutOfMemory` it has none.
-#[inline(always)]
-pub fn load_pages(pages: &mut Vec<Page>, source: &[Page]) -> Result<(), OutOfMemory>
-    ensures ok { OnOk result (pages.new.items ≡ source.now) }
-    ensures err { OnErr result (pages.new.items ≡ []) }
-{
-    if pages.is_empty() && source.is_empty() {
-        return Ok(());
-    }
-    replace_pages(pages, source)
-}
-
-/// The same, where there are pages.
-#[inline(never)]
-fn replace_pages(pages: &mut Vec<Page>, source: &[Page]) -> Result<(), OutOfMemory>
-    ensures ok { OnOk result (pages.new.items ≡ source.now) }
-    ensures err { OnErr result (pages.new.items ≡ []) }
-{
-    pages.clear();
-    let alloc = *pages.allocator();
-    *pages = copied_pages(alloc, source)?;
-    Ok(())
-}
-
-/// The pages of a list, in a list that its copies share. None is left in the first.
-#[inline]
-pub fn take_pages(pages: &mut Vec<Page>) -> Result<SharedSeq<Page>, OutOfMemory>
-    ensures taken { IfOk result (λ taken. taken ≡ pages.old.items) }
-    ensures rest { pages.new.items ≡ [] }
-{
-    let none = Vec::new(*pages.allocator());
-    SharedSeq::from_vec(mem::replace(pages, none))
-}
-
-/// What `write_pages` does, in the full pages of one process, whose list copies may share: in a list of its own then. After `OutOfMemory` nothing has
-/// changed.
+/// What `write_pages` does, in the full pages of one process. Where copies share their list, they get a list of their own.
 pub fn write_row(
     column: &mut SharedColumn<Page>,
     place: usize,
@@ -161,7 +104,6 @@ pub fn write_row(
     Ok(())
 }
 
-/// Whether so many words from `start` on lie in a memory of `len` words.
 #[inline(always)]
 pub fn is_within(len: usize, start: u64, count: usize) -> bool
     ensures { result ≡ nat_le (start + count) len }
@@ -169,20 +111,15 @@ pub fn is_within(len: usize, start: u64, count: usize) -> bool
     start <= len as u64 && count <= len - start as usize
 }
 
-/// A write of words, cut where the full pages of a memory end.
+/// A write of words, cut where the full pages of a memory end: `front` from `start` on in the pages, `behind` from `place` on behind them.
 #[derive(Drop)]
 pub struct Cut<'a> {
-    /// Where the words for the full pages begin.
     pub start: usize,
-    /// These words.
     pub front: &'a [u64],
-    /// Where the others begin in what lies behind the full pages.
     pub place: usize,
-    /// The others.
     pub behind: &'a [u64],
 }
 
-/// The parts of a write of `words` from `start` on, in a memory of `len` words of which `full` lie in full pages; None where they pass the end.
 pub fn cut_write(full: usize, len: usize, start: u64, words: &[u64]) -> Option<Cut<'_>>
     requires { full ≤ len }
     ensures { MatchOption result (len < start + length words.now) (IsCut full len start words.now) }
@@ -200,7 +137,6 @@ pub fn cut_write(full: usize, len: usize, start: u64, words: &[u64]) -> Option<C
     })
 }
 
-/// Whether as many pages have the same words. It takes no memory.
 pub fn are_same_pages(pages: &[Page], others: &[Page]) -> bool
     requires { length pages.now ≡ length others.now }
     ensures { IsTrue result ↔ ((i : ℕ) → i < WORDS_OF_A_PAGE * length pages.now → paged_word pages.now i ≡ paged_word others.now i) }

@@ -14,8 +14,7 @@ pub fn are_few(some: usize, all: usize) -> bool
     some <= all / ONE_APART_OF
 }
 
-/// Where a process stands in a list of them in ascending order, if it does. It is not behind the place that it has where the list is one run of
-/// consecutive numbers.
+/// Where a process stands in an ascending list, if it does: not behind the place that it has in a run of consecutive numbers.
 #[inline(always)]
 pub fn place_among(processes: &[usize], pid: usize) -> Option<usize>
     requires ascending { IsAscending processes.now }

@@ -32,7 +32,6 @@ impl Model for ProcessSet {
     ghost inverse_ok = { λ s are. set_again (λ n w. record { count = n; bits = w }) s.count s.bits are };
 }
 
-/// A word with the bits of so many processes.
 fn ones(count: usize) -> u64
     requires { count ≤ MOST_PROCESSES }
     ensures { result ≡ 2 ^ count - 1 }
@@ -112,7 +111,6 @@ impl ProcessSet {
         self.next(0).is_none()
     }
 
-    /// The first process in the set from a number on.
     #[inline(always)]
     fn next(&self, from: usize) -> Option<usize>
         ensures first { result ≡ slice_get (processes_from self.now from) 0 }

@@ -8,9 +8,7 @@ use crate::Same;
 /// Words that were stored one behind the other.
 #[derive(Clone, Copy)]
 pub struct Range {
-    /// The address of the first.
     pub start: u64,
-    /// How many they are.
     pub len: usize,
 }
 
@@ -20,7 +18,6 @@ impl Same for Range {
     }
 }
 
-/// Adds so many words, stored from `start` on, to the last range where they go on behind it, else as a range of their own.
 #[inline]
 pub fn add_words(ranges: &mut Vec<Range>, start: u64, len: usize)
     requires room { vec_len ranges.old < vec_capacity ranges.old }

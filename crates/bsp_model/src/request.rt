@@ -5,7 +5,6 @@ use crate::{OutOfMemory, Same, TryCopy, Words};
 /// A put, resolved: words to be written at a target.
 #[derive(Drop)]
 pub struct Put {
-    /// The process that is written to.
     pub target: u64,
     /// The address of the first word there.
     pub start: u64,
@@ -16,11 +15,9 @@ pub struct Put {
 /// A get, resolved: words to be read from an owner.
 #[derive(Clone, Copy)]
 pub struct Get {
-    /// The process that is read.
     pub owner: u64,
     /// The address of the first word there.
     pub start: u64,
-    /// The number of words.
     pub len: u64,
     /// The own address that the first word is written to.
     pub into: u64,
@@ -29,7 +26,6 @@ pub struct Get {
 /// A message on its way.
 #[derive(Drop)]
 pub struct Send {
-    /// The process that gets it.
     pub target: u64,
     /// The tag, of at most `MOST_TAG_WORDS` words.
     pub tag: Words,
@@ -37,21 +33,17 @@ pub struct Send {
     pub words: Words,
 }
 
-/// A message in a queue.
+/// A message in a queue, with a tag and a payload as in `Send`.
 #[derive(Drop)]
 pub struct Message {
-    /// The tag, of at most `MOST_TAG_WORDS` words.
     pub tag: Words,
-    /// The payload, of at most `MOST_PAYLOAD_WORDS` words.
     pub words: Words,
 }
 
 /// A store that was made in the own memory.
 #[derive(Clone, Copy)]
 pub struct Store {
-    /// The address.
     pub addr: u64,
-    /// The word that was put there.
     pub value: u64,
 }
 

@@ -1,19 +1,21 @@
 //! A list of rows, kept in two lists.
 
 ghost use Rattle.std.specs.Prelude.{◌≡◌, ◌<◌, ◌≤◌, ◌+◌, ◌^◌, ◌++◌, ◌∷◌, [], ℕ, drop, length, map, nat_eq, ◌-◌, slice_index, slice_index_or, slice_range, slice_set, take, EachIndex, IfOk, OnErr, OnOk, vec_capacity, vec_len};
-ghost use Rattle.bsp_model.specs.Columns.{row_at};
+ghost use Rattle.bsp_model.specs.Columns.{row_at, AreCut, AreTaken, IsPut};
+ghost use Rattle.bsp_model.specs.Inside.Rows.{AreEnds};
 
-use crate::row_ends::{add_ends, bounds_of, start_of};
 use crate::seq::{append_items, replace_items};
 use crate::{OutOfMemory, Share};
 use std::alloc::Global;
 use std::marker::Model;
 
-/// A list of rows, such as the last words of each memory. The items of all rows lie one behind the other in one list. A second list says where each
-/// row ends.
+/// For each process, by its number, a row of items. A process that nothing was put at has the empty row.
+pub type Column<T> = Rows<T>;
+
+/// A list of rows, whose items lie one behind the other in one list. A place at which no row stands counts as an empty row.
 pub struct Rows<T> {
-    items: Vec<T>,
-    ends: Vec<usize>,
+    pub(crate) items: Vec<T>,
+    pub(crate) ends: Vec<usize>,
 }
 
 impl<T: Drop> Drop for Rows<T> {
@@ -33,24 +35,55 @@ impl<T> Model for Rows<T> {
     ghost invariant = { λ r. AreEnds 0 r.ends.items (length r.items.items) };
 }
 
-/// A list of rows, read where they lie.
-#[derive(Drop)]
-pub(crate) struct RowsRef<'a, T> {
-    /// The items of all rows.
-    pub(crate) items: &'a [T],
-    /// Where each row ends.
-    pub(crate) ends: &'a [usize],
+#[inline(always)]
+pub(crate) fn start_of(ends: &[usize], number: usize) -> usize
+    requires { number ≤ length ends.now }
+    ensures { result ≡ slice_index_or (0 ∷ ends.now) number 0 }
+{
+    if number == 0 { 0 } else { ends[number - 1] }
 }
 
-impl<'a, T> Model for RowsRef<'a, T> {
-    ghost use Rattle.std.specs.Prelude.{List, length};
-    ghost use Rattle.bsp_model.specs.Inside.Rows.{rows_of, AreEnds};
+#[inline(always)]
+pub(crate) fn bounds_of(ends: &[usize], count: usize, from: usize, to: usize) -> (usize, usize)
+    requires ends { AreEnds 0 ends.now count }
+    requires order { from ≤ to }
+    requires rows { to ≤ length ends.now }
+    ensures start { result.0 ≡ slice_index_or (0 ∷ ends.now) from 0 }
+    ensures end { result.1 ≡ slice_index_or (0 ∷ ends.now) to 0 }
+    ensures order { result.0 ≤ result.1 }
+    ensures inside { result.1 ≤ count }
+{
+    (start_of(ends, from), start_of(ends, to))
+}
 
-    ghost Value = { List (List T) };
+pub(crate) fn row_behind(ends: &[usize], from: usize, place: usize) -> usize
+    requires { from ≤ length ends.now }
+    ensures later { from ≤ result }
+    ensures within { result ≤ length ends.now }
+    ensures before { (k : ℕ) → from ≤ k → k < result → slice_index_or ends.now k 0 ≤ place }
+    ensures there { result < length ends.now → place < slice_index_or ends.now result 0 }
+{
+    for number in from..ends.len() {
+        if ends[number] > place {
+            return number;
+        }
+    }
+    ends.len()
+}
 
-    ghost view = { λ r. rows_of 0 r.items.now r.ends.now };
-
-    ghost invariant = { λ r. AreEnds 0 r.ends.now (length r.items.now) };
+pub(crate) fn add_ends(ends: &mut Vec<usize>, before: usize, start: usize, more: &[usize])
+    requires room { vec_len ends.old + length more.now ≤ vec_capacity ends.old }
+    requires behind { EachIndex more.now (λ k. start ≤ slice_index more.now k) }
+    requires fits { EachIndex more.now (λ k. before + (slice_index more.now k - start) < 2 ^ 64) }
+    ensures { ends.new.items ≡ ends.old.items ++ map (λ end. before + (end - start)) more.now }
+{
+    if before == start {
+        ends.extend_from_slice(more).unwrap();
+        return;
+    }
+    for end in more {
+        ends.push_reserved(before + (*end - start));
+    }
 }
 
 impl<T> Rows<T> {
@@ -64,18 +97,6 @@ impl<T> Rows<T> {
         }
     }
 
-    /// These rows, to be read where they lie.
-    #[inline(always)]
-    pub(crate) fn as_ref(&self) -> RowsRef<'_, T>
-        ensures { result ≡ self.now }
-    {
-        RowsRef {
-            items: self.items.as_slice(),
-            ends: self.ends.as_slice(),
-        }
-    }
-
-    /// The number of rows.
     #[inline(always)]
     pub(crate) fn len(&self) -> usize
         ensures len { result ≡ length self.now }
@@ -91,37 +112,26 @@ impl<T> Rows<T> {
     {
         self.ends.is_empty()
     }
-}
 
-impl<'a, T> RowsRef<'a, T> {
-    /// The items of the row at a place; none where there is no row.
+    /// The row at a place; empty where there is none.
     #[inline(always)]
-    pub(crate) fn row_or_empty(&self, number: usize) -> &'a [T]
-        ensures { result.now ≡ row_at self.now number }
+    pub fn row(&self, place: usize) -> &[T]
+        ensures { result.now ≡ row_at self.now place }
     {
-        if number < self.ends.len() {
-            self.row(number)
+        if place < self.ends.len() {
+            self.known_row(place)
         } else {
             &[]
         }
     }
 
-    /// The number of rows.
     #[inline(always)]
-    pub fn len(&self) -> usize
-        ensures { result ≡ length self.now }
+    pub(crate) fn known_row(&self, place: usize) -> &[T]
+        requires { place < length self.now }
+        ensures { result.now ≡ slice_index_or self.now place [] }
     {
-        self.ends.len()
-    }
-
-    /// The items of the row at a place.
-    #[inline(always)]
-    pub fn row(&self, number: usize) -> &'a [T]
-        requires { number < length self.now }
-        ensures { result.now ≡ slice_index_or self.now number [] }
-    {
-        let ends = self.ends;
-        let (start, end) = bounds_of(ends, self.items.len(), number, number + 1);
+        let ends = self.ends.as_slice();
+        let (start, end) = bounds_of(ends, self.items.len(), place, place + 1);
         &self.items[start..end]
     }
 }
@@ -151,7 +161,6 @@ impl<T: Copy> Rows<T> {
         items.and(self.ends.reserve(share.part(like.ends.len())))
     }
 
-    /// Puts a row of these items at the end. After `OutOfMemory` nothing has changed.
     #[inline(always)]
     pub(crate) fn push(&mut self, row: &[T]) -> Result<(), OutOfMemory>
         ensures ok { OnOk result (self.new ≡ self.old ++ row.now ∷ []) }
@@ -163,7 +172,6 @@ impl<T: Copy> Rows<T> {
         Ok(())
     }
 
-    /// Keeps the first `count` rows alone, or all where there are no more.
     #[inline(always)]
     pub(crate) fn truncate(&mut self, count: usize)
         ensures { self.new ≡ take count self.old }
@@ -174,7 +182,6 @@ impl<T: Copy> Rows<T> {
         }
     }
 
-    /// Puts empty rows at the end until there are `count`, or none where there are as many. After `OutOfMemory` some of them are put.
     #[inline(always)]
     pub(crate) fn fill(&mut self, count: usize) -> Result<(), OutOfMemory>
         requires { length self.old ≤ count }
@@ -188,7 +195,6 @@ impl<T: Copy> Rows<T> {
         Ok(())
     }
 
-    /// Makes `items` the items of the row `number` from `place` on.
     #[inline(always)]
     pub(crate) fn replace(&mut self, number: usize, place: usize, items: &[T])
         requires known { number < length self.old }
@@ -200,10 +206,9 @@ impl<T: Copy> Rows<T> {
         replace_items(self.items.as_mut_slice(), start, items);
     }
 
-    /// Puts the rows of another list from `from` on, and before `to`, at the end. After `OutOfMemory` nothing has changed.
     pub(crate) fn append_range(
         &mut self,
-        more: &RowsRef<'_, T>,
+        more: &Rows<T>,
         from: usize,
         to: usize,
     ) -> Result<(), OutOfMemory>
@@ -215,12 +220,46 @@ impl<T: Copy> Rows<T> {
         if from == to {
             return Ok(());
         }
-        let ends = more.ends;
+        let ends = more.ends.as_slice();
         let (start, end) = bounds_of(ends, more.items.len(), from, to);
         self.ends.reserve(to - from)?;
         let before = self.items.len();
         self.items.extend_from_slice(&more.items[start..end])?;
         add_ends(&mut self.ends, before, start, &ends[from..to]);
         Ok(())
+    }
+
+    /// Makes `row` the row of a process, and leaves those behind it out. After `OutOfMemory` its own is left out too.
+    #[inline(always)]
+    pub fn put(&mut self, place: usize, row: &[T]) -> Result<(), OutOfMemory>
+        ensures ok { OnOk result (IsPut [] (row_at self.old) place row.now (row_at self.new)) }
+        ensures err { OnErr result (AreCut [] (row_at self.old) place (row_at self.new)) }
+    {
+        self.truncate(place);
+        if row.is_empty() {
+            return Ok(());
+        }
+        self.fill(place)?;
+        self.push(row)
+    }
+
+    /// Makes the rows of `more` from `from` on, and before `to`, those from `place` on. After `OutOfMemory` those from `place` on are left out.
+    pub fn take_range(
+        &mut self,
+        place: usize,
+        more: &Rows<T>,
+        from: usize,
+        to: usize,
+    ) -> Result<(), OutOfMemory>
+        ensures ok { OnOk result (AreTaken [] (row_at self.old) place (row_at more.now) from to (row_at self.new)) }
+        ensures err { OnErr result (AreCut [] (row_at self.old) place (row_at self.new)) }
+    {
+        self.truncate(place);
+        let to = to.min(more.len());
+        if to <= from {
+            return Ok(());
+        }
+        self.fill(place)?;
+        self.append_range(more, from, to)
     }
 }

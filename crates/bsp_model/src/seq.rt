@@ -5,12 +5,11 @@ ghost use Rattle.std.specs.Prelude.{◌≡◌, ◌≤◌, ◌+◌, ◌++◌, ◌
 use crate::{OutOfMemory, Same, SharedSeq, TryCopy};
 use std::alloc::Global;
 use std::marker::Model;
-use std::mem;
 
 /// A list of values. It keeps its own allocator.
 #[derive(Drop)]
 pub struct Seq<T> {
-    items: Vec<T>,
+    pub(crate) items: Vec<T>,
 }
 
 impl<T> Model for Seq<T> {
@@ -119,14 +118,6 @@ impl<T: Drop> Seq<T> {
             self.items.clear();
         }
     }
-
-    /// Takes the items of a list, and hands it the former ones.
-    pub(crate) fn swap(&mut self, items: &mut Vec<T>)
-        ensures taken { self.new ≡ items.old.items }
-        ensures handed { items.new.items ≡ self.old }
-    {
-        mem::swap(&mut self.items, items);
-    }
 }
 
 impl<T: TryCopy> Seq<T> {
@@ -141,8 +132,8 @@ impl<T: TryCopy> Seq<T> {
 impl<T: TryCopy> TryCopy for Seq<T> {
     fn copy(&self) -> Result<Seq<T>, OutOfMemory> {
         let mut copy = Seq::new(self.allocator());
-        let appended = copy.append(self.as_slice());
-        appended.and(Ok(copy))
+        copy.append(self.as_slice())?;
+        Ok(copy)
     }
 }
 
@@ -152,7 +143,6 @@ impl<T: Same> Same for Seq<T> {
     }
 }
 
-/// Puts copies of items at the end of a list. After `OutOfMemory` some of them are put.
 pub(crate) fn append_copies<T: TryCopy>(items: &mut Vec<T>, more: &[T]) -> Result<(), OutOfMemory>
     ensures ok { OnOk result (items.new.items ≡ items.old.items ++ more.now) }
     ensures kept { take (length items.old.items) items.new.items ≡ items.old.items }
@@ -179,7 +169,6 @@ pub fn are_same<T: Same>(items: &[T], others: &[T]) -> bool
     true
 }
 
-/// Makes `new` the items of a list from `start` on.
 #[inline(always)]
 pub(crate) fn replace_items<T: Copy>(items: &mut [T], start: usize, new: &[T])
     requires { start + length new.now ≤ length items.old }
@@ -220,12 +209,39 @@ impl Seq<u64> {
             items: words.to_vec(alloc)?,
         })
     }
+}
 
-    /// Makes `words` those from `place` on.
-    pub(crate) fn replace(&mut self, place: usize, words: &[u64])
-        requires { place + length words.now ≤ length self.old }
-        ensures { self.new ≡ take place self.old ++ words.now ++ drop (place + length words.now) self.old }
-    {
-        replace_items(self.items.as_mut_slice(), place, words);
+/// After so many words it is looked at whether they are the same.
+const WORDS_OF_A_BLOCK: usize = 64;
+
+fn difference(left: &[u64], right: &[u64]) -> u64
+    requires { length left.now ≡ length right.now }
+    ensures { (result ≡ 0) ↔ (left.now ≡ right.now) }
+{
+    let mut difference = 0;
+    for i in 0..left.len() {
+        difference |= left[i] ^ right[i];
     }
+    difference
+}
+
+/// Whether two lists have the same words. It takes no memory.
+pub fn are_same_words(left: &[u64], right: &[u64]) -> bool
+    ensures { IsTrue result ↔ (left.now ≡ right.now) }
+{
+    if left.len() != right.len() {
+        return false;
+    }
+    if left.len() <= WORDS_OF_A_BLOCK {
+        return difference(left, right) == 0;
+    }
+    let mut at = 0;
+    while at < left.len() {
+        let end = at + (left.len() - at).min(WORDS_OF_A_BLOCK);
+        if difference(&left[at..end], &right[at..end]) != 0 {
+            return false;
+        }
+        at = end;
+    }
+    true
 }

@@ -6,16 +6,16 @@ ghost use Rattle.bsp_model.specs.Stores.{records, made_again, words_stored};
 ghost use Rattle.bsp_model.specs.Inside.Beside.{words_beside};
 ghost use Rattle.bsp_model.specs.Inside.Ranges.{stores_of, AreRanges};
 
+use crate::paging::is_within;
 use crate::range::Range;
 use crate::seq::are_same;
-use crate::{Memory, MemoryRef, OutOfMemory, Same, are_same_words};
+use crate::{Memory, MemoryRef, OutOfMemory, Same};
 use std::alloc::Global;
 use std::marker::Model;
 
 /// Stores in the order in which they were made, read where they lie.
 #[derive(Drop)]
 pub struct StoresRef<'a> {
-    /// The ranges, in order. None of them goes on where the one before it ended.
     pub(crate) ranges: &'a [Range],
     /// The words that were stored, in order. One range may go without: its words then are those that the memory has there.
     pub(crate) values: &'a [u64],
@@ -50,7 +50,6 @@ pub(crate) fn range_beside(ranges: &[Range], values: &[u64]) -> Option<Range>
     Some(ranges[0])
 }
 
-/// Makes `words` the words of a memory from `start` on, as far as it has them.
 fn write_inside(memory: &mut Memory, start: u64, words: &[u64]) -> Result<(), OutOfMemory>
     ensures { OnOk result (memory.new ≡ made_again memory.old (records start words.now)) }
 {
@@ -60,7 +59,6 @@ fn write_inside(memory: &mut Memory, start: u64, words: &[u64]) -> Result<(), Ou
     Ok(())
 }
 
-/// Makes the words that `source` has in a range the words of a memory there, as far as it has them. After `OutOfMemory` some of them are.
 fn write_range(memory: &mut Memory, source: &MemoryRef<'_>, range: Range) -> Result<(), OutOfMemory>
     requires inside { range.start + range.len ≤ length source.now }
     requires fits { length source.now < 2 ^ 64 }
@@ -77,7 +75,6 @@ fn write_range(memory: &mut Memory, source: &MemoryRef<'_>, range: Range) -> Res
     Ok(())
 }
 
-/// Makes the words of ranges the words of a memory, range by range, as far as it has them. After `OutOfMemory` some of them are.
 fn write_ranges(memory: &mut Memory, ranges: &[Range], values: &[u64]) -> Result<(), OutOfMemory>
     requires { AreRanges ranges.now values.now }
     ensures { OnOk result (memory.new ≡ made_again memory.old (stores_of ranges.now values.now)) }
@@ -110,85 +107,36 @@ impl<'a> StoresRef<'a> {
         self.ranges
     }
 
-    /// The words that were stored, from the place `from` on, as far as they lie in one piece: at least one where there is any.
+    /// A memory that has the stored words, one behind the other, and where they begin there.
     #[inline(always)]
-    pub fn piece(&self, from: usize) -> &'a [u64]
-        requires { from ≤ length self.now }
-        ensures there { result.now ≡ take (length result.now) (drop from (words_stored self.now)) }
-        ensures some { from < length self.now → 0 < length result.now }
+    fn source(&self) -> (MemoryRef<'a>, u64)
+        ensures inside { result.1 + length self.now ≤ length result.0 }
+        ensures there { words_stored self.now ≡ take (length self.now) (drop result.1 result.0) }
+        ensures fits { length result.0 < 2 ^ 64 }
     {
         match range_beside(self.ranges, self.values) {
-            Some(range) => self
-                .memory
-                .piece(range.start + from as u64, range.len - from),
-            None => self.values.split_at(from).1,
+            Some(range) => (self.memory.again(), range.start),
+            None => (self.memory.of_words(self.values), 0),
         }
     }
 
-    /// Whether the words that were stored are the same.
-    #[inline(never)]
-    fn has_same_words(&self, other: &StoresRef<'_>) -> bool
-        ensures { IsTrue result ↔ (words_stored self.now ≡ words_stored other.now) }
-    {
-        let len = self.len();
-        if len != other.len() {
-            return false;
-        }
-        let mut done = 0;
-        while done < len {
-            let left = self.piece(done);
-            let right = other.piece(done);
-            let count = left.len().min(right.len());
-            if !are_same_words(&left[..count], &right[..count]) {
-                return false;
-            }
-            done += count;
-        }
-        true
-    }
-
-    /// Whether the words that were stored are those that a memory has in a range.
     pub(crate) fn stand_in(&self, range: Range, memory: &MemoryRef<'_>) -> bool
         ensures { IsTrue result → words_stored self.now ≡ take range.len (drop range.start memory.now) }
     {
-        if self.stand_in_piece(range, memory) {
-            return true;
-        }
-        let len = memory.len() as u64;
-        if range.len == 0 || range.start > len || range.len as u64 > len - range.start {
+        if self.len() != range.len || !is_within(memory.len(), range.start, range.len) {
             return false;
         }
-        let ranges = [range];
-        let there = StoresRef {
-            ranges: &ranges,
-            values: &[],
-            memory: memory.again(),
-        };
-        self.has_same_words(&there)
+        let (mine, start) = self.source();
+        mine.has_same_words(start, memory, range.start, range.len)
     }
 
-    /// The same where they are kept and stand there in one piece, as those of most turns; else false.
-    #[inline(always)]
-    fn stand_in_piece(&self, range: Range, memory: &MemoryRef<'_>) -> bool
-        ensures { IsTrue result → words_stored self.now ≡ take range.len (drop range.start memory.now) }
-    {
-        let there = memory.piece(range.start, range.len);
-        if there.is_empty() || there.len() != range.len {
-            return false;
-        }
-        are_same_words(self.values, there)
-    }
-
-    /// Copies of the words that were stored, in order, or `OutOfMemory`.
-    pub(crate) fn to_words(&self, alloc: Global) -> Result<Vec<u64>, OutOfMemory>
+    /// The words that were stored, in order, or `OutOfMemory`.
+    pub fn to_words(&self, alloc: Global) -> Result<Vec<u64>, OutOfMemory>
         ensures { IfOk result (λ words. words.items ≡ words_stored self.now) }
     {
-        let len = self.len();
-        let mut words = Vec::with_capacity(alloc, len)?;
-        while words.len() < len {
-            let piece = self.piece(words.len());
-            words.extend_from_slice(piece)?;
-        }
+        let (source, start) = self.source();
+        let mut words = vec![in alloc; 0; self.len()]?;
+        source.read(start, words.as_mut_slice());
         Ok(words)
     }
 
@@ -205,6 +153,14 @@ impl<'a> StoresRef<'a> {
 
 impl<'a> Same for StoresRef<'a> {
     fn same(&self, other: &StoresRef<'a>) -> bool {
-        are_same(self.ranges, other.ranges) && self.has_same_words(other)
+        if self.len() != other.len() {
+            return false;
+        }
+        if !are_same(self.ranges, other.ranges) {
+            return false;
+        }
+        let (mine, start) = self.source();
+        let (others, other_start) = other.source();
+        mine.has_same_words(start, &others, other_start, self.len())
     }
 }

@@ -17,6 +17,5 @@ pub mod TakingOver
 pub mod Settings
 pub mod ViewsWithin
 pub mod SameLines
-pub mod SharedCells
 pub mod RunErrors
 pub mod Gathered

@@ -5,7 +5,6 @@ pub mod Record
 pub mod Settings
 pub mod Condition
 pub mod Lines
-pub mod SharedCells
 pub mod Views
 pub mod ViewsRef
 pub mod Left

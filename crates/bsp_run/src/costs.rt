@@ -10,7 +10,6 @@ use bsp_model::{CostRow, OutOfMemory, SharedSeq};
 use bsp_step::Outcomes;
 use std::alloc::Global;
 
-/// The largest work that a process charged.
 fn largest_work(outcomes: &Outcomes) -> u64
     ensures value { result ≡ largest_work outcomes.now }
     ensures small { result < 2 ^ 32 }

@@ -28,7 +28,6 @@ fn has_fault(outcomes: &Outcomes) -> bool
     false
 }
 
-/// The faults of all processes, by process.
 fn faults(alloc: Global, outcomes: &Outcomes) -> Result<Seq<ProcessFault>, OutOfMemory>
     ensures { IfOk result (λ faults. faults ≡ faults_from 0 outcomes.now) }
 {

@@ -46,7 +46,6 @@ impl Model for History {
     ghost invariant = { IsLawful };
 }
 
-/// Whether two runs that have ended have as many supersteps.
 fn have_as_many(run: &Tape, other: &Tape) -> bool
     requires ended { is_ended run.now.phase ≡ true }
     requires other { is_ended other.now.phase ≡ true }
@@ -90,13 +89,8 @@ impl Tape {
         requires marks { AreLinesUnlessMarked lines.now marks.now (outcomes_of (supersteps_of self)) }
         ensures { IfOk result (λ history. history ≡ self) }
     {
-        match self.sums(lines, marks) {
-            Ok(sums) => Ok(History { run: self, sums }),
-            Err(error) => {
-                drop(self);
-                Err(error)
-            }
-        }
+        let sums = self.sums(lines, marks)?;
+        Ok(History { run: self, sums })
     }
 
     /// What a run that has ended gives beside its status and its memories. It shares lines likewise.
@@ -182,7 +176,6 @@ pub fn add_memories(all: &mut Memories, views: &Views) -> Result<(), OutOfMemory
     Ok(())
 }
 
-/// The memory that a process sees, if there is such a process.
 fn memory_seen(views: &Views, pid: usize) -> Option<MemoryRef<'_>>
     ensures { result ≡ slice_get (map (λ v. v.memory) views.now) pid }
 {
@@ -247,7 +240,6 @@ impl History {
         run.past.as_slice()
     }
 
-    /// The memories of all processes.
     fn memories(&self) -> Result<Memories, OutOfMemory>
         ensures { IfOk result (λ all. all ≡ memories_of self.now) }
     {

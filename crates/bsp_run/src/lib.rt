@@ -15,7 +15,6 @@ mod process_lines;
 mod process_numbers;
 mod result;
 mod setting;
-mod shared_cells;
 mod superstep;
 mod taking_over;
 mod tape;

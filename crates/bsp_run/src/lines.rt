@@ -25,7 +25,6 @@ fn may_have_lines(outcomes: &Outcomes, pid: usize) -> bool
     !outcomes.is_without(ListKind::Lines) && pid < outcomes.len()
 }
 
-/// Puts the lines of a process in one superstep behind the others.
 #[inline]
 fn add_lines(lines: &mut PrintedLines, outcomes: &Outcomes, pid: usize) -> Result<(), OutOfMemory>
     ensures { OnOk result (lines.new ≡ lines.old ++ (outcome_of outcomes.now pid).lines) }
@@ -48,56 +47,6 @@ fn take_lines(lines: &mut PrintedLines, turns: &[&Outcomes], pid: usize) -> Resu
     Ok(())
 }
 
-/// The place behind more lines in a list, if they stand there from a place on.
-fn place_behind(lines: &PrintedLinesRef<'_>, at: usize, more: &PrintedLinesRef<'_>) -> Option<usize>
-    requires { at ≤ length lines.now }
-    ensures inside { IfSome result (λ behind. behind ≤ length lines.now) }
-    ensures same { IfSome result (λ behind. take behind lines.now ≡ take at lines.now ++ more.now) }
-{
-    if more.len() > lines.len() - at {
-        return None;
-    }
-    for place in 0..more.len() {
-        if lines.row(at + place) != more.row(place) {
-            return None;
-        }
-    }
-    Some(at + more.len())
-}
-
-/// The same for the lines of a process in one superstep.
-fn place_behind_printed(
-    lines: &PrintedLinesRef<'_>,
-    at: usize,
-    outcomes: &Outcomes,
-    pid: usize,
-) -> Option<usize>
-    requires { at ≤ length lines.now }
-    ensures inside { IfSome result (λ behind. behind ≤ length lines.now) }
-    ensures same { IfSome result
-        (λ behind. take behind lines.now ≡ take at lines.now ++ (outcome_of outcomes.now pid).lines) }
-{
-    if !may_have_lines(outcomes, pid) {
-        return Some(at);
-    }
-    let own = outcomes.lines(pid);
-    place_behind(lines, at, &own)
-}
-
-/// Whether these are the lines of a process. It takes no memory.
-fn are_lines_of(lines: &PrintedLinesRef<'_>, turns: &[&Outcomes], pid: usize) -> bool
-    ensures { result ≡ true → lines.now ≡ lines_of_process (map (λ o. o.now) turns.now) pid }
-{
-    let mut at = 0;
-    for outcomes in turns {
-        match place_behind_printed(lines, at, outcomes, pid) {
-            Some(behind) => at = behind,
-            None => return false,
-        }
-    }
-    at == lines.len()
-}
-
 /// Whether a process is marked; one that the set doesn't tell of is.
 fn is_marked(marks: &ProcessSet, pid: usize) -> bool
     ensures { result ≡ slice_index_or marks.now pid true }
@@ -105,7 +54,6 @@ fn is_marked(marks: &ProcessSet, pid: usize) -> bool
     pid >= marks.count() || marks.contains(pid)
 }
 
-/// Whether none of so many processes is marked.
 fn is_none_marked(marks: &ProcessSet, nprocs: usize) -> bool
     ensures { result ≡ true → (p : ℕ) → p < nprocs → slice_index_or marks.now p true ≡ false }
 {
@@ -128,31 +76,6 @@ fn is_taken(before: &[Lines], marks: &ProcessSet, pid: usize) -> bool
     pid < before.len() && !is_marked(marks, pid)
 }
 
-/// Whether a process of a run before has other lines now. They are not looked at where it is not marked.
-fn has_other_lines(before: &[Lines], marks: &ProcessSet, turns: &[&Outcomes], pid: usize) -> bool
-    requires known { pid < length before.now }
-    requires same { AreLinesUnlessMarked before.now marks.now (map (λ o. o.now) turns.now) }
-    ensures { result ≡ false → slice_index_or before.now pid [] ≡ lines_of_process (map (λ o. o.now) turns.now) pid }
-{
-    is_marked(marks, pid) && !are_lines_of(&before[pid].as_ref(), turns, pid)
-}
-
-/// Marks the processes of a run before that have other lines now, of those that are marked.
-fn mark_others(before: &[Lines], marks: &ProcessSet, turns: &[&Outcomes]) -> ProcessSet
-    requires { AreLinesUnlessMarked before.now marks.now (map (λ o. o.now) turns.now) }
-    ensures { AreLinesUnlessMarked before.now result (map (λ o. o.now) turns.now) }
-{
-    let count = before.len().min(MOST_PROCESSES);
-    let mut others = ProcessSet::none(count);
-    for pid in 0..count {
-        if has_other_lines(before, marks, turns, pid) {
-            others.insert(pid);
-        }
-    }
-    others
-}
-
-/// Gathers the lines of each process that are not taken from a run before.
 fn gather(
     alloc: Global,
     all: &mut LineColumn,
@@ -166,17 +89,10 @@ fn gather(
     let mut lines = PrintedLines::new(alloc);
     for pid in 0..nprocs {
         if !is_taken(before, marks, pid) {
-            let taken = take_lines(&mut lines, turns, pid);
-            match taken.and(all.put(pid, &lines.as_ref())) {
-                Ok(()) => {}
-                Err(error) => {
-                    drop(lines);
-                    return Err(error);
-                }
-            }
+            take_lines(&mut lines, turns, pid)?;
+            all.put(pid, &lines.as_ref())?;
         }
     }
-    drop(lines);
     Ok(())
 }
 
@@ -216,7 +132,7 @@ pub fn each_lines(
 /// The lines of each process: those of a run before where it is not marked. The others are gathered in one column, if there are any.
 fn lines_taken(
     alloc: Global,
-    before: &SharedSeq<Lines>,
+    before: &[Lines],
     marks: &ProcessSet,
     turns: &[&Outcomes],
     nprocs: usize,
@@ -224,22 +140,10 @@ fn lines_taken(
     requires { AreLinesUnlessMarked before.now marks.now (map (λ o. o.now) turns.now) }
     ensures { IfOk result (λ each. each ≡ each_below nprocs (lines_of_process (map (λ o. o.now) turns.now))) }
 {
-    if are_all_taken(before.as_slice(), marks, nprocs) {
-        return before.copy();
-    }
-    let before = before.as_slice();
     let mut all = LineColumn::new(alloc);
-    match gather(alloc, &mut all, before, marks, turns, nprocs) {
-        Ok(()) => {}
-        Err(error) => {
-            drop(all);
-            return Err(error);
-        }
-    }
+    gather(alloc, &mut all, before, marks, turns, nprocs)?;
     let all = Shared::new(alloc, all)?;
-    let each = each_lines(alloc, before, marks, &all, nprocs);
-    drop(all);
-    each
+    each_lines(alloc, before, marks, &all, nprocs)
 }
 
 /// The supersteps of a run in which lines may stand, the one that ended it among them. In the others nobody's lines are looked for.
@@ -263,7 +167,7 @@ fn printing<'a>(
     Ok(turns)
 }
 
-/// The lines of each process. Those that are the same as in `before` are shared, as those of a process that is not marked are.
+/// The lines of each process. A process that is not marked shares its lines with `before`.
 pub fn all_lines(
     alloc: Global,
     before: &SharedSeq<Lines>,
@@ -280,8 +184,5 @@ pub fn all_lines(
         return before.copy();
     }
     let turns = printing(alloc, past, last)?;
-    let others = mark_others(before.as_slice(), marks, turns.as_slice());
-    let lines = lines_taken(alloc, before, &others, turns.as_slice(), nprocs);
-    drop(turns);
-    lines
+    lines_taken(alloc, before.as_slice(), marks, turns.as_slice(), nprocs)
 }

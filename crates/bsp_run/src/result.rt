@@ -12,16 +12,13 @@ use std::alloc::AllocError;
 /// A fault of a process.
 #[derive(Clone, Copy)]
 pub struct ProcessFault {
-    /// The number of the process.
     pub pid: u64,
-    /// Its fault.
     pub fault: Fault,
 }
 
 /// How a run ended.
 #[derive(Drop)]
 pub enum Status {
-    /// All processes halted.
     Halted,
     /// The superstep limit was reached, after delivery.
     Limit,
@@ -55,9 +52,7 @@ pub struct RunResult {
 /// Why a run gave nothing.
 #[derive(Clone, Copy, Debug, PartialEq, Eq)]
 pub enum RunError {
-    /// The input is refused.
     Input(InputFault),
-    /// Memory was refused.
     OutOfMemory,
 }
 

@@ -13,9 +13,7 @@ use std::alloc::Global;
 pub struct Setting {
     /// The number of the superstep, from 0.
     pub step: u64,
-    /// The arguments of each process.
     pub args: Arguments,
-    /// The registration table.
     pub table: Table,
     /// The tag size in force, in words.
     pub tag_size: u64,

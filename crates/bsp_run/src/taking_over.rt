@@ -16,7 +16,6 @@ use bsp_model::{CostRow, OutOfMemory, Shared, TryCopy};
 use bsp_step::Outcomes;
 use std::mem;
 
-/// The list of what the processes see in a superstep.
 fn views_in(history: &History, step: usize) -> Result<Shared<Views>, OutOfMemory>
     requires { step ≤ length history.now.past }
     ensures { IfOk result (λ views. views ≡ (superstep_at (supersteps_opened history.now) step).views) }
@@ -38,25 +37,17 @@ impl Tape {
         let step = self.past.len();
         let views = views_in(other, step + 1)?;
         let run = &other.run;
-        let mut outcomes = match run.past[step].outcomes.copy() {
-            Ok(outcomes) => outcomes,
-            Err(error) => {
-                drop(views);
-                return Err(error);
-            }
-        };
+        let mut outcomes = run.past[step].outcomes.copy()?;
         let row = cost_at(self.g, self.l, &run.costs[step]);
-        let kept = keep_superstep(
+        keep_superstep(
             &mut self.past,
             &mut self.costs,
             &mut self.views,
             &mut outcomes,
             views,
             row,
-        );
-        drop(outcomes);
-        kept?;
-        drop(mem::replace(&mut self.phase, phase_at(step as u64 + 1, self.limit)));
+        )?;
+        self.phase = phase_at(step as u64 + 1, self.limit);
         Ok(())
     }
 
@@ -67,8 +58,8 @@ impl Tape {
         requires delivers { end_of (length self.old.past) self.old.state.table outcomes ≡ None }
         ensures { self.new ≡ after_turns self.old outcomes }
     {
-        drop(mem::replace(&mut self.outcomes, outcomes));
-        drop(mem::replace(&mut self.phase, Phase::Turned));
+        self.outcomes = outcomes;
+        self.phase = Phase::Turned;
     }
 
     /// The cost of the superstep whose turns are taken, at the prices of this run, where as much was computed and moved as in the same superstep of

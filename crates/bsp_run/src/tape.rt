@@ -87,32 +87,12 @@ impl Tape {
         ensures { IfOk result (λ tape. tape ≡ start input.now) }
     {
         let mems = input.mems.as_slice();
-        let setting = match Setting::first(alloc, args, mems.len()) {
-            Ok(setting) => setting,
-            Err(error) => {
-                drop(processes);
-                return Err(error);
-            }
-        };
+        let setting = Setting::first(alloc, args, mems.len())?;
         let mut cells = Cells::new(alloc);
-        match add_first_cells(
-            alloc,
-            &mut cells,
-            mems,
-            processes.as_slice(),
-            Recording::Kept,
-        ) {
-            Ok(()) => {
-                let views = like.replaced(alloc, setting, processes, cells)?;
-                Tape::open_with(alloc, input, views)
-            }
-            Err(error) => {
-                drop(setting);
-                drop(processes);
-                drop(cells);
-                Err(error)
-            }
-        }
+        let marked = processes.as_slice();
+        add_first_cells(alloc, &mut cells, mems, marked, Recording::Kept)?;
+        let views = like.replaced(alloc, setting, processes, cells)?;
+        Tape::open_with(alloc, input, views)
     }
 
     /// The same, where the views of superstep 0 are given.
@@ -191,18 +171,11 @@ impl Tape {
         ensures err { OnErr result (self.new ≡ self.old) }
     {
         let alloc = *self.past.allocator();
-        match self.views.end(alloc, &outcomes) {
-            Ok(end) => {
-                let goes_on = end.is_none();
-                drop(mem::replace(&mut self.outcomes, outcomes));
-                drop(mem::replace(&mut self.phase, phase_after(end)));
-                Ok(goes_on)
-            }
-            Err(error) => {
-                drop(outcomes);
-                Err(error)
-            }
-        }
+        let end = self.views.end(alloc, &outcomes)?;
+        let goes_on = end.is_none();
+        self.outcomes = outcomes;
+        self.phase = phase_after(end);
+        Ok(goes_on)
     }
 
     /// Takes the next memory and queue of each process. The messages that nobody took are discarded with the
@@ -214,17 +187,10 @@ impl Tape {
         ensures err { OnErr result (self.new ≡ self.old) }
     {
         let alloc = *self.past.allocator();
-        match self.next_setting() {
-            Ok(setting) => {
-                let views = Views::open(alloc, setting, cells)?;
-                let row = self.cost();
-                self.delivered_as(views, row)
-            }
-            Err(error) => {
-                drop(cells);
-                Err(error)
-            }
-        }
+        let setting = self.next_setting()?;
+        let views = Views::open(alloc, setting, cells)?;
+        let row = self.cost();
+        self.delivered_as(views, row)
     }
 
     /// The cost of the superstep whose turns are taken.

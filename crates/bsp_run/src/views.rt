@@ -15,10 +15,9 @@ use crate::ending::end_of;
 use crate::keeping::next_table;
 use crate::opening::{Recording, add_first_cells, shared_args};
 use crate::process_numbers::numbers;
-use crate::shared_cells::SharedCells;
 use crate::{Arguments, Setting, Status};
 use bsp_deliver::{Cells, next_tag_size};
-use bsp_model::{Input, OutOfMemory, TryCopy};
+use bsp_model::{Input, Layered, OutOfMemory, TryCopy};
 use bsp_step::{Outcomes, View};
 use std::alloc::Global;
 use std::marker::Model;
@@ -27,7 +26,7 @@ use std::marker::Model;
 #[derive(Drop)]
 pub struct Views {
     setting: Setting,
-    cells: SharedCells,
+    cells: Layered<Cells>,
 }
 
 impl Model for Views {
@@ -49,13 +48,8 @@ impl Views {
         requires { CanOpen setting.args (state_of cells setting.table setting.tag_size) }
         ensures { IfOk result (λ v. v ≡ views_of setting.args setting.step (state_of cells setting.table setting.tag_size)) }
     {
-        match SharedCells::new(alloc, cells) {
-            Ok(cells) => Ok(Views { setting, cells }),
-            Err(error) => {
-                drop(setting);
-                Err(error)
-            }
-        }
+        let cells = Layered::new(alloc, cells)?;
+        Ok(Views { setting, cells })
     }
 
     /// What the processes see in another setting with the same memories and queues, but for new ones of some processes, which are in ascending order.
@@ -74,13 +68,8 @@ impl Views {
         ensures { IfOk result (λ v. v ≡ views_of setting.args setting.step
             (state_of (replaced (map cell_of self.now) processes.items cells) setting.table setting.tag_size)) }
     {
-        match self.cells.replaced(alloc, processes, cells) {
-            Ok(cells) => Ok(Views { setting, cells }),
-            Err(error) => {
-                drop(setting);
-                Err(error)
-            }
-        }
+        let cells = self.cells.replaced(alloc, processes, cells)?;
+        Ok(Views { setting, cells })
     }
 
     /// What the processes see in superstep 0 of the run of a lawful input.
@@ -93,14 +82,8 @@ impl Views {
         let mut cells = Cells::new(alloc);
         let mems = input.mems.as_slice();
         let processes = numbers(mems.len());
-        match add_first_cells(alloc, &mut cells, mems, processes, recording) {
-            Ok(()) => Views::open(alloc, setting, cells),
-            Err(error) => {
-                drop(setting);
-                drop(cells);
-                Err(error)
-            }
-        }
+        add_first_cells(alloc, &mut cells, mems, processes, recording)?;
+        Views::open(alloc, setting, cells)
     }
 
     /// What all processes see alike.
@@ -139,7 +122,13 @@ impl Views {
     pub fn into_room(self, alloc: Global) -> Cells
         ensures { result ≡ [] }
     {
-        self.cells.into_room(alloc)
+        match self.cells.try_unwrap() {
+            Ok(mut cells) => {
+                cells.clear();
+                cells
+            }
+            Err(_) => Cells::new(alloc),
+        }
     }
 
     /// The number of processes.
@@ -164,7 +153,7 @@ impl Views {
     {
         let setting = &self.setting;
         let args: &Arguments = &setting.args;
-        let (cells, place) = self.cells.cells_of(pid);
+        let (cells, place) = self.cells.find(pid);
         View {
             nprocs: self.cells.len() as u64,
             pid: pid as u64,

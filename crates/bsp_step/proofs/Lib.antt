@@ -14,4 +14,3 @@ pub mod OutcomeColumns
 pub mod Sorting
 pub mod Rising
 pub mod Stepping
-pub mod Others

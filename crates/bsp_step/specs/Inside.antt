@@ -1,5 +1,5 @@
 pub mod Checks
-pub mod Others
+pub mod Rows
 pub mod Outcomes
 pub mod SameOutcome
 pub mod TurnLists

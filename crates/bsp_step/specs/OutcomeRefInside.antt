@@ -1,5 +1,5 @@
 -- The parts of an outcome that is read where it lies, from its fields.
-use Rattle.bsp_step.specs.declared.outcome_ref.OutcomeRef.TheInside.{Inside}
+use Rattle.bsp_step.specs.declared.outcome.OutcomeRef.TheInside.{Inside}
 use Rattle.bsp_step.specs.OutcomeParts.{OutcomeParts, IsOutcome}
 
 abbrev pub outcome_parts : Inside → OutcomeParts

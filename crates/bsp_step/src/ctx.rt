@@ -7,11 +7,9 @@ ghost use Rattle.bsp_step.specs.Inside.Checks.{Passes};
 ghost use Rattle.bsp_step.specs.OutcomeParts.{IsOutcome, IsOutcomeOf};
 ghost use Rattle.bsp_step.specs.Turn.{closed};
 
-mod blocks;
 mod local;
 mod messages;
 mod reading;
-mod registration;
 mod remote;
 
 use crate::{Ended, Outcome, Stop, TurnLists, View};
@@ -25,7 +23,6 @@ use std::marker::Model;
 pub struct Ctx<'v> {
     view: &'v View<'v>,
     alloc: Global,
-    /// How many messages were taken.
     taken: usize,
     lists: Box<TurnLists>,
     tag: Option<u64>,
@@ -53,8 +50,7 @@ impl<'v> Ctx<'v> {
         Ctx::open_reusing(alloc, view, Outcome::new(alloc)?)
     }
 
-    /// The context in which the turn of a view begins, in the lists of an outcome that is no longer needed, or `OutOfMemory`. Nothing of what stood
-    /// in them is left.
+    /// The same, in the lists of an outcome that is no longer needed. Nothing of what stood in them is left.
     #[inline(always)]
     pub fn open_reusing(
         alloc: Global,
@@ -76,7 +72,6 @@ impl<'v> Ctx<'v> {
         })
     }
 
-    /// Keeps the fault, and answers it.
     fn refuse<T>(&mut self, fault: Fault) -> Result<T, Stop>
         ensures kept { self.new ≡ record self.old { fault = Some fault } }
         ensures answer { result ≡ Err (Stop.Fault fault) }
@@ -85,7 +80,6 @@ impl<'v> Ctx<'v> {
         Err(Stop::Fault(fault))
     }
 
-    /// How many puts, gets, sends, pops and pushes stand.
     fn count_of_requests(&self) -> usize
         ensures { result ≡ count_of_requests self.now }
     {
@@ -97,7 +91,6 @@ impl<'v> Ctx<'v> {
             + lists.pushes.len()
     }
 
-    /// The checks with which each request begins: no fault is kept, and fewer than `MOST_REQUESTS` stand.
     fn begin_request(&mut self) -> Result<(), Stop>
         ensures { Passes self.old (request_fault self.old) self.new result }
     {

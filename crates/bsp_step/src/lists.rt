@@ -6,7 +6,7 @@ ghost use Rattle.bsp_step.specs.Inside.Outcomes.{IsWithoutColumn, first_at, AreS
 
 use crate::{Ended, ListKind, Outcome, OutcomeRef, TurnLists};
 use bsp_model::{
-    Column, Fault, Get, LineColumn, MemoryRef, OutOfMemory, PutColumn, SendColumn, Share,
+    BlockColumn, Column, Fault, Get, LineColumn, MemoryRef, OutOfMemory, Put, Send, Share,
     StoreColumn,
 };
 use bsp_table::Area;
@@ -19,14 +19,13 @@ pub(crate) struct TurnEnd {
     pub(crate) work: u32,
 }
 
-/// The lists of several outcomes, each kind of list in a column of its own. Few turns end with a fault or choose a tag size: each fault and each
-/// choice lies in a row of one item, and where there is none the row is empty.
+/// The lists of several outcomes, each kind in a column of its own. A fault and a choice of a tag size are rows of at most one item.
 pub(crate) struct Lists {
     pub(crate) faults: Column<Fault>,
     pub(crate) stores: StoreColumn,
-    pub(crate) puts: PutColumn,
+    pub(crate) puts: BlockColumn<Put>,
     pub(crate) gets: Column<Get>,
-    pub(crate) sends: SendColumn,
+    pub(crate) sends: BlockColumn<Send>,
     pub(crate) pops: Column<usize>,
     pub(crate) pushes: Column<Area>,
     pub(crate) tags: Column<u64>,
@@ -49,7 +48,6 @@ impl Drop for Lists {
     }
 }
 
-/// The first item of the row of a process, if there is one.
 #[inline(always)]
 pub(crate) fn first<T: Copy>(column: &Column<T>, place: usize) -> Option<T>
     ensures { result ≡ first_at column.now place }
@@ -58,14 +56,13 @@ pub(crate) fn first<T: Copy>(column: &Column<T>, place: usize) -> Option<T>
 }
 
 impl Lists {
-    /// No lists for any process, which takes no memory.
     pub(crate) fn new(alloc: Global) -> Lists {
         Lists {
             faults: Column::new(alloc),
             stores: StoreColumn::new(alloc),
-            puts: PutColumn::new(alloc),
+            puts: BlockColumn::new(alloc),
             gets: Column::new(alloc),
-            sends: SendColumn::new(alloc),
+            sends: BlockColumn::new(alloc),
             pops: Column::new(alloc),
             pushes: Column::new(alloc),
             tags: Column::new(alloc),
@@ -81,24 +78,20 @@ impl Lists {
         stores.and(self.puts.reserve(turns))
     }
 
-    /// Makes a share of the room that the lists of others take.
     pub(crate) fn reserve_like(&mut self, like: &Lists, share: Share) -> Result<(), OutOfMemory>
         ensures { self.new ≡ self.old }
     {
-        let faults = self.faults.reserve_like(&like.faults, share);
-        let stores = self.stores.reserve_like(&like.stores, share);
-        let puts = self.puts.reserve_like(&like.puts, share);
-        let gets = self.gets.reserve_like(&like.gets, share);
-        let sends = self.sends.reserve_like(&like.sends, share);
-        let pops = self.pops.reserve_like(&like.pops, share);
-        let pushes = self.pushes.reserve_like(&like.pushes, share);
-        let tags = self.tags.reserve_like(&like.tags, share);
-        let lines = self.lines.reserve_like(&like.lines, share);
-        let requests = puts.and(gets).and(sends).and(pops).and(pushes);
-        faults.and(stores).and(requests).and(tags).and(lines)
+        let done = self.faults.reserve_like(&like.faults, share);
+        let done = done.and(self.stores.reserve_like(&like.stores, share));
+        let done = done.and(self.puts.reserve_like(&like.puts, share));
+        let done = done.and(self.gets.reserve_like(&like.gets, share));
+        let done = done.and(self.sends.reserve_like(&like.sends, share));
+        let done = done.and(self.pops.reserve_like(&like.pops, share));
+        let done = done.and(self.pushes.reserve_like(&like.pushes, share));
+        let done = done.and(self.tags.reserve_like(&like.tags, share));
+        done.and(self.lines.reserve_like(&like.lines, share))
     }
 
-    /// Leaves no lists for any process. Their room stays.
     pub(crate) fn clear(&mut self) {
         self.faults.clear();
         self.stores.clear();
@@ -111,8 +104,7 @@ impl Lists {
         self.lines.clear();
     }
 
-    /// Makes copies of an outcome's lists, its fault and its choice of a tag size those of a process, behind which none stand any more. The stores
-    /// are kept beside the memory that is kept of the process. After `OutOfMemory` some of them are.
+    /// Puts copies of an outcome's lists. The stores are kept beside the memory that is kept of the process.
     #[inline(always)]
     pub(crate) fn put(
         &mut self,
@@ -123,40 +115,35 @@ impl Lists {
         ensures before { (k : ℕ) → k < place → AreSameLists self.old k self.new k }
         ensures there { OnOk result (HasLists self.new place memory.now outcome.now) }
     {
-        let faults = self.faults.put(place, outcome.fault.as_slice());
-        let stores = self.stores.put(place, &outcome.stores, memory);
-        let puts = self.puts.put(place, &outcome.puts);
-        let gets = self.gets.put(place, outcome.gets);
-        let sends = self.sends.put(place, &outcome.sends);
-        let pops = self.pops.put(place, outcome.pops);
-        let pushes = self.pushes.put(place, outcome.pushes);
-        let tags = self.tags.put(place, outcome.tag.as_slice());
-        let lines = self.lines.put(place, &outcome.lines);
-        let requests = puts.and(gets).and(sends).and(pops).and(pushes);
-        faults.and(stores).and(requests).and(tags).and(lines)
+        let done = self.faults.put(place, outcome.fault.as_slice());
+        let done = done.and(self.stores.put(place, &outcome.stores, memory));
+        let done = done.and(self.puts.put(place, &outcome.puts));
+        let done = done.and(self.gets.put(place, outcome.gets));
+        let done = done.and(self.sends.put(place, &outcome.sends));
+        let done = done.and(self.pops.put(place, outcome.pops));
+        let done = done.and(self.pushes.put(place, outcome.pushes));
+        let done = done.and(self.tags.put(place, outcome.tag.as_slice()));
+        done.and(self.lines.put(place, &outcome.lines))
     }
 
-    /// The same for an outcome that a turn has just left, beside its memory. Each of its lists is read when its turn comes.
+    /// The same for an outcome that a turn has just left. Each of its lists is read when its turn comes.
     #[inline(always)]
     pub(crate) fn put_turn(&mut self, place: usize, outcome: &Outcome) -> Result<(), OutOfMemory>
         ensures before { (k : ℕ) → k < place → AreSameLists self.old k self.new k }
         ensures there { OnOk result (HasLists self.new place outcome.now.memory outcome.now) }
     {
         let lists: &TurnLists = &outcome.lists;
-        let faults = self.faults.put(place, outcome.fault.as_slice());
-        let stores = self.stores.put_local(place, &lists.local);
-        let puts = self.puts.put(place, &lists.puts.as_ref());
-        let gets = self.gets.put(place, lists.gets.as_slice());
-        let sends = self.sends.put(place, &lists.sends.as_ref());
-        let pops = self.pops.put(place, lists.pops.as_slice());
-        let pushes = self.pushes.put(place, lists.pushes.as_slice());
-        let tags = self.tags.put(place, outcome.tag.as_slice());
-        let lines = self.lines.put(place, &lists.lines.as_ref());
-        let requests = puts.and(gets).and(sends).and(pops).and(pushes);
-        faults.and(stores).and(requests).and(tags).and(lines)
+        let done = self.faults.put(place, outcome.fault.as_slice());
+        let done = done.and(self.stores.put_local(place, &lists.local));
+        let done = done.and(self.puts.put(place, &lists.puts.as_ref()));
+        let done = done.and(self.gets.put(place, lists.gets.as_slice()));
+        let done = done.and(self.sends.put(place, &lists.sends.as_ref()));
+        let done = done.and(self.pops.put(place, lists.pops.as_slice()));
+        let done = done.and(self.pushes.put(place, lists.pushes.as_slice()));
+        let done = done.and(self.tags.put(place, outcome.tag.as_slice()));
+        done.and(self.lines.put(place, &lists.lines.as_ref()))
     }
 
-    /// Whether no list of a kind stands.
     #[inline(always)]
     pub(crate) fn is_without(&self, kind: ListKind) -> bool
         ensures { OnTrue result (IsWithoutColumn kind self.now) }
@@ -172,8 +159,6 @@ impl Lists {
         }
     }
 
-    /// Makes copies of the lists that others have from `from` on, and before `to`, those of the processes from `place` on, behind which none
-    /// stand any more. After `OutOfMemory` some of them are.
     pub(crate) fn take_range(
         &mut self,
         place: usize,
@@ -185,16 +170,14 @@ impl Lists {
         ensures taken { OnOk result
             ((k : ℕ) → place ≤ k → k < place + (to - from) → AreSameLists more.now (from + (k - place)) self.new k) }
     {
-        let faults = self.faults.take_range(place, &more.faults, from, to);
-        let stores = self.stores.take_range(place, &more.stores, from, to);
-        let puts = self.puts.take_range(place, &more.puts, from, to);
-        let gets = self.gets.take_range(place, &more.gets, from, to);
-        let sends = self.sends.take_range(place, &more.sends, from, to);
-        let pops = self.pops.take_range(place, &more.pops, from, to);
-        let pushes = self.pushes.take_range(place, &more.pushes, from, to);
-        let tags = self.tags.take_range(place, &more.tags, from, to);
-        let lines = self.lines.take_range(place, &more.lines, from, to);
-        let requests = puts.and(gets).and(sends).and(pops).and(pushes);
-        faults.and(stores).and(requests).and(tags).and(lines)
+        let done = self.faults.take_range(place, &more.faults, from, to);
+        let done = done.and(self.stores.take_range(place, &more.stores, from, to));
+        let done = done.and(self.puts.take_range(place, &more.puts, from, to));
+        let done = done.and(self.gets.take_range(place, &more.gets, from, to));
+        let done = done.and(self.sends.take_range(place, &more.sends, from, to));
+        let done = done.and(self.pops.take_range(place, &more.pops, from, to));
+        let done = done.and(self.pushes.take_range(place, &more.pushes, from, to));
+        let done = done.and(self.tags.take_range(place, &more.tags, from, to));
+        done.and(self.lines.take_range(place, &more.lines, from, to))
     }
 }

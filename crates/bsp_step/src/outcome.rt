@@ -1,17 +1,20 @@
 //! What a turn leaves.
 
-ghost use Rattle.std.specs.Prelude.{◌≡◌, IfOk};
+ghost use Rattle.std.specs.Prelude.{◌≡◌, ◌↔◌, IfOk, IsTrue};
 ghost use Rattle.bsp_step.specs.OutcomeParts.{no_outcome};
 
-use crate::{OutcomeRef, TurnLists};
-use bsp_model::{Fault, OutOfMemory, Same, TryCopy};
+use crate::TurnLists;
+use bsp_model::{
+    Fault, Get, MemoryRef, OutOfMemory, PrintedLinesRef, PutsRef, Same, SendsRef, StoresRef,
+    TryCopy, are_same,
+};
+use bsp_table::Area;
 use std::alloc::Global;
 use std::marker::Model;
 
 /// How a turn ended.
 #[derive(Clone, Copy, PartialEq, Eq)]
 pub enum Ended {
-    /// The process goes on.
     Sync,
     /// The process has ended, or has a fault.
     Halt,
@@ -20,15 +23,12 @@ pub enum Ended {
 /// What a turn leaves (Hill et al. 1998; stores, lines, work and faults are this profile's).
 #[derive(Drop)]
 pub struct Outcome {
-    /// The fault, if there is one.
     pub fault: Option<Fault>,
     /// How the turn ended; `Halt` where there is a fault.
     pub ended: Ended,
-    /// The memory after computing, the stores that were made, the requests and the printed lines.
     pub lists: Box<TurnLists>,
     /// The choice of the next tag size, if one was made.
     pub tag: Option<u64>,
-    /// The work that was charged.
     pub work: u64,
 }
 
@@ -97,5 +97,61 @@ impl TryCopy for Outcome {
 impl Same for Outcome {
     fn same(&self, other: &Outcome) -> bool {
         self.as_ref().same(&other.as_ref())
+    }
+}
+
+/// The parts of an outcome, wherever they lie.
+#[derive(Drop)]
+pub struct OutcomeRef<'a> {
+    pub fault: Option<Fault>,
+    pub ended: Ended,
+    pub memory: MemoryRef<'a>,
+    pub stores: StoresRef<'a>,
+    pub puts: PutsRef<'a>,
+    pub gets: &'a [Get],
+    pub sends: SendsRef<'a>,
+    pub pops: &'a [usize],
+    pub pushes: &'a [Area],
+    pub tag: Option<u64>,
+    pub lines: PrintedLinesRef<'a>,
+    pub work: u64,
+}
+
+impl<'a> Model for OutcomeRef<'a> {
+    ghost use Rattle.bsp_step.specs.OutcomeParts.{OutcomeParts};
+
+    ghost Value = { OutcomeParts };
+
+    ghost use Rattle.bsp_step.specs.OutcomeRefInside.{outcome_parts, IsLawful};
+
+    ghost view = { outcome_parts };
+
+    ghost invariant = { IsLawful };
+}
+
+impl<'a> OutcomeRef<'a> {
+    ghost use Rattle.bsp_step.specs.Inside.SameOutcome.{HasSameRequests};
+
+    fn has_same_requests(&self, other: &OutcomeRef<'a>) -> bool
+        ensures { IsTrue result ↔ HasSameRequests self.now other.now }
+    {
+        self.puts.same(&other.puts)
+            && are_same(self.gets, other.gets)
+            && self.sends.same(&other.sends)
+            && are_same(self.pops, other.pops)
+            && are_same(self.pushes, other.pushes)
+    }
+}
+
+impl<'a> Same for OutcomeRef<'a> {
+    fn same(&self, other: &OutcomeRef<'a>) -> bool {
+        self.has_same_requests(other)
+            && self.fault == other.fault
+            && self.ended == other.ended
+            && self.memory.same(&other.memory)
+            && self.stores.same(&other.stores)
+            && self.tag == other.tag
+            && self.lines.same(&other.lines)
+            && self.work == other.work
     }
 }

@@ -9,13 +9,10 @@ ghost use Rattle.bsp_step.specs.OutcomeParts.{outcome_of};
 ghost use Rattle.bsp_step.specs.ListKind.{IsWithout};
 
 mod put_rows;
-mod room;
 
 use crate::lists::{Lists, TurnEnd, first};
 use crate::{ListKind, Outcome, OutcomeRef, TurnLists};
-use bsp_model::{
-    ByProcess, LineColumn, Memories, Memory, OutOfMemory, ProcessSet, Share, add_replaced,
-};
+use bsp_model::{ByProcess, LineColumn, Memories, Memory, OutOfMemory, ProcessSet, Share};
 pub use put_rows::PutRows;
 use std::alloc::{AllocError, Global};
 use std::marker::Model;
@@ -23,8 +20,7 @@ use std::marker::Model;
 /// What the turns of several processes leave, by process, as it is gathered. All lists of a kind lie in one list, and so do all memories.
 #[derive(Drop)]
 pub struct OutcomeRows {
-    /// How each turn ended.
-    ends: Vec<TurnEnd>,
+    pub(crate) ends: Vec<TurnEnd>,
     memories: Memories,
     lists: Box<Lists>,
 }
@@ -54,32 +50,61 @@ impl OutcomeRows {
         })
     }
 
-    /// Makes `memories` copies of all memories, or `OutOfMemory`.
-    pub(crate) fn copy_memories(&self, memories: &mut Memories) -> Result<(), OutOfMemory>
-        ensures { OnOk result (memories.new ≡ map (λ o. o.memory) self.now) }
+    /// No outcomes, with room for so many, or `OutOfMemory`.
+    pub fn with_capacity(alloc: Global, count: usize) -> Result<OutcomeRows, OutOfMemory>
+        ensures { IfOk result (λ o. o ≡ []) }
     {
-        memories.copy_from(&self.memories)
+        let mut rows = OutcomeRows::new(alloc)?;
+        let ends = rows.ends.reserve(count);
+        let reserved = ends.and(rows.memories.reserve(count));
+        reserved.and(Ok(rows))
     }
 
-    /// The same, but for those of new outcomes of some processes, which are in ascending order.
-    pub(crate) fn copy_memories_replaced(
-        &self,
-        processes: &[usize],
-        new: &OutcomeRows,
-        memories: &mut Memories,
+    /// The same, with room in the lists that most turns fill.
+    pub(crate) fn with_room(alloc: Global, count: usize) -> Result<OutcomeRows, OutOfMemory>
+        ensures { IfOk result (λ o. o ≡ []) }
+    {
+        let mut rows = OutcomeRows::with_capacity(alloc, count)?;
+        let reserved = rows.lists.reserve(count);
+        reserved.and(Ok(rows))
+    }
+
+    pub(crate) fn reserve_like(
+        &mut self,
+        like: &OutcomeRows,
+        share: Share,
     ) -> Result<(), OutOfMemory>
-        requires known { All (λ p. p < length self.now) processes.now }
-        requires ascending { IsAscending processes.now }
-        requires count { length new.now ≡ length processes.now }
-        ensures { OnOk result (memories.new ≡ map (λ o. o.memory) (replaced self.now processes.now new.now)) }
+        ensures { self.new ≡ self.old }
     {
-        memories.clear();
-        let reserved = memories.reserve_like(&self.memories, Share::whole());
-        let new = &new.memories;
-        reserved.and(add_replaced(memories, &self.memories, processes, new))
+        let ends = self.ends.reserve(share.part(like.ends.len()));
+        let memories = self.memories.reserve_like(&like.memories, share);
+        let lists = self.lists.reserve_like(&like.lists, share);
+        ends.and(memories).and(lists)
     }
 
-    /// Makes the lines of all processes the column `lines`, or `OutOfMemory`.
+    /// Lists with room for a share of these outcomes, and none of them.
+    pub(crate) fn room_of(&self, alloc: Global, share: Share) -> Result<OutcomeRows, OutOfMemory>
+        ensures { IfOk result (λ o. o ≡ []) }
+    {
+        let mut room = OutcomeRows::new(alloc)?;
+        let reserved = room.reserve_like(self, share);
+        reserved.and(Ok(room))
+    }
+
+    pub(crate) fn clear(&mut self)
+        ensures { self.new ≡ [] }
+    {
+        self.ends.clear();
+        self.memories.clear();
+        self.lists.clear();
+    }
+
+    pub(crate) fn memories(&self) -> &Memories
+        ensures { result.now ≡ map (λ o. o.memory) self.now }
+    {
+        &self.memories
+    }
+
     pub(crate) fn copy_lines(&self, lines: &mut LineColumn) -> Result<(), OutOfMemory>
         ensures { OnOk result ((p : ℕ) → row_at lines.new p ≡ (outcome_of self.now p).lines) }
     {
@@ -87,12 +112,6 @@ impl OutcomeRows {
         lines.take_range(0, &lists.lines, 0, self.len())
     }
 
-    /// The allocator that the lists keep.
-    pub(crate) fn allocator(&self) -> Global {
-        *self.ends.allocator()
-    }
-
-    /// The number of processes.
     #[inline(always)]
     pub(crate) fn len(&self) -> usize
         ensures { result ≡ length self.now }
@@ -100,7 +119,6 @@ impl OutcomeRows {
         self.ends.len()
     }
 
-    /// What the turn of a process left.
     #[inline(always)]
     pub(crate) fn get(&self, pid: usize) -> OutcomeRef<'_>
         requires { pid < length self.now }
@@ -125,7 +143,6 @@ impl OutcomeRows {
         }
     }
 
-    /// Whether no list of a kind stands. Then no turn left any.
     #[inline(always)]
     pub(crate) fn is_without(&self, kind: ListKind) -> bool
         ensures { OnTrue result (All (IsWithout kind) self.now) }
@@ -134,7 +151,6 @@ impl OutcomeRows {
         lists.is_without(kind)
     }
 
-    /// The first process from `from` on whose turn puts something to one of these processes, or the number of processes.
     pub(crate) fn next_putting_to(&self, targets: &ProcessSet, from: usize) -> usize
         requires { from ≤ length self.now }
         ensures later { from ≤ result }
@@ -186,8 +202,7 @@ impl OutcomeRows {
         Ok(())
     }
 
-    /// Adds the outcomes of `more`, and leaves none there. Full pages are shared, and a memory that lies in one piece is handed on. After
-    /// `OutOfMemory` there are none here either.
+    /// Adds the outcomes of `more`, and leaves none there: pages are shared, lists of words handed on. After `OutOfMemory` there are none here either.
     pub fn append(&mut self, more: &mut OutcomeRows) -> Result<(), OutOfMemory>
         ensures ok { OnOk result (self.new ≡ self.old ++ more.old) }
         ensures rest { more.new ≡ [] }
@@ -206,35 +221,27 @@ impl OutcomeRows {
         self.lists.clear();
         Err(AllocError)
     }
-
-    /// These outcomes, but for new ones of some processes, which are in ascending order.
-    pub(crate) fn replaced(
-        &self,
-        alloc: Global,
-        processes: &[usize],
-        new: &OutcomeRows,
-    ) -> Result<OutcomeRows, OutOfMemory>
-        requires known { All (λ p. p < length self.now) processes.now }
-        requires ascending { IsAscending processes.now }
-        requires count { length new.now ≡ length processes.now }
-        ensures { IfOk result (λ o. o ≡ replaced self.now processes.now new.now) }
-    {
-        let mut all = OutcomeRows::new(alloc)?;
-        let reserved = all.reserve_like(self, Share::whole());
-        let added = reserved.and(add_replaced(&mut all, self, processes, new));
-        added.and(Ok(all))
-    }
 }
 
 impl ByProcess for OutcomeRows {
+    ghost use Rattle.std.specs.Prelude.{refl};
+    ghost use Rattle.bsp_model.specs.Replaced.{replaced};
     ghost use Rattle.bsp_step.specs.OutcomeParts.{OutcomeParts};
 
     ghost Item = { OutcomeParts };
 
     ghost items = { λ o. o };
 
+    ghost lay = { replaced };
+
+    ghost lays = { λ _ _ _. refl };
+
     fn count(&self) -> usize {
         self.len()
+    }
+
+    fn room_like(&self, alloc: Global) -> Result<OutcomeRows, OutOfMemory> {
+        self.room_of(alloc, Share::whole())
     }
 
     fn append_range(

@@ -4,66 +4,32 @@ ghost use Rattle.std.specs.Prelude.{◌≡◌, ◌<◌, [], All, IfOk, length, n
 ghost use Rattle.std.specs.Bool.{OnTrue};
 ghost use Rattle.bsp_model.specs.Replaced.{replaced, IsAscending};
 ghost use Rattle.bsp_step.specs.OutcomeParts.{IsOutcome, outcome_of};
-ghost use Rattle.bsp_step.specs.Inside.Others.{rows_of, IsBelow};
 ghost use Rattle.bsp_step.specs.ListKind.{IsWithout};
 
-mod others;
-mod registers;
+mod putting;
 mod room;
 
 use crate::{ListKind, OutcomeRef, OutcomeRows};
-use bsp_model::{
-    Get, MemoryRef, OutOfMemory, PrintedLinesRef, PutsRef, SendsRef, Shared, TryCopy, are_among,
-    are_few, place_among,
-};
-use others::Others;
+use bsp_model::{Get, Layered, OutOfMemory, PrintedLinesRef, PutsRef, SendsRef, TryCopy};
+use bsp_table::{Area, Registers};
 use std::alloc::Global;
 use std::marker::Model;
 
 /// What the turns of several processes leave, by process. It stays as it is; its copies share it, so that a copy takes no memory.
+#[derive(Drop)]
 pub struct Outcomes {
     /// None where there is no process.
-    rows: Option<Shared<OutcomeRows>>,
-    /// What few processes left in the place of that.
-    others: Option<Shared<Others>>,
-}
-
-impl Drop for Outcomes {
-    fn drop(self) {
-        let Self { rows, others } = self;
-    }
+    rows: Option<Layered<OutcomeRows>>,
 }
 
 impl Model for Outcomes {
     ghost use Rattle.std.specs.Prelude.{List};
     ghost use Rattle.bsp_step.specs.OutcomeParts.{OutcomeParts};
-    ghost use Rattle.bsp_step.specs.Inside.Others.{outcomes_with, HasOthers};
+    ghost use Rattle.bsp_step.specs.Inside.Rows.{rows_of};
 
     ghost Value = { List OutcomeParts };
 
-    ghost view = { λ o. outcomes_with o.rows o.others };
-
-    ghost invariant = { λ o. HasOthers o.rows o.others };
-}
-
-/// Whether no list of this kind stands in the rows, if there are any.
-#[inline(always)]
-fn is_without(rows: &Option<Shared<OutcomeRows>>, kind: ListKind) -> bool
-    ensures { OnTrue result (All (IsWithout kind) (rows_of rows.now)) }
-{
-    match rows {
-        Some(rows) => rows.is_without(kind),
-        None => true,
-    }
-}
-
-/// The rows of the outcomes of some process.
-#[inline(always)]
-fn rows_there(rows: &Option<Shared<OutcomeRows>>) -> &Shared<OutcomeRows>
-    requires { 0 < length (rows_of rows.now) }
-    ensures { result.now ≡ rows_of rows.now }
-{
-    rows.as_ref().unwrap()
+    ghost view = { λ o. rows_of o.rows };
 }
 
 impl Outcomes {
@@ -71,10 +37,7 @@ impl Outcomes {
     pub fn new() -> Outcomes
         ensures { result ≡ [] }
     {
-        Outcomes {
-            rows: None,
-            others: None,
-        }
+        Outcomes { rows: None }
     }
 
     /// The number of processes.
@@ -88,28 +51,20 @@ impl Outcomes {
         }
     }
 
+    /// The rows of the outcomes of some process.
+    #[inline(always)]
+    fn there(&self) -> &Layered<OutcomeRows>
+        requires { 0 < length self.now }
+        ensures { result.now ≡ self.now }
+    {
+        self.rows.as_ref().unwrap()
+    }
+
     /// Whether there is no process.
     pub fn is_empty(&self) -> bool
         ensures { result ≡ nat_eq (length self.now) 0 }
     {
         self.len() == 0
-    }
-
-    /// The lists in which the outcome of a process lies, and at which place.
-    #[inline(always)]
-    fn lists_of(&self, pid: usize) -> (&OutcomeRows, usize)
-        requires { pid < length self.now }
-        ensures inside { result.1 < length result.0.now }
-        ensures there { outcome_of result.0.now result.1 ≡ outcome_of self.now pid }
-    {
-        let rows = rows_there(&self.rows);
-        let Some(others) = &self.others else {
-            return (rows, pid);
-        };
-        match place_among(others.processes.as_slice(), pid) {
-            Some(place) => (&others.rows, place),
-            None => (rows, pid),
-        }
     }
 
     /// What the turn of a process left.
@@ -118,17 +73,8 @@ impl Outcomes {
         requires { pid < length self.now }
         ensures { result ≡ outcome_of self.now pid }
     {
-        let (rows, place) = self.lists_of(pid);
+        let (rows, place) = self.there().find(pid);
         rows.get(place)
-    }
-
-    /// The memory of a process after computing.
-    #[inline(always)]
-    pub fn memory(&self, pid: usize) -> MemoryRef<'_>
-        requires { pid < length self.now }
-        ensures { result ≡ (outcome_of self.now pid).memory }
-    {
-        self.get(pid).memory
     }
 
     /// The puts that the turn of a process left. Where nothing else of an outcome is asked for, this and the like of it are cheaper than `get`.
@@ -164,9 +110,13 @@ impl Outcomes {
     pub fn is_without(&self, kind: ListKind) -> bool
         ensures { OnTrue result (All (IsWithout kind) self.now) }
     {
-        match &self.others {
-            Some(others) => others.rows.is_without(kind) && is_without(&self.rows, kind),
-            None => is_without(&self.rows, kind),
+        let Some(rows) = &self.rows else {
+            return true;
+        };
+        let (base, apart) = rows.layers();
+        match apart {
+            Some(apart) => apart.items.is_without(kind) && base.is_without(kind),
+            None => base.is_without(kind),
         }
     }
 
@@ -177,29 +127,6 @@ impl Outcomes {
         ensures { result ≡ (outcome_of self.now pid).lines }
     {
         self.get(pid).lines
-    }
-
-    /// The rows over which new outcomes of `processes` are laid: those of all, where `processes` has every process whose outcome lies apart. Else
-    /// copies, with the outcomes that lie apart in their places.
-    fn base_rows(
-        &self,
-        alloc: Global,
-        processes: &[usize],
-    ) -> Result<Shared<OutcomeRows>, OutOfMemory>
-        requires some { 0 < length self.now }
-        requires ascending { IsAscending processes.now }
-        ensures count { IfOk result (λ rows. length rows ≡ length self.now) }
-        ensures below { IfOk result (λ rows. IsBelow rows self.now processes.now) }
-    {
-        let rows = rows_there(&self.rows);
-        let Some(others) = &self.others else {
-            return rows.copy();
-        };
-        let apart = others.processes.as_slice();
-        if are_among(apart, processes) {
-            return rows.copy();
-        }
-        Shared::new(alloc, rows.replaced(alloc, apart, &others.rows)?)
     }
 
     /// These outcomes, but for new ones of some processes, which are in ascending order. Where they are few they lie apart, and the rest is shared.
@@ -214,22 +141,12 @@ impl Outcomes {
         requires count { length new ≡ length processes.items }
         ensures { IfOk result (λ o. o ≡ replaced self.now processes.items new) }
     {
-        let others = Others {
-            processes,
-            rows: new,
-        };
-        if others.processes.is_empty() {
-            return self.copy();
+        match &self.rows {
+            Some(rows) => Ok(Outcomes {
+                rows: Some(rows.replaced(alloc, processes, new)?),
+            }),
+            None => Ok(Outcomes::new()),
         }
-        let rows = self.base_rows(alloc, others.processes.as_slice())?;
-        if !are_few(others.processes.len(), rows.len()) {
-            let processes = others.processes.as_slice();
-            return rows.replaced(alloc, processes, &others.rows)?.share();
-        }
-        Ok(Outcomes {
-            rows: Some(rows),
-            others: Some(Shared::new(alloc, others)?),
-        })
     }
 }
 
@@ -238,24 +155,48 @@ impl OutcomeRows {
     pub fn share(self) -> Result<Outcomes, OutOfMemory>
         ensures { IfOk result (λ o. o ≡ self) }
     {
-        let alloc = self.allocator();
+        let alloc = *self.ends.allocator();
         Ok(Outcomes {
-            rows: Some(Shared::new(alloc, self)?),
-            others: None,
+            rows: Some(Layered::new(alloc, self)?),
         })
     }
 }
 
 impl TryCopy for Outcomes {
     fn copy(&self) -> Result<Outcomes, OutOfMemory> {
-        let rows = match &self.rows {
-            Some(rows) => Some(rows.copy()?),
-            None => None,
-        };
-        let others = match &self.others {
-            Some(others) => Some(others.copy()?),
-            None => None,
-        };
-        Ok(Outcomes { rows, others })
+        match &self.rows {
+            Some(rows) => Ok(Outcomes {
+                rows: Some(rows.copy()?),
+            }),
+            None => Ok(Outcomes::new()),
+        }
+    }
+}
+
+impl Registers for Outcomes {
+    ghost use Rattle.std.specs.Prelude.{map};
+
+    ghost pops = { λ os. map (λ o. o.pops) os };
+
+    ghost pushes = { λ os. map (λ o. o.pushes) os };
+
+    fn count(&self) -> usize {
+        self.len()
+    }
+
+    fn pops(&self, pid: usize) -> &[usize] {
+        self.get(pid).pops
+    }
+
+    fn pushes(&self, pid: usize) -> &[Area] {
+        self.get(pid).pushes
+    }
+
+    fn has_no_pops(&self) -> bool {
+        self.is_without(ListKind::Pops)
+    }
+
+    fn has_no_pushes(&self) -> bool {
+        self.is_without(ListKind::Pushes)
     }
 }

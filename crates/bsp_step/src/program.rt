@@ -52,8 +52,7 @@ pub fn turn<P: Program>(alloc: Global, program: &P, view: &View<'_>) -> Result<O
     turn_reusing(alloc, program, view, Outcome::new(alloc)?)
 }
 
-/// The turn of a program at a view, in lists of an outcome that is no longer needed, or `OutOfMemory`. Whatever outcome is handed in, the turn is
-/// the same.
+/// The same, in lists of an outcome that is no longer needed. Whatever outcome is handed in, the turn is the same.
 #[inline(always)]
 pub fn turn_reusing<P: Program>(
     alloc: Global,

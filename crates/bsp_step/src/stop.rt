@@ -1,8 +1,10 @@
 //! Why an acting call did not act.
 
 ghost use Rattle.std.specs.Prelude.{◌≡◌};
+ghost use Rattle.bsp_step.specs.Calls.{settled};
 ghost use Rattle.bsp_step.specs.declared.stop.Stop.TheVariants.{OutOfMemory};
 
+use bsp_model::End;
 use std::alloc::{AllocError, AllocFailed};
 
 /// Why an acting call of a context did not act.
@@ -27,5 +29,16 @@ impl<T: Drop> From<AllocFailed<T>> for Stop {
 
     fn from(_error: AllocFailed<T>) -> Stop {
         Stop::OutOfMemory
+    }
+}
+
+/// The answer of a step whose calls are written with `?`: an end stays, a fault becomes `Halt` (the context keeps the fault), and want of memory stays.
+pub fn settle(answer: Result<End, Stop>) -> Result<End, AllocError>
+    ensures { result ≡ settled answer }
+{
+    match answer {
+        Ok(how) => Ok(how),
+        Err(Stop::Fault(_)) => Ok(End::Halt),
+        Err(Stop::OutOfMemory) => Err(AllocError),
     }
 }

@@ -1,11 +1,11 @@
 //! What a process sees in a superstep.
 
-use bsp_model::{MemoryRef, Messages, MessagesRef, Same, are_same_words};
+use bsp_model::{Blocks, MemoryRef, Message, MessagesRef, Same, are_same_words};
 use bsp_table::Table;
 use std::marker::Model;
 
 /// A message queue: the messages that were sent to a process in the superstep before, by sender, then by issue.
-pub type Queue = Messages;
+pub type Queue = Blocks<Message>;
 
 /// What a process may see in a superstep (Hill et al. 1998). Its parts are read where they lie.
 #[derive(Drop)]

@@ -5,7 +5,6 @@ use bsp_model::{OutOfMemory, Same, TryCopy};
 /// A part of a process's memory, in words.
 #[derive(Clone, Copy, PartialEq, Eq)]
 pub struct Area {
-    /// The address of its first word.
     pub start: u64,
     /// The number of its words. It may be 0.
     pub len: u64,

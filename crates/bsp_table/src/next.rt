@@ -52,7 +52,6 @@ pub trait Registers {
 pub enum TableFault {
     /// S3, S4 or S5: the first of `PopMismatch`, `PushMismatch` and `TooManySlots` that holds.
     Sync(SyncFault),
-    /// Memory was refused.
     OutOfMemory,
 }
 
@@ -64,7 +63,6 @@ impl From<AllocError> for TableFault {
     }
 }
 
-/// Whether all `nprocs` processes popped the same slots in the same order.
 fn is_same_pops<R: Registers>(all: &R, nprocs: usize) -> bool
     requires some { 1 ≤ nprocs }
     requires count { nprocs ≡ length (R.pops all.now) }
@@ -82,7 +80,6 @@ fn is_same_pops<R: Registers>(all: &R, nprocs: usize) -> bool
     true
 }
 
-/// Whether all `nprocs` processes pushed as many areas.
 fn is_same_count<R: Registers>(all: &R, nprocs: usize) -> bool
     requires some { 1 ≤ nprocs }
     requires count { nprocs ≡ length (R.pushes all.now) }
@@ -100,7 +97,6 @@ fn is_same_count<R: Registers>(all: &R, nprocs: usize) -> bool
     true
 }
 
-/// The area that each of the `nprocs` processes pushed as its `k`-th.
 fn pushed<R: Registers>(
     alloc: Global,
     all: &R,
@@ -139,7 +135,6 @@ impl Table {
         None
     }
 
-    /// The slots that are not in `popped`, in their order.
     fn kept(&self, popped: &[usize]) -> Result<Seq<Slot>, OutOfMemory>
         ensures { IfOk result (λ slots. slots ≡ kept_slots self.now (popped.now ∷ [])) }
     {
@@ -155,9 +150,7 @@ impl Table {
 
     /// The table after the superstep: the slots that are not popped, and one for the `k`-th pushes of all processes, for each `k`
     /// (Hill et al. 1998). Pops are resolved against this table, so a pop never removes a push of its own superstep (this profile).
-    ///
-    /// # Errors
-    /// The first of S3 `PopMismatch`, S4 `PushMismatch` and S5 `TooManySlots` that holds, before any memory is taken; then `OutOfMemory`.
+    /// Errors: the first of S3 `PopMismatch`, S4 `PushMismatch` and S5 `TooManySlots` that holds, before any memory is taken; then `OutOfMemory`.
     pub fn synced<R: Registers>(&self, all: &R) -> Result<Table, TableFault>
         requires some { 1 ≤ length (R.pops all.now) }
         requires few { length (R.pops all.now) ≤ MOST_PROCESSES }

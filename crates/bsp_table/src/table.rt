@@ -13,15 +13,10 @@ use std::marker::Model;
 pub type Slot = SharedSeq<Area>;
 
 /// The registration table: slots, oldest first (Hill et al. 1998). A run keeps at most `MOST_SLOTS` of them. Its copies share them.
+#[derive(Drop)]
 pub struct Table {
     pub(crate) alloc: Global,
     pub(crate) slots: SharedSeq<Slot>,
-}
-
-impl Drop for Table {
-    fn drop(self) {
-        let Self { alloc, slots } = self;
-    }
 }
 
 impl Model for Table {
@@ -72,7 +67,6 @@ impl Table {
         None
     }
 
-    /// Whether a slot that is not in `popped` has an area for `pid` that starts at `start`.
     fn is_named(&self, slot: usize, pid: u64, start: u64, popped: &[usize]) -> bool
         ensures { result ≡ is_slot_named self.now slot pid start popped.now }
     {

@@ -1,13 +1,14 @@
 //! For each process blocks.
 
-ghost use Rattle.std.specs.Prelude.{◌≡◌, [], OnErr, OnOk, length, nat_eq};
+ghost use Rattle.std.specs.Prelude.{◌≡◌, ◌≤◌, ◌<◌, [], ℕ, IfNone, IfSome, OnErr, OnOk, false, length, nat_eq, slice_index_or, true};
 ghost use Rattle.bsp_model.specs.Columns.{row_at, AreCut, AreTaken, IsPut};
-
-mod next_to;
+ghost use Rattle.bsp_model.specs.PutsTo.{AreToNone};
+ghost use Rattle.bsp_model.specs.declared.block.PutHead.{PutHead};
 
 use super::pairs::Pairs;
-use crate::block::Block;
-use crate::{BlocksRef, OutOfMemory, Share};
+use crate::block::{Block, PutHead};
+use crate::rows::{row_behind, start_of};
+use crate::{BlocksRef, OutOfMemory, ProcessSet, Put, Share};
 use std::alloc::Global;
 use std::marker::Model;
 
@@ -91,8 +92,7 @@ impl<X: Block> BlockColumn<X> {
         self.pairs.put_pair(place, blocks.heads, blocks.words)
     }
 
-    /// Gives the processes from `place` on what `more` has from the process `from` on, and before `to`. The processes behind them have none. After
-    /// `OutOfMemory` those from `place` on have none either.
+    /// Makes the rows of `more` from `from` on, and before `to`, those from `place` on. After `OutOfMemory` those from `place` on are left out.
     pub fn take_range(
         &mut self,
         place: usize,
@@ -104,5 +104,45 @@ impl<X: Block> BlockColumn<X> {
         ensures err { OnErr result (AreCut [] (row_at self.old) place (row_at self.new)) }
     {
         self.pairs.take_range(place, &more.pairs, from, to)
+    }
+}
+
+fn head_to(heads: &[(PutHead, usize)], targets: &ProcessSet, from: usize) -> usize
+    requires { from ≤ length heads.now }
+    ensures later { from ≤ result }
+    ensures within { result ≤ length heads.now }
+    ensures before { (k : ℕ) (head : PutHead × ℕ) → from ≤ k → k < result
+        → slice_index_or targets.now (slice_index_or heads.now k head).0.target false ≡ false }
+    ensures there { (head : PutHead × ℕ) → result < length heads.now
+        → slice_index_or targets.now (slice_index_or heads.now result head).0.target false ≡ true }
+{
+    for place in from..heads.len() {
+        let (head, _end) = &heads[place];
+        if targets.contains(head.target as usize) {
+            return place;
+        }
+    }
+    heads.len()
+}
+
+impl BlockColumn<Put> {
+    /// The first process from `from` on that puts something to a process of the set.
+    pub fn next_to(&self, targets: &ProcessSet, from: usize) -> Option<usize>
+        ensures later { IfSome result (λ next. from ≤ next) }
+        ensures before { IfSome result (λ next. (k : ℕ) → from ≤ k → k < next → AreToNone targets.now (row_at self.now k)) }
+        ensures there { IfSome result (λ next. ¬ AreToNone targets.now (row_at self.now next)) }
+        ensures none { IfNone result ((k : ℕ) → from ≤ k → AreToNone targets.now (row_at self.now k)) }
+    {
+        let heads = &self.pairs.firsts;
+        let ends = heads.ends.as_slice();
+        if from >= ends.len() {
+            return None;
+        }
+        let items = heads.items.as_slice();
+        let place = head_to(items, targets, start_of(ends, from));
+        if place == items.len() {
+            return None;
+        }
+        Some(row_behind(ends, from, place))
     }
 }

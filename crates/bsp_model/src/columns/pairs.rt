@@ -1,17 +1,19 @@
-//! For each process two rows.
+//! For each process two rows, such as its stores.
 
-ghost use Rattle.std.specs.Prelude.{◌≡◌, ◌&&◌, [], OnErr, OnOk, length, nat_eq};
+ghost use Rattle.std.specs.Prelude.{◌≡◌, ◌<◌, ◌&&◌, ℕ, [], OnErr, OnOk, length, nat_eq};
 ghost use Rattle.bsp_model.specs.Columns.{AreCut, AreTaken, IsPut};
+ghost use Rattle.bsp_model.specs.Inside.Beside.{stores_beside, AreBeside};
 ghost use Rattle.bsp_model.specs.Inside.Columns.{pair_at};
 
-use super::Column;
-use crate::{OutOfMemory, RowsRef, Share};
+use crate::range::Range;
+use crate::stores_ref::range_beside;
+use crate::{Column, LocalMemory, MemoryRef, OutOfMemory, Share, StoresRef};
 use std::alloc::Global;
 use std::marker::Model;
 
 /// For each process, by its number, two rows, whose items lie in two lists.
 pub struct Pairs<A, B> {
-    firsts: Column<A>,
+    pub(crate) firsts: Column<A>,
     seconds: Column<B>,
 }
 
@@ -40,7 +42,6 @@ impl<A, B> Pairs<A, B> {
         }
     }
 
-    /// Whether no row stands. Then each is empty.
     #[inline(always)]
     pub fn is_empty(&self) -> bool
         ensures { result ≡ (nat_eq (length self.now.0) 0 && nat_eq (length self.now.1) 0) }
@@ -48,15 +49,6 @@ impl<A, B> Pairs<A, B> {
         self.firsts.is_empty() && self.seconds.is_empty()
     }
 
-    /// The first rows, to be read where they lie.
-    #[inline(always)]
-    pub(crate) fn firsts(&self) -> RowsRef<'_, A>
-        ensures { result ≡ self.now.0 }
-    {
-        self.firsts.as_ref()
-    }
-
-    /// The rows of a process.
     #[inline(always)]
     pub(crate) fn pair(&self, place: usize) -> (&[A], &[B])
         ensures { (result.0.now, result.1.now) ≡ pair_at self.now place }
@@ -82,7 +74,6 @@ impl<A: Copy, B: Copy> Pairs<A, B> {
         firsts.and(self.seconds.reserve_like(&like.seconds, share))
     }
 
-    /// Leaves the rows from a process on out.
     #[inline(always)]
     pub fn cut(&mut self, place: usize)
         ensures { AreCut ([], []) (pair_at self.old) place (pair_at self.new) }
@@ -99,7 +90,6 @@ impl<A: Copy, B: Copy> Pairs<A, B> {
         self.seconds.clear();
     }
 
-    /// Makes these the rows of a process, and leaves those behind it out. After `OutOfMemory` its own are left out too.
     #[inline(always)]
     pub(crate) fn put_pair(
         &mut self,
@@ -118,8 +108,7 @@ impl<A: Copy, B: Copy> Pairs<A, B> {
         both
     }
 
-    /// Makes the rows that others have from `from` on, and before `to`, those of the processes from `place` on, and leaves those behind them
-    /// out. After `OutOfMemory` the rows from `place` on are left out.
+    /// Makes the rows of `more` from `from` on, and before `to`, those from `place` on. After `OutOfMemory` those from `place` on are left out.
     pub fn take_range(
         &mut self,
         place: usize,
@@ -137,5 +126,59 @@ impl<A: Copy, B: Copy> Pairs<A, B> {
             self.cut(place);
         }
         both
+    }
+}
+
+/// For each process, by its number, stores in the order in which they were made, in few lists. They are kept beside the memory that its turn left:
+/// where they are one range, whose words stand there, no words are kept.
+pub type StoreColumn = Pairs<Range, u64>;
+
+impl Pairs<Range, u64> {
+    /// Those of a process beside the memory that its turn left, to be read where they lie.
+    #[inline(always)]
+    pub fn get<'a>(&'a self, place: usize, memory: &MemoryRef<'a>) -> StoresRef<'a>
+        requires { AreBeside self.now place memory.now }
+        ensures { result ≡ stores_beside self.now place memory.now }
+    {
+        let (ranges, values) = self.pair(place);
+        StoresRef {
+            ranges,
+            values,
+            memory: memory.again(),
+        }
+    }
+
+    /// Makes these those of a process beside its memory, and leaves those behind it out. After `OutOfMemory` its own are left out too.
+    pub fn put(
+        &mut self,
+        place: usize,
+        stores: &StoresRef<'_>,
+        memory: &MemoryRef<'_>,
+    ) -> Result<(), OutOfMemory>
+        ensures before { (k : ℕ) → k < place → pair_at self.new k ≡ pair_at self.old k }
+        ensures behind { (k : ℕ) → place < k → pair_at self.new k ≡ ([], []) }
+        ensures beside { OnOk result (AreBeside self.new place memory.now) }
+        ensures there { OnOk result (stores_beside self.new place memory.now ≡ stores.now) }
+        ensures err { OnErr result (pair_at self.new place ≡ ([], [])) }
+    {
+        if stores.ranges.len() == 1 && stores.stand_in(stores.ranges[0], memory) {
+            return self.put_pair(place, stores.ranges, &[]);
+        }
+        let Some(_) = range_beside(stores.ranges, stores.values) else {
+            return self.put_pair(place, stores.ranges, stores.values);
+        };
+        self.cut(place);
+        let words = stores.to_words(memory.alloc)?;
+        self.put_pair(place, stores.ranges, words.as_slice())
+    }
+
+    /// The same for those that a turn made, beside the memory that it left.
+    #[inline(always)]
+    pub fn put_local(&mut self, place: usize, local: &LocalMemory) -> Result<(), OutOfMemory>
+        ensures before { (k : ℕ) → k < place → pair_at self.new k ≡ pair_at self.old k }
+        ensures beside { OnOk result (AreBeside self.new place local.now.memory) }
+        ensures there { OnOk result (stores_beside self.new place local.now.memory ≡ local.now.stores) }
+    {
+        self.put_pair(place, local.ranges.as_slice(), local.values.as_slice())
     }
 }

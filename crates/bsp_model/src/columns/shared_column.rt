@@ -11,7 +11,6 @@ use std::marker::Model;
 /// For each process, by its number, a list that copies share. The last ones, where empty, need not stand.
 #[derive(Drop)]
 pub struct SharedColumn<T> {
-    /// The lists of the first processes. Those of the others are empty.
     pub(crate) rows: Vec<SharedSeq<T>>,
 }
 
@@ -23,7 +22,6 @@ impl<T> Model for SharedColumn<T> {
     ghost view = { λ c. c.rows.items };
 }
 
-/// Adds empty lists until there are `count`, or none where there are as many. After `OutOfMemory` some of them are added.
 fn fill<T: Drop>(rows: &mut Vec<SharedSeq<T>>, count: usize) -> Result<(), OutOfMemory>
     requires { length rows.old.items ≤ count }
     ensures same { (k : ℕ) → row_at rows.new.items k ≡ row_at rows.old.items k }
@@ -36,7 +34,6 @@ fn fill<T: Drop>(rows: &mut Vec<SharedSeq<T>>, count: usize) -> Result<(), OutOf
 }
 
 impl<T> SharedColumn<T> {
-    /// Empty lists alone, which take no memory.
     pub fn new(alloc: Global) -> SharedColumn<T>
         ensures { result ≡ [] }
     {
@@ -45,13 +42,11 @@ impl<T> SharedColumn<T> {
         }
     }
 
-    /// The allocator that the column keeps.
     #[inline(always)]
     pub(crate) fn allocator(&self) -> Global {
         *self.rows.allocator()
     }
 
-    /// The list of a process.
     #[inline(always)]
     pub fn row(&self, place: usize) -> &[T]
         ensures { result.now ≡ row_at self.now place }
@@ -65,14 +60,12 @@ impl<T> SharedColumn<T> {
 }
 
 impl<T: Drop> SharedColumn<T> {
-    /// Leaves empty lists alone. The room stays.
     pub fn clear(&mut self)
         ensures { self.new ≡ [] }
     {
         self.rows.clear();
     }
 
-    /// Makes room for a share of the lists that stand in another column.
     pub(crate) fn reserve_like(
         &mut self,
         like: &SharedColumn<T>,
@@ -83,7 +76,6 @@ impl<T: Drop> SharedColumn<T> {
         self.rows.reserve(share.part(like.rows.len()))
     }
 
-    /// Makes `row` the list of a process, and leaves those behind it out. After `OutOfMemory` its own is left out too.
     #[inline(always)]
     pub fn put(&mut self, place: usize, row: SharedSeq<T>) -> Result<(), OutOfMemory>
         ensures ok { OnOk result (IsPut [] (row_at self.old) place row (row_at self.new)) }
@@ -100,8 +92,7 @@ impl<T: Drop> SharedColumn<T> {
         Ok(())
     }
 
-    /// Makes copies of the lists that `more` has from `from` on, and before `to`, those of the processes from `place` on, behind which none stand
-    /// any more. Copies share their items. After `OutOfMemory` some of the copies stand.
+    /// Copies share their items. After `OutOfMemory` some of the copies stand.
     pub fn take_range(
         &mut self,
         place: usize,

@@ -8,9 +8,3 @@ pub record HasSameRequests (o q : OutcomeParts) : Type 0 where
   pub sends : o.sends ≡ q.sends
   pub pops : o.pops ≡ q.pops
   pub pushes : o.pushes ≡ q.pushes
-
-pub record HasSameEnd (o q : OutcomeParts) : Type 0 where
-  pub fault : o.fault ≡ q.fault
-  pub ended : o.ended ≡ q.ended
-  pub tag : o.tag ≡ q.tag
-  pub work : o.work ≡ q.work

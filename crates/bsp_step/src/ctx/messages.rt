@@ -10,7 +10,6 @@ use crate::{Ctx, Stop};
 use bsp_model::limits::{MOST_MESSAGES, MOST_PAYLOAD_WORDS, MOST_TAG_WORDS};
 use bsp_model::{Fault, MessageView, MessagesRef};
 
-/// The words of the payloads from a place on together.
 fn count_of_words(messages: &MessagesRef<'_>, from: usize) -> usize
     requires { IsQueue (drop from messages.now) }
     ensures { result ≡ sum_by (λ m. length m.words) (drop from messages.now) }
@@ -22,7 +21,6 @@ fn count_of_words(messages: &MessagesRef<'_>, from: usize) -> usize
     words
 }
 
-/// The first message that is left in a queue of which so many were taken.
 fn first_left<'a>(queue: &MessagesRef<'a>, taken: usize) -> Option<MessageView<'a>>
     ensures none { IsNone result → drop taken queue.now ≡ [] }
     ensures first { IfSome result (λ m. drop taken queue.now ≡ record { tag = m.tag.now; words = m.words.now } ∷ drop (taken + 1) queue.now) }
@@ -57,10 +55,8 @@ impl<'v> Ctx<'v> {
         Some((message.words.len(), message.tag))
     }
 
-    /// Sends a message with a tag of the size in force to process `pid` (`bsp_send`). It is in the queue there in the next superstep alone.
-    ///
-    /// Faults, in order: F8 `TooManyRequests` where `MOST_REQUESTS` stand; F2 `BadPid`; F6 `TagLength` where the tag is not of the size in force;
-    /// F11 `TooLong` for more than `MOST_PAYLOAD_WORDS` words.
+    /// Sends a message to process `pid`, in whose queue it is in the next superstep alone (`bsp_send`).
+    /// Faults, in order: F8 `TooManyRequests`; F2 `BadPid`; F6 `TagLength`; F11 `TooLong` for more than `MOST_PAYLOAD_WORDS` words.
     pub fn send(&mut self, pid: u64, tag: &[u64], words: &[u64]) -> Result<(), Stop>
         ensures { Performs self.old (act.send pid tag.now words.now) self.new result }
     {
@@ -78,10 +74,8 @@ impl<'v> Ctx<'v> {
         Ok(())
     }
 
-    /// Takes the first message that is left, and copies the first words of its payload to `buffer`, as many as fit; the rest of `buffer` is
-    /// kept. Answers the number copied (`bsp_move`). It takes no memory.
-    ///
-    /// Faults: F7 `EmptyQueue` where no message is left; `buffer` is then unchanged.
+    /// Takes the first message that is left, and copies as much of its payload to `buffer` as fits; the rest of `buffer` is kept. Answers the number
+    /// copied (`bsp_move`). It takes no memory. Faults: F7 `EmptyQueue`; `buffer` is then unchanged.
     pub fn move_into(&mut self, buffer: &mut [u64]) -> Result<usize, Stop>
         ensures acted { PerformsAlways self.old (act.move_into (length buffer.old)) self.new result }
         ensures copied { IfOk result (λ n. n ≡ min (length (first_words self.old.left)) (length buffer.old)) }
@@ -101,9 +95,7 @@ impl<'v> Ctx<'v> {
         Ok(count)
     }
 
-    /// Chooses the tag size of the next superstep, in words; the last call counts. Answers the size in force in this superstep
-    /// (`bsp_set_tagsize`). It takes no memory.
-    ///
+    /// Chooses the tag size of the next superstep, in words; the last call counts. Answers the size in force (`bsp_set_tagsize`). It takes no memory.
     /// Faults: F12 `BadTagSize` for more than `MOST_TAG_WORDS`.
     pub fn set_tagsize(&mut self, size: u64) -> Result<u64, Stop>
         ensures acted { PerformsAlways self.old (act.set_tagsize size) self.new result }

@@ -63,8 +63,7 @@ impl<'v> Ctx<'v> {
         self.lists.local.memory().load(address)
     }
 
-    /// How many words of the own memory from `address` on lie in one piece, at least one where there is any. It is for speed alone: calls for blocks
-    /// within a piece copy least. Memories of the same words may lie in other pieces, so no act should depend on it.
+    /// How many words of the own memory from `address` on lie in one piece, at least one where there is any. It is for speed: no act should depend on it.
     pub fn piece_len(&self, address: u64) -> u64
         ensures some { address < length self.now.memory → 0 < result }
         ensures inside { result ≤ length self.now.memory - address }

@@ -1,4 +1,4 @@
-//! The acts on other processes' memories: puts and gets.
+//! The acts on other processes' memories and on the registration table.
 
 ghost use Rattle.std.specs.Prelude.{◌≡◌, ◌<◌, ◌≤◌, ◌+◌, IfOk, IfSome};
 ghost use Rattle.bsp_step.specs.Act as act;
@@ -12,7 +12,6 @@ use bsp_model::{Fault, Get};
 use bsp_table::Area;
 
 impl<'v> Ctx<'v> {
-    /// The area of `pid` in the newest slot whose own area starts at `area`.
     fn target_area(&self, pid: u64, area: u64) -> Option<Area>
         requires { pid < self.now.view.nprocs }
         ensures found { result ≡ target_area self.now.view pid area }
@@ -50,9 +49,7 @@ impl<'v> Ctx<'v> {
 
     /// Asks that the words be written to process `pid`, at `offset` of its area in the newest slot whose own area starts at `area` (`bsp_put`).
     /// They are copied now, and arrive at the end of the superstep.
-    ///
-    /// Faults, in order: F8 `TooManyRequests` where `MOST_REQUESTS` stand; F2 `BadPid`; F3 `NotRegistered` where no slot has `area` as own start;
-    /// F4 `OutOfArea` where `offset` plus the number of words exceeds the target's area.
+    /// Faults, in order: F8 `TooManyRequests`; F2 `BadPid`; F3 `NotRegistered`; F4 `OutOfArea`.
     pub fn put(&mut self, pid: u64, words: &[u64], area: u64, offset: u64) -> Result<(), Stop>
         ensures { Performs self.old (act.put pid words.now area offset) self.new result }
     {
@@ -63,9 +60,7 @@ impl<'v> Ctx<'v> {
 
     /// Asks for `len` words of process `pid`, from `offset` of its area in the newest slot whose own area starts at `area`, to be written
     /// to the own memory from `into` on (`bsp_get`). They are read after all computing and written at the end of the superstep.
-    ///
-    /// Faults, in order: F8 `TooManyRequests`; F2 `BadPid`; F3 `NotRegistered`; F4 `OutOfArea`; F5 `BadLocal` where `into` plus `len`
-    /// exceeds the own memory.
+    /// Faults, in order: those of `put`; F5 `BadLocal` where `into` plus `len` exceeds the own memory.
     pub fn get(&mut self, pid: u64, area: u64, offset: u64, into: u64, len: u64) -> Result<(), Stop>
         ensures { Performs self.old (act.get pid area offset into len) self.new result }
     {
@@ -80,6 +75,35 @@ impl<'v> Ctx<'v> {
             len,
             into,
         })?;
+        Ok(())
+    }
+
+    /// Registers `len` words of the own memory from `start` on (`bsp_push_reg`). The k-th pushes of all processes form one slot at the end of the superstep.
+    /// Faults, in order: F8 `TooManyRequests`; F5 `BadLocal` where `start` plus `len` exceeds the own memory.
+    pub fn push_reg(&mut self, start: u64, len: u64) -> Result<(), Stop>
+        ensures { Performs self.old (act.push_reg start len) self.new result }
+    {
+        self.begin_request()?;
+        let words = self.lists.local.memory().len() as u64;
+        if start > words || len > words - start {
+            return self.refuse(Fault::BadLocal);
+        }
+        self.lists.pushes.push(Area { start, len })?;
+        Ok(())
+    }
+
+    /// Takes the newest slot whose own area starts at `start`, and that was not popped in this turn, out of the table at the end of the superstep
+    /// (`bsp_pop_reg`). It never takes out what is pushed in the same superstep. Faults, in order: F8 `TooManyRequests`; F3 `NotRegistered`.
+    pub fn pop_reg(&mut self, start: u64) -> Result<(), Stop>
+        ensures { Performs self.old (act.pop_reg start) self.new result }
+    {
+        self.begin_request()?;
+        let view = self.view;
+        let popped = self.lists.pops.as_slice();
+        let Some(slot) = view.table.find_under(view.pid, start, popped) else {
+            return self.refuse(Fault::NotRegistered(start));
+        };
+        self.lists.pops.push(slot)?;
         Ok(())
     }
 }

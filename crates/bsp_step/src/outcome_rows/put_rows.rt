@@ -26,7 +26,6 @@ impl Model for PutRows {
 }
 
 impl OutcomeRows {
-    /// The memories and the puts of all processes.
     pub(crate) fn into_memories(self) -> (Memories, PutRows)
         ensures memories { result.0 ≡ map (λ o. o.memory) self }
         ensures puts { result.1 ≡ map (λ o. o.puts) self }

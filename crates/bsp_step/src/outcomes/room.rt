@@ -6,7 +6,7 @@ ghost use Rattle.bsp_model.specs.Replaced.{IsAscending};
 ghost use Rattle.bsp_step.specs.OutcomeParts.{outcome_of};
 
 use crate::{OutcomeRows, Outcomes, PutRows};
-use bsp_model::{LineColumn, Memories, OutOfMemory, Share};
+use bsp_model::{LineColumn, Memories, OutOfMemory, Share, add_replaced};
 use std::alloc::Global;
 
 /// Whether lists for so many of all processes begin with their share of room. For very few it is cheaper that the lists that are used grow.
@@ -15,17 +15,14 @@ fn is_worth_room(count: usize, all: usize) -> bool {
 }
 
 impl Outcomes {
-    /// Lists in which so many outcomes are to be gathered, none of which is there yet. Where these are as many, or more but not very many more,
-    /// there is room for the share that so many of them have, so that the lists of a superstep like the one before hardly grow. Where there is no
-    /// outcome, there is room for the lists that most turns fill. Or `OutOfMemory`.
+    /// Lists for so many outcomes. Where these are as many, or not many times more, there is room for the share that so many of them have. Where
+    /// there is no outcome, there is room for the lists that most turns fill.
     pub fn room_for(&self, alloc: Global, count: usize) -> Result<OutcomeRows, OutOfMemory>
         ensures { IfOk result (λ o. o ≡ []) }
     {
         match &self.rows {
             Some(rows) if is_worth_room(count, rows.len()) => {
-                let mut room = OutcomeRows::new(alloc)?;
-                let reserved = room.reserve_like(rows, Share::of(count, rows.len()));
-                reserved.and(Ok(room))
+                rows.layers().0.room_of(alloc, Share::of(count, rows.len()))
             }
             Some(_) => OutcomeRows::with_capacity(alloc, count),
             None => OutcomeRows::with_room(alloc, count),
@@ -36,11 +33,7 @@ impl Outcomes {
     pub fn into_room(self, alloc: Global, count: usize) -> Result<OutcomeRows, OutOfMemory>
         ensures { IfOk result (λ o. o ≡ []) }
     {
-        let mut outcomes = self;
-        drop(outcomes.others.take());
-        let rows = outcomes.rows.take();
-        drop(outcomes);
-        let Some(rows) = rows else {
+        let Some(rows) = self.rows else {
             return OutcomeRows::with_room(alloc, count);
         };
         match rows.try_unwrap() {
@@ -48,24 +41,17 @@ impl Outcomes {
                 rows.clear();
                 Ok(rows)
             }
-            Err(shared) => {
-                drop(shared);
-                OutcomeRows::with_capacity(alloc, count)
-            }
+            Err(_) => OutcomeRows::with_capacity(alloc, count),
         }
     }
 
-    /// Hands out the memories and the puts of all processes, where no copy shares these outcomes and none lies apart: no outcome is left then. Else
-    /// nothing has changed.
+    /// Hands out all memories and puts, where no copy shares these outcomes and none lies apart: none is left then. Else nothing has changed.
     pub fn take_memories(&mut self) -> Option<(Memories, PutRows)>
         ensures memories { IfSome result (λ r. r.0 ≡ map (λ o. o.memory) self.old) }
         ensures puts { IfSome result (λ r. r.1 ≡ map (λ o. o.puts) self.old) }
         ensures none_left { IfSome result (λ _. self.new ≡ []) }
         ensures unchanged { IfNone result (self.new ≡ self.old) }
     {
-        if self.others.is_some() {
-            return None;
-        }
         match self.rows.take()?.try_unwrap() {
             Ok(rows) => Some(rows.into_memories()),
             Err(shared) => {
@@ -75,8 +61,7 @@ impl Outcomes {
         }
     }
 
-    /// Takes all memories away, and makes room for so many. Where these outcomes are as many, or more but not very many more, there is room for the
-    /// share that so many of their memories have. Or `OutOfMemory`.
+    /// Takes all memories away, and makes room for so many: for the share that so many of these have, where that is worth it.
     pub fn make_room_for_memories(
         &self,
         count: usize,
@@ -87,7 +72,7 @@ impl Outcomes {
         memories.clear();
         match &self.rows {
             Some(rows) if is_worth_room(count, rows.len()) => {
-                rows.reserve_memories(memories, Share::of(count, rows.len()))
+                memories.reserve_like(rows.layers().0.memories(), Share::of(count, rows.len()))
             }
             _ => memories.reserve(count),
         }
@@ -97,17 +82,18 @@ impl Outcomes {
     pub fn copy_memories(&self, memories: &mut Memories) -> Result<(), OutOfMemory>
         ensures { OnOk result (memories.new ≡ map (λ o. o.memory) self.now) }
     {
-        match (&self.rows, &self.others) {
-            (Some(rows), Some(others)) => {
-                let apart = others.processes.as_slice();
-                rows.copy_memories_replaced(apart, &others.rows, memories)
-            }
-            (Some(rows), None) => rows.copy_memories(memories),
-            (None, _) => {
-                memories.clear();
-                Ok(())
-            }
-        }
+        let Some(rows) = &self.rows else {
+            memories.clear();
+            return Ok(());
+        };
+        let (base, apart) = rows.layers();
+        let Some(apart) = apart else {
+            return memories.copy_from(base.memories());
+        };
+        memories.clear();
+        memories.reserve_like(base.memories(), Share::whole())?;
+        let processes = apart.processes.as_slice();
+        add_replaced(memories, base.memories(), processes, apart.items.memories())
     }
 
     /// Makes `memories` copies of the memories of some processes, which are in ascending order. Or `OutOfMemory`.
@@ -124,17 +110,9 @@ impl Outcomes {
             return self.copy_memories(memories);
         }
         memories.clear();
-        let reserved = memories.reserve(processes.len());
-        reserved.and(self.push_memories(processes, memories))
-    }
-
-    /// Adds copies of the memories of some processes to `memories`. After `OutOfMemory` some of them are added.
-    fn push_memories(&self, processes: &[usize], memories: &mut Memories) -> Result<(), OutOfMemory>
-        requires { All (λ p. p < length self.now) processes.now }
-        ensures { OnOk result (memories.new ≡ memories.old ++ map (λ p. (outcome_of self.now p).memory) processes.now) }
-    {
+        memories.reserve(processes.len())?;
         for process in processes {
-            memories.push_copy(&self.memory(*process))?;
+            memories.push_copy(&self.get(*process).memory)?;
         }
         Ok(())
     }
@@ -144,21 +122,15 @@ impl Outcomes {
         ensures { IfOk result (λ lines. (p : ℕ) → row_at lines p ≡ (outcome_of self.now p).lines) }
     {
         let mut lines = LineColumn::new(alloc);
-        let copied = self.copy_lines(&mut lines);
-        copied.and(Ok(lines))
-    }
-
-    /// Makes the lines of all processes the column `lines`, or `OutOfMemory`.
-    fn copy_lines(&self, lines: &mut LineColumn) -> Result<(), OutOfMemory>
-        ensures { OnOk result ((p : ℕ) → row_at lines.new p ≡ (outcome_of self.now p).lines) }
-    {
-        if let (Some(rows), None) = (&self.rows, &self.others) {
-            return rows.copy_lines(lines);
+        if let Some(rows) = &self.rows
+            && let (base, None) = rows.layers()
+        {
+            base.copy_lines(&mut lines)?;
+            return Ok(lines);
         }
-        lines.clear();
         for pid in 0..self.len() {
             lines.put(pid, &self.lines(pid))?;
         }
-        Ok(())
+        Ok(lines)
     }
 }

@@ -8,10 +8,10 @@ loop-k-preserved c = record {
   room = search rules;
   words =
       rw c.push_reserved.ensures.items
-      (new_page_more c.args.pages.now c.loop-k.new.items c.index-pages-first.result c.in_ok-with_words.field-0 c.args.words.now _ c.args.first c.args.start c.loop-k.k
+      (new_page_more c.args.pages.now c.loop-k.new.items c.index-pages-first.result c.write.new.self c.args.words.now _ c.args.first c.args.start c.loop-k.k
       c.saturating_sub-before.result c.saturating_sub-place.result c.min-here.result _
       c.loop-k.invariant.count c.requires.start
       (search rules) (search rules) (search rules) (omega arith) (omega arith)
-      c.index-pages-first.is c.in_ok-with_words.ensures.len
-      (omega arith) refl c.in_ok-with_words.ensures.words c.loop-k.invariant.words);
+      c.index-pages-first.is (rw c.in_ok-page.ensures at c.in_ok-write.ensures.len)
+      (omega arith) refl (rw c.in_ok-page.ensures at c.in_ok-write.ensures.ok) c.loop-k.invariant.words);
 }

@@ -1,4 +1,4 @@
-use Rattle.std.proofs.Common.{◌≡◌, ◌≤◌, ◌++◌, [], drop, get_or, length, take, ℕ}
+use Rattle.std.proofs.Common.{◌≡◌, ◌≤◌, ◌++◌, [], get_or, length, take, ℕ}
 use Rattle.bsp_model.proofs.lasts.Lasts.append.Given as goal
 
 -- the lists so far are taken, and the lists behind them have not changed

@@ -1,6 +1,6 @@
 use Rattle.std.proofs.Common.{◌≡◌, ◌<◌, ◌≤◌, ◌+◌, ◌-◌, ℕ, List, [], ◌++◌, length, get_or, set, take, drop, sym, ap, ◌∙◌, arith}
 use Rattle.std.proofs.Math.Seq.{take-set-lt}
-use Rattle.std.proofs.lemmas.List.{set-append_left, set-append_right, get_or_append_left, get_or_default, get_or-append_right, get_or-take, length-take-le}
+use Rattle.std.proofs.lemmas.List.{set-append_left, set-append_right, get_or_append_left, get_or_default, with_items_is, get_or-append_right, get_or-take, length-take-le}
 use Rattle.bsp_model.proofs.lasts.Lasts.replace.Goals as goal
 
 -- the words of a process with a list of its own
@@ -33,8 +33,10 @@ returns-then-number-self c =
     ∙ sym (get_or-take l.count lists number [] below)
     ∙ sym (get_or_append_left (take l.count lists) l.rows [] number (omega (arith, front, below)))
     ∙ ap (λ (ls : List (List ℕ)). get_or ls number []) c.self.view_is in
-    own lists l.rows c.args.self.now l.count number _ c.replace.new.self c.self.view_is c.self.invariant below
-    (c.replace.ensures ∙ ap (λ (ws : List ℕ). take c.args.place ws ++ c.args.items.now ++ drop (c.args.place + length c.args.items.now) ws) there)
+    own lists l.rows c.args.self.now l.count number _ _ c.self.view_is c.self.invariant below
+    (with_items_is c.words.inside.items c.replace_items.new.items (c.replace_items.auto.items ∙ c.as_mut_slice.ensures.len)
+    ∙ c.replace_items.ensures
+    ∙ ap (λ (ws : List ℕ). take c.args.place ws ++ c.args.items.now ++ drop (c.args.place + length c.args.items.now) ws) (c.as_mut_slice.ensures.value ∙ c.words.view_is ∙ there))
 
 pub returns : goal.returns
 returns c =
@@ -45,6 +47,6 @@ returns c =
     let front : length (take l.count lists) ≡ l.count = length-take-le l.count lists c.self.invariant in
     let there : get_or l.rows (number - l.count) [] ≡ get_or c.args.self.now number [] =
     sym (get_or-append_right (take l.count lists) l.rows l.count number [] front above) ∙ ap (λ (ls : List (List ℕ)). get_or ls number []) c.self.view_is in
-    ap (λ (rs : List (List ℕ)). take l.count lists ++ rs) c.replace-2.ensures
+    ap (λ (rs : List (List ℕ)). take l.count lists ++ rs) c.replace.ensures
     ∙ behind lists l.rows c.args.self.now l.count number _ _ c.self.view_is c.self.invariant above
     (ap (λ (ws : List ℕ). take c.args.place ws ++ c.args.items.now ++ drop (c.args.place + length c.args.items.now) ws) there)

@@ -34,5 +34,5 @@ returns-clause-ok g c =
     (λ is. taken_rows c.args.self.now c.fill.new.self c.args.more.now c.append_range.new.self c.args.place c.args.from c.args.to c.min-to.result
     c.in_ok-fill.ensures.count (λ k. c.in_ok-fill.ensures.same k ∙ ap (λ rows. row_at rows k) c.truncate.ensures) c.if-to-from.false
     (omega (arith, c.min-to.ensures, c.len.ensures)) (omega (arith, c.min-to.ensures, c.len.ensures)) (λ k above below. omega (arith, c.min-to.ensures, c.len.ensures, above, below))
-    (is ∙ ap (λ rows. c.fill.new.self ++ slice_range rows c.args.from c.min-to.result) c.as_ref.ensures))
+    is)
     c.append_range.ensures.ok

@@ -18,22 +18,22 @@ replaced-requires-clause-known c =
     subst (λ n. All (λ p. p < n) ps) (sym many) c.requires.known
 
 pub replaced-requires-clause-count : goal.replaced-requires-clause-count
-replaced-requires-clause-count c = ap (λ (cs : List (List ℕ × List Message)). length cs) (c.in-Ok-add_first_cells.ensures ∙ ap (map (first_cell c.as_slice-mems.result.now)) c.as_slice.ensures.value) ∙ length-map c.args.processes.items (first_cell c.as_slice-mems.result.now)
+replaced-requires-clause-count c = ap (λ (cs : List (List ℕ × List Message)). length cs) (c.in_ok-add_first_cells.ensures ∙ ap (map (first_cell c.as_slice-mems.result.now)) c.as_slice-marked.ensures.value) ∙ length-map c.args.processes.items (first_cell c.as_slice-mems.result.now)
 
 pub replaced-requires-clause-opens : goal.replaced-requires-clause-opens
 replaced-requires-clause-opens c =
     let input = c.args.input.now in
     let ps = c.args.processes.items in
-    let cells = c.in-Ok-add_first_cells.ensures ∙ ap (map (first_cell c.as_slice-mems.result.now)) c.as_slice.ensures.value ∙ ap (λ (ms : List (List ℕ)). map (first_cell ms) ps) c.as_slice-mems.ensures in
-    let setting = c.in-Ok.ensures ∙ (λ i. record { step = 0; args = c.requires.args i; table = []; tag_size = 0 }) in
-    opens_first input c.in-Ok.setting (replaced (map cell_of c.args.like.now) ps c.add_first_cells.new.cells) (lawful_input input c.requires.lawful) setting
+    let cells = c.in_ok-add_first_cells.ensures ∙ ap (map (first_cell c.as_slice-mems.result.now)) c.as_slice-marked.ensures.value ∙ ap (λ (ms : List (List ℕ)). map (first_cell ms) ps) c.as_slice-mems.ensures in
+    let setting = c.in_ok-setting.ensures ∙ (λ i. record { step = 0; args = c.requires.args i; table = []; tag_size = 0 }) in
+    opens_first input c.in_ok-setting.setting (replaced (map cell_of c.args.like.now) ps c.add_first_cells.new.cells) (lawful_input input c.requires.lawful) setting
     (ap (replaced (map cell_of c.args.like.now) ps) cells ∙ c.requires.like)
 
 pub open_with-requires-clause-views : goal.open_with-requires-clause-views
 open_with-requires-clause-views c =
     let input = c.args.input.now in
     let ps = c.args.processes.items in
-    let cells = c.in-Ok-add_first_cells.ensures ∙ ap (map (first_cell c.as_slice-mems.result.now)) c.as_slice.ensures.value ∙ ap (λ (ms : List (List ℕ)). map (first_cell ms) ps) c.as_slice-mems.ensures in
-    let setting = c.in-Ok.ensures ∙ (λ i. record { step = 0; args = c.requires.args i; table = []; tag_size = 0 }) in
-    c.in_ok-views-in-Ok-add_first_cells.ensures ∙ views_first input c.in-Ok.setting (replaced (map cell_of c.args.like.now) ps c.add_first_cells.new.cells) setting
+    let cells = c.in_ok-add_first_cells.ensures ∙ ap (map (first_cell c.as_slice-mems.result.now)) c.as_slice-marked.ensures.value ∙ ap (λ (ms : List (List ℕ)). map (first_cell ms) ps) c.as_slice-mems.ensures in
+    let setting = c.in_ok-setting.ensures ∙ (λ i. record { step = 0; args = c.requires.args i; table = []; tag_size = 0 }) in
+    c.in_ok-views.ensures ∙ views_first input c.in_ok-setting.setting (replaced (map cell_of c.args.like.now) ps c.add_first_cells.new.cells) setting
     (ap (replaced (map cell_of c.args.like.now) ps) cells ∙ c.requires.like)

@@ -12,7 +12,7 @@ end-requires c =
     let turns : AreOutcomesOf (open_views r) c.args.outcomes = subst (λ (x : Run). AreOutcomesOf (open_views x) c.args.outcomes) (sym c.self.view_is) c.requires.turns in
     record { turns = (r, record { run = c.self.invariant.run; phase = ap (λ (x : Run). x.phase) c.self.view_is ∙ c.requires.open; views = c.deref.ensures ∙ c.self.invariant.views; turns = turns }) }
 
-have_turns : (c : goal.After-drop-in-Ok) → HaveTurns (run_of c.self.inside) c.deref.result.now c.args.outcomes
+have_turns : (c : goal.Joined-self-phase_after) → HaveTurns (run_of c.self.inside) c.deref.result.now c.args.outcomes
 have_turns c =
     let r : Run = run_of c.self.inside in
     record {
@@ -23,12 +23,12 @@ have_turns c =
     }
 
 -- the fields make the run after these turns
-is_after : (c : goal.After-drop-in-Ok) → run_of (record c.self.inside { outcomes = c.replace.new.dest; phase = c.replace-in-Ok.new.dest }) ≡ after_turns (run_of c.self.inside) c.args.outcomes
+is_after : (c : goal.Joined-self-phase_after) → run_of (record c.self.inside { outcomes = c.args.outcomes; phase = c.phase_after.result }) ≡ after_turns (run_of c.self.inside) c.args.outcomes
 unfolding after_turns
 is_after c =
     let r : Run = run_of c.self.inside in
-    let phase = c.replace-in-Ok.ensures.after ∙ c.phase_after.ensures ∙ ap phase_after (c.in-Ok.ensures r (have_turns c)) in
-    λ i. record r { outcomes = c.replace.ensures.after i; phase = phase i }
+    let phase = c.phase_after.ensures ∙ ap phase_after (c.in_ok-end.ensures r (have_turns c)) in
+    λ i. record r { outcomes = c.args.outcomes; phase = phase i }
 
 pub invariant_of-self : goal.invariant_of-self
 invariant_of-self c =
@@ -41,5 +41,5 @@ invariant_of-self c =
       run = subst IsRun (sym (is_after c)) (turned_is_run r c.args.outcomes c.self.invariant.run have.phase have.turns);
     }
 
-pub returns-in-Ok-clause-ok : goal.returns-in-Ok-clause-ok
-returns-in-Ok-clause-ok c = is_after c ∙ ap (λ (x : Run). after_turns x c.args.outcomes) c.self.view_is
+pub returns-clause-ok : goal.returns-clause-ok
+returns-clause-ok c = is_after c ∙ ap (λ (x : Run). after_turns x c.args.outcomes) c.self.view_is

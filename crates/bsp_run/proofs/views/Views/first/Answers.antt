@@ -19,13 +19,13 @@ add_first_cells-requires-clause-known c =
 pub open-requires : goal.open-requires
 open-requires c =
     let input = c.args.input.now in
-    let cells = first_cells c.as_slice-mems.result.now input.mems c.numbers-processes.result.now c.add_first_cells.new.cells c.as_slice-mems.ensures (c.numbers-processes.ensures ∙ ap (λ (ms : List (List ℕ)). range_with_len 0 (length ms)) c.as_slice-mems.ensures) c.in-Ok.ensures in
+    let cells = first_cells c.as_slice-mems.result.now input.mems c.numbers-processes.result.now c.add_first_cells.new.cells c.as_slice-mems.ensures (c.numbers-processes.ensures ∙ ap (λ (ms : List (List ℕ)). range_with_len 0 (length ms)) c.as_slice-mems.ensures) c.in_ok-add_first_cells.ensures in
     let setting = c.in_ok-setting.ensures ∙ (λ i. record { step = 0; args = c.in_ok-args.ensures i; table = []; tag_size = 0 }) in
     opens_first input c.in_ok-setting.setting c.add_first_cells.new.cells (lawful_input input c.requires) setting cells
 
-pub returns-in-Ok : goal.returns-in-Ok
-returns-in-Ok c =
+pub returns : goal.returns
+returns c =
     let input = c.args.input.now in
-    let cells = first_cells c.as_slice-mems.result.now input.mems c.numbers-processes.result.now c.add_first_cells.new.cells c.as_slice-mems.ensures (c.numbers-processes.ensures ∙ ap (λ (ms : List (List ℕ)). range_with_len 0 (length ms)) c.as_slice-mems.ensures) c.in-Ok.ensures in
+    let cells = first_cells c.as_slice-mems.result.now input.mems c.numbers-processes.result.now c.add_first_cells.new.cells c.as_slice-mems.ensures (c.numbers-processes.ensures ∙ ap (λ (ms : List (List ℕ)). range_with_len 0 (length ms)) c.as_slice-mems.ensures) c.in_ok-add_first_cells.ensures in
     let setting = c.in_ok-setting.ensures ∙ (λ i. record { step = 0; args = c.in_ok-args.ensures i; table = []; tag_size = 0 }) in
     subst (λ (vs : List ViewParts). IfOk c.open.result (λ v. v ≡ vs)) (views_first input c.in_ok-setting.setting c.add_first_cells.new.cells setting cells) c.open.ensures

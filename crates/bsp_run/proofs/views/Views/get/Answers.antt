@@ -38,8 +38,8 @@ bounds-as_slice-pid c =
     let args : length c.as_slice.result.now ≡ length c.self.inside.setting.args = ap (λ (xs : List (List ℕ)). length xs) c.as_slice.ensures in
     omega (arith, l, args, c.self.invariant.same_args, long c.self.inside)
 
-pub cells_of-place-requires : goal.cells_of-place-requires
-cells_of-place-requires c = known c.self.inside c.args.self.now c.args.pid c.self.view_is c.requires
+pub find-place-requires : goal.find-place-requires
+find-place-requires c = known c.self.inside c.args.self.now c.args.pid c.self.view_is c.requires
 
 -- the parts that are found make the view of the process
 parts_of : (c : After-queue)
@@ -52,8 +52,8 @@ parts_of c =
     let args : c.as_slice-2.result.now ≡ get_or v.setting.args c.args.pid [] =
     c.as_slice-2.ensures ∙ c.index-as_slice-pid.is ∙ ap (λ (xs : List (List ℕ)). get_or xs c.args.pid c.index-as_slice-pid.result) c.as_slice.ensures
     ∙ get_or_default v.setting.args c.args.pid c.index-as_slice-pid.result [] (omega (arith, l, c.self.invariant.same_args, long v)) in
-    let memory : c.memory.result ≡ get_or (state_in v).memories c.args.pid [] = c.memory.ensures ∙ ap (λ (cell : List ℕ × List Message). cell.0) c.cells_of-place.ensures.there ∙ sym (get_or-map (λ (cell : List ℕ × List Message). cell.0) v.cells c.args.pid ([], [])) in
-    let queue : c.queue.result ≡ get_or (state_in v).queues c.args.pid [] = c.queue.ensures ∙ ap (λ (cell : List ℕ × List Message). cell.1) c.cells_of-place.ensures.there ∙ sym (get_or-map (λ (cell : List ℕ × List Message). cell.1) v.cells c.args.pid ([], [])) in
+    let memory : c.memory.result ≡ get_or (state_in v).memories c.args.pid [] = c.memory.ensures ∙ ap (λ (cell : List ℕ × List Message). cell.0) (c.find-place.ensures.there ([], [])) ∙ sym (get_or-map (λ (cell : List ℕ × List Message). cell.0) v.cells c.args.pid ([], [])) in
+    let queue : c.queue.result ≡ get_or (state_in v).queues c.args.pid [] = c.queue.ensures ∙ ap (λ (cell : List ℕ × List Message). cell.1) (c.find-place.ensures.there ([], [])) ∙ sym (get_or-map (λ (cell : List ℕ × List Message). cell.1) v.cells c.args.pid ([], [])) in
     λ i. record { nprocs = count i; pid = c.args.pid; step = v.setting.step; args = args i; memory = memory i; table = v.setting.table; tag_size = v.setting.tag_size; queue = queue i }
 
 pub invariant_of-result : goal.invariant_of-result

@@ -28,10 +28,10 @@ kept v now ps cells new table tag seen is =
 
 pub invariant_of-result : goal.invariant_of-result
 invariant_of-result c =
-    let state = kept c.self.inside c.args.self.now c.args.processes.items c.args.cells c.in-Ok.cells c.args.setting.table c.args.setting.tag_size c.self.view_is c.in-Ok.ensures in
+    let state = kept c.self.inside c.args.self.now c.args.processes.items c.args.cells c.in_ok-cells.cells c.args.setting.table c.args.setting.tag_size c.self.view_is c.in_ok-cells.ensures in
     subst (CanOpen c.args.setting.args) (sym state) c.requires.opens
 
-pub returns-in-Ok : goal.returns-in-Ok
-returns-in-Ok c =
-    let state = kept c.self.inside c.args.self.now c.args.processes.items c.args.cells c.in-Ok.cells c.args.setting.table c.args.setting.tag_size c.self.view_is c.in-Ok.ensures in
+pub returns : goal.returns
+returns c =
+    let state = kept c.self.inside c.args.self.now c.args.processes.items c.args.cells c.in_ok-cells.cells c.args.setting.table c.args.setting.tag_size c.self.view_is c.in_ok-cells.ensures in
     ap (views_of c.args.setting.args c.args.setting.step) state

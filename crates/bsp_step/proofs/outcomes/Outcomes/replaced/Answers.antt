@@ -1,9 +1,17 @@
-use Rattle.std.proofs.Common.{refl, sym, subst}
-use Rattle.bsp_step.specs.Inside.Others.{AreOthers}
-use Rattle.bsp_step.proofs.Others.{lie_apart}
+use Rattle.std.proofs.Common.{◌≡◌, ◌∙◌, ◌<◌, ℕ, List, [], ◌∷◌, All, length, ap, refl, sym, subst, arith}
+use Rattle.bsp_model.specs.Replaced.{replaced}
+use Rattle.bsp_step.specs.OutcomeParts.{OutcomeParts}
+use Rattle.bsp_step.specs.Inside.Rows.{rows_of}
 use Rattle.bsp_step.proofs.outcomes.Outcomes.replaced.Goals as goal
 
-pub invariant_of-result : goal.invariant_of-result
-invariant_of-result c =
-    subst (AreOthers c.in_ok-rows.rows) (sym c.in_ok-new.ensures)
-    (lie_apart c.in_ok-rows.rows c.args.self.now c.args.new c.args.processes.items _ refl refl c.in_ok-rows.ensures.count c.requires.known c.requires.ascending c.requires.count)
+-- where there is no process, none is replaced
+replaced-none : (ps : List ℕ) (new : List OutcomeParts) → All (λ p. p < 0) ps → replaced [] ps new ≡ []
+replaced-none [] new known = refl
+replaced-none (p ∷ ps) new known = absurd (omega (arith, known 0 0 (omega arith)))
+
+pub returns-in-None : goal.returns-in-None
+returns-in-None c =
+    let ps = c.args.processes.items in
+    let none : [] ≡ c.args.self.now = sym (ap rows_of c.in-None.is) ∙ c.self.view_is in
+    let known = subst (λ (os : List OutcomeParts). All (λ p. p < length os) ps) (sym none) c.requires.known in
+    c.new.ensures ∙ sym (replaced-none ps c.args.new known) ∙ ap (λ (os : List OutcomeParts). replaced os ps c.args.new) none

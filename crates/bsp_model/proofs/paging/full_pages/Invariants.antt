@@ -1,9 +1,0 @@
-use Rattle.std.proofs.Common.{◌≡◌, ◌≤◌, ◌+◌, ◌-◌, length, take, vec_len, vec_capacity}
-use Rattle.bsp_model.proofs.paging.full_pages.Given as goal
-
--- the pages so far, with room for the others
-abbrev pub invariant-loop-part : goal.invariant-loop-part
-invariant-loop-part l = record {
-  made : l.pages.items ≡ take l.part-index l.parts;
-  room : vec_len l.pages + (length l.parts - l.part-index) ≤ vec_capacity l.pages;
-}
