@@ -18,7 +18,6 @@ use std::alloc::Global;
 /// What a superstep of an update cost.
 #[derive(Clone, Copy)]
 pub struct StepCost {
-    /// The number of the superstep.
     pub step: u64,
     /// The largest work of its turns that were taken again; the h-relation of the requests whose deliveries were made again; and their cost.
     pub row: CostRow,
@@ -29,7 +28,6 @@ pub struct StepCost {
 pub struct UpdateCost {
     /// The supersteps in which turns were taken or deliveries made again, in order.
     pub rows: Seq<StepCost>,
-    /// The sum of the costs.
     pub total: u64,
 }
 
@@ -48,7 +46,6 @@ fn end_of(places: &[Place], from: usize, step: u64) -> usize
     places.len()
 }
 
-/// The largest work of the turns at these places of a superstep.
 fn work_of(outcomes: &Outcomes, places: &[Place]) -> u64
     ensures value { result ≡ work_of (processes_of places.now) outcomes.now }
     ensures small { result < 2 ^ 32 }
@@ -63,7 +60,6 @@ fn work_of(outcomes: &Outcomes, places: &[Place]) -> u64
     most
 }
 
-/// The processes of these places, among so many.
 fn set_of(places: &[Place], count: usize) -> ProcessSet
     requires { count ≤ MOST_PROCESSES }
     ensures { (p : ℕ) → p < count → slice_index_or result p false ≡ is_one_of (processes_of places.now) p }
@@ -102,21 +98,6 @@ fn row_again(g: u64, l: u64, outcomes: &Outcomes, turned: &[Place], delivered: &
     }
 }
 
-/// The same for a superstep of a run.
-fn row_at(run: &History, step: usize, turned: &[Place], delivered: &[Place]) -> CostRow
-    requires { step < length (supersteps_of run.now) }
-    ensures value { result ≡ row_again run.now.g run.now.l (processes_of turned.now) (processes_of delivered.now)
-        (superstep_at (supersteps_of run.now) step).outcomes }
-    ensures small { result.cost < 2 ^ 50 }
-{
-    let (g, l) = run.prices();
-    match run.outcomes(step as u64) {
-        Some(outcomes) => row_again(g, l, outcomes, turned, delivered),
-        None => unreachable!(),
-    }
-}
-
-/// Adds the row of a superstep, if something was done again there.
 fn add_row(
     cost: &mut UpdateCost,
     run: &History,
@@ -133,7 +114,9 @@ fn add_row(
     if turned.is_empty() && delivered.is_empty() {
         return Ok(());
     }
-    let row = row_at(run, step, turned, delivered);
+    let (g, l) = run.prices();
+    let outcomes = run.outcomes(step as u64).unwrap();
+    let row = row_again(g, l, outcomes, turned, delivered);
     cost.rows.push(StepCost {
         step: step as u64,
         row,
@@ -142,7 +125,6 @@ fn add_row(
     Ok(())
 }
 
-/// Adds the rows of all supersteps.
 fn add_rows(cost: &mut UpdateCost, run: &History, update: &Update) -> Result<(), OutOfMemory>
     requires executed { AreInOrder update.now.executed }
     requires redelivered { AreInOrder update.now.redelivered }

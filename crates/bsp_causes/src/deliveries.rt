@@ -8,8 +8,8 @@ ghost use Rattle.bsp_deliver.specs.Readable.{IsReadable};
 ghost use Rattle.bsp_run.specs.Supersteps.{superstep_at};
 ghost use Rattle.bsp_incr.specs.Exact.{HasDelivery, delivered_before};
 ghost use Rattle.bsp_incr.specs.Inside.Before.{outcomes_if_any};
-ghost use Rattle.bsp_causes.specs.DeliveryCauses.{HaveAsMany, processes_where, reads_others, parcel_causes, new_delivery, delivery_causes};
-ghost use Rattle.bsp_causes.specs.Inside.Parts.{AreComparedAt, is_other, own_causes};
+ghost use Rattle.bsp_causes.specs.DeliveryCauses.{HaveAsMany, processes_where, reads_others, parcel_causes, delivery_causes};
+ghost use Rattle.bsp_causes.specs.Inside.Parts.{AreComparedAt, is_other};
 
 use bsp_deliver::{are_same_puts, are_same_sends, is_same_answer};
 use bsp_incr::Place;
@@ -25,7 +25,6 @@ pub struct DeliveryCauses {
     pub is_new: bool,
     /// The process's own memory after computing is another.
     pub memory: bool,
-    /// The process asks by other gets.
     pub gets: bool,
     /// The owners, ascending, of which its gets read other words, where it asks by the same gets.
     pub read: Seq<u64>,
@@ -38,45 +37,11 @@ pub struct DeliveryCauses {
 /// In what a delivery depends on the other processes.
 #[derive(Clone, Copy)]
 enum Part {
-    /// The words that gets read of their owners.
     Read,
-    /// The puts of a sender.
     Puts,
-    /// The messages of a sender.
     Sends,
 }
 
-impl DeliveryCauses {
-    /// Why a delivery was made that the run before does not have.
-    fn of_new(alloc: Global) -> DeliveryCauses
-        ensures { result ≡ new_delivery }
-    {
-        DeliveryCauses {
-            is_new: true,
-            memory: false,
-            gets: false,
-            read: Seq::new(alloc),
-            puts: Seq::new(alloc),
-            sends: Seq::new(alloc),
-        }
-    }
-
-    /// What is another of the process itself.
-    fn of_own(alloc: Global, old: &OutcomeRef<'_>, new: &OutcomeRef<'_>) -> DeliveryCauses
-        ensures { result ≡ own_causes old.now new.now }
-    {
-        DeliveryCauses {
-            is_new: false,
-            memory: !old.memory.same(&new.memory),
-            gets: !are_same(old.gets, new.gets),
-            read: Seq::new(alloc),
-            puts: Seq::new(alloc),
-            sends: Seq::new(alloc),
-        }
-    }
-}
-
-/// Whether one of these gets reads other words of this owner.
 fn reads_others(old: &Outcomes, new: &Outcomes, owner: u64, gets: &[Get]) -> bool
     requires old { All (IsReadable old.now) gets.now }
     requires new { All (IsReadable new.now) gets.now }
@@ -104,45 +69,27 @@ fn is_other(part: Part, old: &Outcomes, new: &Outcomes, d: usize, q: usize) -> b
     }
 }
 
-/// Adds the processes of which the delivery to `d` depends on something else in this part.
-fn add_processes(
-    processes: &mut Seq<u64>,
+/// The processes, ascending, of which the delivery to `d` depends on something else in this part.
+fn other_processes(
+    alloc: Global,
     part: Part,
     old: &Outcomes,
     new: &Outcomes,
     d: usize,
-) -> Result<(), OutOfMemory>
+) -> Result<Seq<u64>, OutOfMemory>
     requires compared { AreComparedAt old.now new.now d }
     requires gets { part ≡ Part.Read → (outcome_of old.now d).gets ≡ (outcome_of new.now d).gets }
-    ensures { OnOk result (processes.new ≡ processes.old ++ processes_where (length new.now) (is_other part old.now new.now d)) }
+    ensures { IfOk result (λ ps. ps ≡ processes_where (length new.now) (is_other part old.now new.now d)) }
 {
+    let mut processes = Seq::new(alloc);
     for q in 0..new.len() {
         if is_other(part, old, new, d, q) {
             processes.push(q as u64)?;
         }
     }
-    Ok(())
+    Ok(processes)
 }
 
-/// Adds the processes of which the delivery to `d` depends on something else.
-fn add_causes(
-    causes: &mut DeliveryCauses,
-    old: &Outcomes,
-    new: &Outcomes,
-    d: usize,
-) -> Result<(), OutOfMemory>
-    requires compared { AreComparedAt old.now new.now d }
-    requires own { causes.old ≡ own_causes (outcome_of old.now d) (outcome_of new.now d) }
-    ensures { OnOk result (causes.new ≡ parcel_causes old.now new.now d) }
-{
-    if !causes.gets {
-        add_processes(&mut causes.read, Part::Read, old, new, d)?;
-    }
-    add_processes(&mut causes.puts, Part::Puts, old, new, d)?;
-    add_processes(&mut causes.sends, Part::Sends, old, new, d)
-}
-
-/// Each part on which the delivery to `d` depends, and that is another, or `OutOfMemory`.
 fn parcel_causes(
     alloc: Global,
     old: &Outcomes,
@@ -152,9 +99,24 @@ fn parcel_causes(
     requires { AreComparedAt old.now new.now d }
     ensures { IfOk result (λ c. c ≡ parcel_causes old.now new.now d) }
 {
-    let mut causes = DeliveryCauses::of_own(alloc, &old.get(d), &new.get(d));
-    let added = add_causes(&mut causes, old, new, d);
-    added.and(Ok(causes))
+    let before = old.get(d);
+    let after = new.get(d);
+    let same_gets = are_same(before.gets, after.gets);
+    let read = if same_gets {
+        other_processes(alloc, Part::Read, old, new, d)?
+    } else {
+        Seq::new(alloc)
+    };
+    let puts = other_processes(alloc, Part::Puts, old, new, d)?;
+    let sends = other_processes(alloc, Part::Sends, old, new, d)?;
+    Ok(DeliveryCauses {
+        is_new: false,
+        memory: !before.memory.same(&after.memory),
+        gets: !same_gets,
+        read,
+        puts,
+        sends,
+    })
 }
 
 /// The outcomes of a superstep of a run that ended by delivery; none where there is no run, or no such superstep of it.
@@ -184,6 +146,13 @@ pub fn delivery_causes(
     let pid = place.pid as usize;
     match delivered_in(before, place.step) {
         Some(old) if pid < old.len() => parcel_causes(alloc, old, new, pid),
-        _ => Ok(DeliveryCauses::of_new(alloc)),
+        _ => Ok(DeliveryCauses {
+            is_new: true,
+            memory: false,
+            gets: false,
+            read: Seq::new(alloc),
+            puts: Seq::new(alloc),
+            sends: Seq::new(alloc),
+        }),
     }
 }

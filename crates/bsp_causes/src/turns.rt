@@ -3,7 +3,7 @@
 ghost use Rattle.std.specs.Prelude.{◌≡◌, ◌+◌, ◌≤◌, ◌++◌, ◌==◌, ◌&&◌, not, IfOk, OnOk, length, option_map, slice_index};
 ghost use Rattle.bsp_run.specs.Supersteps.{superstep_at, supersteps_of};
 ghost use Rattle.bsp_incr.specs.Exact.{HasTurn, supersteps_before};
-ghost use Rattle.bsp_causes.specs.TurnCauses.{other_words, view_causes, new_turn, turn_causes};
+ghost use Rattle.bsp_causes.specs.TurnCauses.{other_words, view_causes, turn_causes};
 ghost use Rattle.bsp_causes.specs.Inside.Words.{other_words_from};
 
 use bsp_incr::Place;
@@ -18,32 +18,12 @@ use std::alloc::Global;
 pub struct TurnCauses {
     /// The run before has no such turn. Then nothing else is named.
     pub is_new: bool,
-    /// The arguments are others.
     pub args: bool,
-    /// The queue is another.
     pub queue: bool,
-    /// The registration table is another.
     pub table: bool,
-    /// The tag size is another.
     pub tag_size: bool,
     /// The addresses, ascending, at which the program looks, and whose words are others.
     pub words: Seq<u64>,
-}
-
-impl TurnCauses {
-    /// Why a turn was taken that the run before does not have.
-    fn of_new(alloc: Global) -> TurnCauses
-        ensures { result ≡ new_turn }
-    {
-        TurnCauses {
-            is_new: true,
-            args: false,
-            queue: false,
-            table: false,
-            tag_size: false,
-            words: Seq::new(alloc),
-        }
-    }
 }
 
 /// The word at a place; 0 past the end.
@@ -53,7 +33,6 @@ fn word_at(words: &[u64], place: usize) -> u64
     if place < words.len() { words[place] } else { 0 }
 }
 
-/// Whether the program looks at an address, and the words there are two different ones.
 fn is_other_word<P: Program>(program: &P, view: &View<'_>, address: u64, old: u64, new: u64) -> bool
     ensures { result ≡ P.looks program.now view.now address && not (old == new) }
 {
@@ -84,7 +63,6 @@ fn add_other_words_from<P: Program>(
     Ok(())
 }
 
-/// Adds the addresses at which the program looks, and whose words are others.
 fn add_other_words<P: Program>(
     words: &mut Seq<u64>,
     program: &P,
@@ -103,7 +81,6 @@ fn add_other_words<P: Program>(
     Ok(())
 }
 
-/// Each part of a view that is another, or `OutOfMemory`.
 fn view_causes<P: Program>(
     alloc: Global,
     program: &P,
@@ -154,7 +131,14 @@ pub fn turn_causes<P: Program>(
     let new = views_in(Some(after), place.step);
     let pid = place.pid as usize;
     if pid >= old.len() {
-        return Ok(TurnCauses::of_new(alloc));
+        return Ok(TurnCauses {
+            is_new: true,
+            args: false,
+            queue: false,
+            table: false,
+            tag_size: false,
+            words: Seq::new(alloc),
+        });
     }
     view_causes(alloc, program, &old.get(pid), &new.get(pid))
 }

@@ -163,7 +163,6 @@ impl<J: SharedRun> Crew<J> {
     }
 }
 
-/// Adds deliveries to `cells`.
 fn add_cells(cells: &mut Cells, more: Cells) -> Result<(), OutOfMemory>
     ensures { OnOk result (cells.new ≡ cells.old ++ more) }
 {

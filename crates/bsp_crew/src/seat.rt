@@ -29,6 +29,16 @@ const WAITING: u64 = 1;
 /// The worker has worked the part.
 const WORKED: u64 = 2;
 
+/// The number of words that a worker asks for in one piece: fewer than the C library takes from the system apart.
+const WORDS_AT_ONCE: usize = 15_000;
+
+/// A large piece of memory. Asked for and given back, it makes the C library's arena of the thread grow at once by as much as some hundred pages take,
+/// each of which would else be a call of the system that holds up the page faults of all threads. It is not inlined, so that no compiler leaves it out.
+#[inline(never)]
+fn large_piece(alloc: Global) -> Result<Vec<u64>, OutOfMemory> {
+    Vec::with_capacity(alloc, WORDS_AT_ONCE)
+}
+
 /// The place of one worker: its sheet, and a word that tells of it. Both threads only try the lock, so neither waits for it.
 #[derive(Drop)]
 pub(crate) struct Seat<J: SharedRun> {
@@ -57,7 +67,6 @@ impl<J: SharedRun> Seat<J> {
         }
     }
 
-    /// Works the part that waits, if one does.
     fn work<P: Program, G: Gate>(
         &self,
         alloc: Global,
@@ -91,6 +100,7 @@ impl<J: SharedRun> Seat<J> {
         for _look in 0..u64::MAX {
             if self.state.load(SeqCst) == WAITING {
                 self.work(alloc, program, &mut spare, gate);
+                drop(large_piece(alloc));
                 looks = 0;
             } else if over.load(SeqCst) != 0 {
                 break;

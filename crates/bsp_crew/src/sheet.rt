@@ -22,9 +22,7 @@ use std::mem;
 /// The work of a part.
 #[derive(Drop)]
 pub(crate) enum Task {
-    /// Turns, at these views.
     Turns(Shared<Views>),
-    /// Deliveries, of these outcomes.
     Deliveries(Outcomes),
 }
 
@@ -41,9 +39,7 @@ pub(crate) struct Sheet<J: SharedRun> {
     views: Option<Shared<Views>>,
     /// The outcomes of which deliveries are to be made, until they are.
     outcomes: Option<Outcomes>,
-    /// The turns that were taken.
     turns: Option<OutcomeRows>,
-    /// The deliveries that were made.
     cells: Option<Cells>,
     /// Lists in which turns can be gathered.
     room: Option<OutcomeRows>,
@@ -93,7 +89,6 @@ impl<J: SharedRun> Sheet<J> {
         }
     }
 
-    /// Leaves no part.
     fn clear(&mut self)
         ensures views { self.new.views ≡ None }
         ensures outcomes { self.new.outcomes ≡ None }
@@ -188,7 +183,6 @@ impl<J: SharedRun> Sheet<J> {
         drop(self.outcomes.take());
     }
 
-    /// Whether the sheet has this part of this superstep.
     fn is_of(&self, step: u64, processes: &[usize]) -> bool
         ensures { OnTrue result ((self.now.step ≡ step) × (self.now.processes.items ≡ processes.now)) }
     {

@@ -18,11 +18,10 @@ pub const DEPTH_OF_RUNS: usize = 0;
 /// At this depth a gate is told of a run's supersteps, by their numbers from 0 on.
 pub const DEPTH_OF_SUPERSTEPS: usize = 1;
 
-/// The spare outcome, or else a new one.
 fn spare_of(alloc: Global, spare: &mut Option<Outcome>) -> Result<Outcome, OutOfMemory> {
     match spare.take() {
         Some(outcome) => Ok(outcome),
-        None => Ok(Outcome::new(alloc)?),
+        None => Outcome::new(alloc),
     }
 }
 
@@ -46,13 +45,7 @@ pub(crate) fn turns_alone<P: Program, G: Gate>(
     for (place, process) in processes.iter().enumerate() {
         gate.pass(first.saturating_add(place));
         last = turn_reusing(alloc, program, &views.get(*process), last)?;
-        match rows.push(&mut last) {
-            Ok(()) => {}
-            Err(error) => {
-                drop(last);
-                return Err(error);
-            }
-        }
+        rows.push(&mut last)?;
     }
     spare.insert(last);
     Ok(())

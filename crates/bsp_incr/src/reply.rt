@@ -10,9 +10,7 @@ use std::alloc::Global;
 /// A process in a superstep.
 #[derive(Clone, Copy, PartialEq, Eq)]
 pub struct Place {
-    /// The number of the superstep.
     pub step: u64,
-    /// The number of the process.
     pub pid: u64,
 }
 

@@ -62,13 +62,8 @@ pub fn rerun<P: Program, G: Gate, R: Threads + Sync>(
     };
     let tape = opened(&given, &first)?;
     let Remade { tape, update } = remake_all(workers.rt, given, workers.count, tape, first)?;
-    match finished(old, tape, input.mems.len(), update.executed.as_slice()) {
-        Ok(history) => Ok((history, update)),
-        Err(error) => {
-            drop(update);
-            Err(error)
-        }
-    }
+    let history = finished(old, tape, input.mems.len(), update.executed.as_slice())?;
+    Ok((history, update))
 }
 
 /// The run of a program on a lawful input, and what was done for it: every turn, and every delivery.
@@ -84,7 +79,6 @@ pub fn recorded_run<P: Program, G: Gate, R: Threads + Sync>(
     rerun(workers, program, None, input, all_marks(input))
 }
 
-/// The run of `rerun`, by the calling thread.
 fn rerun_alone<P: Program, G: Gate>(
     alloc: Global,
     program: &P,
@@ -109,9 +103,7 @@ fn rerun_alone<P: Program, G: Gate>(
         other_args: &args,
     };
     let tape = opened(&given, &first)?;
-    let Remade { tape, update } = remake_alone(&given, tape, first)?;
-    drop(update);
-    tape.finish()
+    remake_alone(&given, tape, first)?.tape.finish()
 }
 
 /// The run of a program on a lawful input, by the calling thread.

@@ -61,13 +61,8 @@ impl<P: Program + Drop> Session<P> {
         ensures lawful { OnOk result (input_fault input ≡ None) }
         ensures input { IfErr result (λ e. input_fault input ≡ input_fault_of e) }
     {
-        match input.check() {
-            Ok(()) => {}
-            Err(fault) => {
-                drop(program);
-                drop(input);
-                return Err(RunError::Input(fault));
-            }
+        if let Err(fault) = input.check() {
+            return Err(RunError::Input(fault));
         }
         let workers = Workers {
             rt,
@@ -75,21 +70,13 @@ impl<P: Program + Drop> Session<P> {
             count: workers,
             gate,
         };
-        match recorded_run(workers, &program, &input) {
-            Ok((history, update)) => {
-                let session = Session {
-                    program,
-                    input,
-                    history,
-                };
-                Ok((session, update))
-            }
-            Err(error) => {
-                drop(program);
-                drop(input);
-                Err(error.into())
-            }
-        }
+        let (history, update) = recorded_run(workers, &program, &input)?;
+        let session = Session {
+            program,
+            input,
+            history,
+        };
+        Ok((session, update))
     }
 
     /// The program.
@@ -167,9 +154,8 @@ impl<P: Program + Drop> Session<P> {
         ensures err { OnErr result (self.new ≡ self.old) }
     {
         drop(before.take());
-        match refusal_of(&self.input, edits) {
-            Some(refusal) => return Err(EditError::Refused(refusal)),
-            None => {}
+        if let Some(refusal) = refusal_of(&self.input, edits) {
+            return Err(EditError::Refused(refusal));
         }
         if are_there(&self.input, edits) {
             return Ok(Update::none(alloc));

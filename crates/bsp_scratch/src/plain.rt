@@ -64,13 +64,7 @@ pub(crate) fn supersteps<J: SharedRun, P: Program, G: Gate>(
         if calls_workers(&mut pace, gate) {
             return Ok(views);
         }
-        match unrecorded_turns(alloc, program, &views, kept, crew, gate) {
-            Ok(()) => {}
-            Err(error) => {
-                drop(views);
-                return Err(error);
-            }
-        }
+        unrecorded_turns(alloc, program, &views, kept, crew, gate)?;
         if kept.end.is_some() {
             return Ok(views);
         }
@@ -79,7 +73,6 @@ pub(crate) fn supersteps<J: SharedRun, P: Program, G: Gate>(
     Ok(views)
 }
 
-/// The result of a run whose supersteps are over.
 pub(crate) fn result_at_end(
     alloc: Global,
     views: Shared<Views>,
@@ -88,13 +81,9 @@ pub(crate) fn result_at_end(
     requires ended { (r : Run) × HasEnded kept.end r views kept }
     ensures { (r : Run) → HasEnded kept.end r views kept → IfOk result (λ given. given ≡ result_of r) }
 {
-    let result = kept.result(alloc, &views);
-    drop(views);
-    drop(kept);
-    result
+    kept.result(alloc, &views)
 }
 
-/// The result of a run that is under way.
 pub(crate) fn finish<J: SharedRun, P: Program, G: Gate>(
     alloc: Global,
     program: &P,
@@ -109,13 +98,8 @@ pub(crate) fn finish<J: SharedRun, P: Program, G: Gate>(
     requires crew { IfSome crew (λ _. AreOfRun (turn_of (P.acts program.now) (P.ending program.now)) input.now J.turn J.views) }
     ensures { IfOk result (λ r. r ≡ result_of (run (turn_of (P.acts program.now) (P.ending program.now)) input.now)) }
 {
-    match supersteps(alloc, program, input, views, &mut kept, crew, None, gate) {
-        Ok(views) => result_at_end(alloc, views, kept),
-        Err(error) => {
-            drop(kept);
-            Err(error)
-        }
-    }
+    let views = supersteps(alloc, program, input, views, &mut kept, crew, None, gate)?;
+    result_at_end(alloc, views, kept)
 }
 
 /// The result of the run of a program on an input that is known to be lawful. It keeps no record of the run: beside the lines and the costs, memory for

@@ -9,7 +9,6 @@ use bsp_model::{LineColumn, OutOfMemory, PrintedLines, ProcessSet, Shared, Share
 use bsp_run::{Lines, each_lines};
 use std::alloc::Global;
 
-/// Puts the lines of a process, superstep by superstep, in the place of the former rows.
 fn take_printed(
     lines: &mut PrintedLines,
     printed: &[LineColumn],
@@ -24,7 +23,6 @@ fn take_printed(
     Ok(())
 }
 
-/// Gathers the lines of each process, superstep by superstep.
 fn gather(
     alloc: Global,
     all: &mut LineColumn,
@@ -35,16 +33,9 @@ fn gather(
 {
     let mut lines = PrintedLines::new(alloc);
     for pid in 0..nprocs {
-        let taken = take_printed(&mut lines, printed, pid);
-        match taken.and(all.put(pid, &lines.as_ref())) {
-            Ok(()) => {}
-            Err(error) => {
-                drop(lines);
-                return Err(error);
-            }
-        }
+        take_printed(&mut lines, printed, pid)?;
+        all.put(pid, &lines.as_ref())?;
     }
-    drop(lines);
     Ok(())
 }
 

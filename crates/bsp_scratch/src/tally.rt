@@ -98,28 +98,14 @@ impl Tally {
         }) }
     {
         let total = total_of(self.costs.as_slice());
-        let lines = match lines_printed(alloc, &mut self.lines, memories.len()) {
-            Ok(lines) => lines,
-            Err(error) => {
-                drop(status);
-                drop(memories);
-                return Err(error);
-            }
-        };
-        match mem::replace(&mut self.costs, Seq::new(alloc)).share() {
-            Ok(costs) => Ok(RunResult {
-                status,
-                memories,
-                lines,
-                costs,
-                total,
-            }),
-            Err(error) => {
-                drop(status);
-                drop(memories);
-                drop(lines);
-                Err(error)
-            }
-        }
+        let lines = lines_printed(alloc, &mut self.lines, memories.len())?;
+        let costs = mem::replace(&mut self.costs, Seq::new(alloc)).share()?;
+        Ok(RunResult {
+            status,
+            memories,
+            lines,
+            costs,
+            total,
+        })
     }
 }

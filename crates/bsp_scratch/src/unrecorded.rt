@@ -81,10 +81,7 @@ fn room_of(alloc: Global, views: Shared<Views>) -> Cells
 {
     match views.try_unwrap() {
         Ok(views) => views.into_room(alloc),
-        Err(shared) => {
-            drop(shared);
-            Cells::new(alloc)
-        }
+        Err(_) => Cells::new(alloc),
     }
 }
 
@@ -100,22 +97,10 @@ fn next_views(
     requires processes { processes.now ≡ range_with_len 0 (length outcomes.old) }
     ensures { (r : Run) → AreTurned r views outcomes.old → IfOk result (λ next. next ≡ next_views r) }
 {
-    let setting = match views.next_setting(outcomes) {
-        Ok(setting) => setting,
-        Err(error) => {
-            drop(views);
-            return Err(error);
-        }
-    };
+    let setting = views.next_setting(outcomes)?;
     let mut cells = room_of(alloc, views);
-    match deliver_moving(alloc, outcomes, processes, &mut cells) {
-        Ok(()) => Shared::new(alloc, Views::open(alloc, setting, cells)?),
-        Err(error) => {
-            drop(setting);
-            drop(cells);
-            Err(error)
-        }
-    }
+    deliver_moving(alloc, outcomes, processes, &mut cells)?;
+    Shared::new(alloc, Views::open(alloc, setting, cells)?)
 }
 
 impl Unrecorded {
@@ -162,13 +147,8 @@ impl Unrecorded {
     {
         self.step += 1;
         let taken = &mut self.taken.outcomes;
-        match self.tally.add_delivery(alloc, taken) {
-            Ok(()) => next_views(alloc, views, self.processes, taken),
-            Err(error) => {
-                drop(views);
-                Err(error)
-            }
-        }
+        self.tally.add_delivery(alloc, taken)?;
+        next_views(alloc, views, self.processes, taken)
     }
 
     /// What the run gives that has ended, where the processes see these views. What was added up is handed out.

@@ -12,7 +12,6 @@ use bsp_model::{OutOfMemory, Put, PutsRef, Send, SendsRef, Seq, Words};
 use bsp_step::Outcomes;
 use std::alloc::Global;
 
-/// A copy of the put at a place, with words of its own.
 fn copied_put(alloc: Global, puts: &PutsRef<'_>, place: usize) -> Result<Put, OutOfMemory>
     requires { place < length puts.now }
     ensures { IfOk result (λ put. slice_get puts.now place ≡ Some put) }
@@ -25,7 +24,6 @@ fn copied_put(alloc: Global, puts: &PutsRef<'_>, place: usize) -> Result<Put, Ou
     })
 }
 
-/// A copy of the message at a place, with words of its own.
 fn copied_send(alloc: Global, sends: &SendsRef<'_>, place: usize) -> Result<Send, OutOfMemory>
     requires { place < length sends.now }
     ensures { IfOk result (λ send. slice_get sends.now place ≡ Some send) }
@@ -72,7 +70,6 @@ fn add_sends(
     Ok(())
 }
 
-/// The puts to `d`, each with its sender.
 fn puts_to(alloc: Global, d: u64, outcomes: &Outcomes) -> Result<Seq<(u64, Put)>, OutOfMemory>
     ensures { IfOk result (λ puts. puts ≡ filter (λ p. p.1.target == d) (all_puts outcomes.now)) }
 {
@@ -84,7 +81,6 @@ fn puts_to(alloc: Global, d: u64, outcomes: &Outcomes) -> Result<Seq<(u64, Put)>
     Ok(puts)
 }
 
-/// The messages to `d`, each with its sender.
 fn sends_to(alloc: Global, d: u64, outcomes: &Outcomes) -> Result<Seq<(u64, Send)>, OutOfMemory>
     requires { length outcomes.now ≤ MOST_PROCESSES }
     ensures sends { IfOk result (λ sends. sends ≡ filter (λ m. m.1.target == d) (all_sends outcomes.now)) }

@@ -14,7 +14,6 @@ use bsp_model::{Memory, OutOfMemory, Put, Send};
 use bsp_step::{Outcomes, Queue};
 use std::alloc::Global;
 
-/// Writes puts, in this order.
 fn write_sent_puts(memory: &mut Memory, puts: &[(u64, Put)]) -> Result<(), OutOfMemory>
     requires { All (λ p. p.1.start + length p.1.words ≤ length memory.old) puts.now }
     ensures { OnOk result (memory.new ≡ overlay memory.old (map put_write puts.now)) }
@@ -25,7 +24,6 @@ fn write_sent_puts(memory: &mut Memory, puts: &[(u64, Put)]) -> Result<(), OutOf
     Ok(())
 }
 
-/// The messages of these sends, in this order.
 fn messages_of(alloc: Global, sends: &[(u64, Send)]) -> Result<Queue, OutOfMemory>
     ensures { IfOk result (λ queue. queue ≡ map (λ m. message_of m.1) sends.now) }
 {

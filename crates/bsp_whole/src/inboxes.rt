@@ -24,7 +24,6 @@ impl Model for Inbox {
     ghost invariant = { FitsInQueue };
 }
 
-/// Whether requests are the same, in the same order and of the same senders.
 fn are_same_requests<R: Same>(requests: &[(u64, R)], others: &[(u64, R)]) -> bool
     ensures { IsTrue result ↔ (requests.now ≡ others.now) }
 {
@@ -42,7 +41,6 @@ fn are_same_requests<R: Same>(requests: &[(u64, R)], others: &[(u64, R)]) -> boo
 }
 
 impl Same for Inbox {
-    /// Whether both lists are equal. It takes no memory.
     fn same(&self, other: &Inbox) -> bool {
         are_same_requests(self.puts.as_slice(), other.puts.as_slice())
             && are_same_requests(self.sends.as_slice(), other.sends.as_slice())

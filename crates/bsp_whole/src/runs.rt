@@ -17,7 +17,6 @@ use bsp_step::Program;
 use std::alloc::Global;
 use std::thread::Threads;
 
-/// Whether an input is lawful, with its fault where it is not.
 fn checked(input: &Input) -> Result<(), RunError>
     ensures ok { OnOk result (input_fault input.now ≡ None) }
     ensures err { IfErr result (λ e. input_fault input.now ≡ input_fault_of e) }
@@ -37,8 +36,7 @@ pub fn run_plain<P: Program>(alloc: Global, program: &P, input: &Input) -> Resul
     ensures input { IfErr result (λ e. input_fault input.now ≡ input_fault_of e) }
 {
     checked(input)?;
-    let history = recorded_alone(alloc, program, input, &Open)?;
-    Ok(history)
+    Ok(recorded_alone(alloc, program, input, &Open)?)
 }
 
 /// What `run_plain` answers, by 1 to 16 workers, the calling thread among them. It goes on alone until workers are worth their start. Where the gate
@@ -64,9 +62,7 @@ pub fn run_wide<P: Program, G: Gate, R: Threads + Sync>(
         count: workers,
         gate,
     };
-    let (history, update) = recorded_run(workers, program, input)?;
-    drop(update);
-    Ok(history)
+    Ok(recorded_run(workers, program, input)?.0)
 }
 
 /// What the run of a program on an input gives. It keeps no record of the run: beside the lines and the costs, memory for one superstep.
@@ -82,8 +78,7 @@ pub fn run_result<P: Program>(
     ensures input { IfErr result (λ e. input_fault input.now ≡ input_fault_of e) }
 {
     checked(input)?;
-    let result = lawful_result(alloc, program, input, &Open)?;
-    Ok(result)
+    Ok(lawful_result(alloc, program, input, &Open)?)
 }
 
 /// What `run_result` answers, by 1 to 16 workers, which start as those of `run_wide` do.
@@ -102,6 +97,5 @@ pub fn run_result_wide<P: Program, G: Gate, R: Threads + Sync>(
     ensures input { IfErr result (λ e. input_fault input.now ≡ input_fault_of e) }
 {
     checked(input)?;
-    let result = wide_result(rt, alloc, program, input, workers, gate)?;
-    Ok(result)
+    Ok(wide_result(rt, alloc, program, input, workers, gate)?)
 }

@@ -20,23 +20,15 @@ use bsp_step::Program;
 use std::alloc::{AllocError, Global};
 use std::thread::Threads;
 
-/// The reply that gives a history.
 fn done(history: &History, update: Update) -> Result<Reply, OutOfMemory>
     ensures { IfOk result (λ reply. reply ≡ Reply.Done (result_of history.now) (Some update)) }
 {
-    match history.result() {
-        Ok(result) => Ok(Reply::Done {
-            result,
-            update: Some(update),
-        }),
-        Err(error) => {
-            drop(update);
-            Err(error)
-        }
-    }
+    Ok(Reply::Done {
+        result: history.result()?,
+        update: Some(update),
+    })
 }
 
-/// The reply to a batch.
 fn reply<P: Program + Drop, R: Threads + Sync, G: Gate>(
     workers: &Workers<'_, R, G>,
     session: &mut Session<P>,
@@ -63,7 +55,6 @@ fn reply<P: Program + Drop, R: Threads + Sync, G: Gate>(
     }
 }
 
-/// The reply to the opening of a session.
 fn opening_reply<P: Program + Drop>(
     session: &Session<P>,
     update: Update,
@@ -77,7 +68,6 @@ fn opening_reply<P: Program + Drop>(
     done(session.history(), update)
 }
 
-/// Adds the replies to the batches of a session.
 fn add_replies<P: Program + Drop, R: Threads + Sync, G: Gate>(
     workers: &Workers<'_, R, G>,
     session: &mut Session<P>,
@@ -136,9 +126,7 @@ pub fn session_run<P: Program + Drop, R: Threads + Sync, G: Gate>(
         count: workers,
         gate,
     };
-    let replies = all_replies(&workers, &mut session, update, batches);
-    drop(session);
-    Ok(replies?)
+    Ok(all_replies(&workers, &mut session, update, batches)?)
 }
 
 /// The replies of `session_run` without their updates: each accepted input is run by itself on the calling thread, from its first superstep.

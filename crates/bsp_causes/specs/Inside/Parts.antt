@@ -23,15 +23,3 @@ abbrev pub is_other : Part → List OutcomeParts → List OutcomeParts → ℕ �
 is_other Read old new d q = list_any (reads_others old new q) (outcome_of new d).gets
 is_other Puts old new d q = puts_others old new d q
 is_other Sends old new d q = sends_others old new d q
-
--- what is another of the process itself
-abbrev pub own_causes : OutcomeParts → OutcomeParts → DeliveryCauses
-own_causes old new =
-    record {
-      is_new = false;
-      memory = not (same_words old.memory new.memory);
-      gets = not (pointwise same_get old.gets new.gets);
-      read = [];
-      puts = [];
-      sends = [];
-    }

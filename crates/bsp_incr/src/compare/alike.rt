@@ -48,7 +48,6 @@ pub struct Alike {
 }
 
 impl Alike {
-    /// Looks at the turns of one process more.
     fn look_at(&mut self, old: &Outcomes, new: &Outcomes, p: usize)
         requires old { p < length old.now }
         requires new { p < length new.now }

@@ -20,9 +20,7 @@ use bsp_step::{Outcomes, Program};
 /// What the processes see in the open superstep, and what the run before has of the superstep with that number.
 #[derive(Drop)]
 pub struct OpenSuperstep<'old, 'new> {
-    /// Its number.
     pub step: u64,
-    /// What the processes see.
     pub views: &'new Shared<Views>,
     /// What the turns of the superstep before left in this run: those of this one will take about as much room.
     pub like: &'new Outcomes,

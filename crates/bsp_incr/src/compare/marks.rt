@@ -59,10 +59,7 @@ fn arg_before(old: &History, pid: u64, index: u64) -> u64
         return 0;
     }
     let view = views.get(pid as usize);
-    match view.args.get(index as usize) {
-        Some(arg) => *arg,
-        None => 0,
-    }
+    view.args.get(index as usize).copied().unwrap_or(0)
 }
 
 /// Marks a process where the test holds.
@@ -79,12 +76,7 @@ fn mark_arg(marks: &mut ProcessSet, old: &History, input: &Input, edit: &Edit)
     ensures { marks.new
         ≡ marked_at (arg_before old.now) (arg_now input.now) marks.old (arg_place edit.now) }
 {
-    if let Edit::Arg {
-        pid,
-        index,
-        value: _,
-    } = *edit
-    {
+    if let Edit::Arg { pid, index, .. } = *edit {
         let is_other = arg_before(old, pid, index) != arg_of(input, pid, index);
         mark_if(marks, pid, is_other);
     }
@@ -95,18 +87,12 @@ fn mark_word(marks: &mut ProcessSet, old: &History, input: &Input, edit: &Edit)
     ensures { marks.new
         ≡ marked_at (word_before old.now) (word_now input.now) marks.old (word_place edit.now) }
 {
-    if let Edit::Word {
-        pid,
-        addr,
-        value: _,
-    } = *edit
-    {
+    if let Edit::Word { pid, addr, .. } = *edit {
         let is_other = word_before(old, pid, addr) != word_of(input, pid, addr);
         mark_if(marks, pid, is_other);
     }
 }
 
-/// Marks the processes with other arguments.
 fn mark_args(marks: &mut ProcessSet, old: &History, input: &Input, edits: &[Edit])
     ensures { marks.new
         ≡ all_marked arg_place (arg_before old.now) (arg_now input.now) marks.old edits.now }
@@ -116,7 +102,6 @@ fn mark_args(marks: &mut ProcessSet, old: &History, input: &Input, edits: &[Edit
     }
 }
 
-/// Marks the processes with another memory.
 fn mark_words(marks: &mut ProcessSet, old: &History, input: &Input, edits: &[Edit])
     ensures { marks.new
         ≡ all_marked word_place (word_before old.now) (word_now input.now) marks.old edits.now }

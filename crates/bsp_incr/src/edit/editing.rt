@@ -12,7 +12,6 @@ use bsp_model::{Input, OutOfMemory, Seq, TryCopy};
 use std::alloc::Global;
 use std::mem::replace;
 
-/// Why an edit of a word is refused, if it is.
 fn word_fault(input: &Input, pid: u64, addr: u64) -> Option<EditFault>
     ensures { (value : ℕ) → result ≡ edit_fault input.now (Edit.Word pid addr value) }
 {
@@ -25,7 +24,6 @@ fn word_fault(input: &Input, pid: u64, addr: u64) -> Option<EditFault>
     None
 }
 
-/// Why an edit of an argument is refused, if it is.
 fn arg_fault(input: &Input, pid: u64, index: u64) -> Option<EditFault>
     ensures { (value : ℕ) → result ≡ edit_fault input.now (Edit.Arg pid index value) }
 {
@@ -46,16 +44,8 @@ fn edit_fault(input: &Input, edit: &Edit) -> Option<EditFault>
     ensures { result ≡ edit_fault input.now edit.now }
 {
     match *edit {
-        Edit::Word {
-            pid,
-            addr,
-            value: _,
-        } => word_fault(input, pid, addr),
-        Edit::Arg {
-            pid,
-            index,
-            value: _,
-        } => arg_fault(input, pid, index),
+        Edit::Word { pid, addr, .. } => word_fault(input, pid, addr),
+        Edit::Arg { pid, index, .. } => arg_fault(input, pid, index),
         Edit::Limit(n) if n < 1 || n > MOST_SUPERSTEPS => Some(EditFault::BadLimit),
         Edit::Prices { g, l } if g > HIGHEST_PRICE || l > HIGHEST_PRICE => Some(
             EditFault::BadPrice,
@@ -125,13 +115,7 @@ fn edit_word(
         return Ok(None);
     };
     let mut memory = memory.copy()?;
-    match memory.store(addr, value) {
-        Ok(_) => {}
-        Err(error) => {
-            drop(memory);
-            return Err(error);
-        }
-    }
+    memory.store(addr, value)?;
     let memory = replace_at(&mut input.mems, pid as usize, memory);
     Ok(Some(Former::Memory { pid, memory }))
 }

@@ -9,9 +9,7 @@ use std::alloc::AllocError;
 /// Why a batch was not applied.
 #[derive(Clone, Copy, Debug, PartialEq, Eq)]
 pub enum EditError {
-    /// An edit of it is refused.
     Refused(EditRefusal),
-    /// Memory was refused.
     OutOfMemory,
 }
 

@@ -8,11 +8,8 @@ use bsp_model::{Input, Memory, Words};
 /// What an edit replaced.
 #[derive(Drop)]
 pub enum Former {
-    /// The memory of a process.
     Memory { pid: u64, memory: Memory },
-    /// The arguments of a process.
     Args { pid: u64, args: Words },
-    /// The superstep limit.
     Limit(u64),
     /// The price of a word of the h-relation and that of a synchronisation.
     Prices { g: u64, l: u64 },

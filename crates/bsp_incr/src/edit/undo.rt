@@ -26,11 +26,8 @@ pub fn word_of(input: &Input, pid: u64, addr: u64) -> u64
 pub fn arg_of(input: &Input, pid: u64, index: u64) -> u64
     ensures { result ≡ slice_index (slice_index_or input.now.args pid []) index }
 {
-    let Some(args) = input.args.as_slice().get(pid as usize) else {
-        return 0;
-    };
-    match args.as_slice().get(index as usize) {
-        Some(arg) => *arg,
+    match input.args.as_slice().get(pid as usize) {
+        Some(args) => args.as_slice().get(index as usize).copied().unwrap_or(0),
         None => 0,
     }
 }
@@ -40,24 +37,16 @@ pub fn former_of(input: &Input, edit: &Edit) -> Edit
     ensures { result ≡ former_of input.now edit.now }
 {
     match *edit {
-        Edit::Word {
-            pid,
-            addr,
-            value: _,
-        } => {
+        Edit::Word { pid, addr, .. } => {
             let value = word_of(input, pid, addr);
             Edit::Word { pid, addr, value }
         }
-        Edit::Arg {
-            pid,
-            index,
-            value: _,
-        } => {
+        Edit::Arg { pid, index, .. } => {
             let value = arg_of(input, pid, index);
             Edit::Arg { pid, index, value }
         }
         Edit::Limit(_) => Edit::Limit(input.limit),
-        Edit::Prices { g: _, l: _ } => Edit::Prices {
+        Edit::Prices { .. } => Edit::Prices {
             g: input.g,
             l: input.l,
         },

@@ -10,7 +10,6 @@ use bsp_model::limits::MOST_PROCESSES;
 use bsp_model::{OutOfMemory, ProcessSet};
 use bsp_run::{History, Tape};
 
-/// The processes of some places, of so many.
 fn processes_of_places(nprocs: usize, places: &[Place]) -> ProcessSet
     requires { nprocs ≤ MOST_PROCESSES }
     ensures { AreProcessesMarked places.now result }

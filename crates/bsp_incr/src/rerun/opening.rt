@@ -52,11 +52,6 @@ pub fn opened<P: Program, G>(
         return Tape::open_lawful(given.alloc, input);
     };
     let args = args_again(given.alloc, history.args(), &input.args, given.other_args)?;
-    match marks.members(given.alloc) {
-        Ok(marked) => Tape::open_like(given.alloc, input, args, like, marked),
-        Err(error) => {
-            drop(args);
-            Err(error)
-        }
-    }
+    let marked = marks.members(given.alloc)?;
+    Tape::open_like(given.alloc, input, args, like, marked)
 }

@@ -52,19 +52,14 @@ fn push_reply<F: Fn(&Input) -> Result<RunResult, OutOfMemory>>(
         → OnOk result (all.new.items ≡ all.old.items ++ without_update (reply_to looks turn input.old batch.now) ∷ []) }
     ensures lawful { OnOk result (input_fault input.new ≡ None) }
 {
-    match refusal_of(input, batch.as_slice()) {
-        Some(refusal) => {
-            all.push(Reply::Refused(refusal))?;
-            return Ok(());
-        }
-        None => {}
+    if let Some(refusal) = refusal_of(input, batch.as_slice()) {
+        all.push(Reply::Refused(refusal))?;
+        return Ok(());
     }
-    let formers = make_edits(alloc, input, batch.as_slice())?;
-    drop(formers);
+    make_edits(alloc, input, batch.as_slice())?;
     push_run(all, input, make)
 }
 
-/// Adds the opening's reply, and those to the batches.
 fn push_replies<G: Gate, F: Fn(&Input) -> Result<RunResult, OutOfMemory>>(
     all: &mut Vec<Reply>,
     alloc: Global,

@@ -27,7 +27,6 @@ use bsp_model::{CostRow, OutOfMemory, ProcessSet, Seq};
 use bsp_run::{Phase, Setting, Tape, Views};
 use bsp_step::Program;
 
-/// Deliveries that were made.
 #[derive(Drop)]
 struct Deliveries {
     /// To whom, in order.
@@ -115,15 +114,8 @@ fn next_views_like<P: Program, G>(
 {
     // What stands of the run before is known where it is read.
     let _before = given.old;
-    match next_setting(tape, old_next, known) {
-        Ok(setting) => {
-            tape.next_views_like(old_next, setting, deliveries.processes, deliveries.cells)
-        }
-        Err(error) => {
-            drop(deliveries);
-            Err(error)
-        }
-    }
+    let setting = next_setting(tape, old_next, known)?;
+    tape.next_views_like(old_next, setting, deliveries.processes, deliveries.cells)
 }
 
 /// Opens the next superstep, after the deliveries that were made. `known` is what is known of the table there.
@@ -152,9 +144,7 @@ fn open_next<P: Program, G>(
         }
         None => {
             *known = KnownTable::Unknown;
-            let Deliveries { processes, cells } = deliveries;
-            drop(processes);
-            tape.delivered(cells)
+            tape.delivered(deliveries.cells)
         }
     }
 }
@@ -181,13 +171,8 @@ fn deliveries_among<P: Program, J: SharedRun, G: Gate>(
     add_places(redelivered, step, touched)?;
     let processes = touched.members(given.alloc)?;
     let asked = processes.as_slice();
-    match wide_deliveries(given.alloc, tape.outcomes(), asked, step, crew, given.gate) {
-        Ok(cells) => Ok(Deliveries { processes, cells }),
-        Err(error) => {
-            drop(processes);
-            Err(error)
-        }
-    }
+    let cells = wide_deliveries(given.alloc, tape.outcomes(), asked, step, crew, given.gate)?;
+    Ok(Deliveries { processes, cells })
 }
 
 /// The deliveries of the superstep whose turns are taken, and the marks of the next.

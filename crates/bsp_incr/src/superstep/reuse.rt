@@ -29,14 +29,6 @@ pub fn add_served<P: Program>(
     let outcome = old_outcomes.get(p);
     let view = superstep.views.get(p);
     let mut memory = view.memory.to_memory()?;
-    match outcome.stores.make_again(&mut memory) {
-        Ok(()) => {}
-        Err(error) => {
-            drop(memory);
-            return Err(error);
-        }
-    }
-    let pushed = rows.push_over(&outcome, &mut memory);
-    drop(memory);
-    pushed
+    outcome.stores.make_again(&mut memory)?;
+    rows.push_over(&outcome, &mut memory)
 }

@@ -45,7 +45,6 @@ fn needs_turn<P: Program>(
     )
 }
 
-/// The turns of processes for which the recorded ones serve.
 fn served_turns<P: Program, G>(
     given: &Given<'_, P, G>,
     superstep: &OpenSuperstep<'_, '_>,
@@ -60,19 +59,13 @@ fn served_turns<P: Program, G>(
 {
     let mut served = OutcomeRows::with_capacity(given.alloc, processes.len())?;
     for process in processes {
-        match add_served(
+        add_served(
             &mut served,
             given.program,
             superstep,
             old_outcomes,
             *process,
-        ) {
-            Ok(()) => {}
-            Err(error) => {
-                drop(served);
-                return Err(error);
-            }
-        }
+        )?;
     }
     Ok(served)
 }
@@ -96,13 +89,8 @@ fn with_served_turns<P: Program, G>(
         return old_outcomes.copy();
     }
     let processes = served.members(given.alloc)?;
-    match served_turns(given, superstep, old_outcomes, processes.as_slice()) {
-        Ok(turns) => old_outcomes.replaced(given.alloc, processes, turns),
-        Err(error) => {
-            drop(processes);
-            Err(error)
-        }
-    }
+    let turns = served_turns(given, superstep, old_outcomes, processes.as_slice())?;
+    old_outcomes.replaced(given.alloc, processes, turns)
 }
 
 /// The turns of these processes, which the workers take, in the lists of the spare outcome.
@@ -144,7 +132,6 @@ struct Needs {
 }
 
 impl Needs {
-    /// Puts a process into its set.
     fn insert(&mut self, process: usize, is_taken: bool)
         requires taken { process < length self.old.taken }
         requires served { process < length self.old.served }
@@ -237,17 +224,9 @@ pub fn turns_again<P: Program, J: SharedRun, G: Gate>(
     let needs = Needs::among(given, superstep, doubtful);
     add_places(executed, superstep.step, &needs.taken)?;
     let processes = needs.taken.members(given.alloc)?;
-    match taken_turns(given, superstep, processes.as_slice(), spare, crew) {
-        Ok(taken) => match superstep.old_outcomes {
-            Some(old) => over_recorded(given, superstep, old, &needs.served, processes, taken),
-            None => {
-                drop(processes);
-                taken.share()
-            }
-        },
-        Err(error) => {
-            drop(processes);
-            Err(error)
-        }
+    let taken = taken_turns(given, superstep, processes.as_slice(), spare, crew)?;
+    match superstep.old_outcomes {
+        Some(old) => over_recorded(given, superstep, old, &needs.served, processes, taken),
+        None => taken.share(),
     }
 }

@@ -1,4 +1,4 @@
-use Rattle.std.proofs.Common.{◌≡◌, ◌≤◌, ◌<◌, List, Option, IfOk, Bor, length, arith, sym, ap, ◌∙◌, subst}
+use Rattle.std.proofs.Common.{◌≡◌, true, false, ◌≤◌, ◌<◌, List, Option, IfOk, Bor, length, arith, sym, ap, ◌∙◌, subst}
 use Rattle.std.specs.Prelude.{option_map}
 use Rattle.bsp_step.specs.OutcomeParts.{OutcomeParts}
 use Rattle.bsp_run.specs.Run.{Run}
@@ -36,4 +36,4 @@ returns-in_default c =
           omega (arith, w.if-pid-len.false, w.len.ensures, ap (λ (os : List OutcomeParts). length os) old)
       | in_default-via-in_default w ↦ omega (arith, ap (λ (os : List OutcomeParts). length os) w.in_default.ensures.outcomes)
     ] in
-    c.of_new.ensures ∙ sym (delivery_not_there olds news place none)
+    (λ i. record { is_new = true; memory = false; gets = false; read = c.new.ensures i; puts = c.new-in_default.ensures i; sends = c.new-in_default-2.ensures i }) ∙ sym (delivery_not_there olds news place none)

@@ -1,4 +1,4 @@
-use Rattle.std.proofs.Common.{◌≡◌, ℕ, Bool, List, IfOk, Bor, length, get_or, arith, sym, ap, ◌∙◌, subst}
+use Rattle.std.proofs.Common.{◌≡◌, ℕ, Bool, true, false, List, IfOk, Bor, length, get_or, arith, sym, ap, ◌∙◌, subst}
 use Rattle.std.specs.Prelude.{option_map}
 use Rattle.bsp_step.specs.ViewParts.{ViewParts}
 use Rattle.bsp_run.specs.Run.{Run}
@@ -15,7 +15,7 @@ returns-then-pid-len g c =
     let olds = supersteps_before (option_map (λ (h : Bor Run). h.now) c.args.before) in
     let place = c.args.place in
     let many : c.len.result ≡ length (superstep_at olds place.step).views = c.len.ensures ∙ ap (λ (vs : List ViewParts). length vs) c.views_in-old.ensures in
-    c.of_new.ensures ∙ sym (turn_not_there (g.P.Program.looks c.args.program.now) olds (supersteps_of c.args.after.now) place (omega (arith, many, c.if-pid-len.true)))
+    (λ i. record { is_new = true; args = false; queue = false; table = false; tag_size = false; words = c.new.ensures i }) ∙ sym (turn_not_there (g.P.Program.looks c.args.program.now) olds (supersteps_of c.args.after.now) place (omega (arith, many, c.if-pid-len.true)))
 
 pub returns : goal.returns
 returns g c =

@@ -34,10 +34,10 @@ finished-requires-clause-executed g c = λ r e.
     subst (LinesStayBut r tape) (sym c.as_slice.ensures)
     (lines_stay acts ending looks input r tape update (laws.footprint c.args.program.now) c.requires.lawful (subst (IsBefore turn input) e c.requires.before) law updated)
 
-pub returns-in-Ok-clause-run : goal.returns-in-Ok-clause-run
-returns-in-Ok-clause-run g c =
-    c.in-Ok.ensures ∙ c.in_ok-tape-2.ensures.run
+pub returns-clause-run : goal.returns-clause-run
+returns-clause-run g c =
+    c.in_ok-history.ensures ∙ c.in_ok-tape-2.ensures.run
 
-pub returns-in-Ok-clause-update : goal.returns-in-Ok-clause-update
-returns-in-Ok-clause-update g c =
-    c.in_ok-tape-2.ensures.updated ∙ ap (update_of (g.P.Program.looks c.args.program.now) (option_map (λ k. k.now) c.args.old)) (sym c.in-Ok.ensures)
+pub returns-clause-update : goal.returns-clause-update
+returns-clause-update g c =
+    c.in_ok-tape-2.ensures.updated ∙ ap (update_of (g.P.Program.looks c.args.program.now) (option_map (λ k. k.now) c.args.old)) (sym c.in_ok-history.ensures)

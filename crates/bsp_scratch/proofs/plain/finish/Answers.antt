@@ -8,10 +8,10 @@ pub result_at_end-requires : goal.result_at_end-requires
 result_at_end-requires g c =
     let input : Input = c.args.input.now in
     let turn = turn_of (g.P.Program.acts c.args.program.now) (g.P.Program.ending c.args.program.now) in
-    record { ended = (run turn input, is_over turn input c.in-Ok.views c.supersteps.new.kept c.in-Ok.ensures.stands c.in-Ok.ensures.over) }
+    record { ended = (run turn input, is_over turn input c.in_ok-views.views c.supersteps.new.kept c.in_ok-views.ensures.stands c.in_ok-views.ensures.over) }
 
-pub returns-in-Ok : goal.returns-in-Ok
-returns-in-Ok g c =
+pub returns : goal.returns
+returns g c =
     let input : Input = c.args.input.now in
     let turn = turn_of (g.P.Program.acts c.args.program.now) (g.P.Program.ending c.args.program.now) in
-    c.result_at_end.ensures (run turn input) (is_over turn input c.in-Ok.views c.supersteps.new.kept c.in-Ok.ensures.stands c.in-Ok.ensures.over)
+    c.result_at_end.ensures (run turn input) (is_over turn input c.in_ok-views.views c.supersteps.new.kept c.in_ok-views.ensures.stands c.in_ok-views.ensures.over)

@@ -38,7 +38,7 @@ returns-then-is_some-clause-stands g c =
     let vs : List ViewParts = c.loop-step.views in
     let kept : Unrecorded = c.loop-step.kept in
     let u : HasLeft turn input step (n + 1) vs kept = one_left turn input step input.limit vs kept c.loop-step-test.true c.loop-step.invariant.so_far in
-    stands_ended turn input step n vs kept c.unrecorded_turns.new.kept u (sym c.is_some.ensures ∙ c.if-is_some.true) (c.in-Ok.ensures.taken u.so_far (underway_open turn input step n vs kept u) u.same)
+    stands_ended turn input step n vs kept c.unrecorded_turns.new.kept u (sym c.is_some.ensures ∙ c.if-is_some.true) (c.in_ok-unrecorded_turns.ensures.taken u.so_far (underway_open turn input step n vs kept u) u.same)
 
 pub returns-then-is_some-clause-over : goal.returns-then-is_some-clause-over
 returns-then-is_some-clause-over g c = no_end _ c.args.pace c.unrecorded_turns.new.kept.end (sym c.is_some.ensures ∙ c.if-is_some.true)
@@ -52,7 +52,7 @@ go_on-requires-clause-turned g c =
     let vs : List ViewParts = c.loop-step.views in
     let kept : Unrecorded = c.loop-step.kept in
     let u : HasLeft turn input step (n + 1) vs kept = one_left turn input step input.limit vs kept c.loop-step-test.true c.loop-step.invariant.so_far in
-    (turned_so turn u.so_far, (goes_on turn input step n vs kept c.unrecorded_turns.new.kept u (sym c.is_some.ensures ∙ c.if-is_some.false) (c.in-Ok.ensures.taken u.so_far (underway_open turn input step n vs kept u) u.same)).1)
+    (turned_so turn u.so_far, (goes_on turn input step n vs kept c.unrecorded_turns.new.kept u (sym c.is_some.ensures ∙ c.if-is_some.false) (c.in_ok-unrecorded_turns.ensures.taken u.so_far (underway_open turn input step n vs kept u) u.same)).1)
 
 pub loop-step-preserved : goal.loop-step-preserved
 loop-step-preserved g c =
@@ -64,11 +64,11 @@ loop-step-preserved g c =
     let kept : Unrecorded = c.loop-step.kept in
     let before = c.loop-step.invariant in
     let u : HasLeft turn input step (n + 1) vs kept = one_left turn input step input.limit vs kept c.loop-step-test.true before.so_far in
-    let on = goes_on turn input step n vs kept c.unrecorded_turns.new.kept u (sym c.is_some.ensures ∙ c.if-is_some.false) (c.in-Ok.ensures.taken u.so_far (underway_open turn input step n vs kept u) u.same) in
+    let on = goes_on turn input step n vs kept c.unrecorded_turns.new.kept u (sym c.is_some.ensures ∙ c.if-is_some.false) (c.in_ok-unrecorded_turns.ensures.taken u.so_far (underway_open turn input step n vs kept u) u.same) in
     record {
       so_far = underway_next turn input step n vs c.in_ok-views.views kept c.go_on.new.self u (on.1).phase (c.in_ok-views.ensures.views (turned_so turn u.so_far) on.1);
       end = c.in_ok-views.ensures.end ∙ on.0;
-      step = c.in_ok-views.ensures.step ∙ ap (λ (k : ℕ). k + 1) (c.in-Ok.ensures.step ∙ before.step);
+      step = c.in_ok-views.ensures.step ∙ ap (λ (k : ℕ). k + 1) (c.in_ok-unrecorded_turns.ensures.step ∙ before.step);
       pace = still_none c.args.pace c.loop-step.pace c.calls_workers.new.pace before.pace c.calls_workers.ensures.none;
       limit = before.limit;
     }

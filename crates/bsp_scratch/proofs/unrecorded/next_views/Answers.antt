@@ -19,12 +19,12 @@ pub open-requires : goal.open-requires
 open-requires c =
     let r : Run = c.requires.turned.0 in
     let t : AreTurned r c.args.views c.args.outcomes.now = c.requires.turned.1 in
-    let known = c.in-Ok.ensures r (subst (λ (vs : List ViewParts). AreTurned r vs c.args.outcomes.now) (sym c.deref.ensures) t) in
-    let made = deliveries_made c.args.outcomes.now (length c.args.outcomes.now) c.args.processes.now c.deliver_moving.new.cells refl c.requires.processes c.in-Ok-deliver_moving.ensures ∙ ap deliveries_of (sym t.outcomes) in
-    opens_next r c.in-Ok.setting c.deliver_moving.new.cells t.run t.phase known made
+    let known = c.in_ok-setting.ensures r (subst (λ (vs : List ViewParts). AreTurned r vs c.args.outcomes.now) (sym c.deref.ensures) t) in
+    let made = deliveries_made c.args.outcomes.now (length c.args.outcomes.now) c.args.processes.now c.deliver_moving.new.cells refl c.requires.processes c.in_ok-deliver_moving.ensures ∙ ap deliveries_of (sym t.outcomes) in
+    opens_next r c.in_ok-setting.setting c.deliver_moving.new.cells t.run t.phase known made
 
-pub returns-in_ok-open-in-Ok-deliver_moving : goal.returns-in_ok-open-in-Ok-deliver_moving
-returns-in_ok-open-in-Ok-deliver_moving c = λ r t.
-    let known = c.in-Ok.ensures r (subst (λ (vs : List ViewParts). AreTurned r vs c.args.outcomes.now) (sym c.deref.ensures) t) in
-    let made = deliveries_made c.args.outcomes.now (length c.args.outcomes.now) c.args.processes.now c.deliver_moving.new.cells refl c.requires.processes c.in-Ok-deliver_moving.ensures ∙ ap deliveries_of (sym t.outcomes) in
-    subst (λ (vs : List ViewParts). IfOk c.new.result (λ next. next ≡ vs)) (c.in_ok-open-in-Ok-deliver_moving.ensures ∙ views_next r c.in-Ok.setting c.deliver_moving.new.cells known made) c.new.ensures
+pub returns : goal.returns
+returns c = λ r t.
+    let known = c.in_ok-setting.ensures r (subst (λ (vs : List ViewParts). AreTurned r vs c.args.outcomes.now) (sym c.deref.ensures) t) in
+    let made = deliveries_made c.args.outcomes.now (length c.args.outcomes.now) c.args.processes.now c.deliver_moving.new.cells refl c.requires.processes c.in_ok-deliver_moving.ensures ∙ ap deliveries_of (sym t.outcomes) in
+    subst (λ (vs : List ViewParts). IfOk c.new.result (λ next. next ≡ vs)) (c.in_ok-open.ensures ∙ views_next r c.in_ok-setting.setting c.deliver_moving.new.cells known made) c.new.ensures

@@ -9,5 +9,5 @@ returns-clause-law g c =
     record {
       run = run turn c.args.input.now;
       law = IsBspRun-run turn c.args.input.now c.in_ok-checked.ensures.ok;
-      gives = c.in_ok-result.ensures;
+      gives = c.in_ok-wide_result.ensures;
     }

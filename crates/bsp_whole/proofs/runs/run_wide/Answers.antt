@@ -9,4 +9,4 @@ pub returns-clause-law : goal.returns-clause-law
 returns-clause-law g c =
     let turn = turn_of (g.P.Program.acts c.args.program.now) (g.P.Program.ending c.args.program.now) in
     let input : Input = c.args.input.now in
-    subst (IsBspRun turn input) (sym c.in_ok-history.ensures.run) (IsBspRun-run turn input c.in_ok-checked.ensures.ok)
+    subst (IsBspRun turn input) (sym c.in_ok-recorded_run.ensures.run) (IsBspRun-run turn input c.in_ok-checked.ensures.ok)

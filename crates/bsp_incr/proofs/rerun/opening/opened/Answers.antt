@@ -35,13 +35,13 @@ open_like-requires-clause-known g c =
     let marks : List Bool = c.args.marks.now in
     let test : ℕ → Bool = λ p. get_or marks p false in
     let many = c.requires.count ∙ ap (λ (m : Making _). length m.input.mems) (sym c.given.view_is) in
-    listed_below (length c.given.inside.input.now.mems) test c.in-Ok.marked.items (c.in-Ok.ensures ∙ ap (λ n. processes_where n test) many)
+    listed_below (length c.given.inside.input.now.mems) test c.in_ok-marked.marked.items (c.in_ok-marked.ensures ∙ ap (λ n. processes_where n test) many)
 
 pub open_like-requires-clause-ascending : goal.open_like-requires-clause-ascending
 open_like-requires-clause-ascending g c =
     let marks : List Bool = c.args.marks.now in
     let test : ℕ → Bool = λ p. get_or marks p false in
-    subst IsAscending (sym c.in-Ok.ensures) (processes_where-ascending (length marks) test)
+    subst IsAscending (sym c.in_ok-marked.ensures) (processes_where-ascending (length marks) test)
 
 pub open_like-requires-clause-like : goal.open_like-requires-clause-like
 open_like-requires-clause-like g c =
@@ -50,8 +50,8 @@ open_like-requires-clause-like g c =
     let old : Run = c.in-Some.history.now in
     let turn = turn_by g.P.Program given.program.now in
     let there : option_map (λ (h : Bor Run). h.now) c.given.inside.old ≡ Some c.in-Some.history.now = (ap (option_map (λ (h : Bor Run). h.now)) c.in-Some.is) in
-    let marked : List ℕ = c.in-Ok.marked.items in
+    let marked : List ℕ = c.in_ok-marked.marked.items in
     let first = subst (λ (m : Making _). AreFirstMarked m.before m.input c.args.marks.now) (sym c.given.view_is) c.requires in
     ap (λ (vs : List ViewParts). replaced (map cell_of vs) marked (map (first_cell input.mems) marked)) (sym (seen_there (supersteps_opened old) 0 c.in-Some-views.like.now (sym c.views.ensures ∙ ap (option_map (λ (v : Bor (List ViewParts)). v.now)) c.in-Some-views.is)))
     ∙ first_cells_in_place turn old input c.args.marks.now marked (subst (IsBefore turn input) there c.given.invariant.before)
-    (subst (λ (o : Option Run). AreFirstMarked o input c.args.marks.now) there first) c.in-Ok.ensures
+    (subst (λ (o : Option Run). AreFirstMarked o input c.args.marks.now) there first) c.in_ok-marked.ensures

@@ -17,7 +17,7 @@ invariant_of-self-2 g c =
     let input : Input = c.self.inside.input in
     let given = c.in_ok-update.ensures.given in
     let lawful : input_fault c.rerun_edited.new.input ≡ None =
-    subst (λ (i : Input). input_fault i ≡ None) (sym given) (edited_lawful input c.args.edits.now (sym c.refusal_of.ensures ∙ c.in-None.is) c.self.invariant.lawful) in
+    subst (λ (i : Input). input_fault i ≡ None) (sym given) (edited_lawful input c.args.edits.now (sym c.refusal_of.ensures ∙ c.in_default.is) c.self.invariant.lawful) in
     record {
       lawful = lawful;
       law = (one_run turn c.rerun_edited.new.input c.rerun_edited.new.history lawful).1 (c.in_ok-update.ensures.run ∙ sym (ap (run turn) given));

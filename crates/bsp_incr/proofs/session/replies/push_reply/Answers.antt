@@ -10,13 +10,13 @@ use Rattle.bsp_incr.proofs.session.replies.push_reply.Goals as goal
 pub push_run-requires-clause-lawful : goal.push_run-requires-clause-lawful
 push_run-requires-clause-lawful g c =
     let input : Input = c.args.input.now in
-    let none : refusal_of input c.args.batch.now ≡ None = sym (ap (refusal_of input) c.as_slice.ensures) ∙ sym c.in-None.ensures in
-    let made = c.in_ok-formers.ensures.made ∙ ap (λ (es : List Edit). edited input es) c.as_slice-2.ensures in
+    let none : refusal_of input c.args.batch.now ≡ None = sym (ap (refusal_of input) c.as_slice.ensures) ∙ sym c.in_default.ensures in
+    let made = c.in_ok-make_edits.ensures.made ∙ ap (λ (es : List Edit). edited input es) c.as_slice-2.ensures in
     ap input_fault made ∙ edited_lawful input c.args.batch.now none c.requires.lawful
 
 pub returns-clause-lawful : goal.returns-clause-lawful
 returns-clause-lawful g c =
     let input : Input = c.args.input.now in
-    let none : refusal_of input c.args.batch.now ≡ None = sym (ap (refusal_of input) c.as_slice.ensures) ∙ sym c.in-None.ensures in
-    let made = c.in_ok-formers.ensures.made ∙ ap (λ (es : List Edit). edited input es) c.as_slice-2.ensures in
+    let none : refusal_of input c.args.batch.now ≡ None = sym (ap (refusal_of input) c.as_slice.ensures) ∙ sym c.in_default.ensures in
+    let made = c.in_ok-make_edits.ensures.made ∙ ap (λ (es : List Edit). edited input es) c.as_slice-2.ensures in
     on_ok c.push_run.result (ap input_fault made ∙ edited_lawful input c.args.batch.now none c.requires.lawful)

@@ -35,7 +35,7 @@ returns-in-None g c =
     let looks = g.P.Program.looks c.args.given.now.program in
     let none = subst (λ (o : Option (Bor (List OutcomeParts))). IfNone o (superstep.old_views ≡ [])) c.in-None.is c.requires.none in
     let needed = processes_where-each_below (length superstep.views.now) (differs_now looks superstep) c.among-needs.result.taken c.among-needs.ensures.taken in
-    let turns = turns_of_none turn looks superstep.old_views superstep.views.now c.as_slice.result.now c.in-Ok.taken (ap (λ (vs : List ViewParts). length vs) none) (c.as_slice.ensures.value ∙ c.in_ok-processes.ensures ∙ needed) c.in-Ok.ensures in
+    let turns = turns_of_none turn looks superstep.old_views superstep.views.now c.as_slice.result.now c.in_ok-taken.taken (ap (λ (vs : List ViewParts). length vs) none) (c.as_slice.ensures.value ∙ c.in_ok-processes.ensures ∙ needed) c.in_ok-taken.ensures in
     record {
       turns = subst (λ (os : List OutcomeParts). IfOk c.share.result (λ all. all ≡ os)) turns c.share.ensures;
       executed = on_ok c.share.result (c.in_ok-add_places.ensures ∙ ap (λ ps. c.args.executed.now ++ places_of superstep.step ps) needed);

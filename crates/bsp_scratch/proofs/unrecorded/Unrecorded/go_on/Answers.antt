@@ -22,9 +22,9 @@ pub next_views-requires-clause-processes : goal.next_views-requires-clause-proce
 next_views-requires-clause-processes c =
     as_many c.requires.turned.0 c.args.views c.args.self.now c.args.self.now.taken.outcomes c.requires.turned.1
 
-pub returns-in-Ok-clause-views : goal.returns-in-Ok-clause-views
-returns-in-Ok-clause-views c = λ r t.
-    let more = c.in-Ok.ensures in
+pub returns-clause-views : goal.returns-clause-views
+returns-clause-views c = λ r t.
+    let more = c.in_ok-add_delivery.ensures in
     let os = c.args.self.now.taken.outcomes in
     IfOk-weaker c.next_views.result (λ next. next ≡ next_views r) _
     (λ next e. unrecorded_delivered r os c.args.self.now c.args.views _ _ _ t refl e more.g more.l more.lines more.costs)
