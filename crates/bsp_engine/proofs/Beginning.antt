@@ -21,7 +21,7 @@ use Rattle.bsp_engine.specs.declared.errors.JobFault.{JobFault}
 use Rattle.bsp_engine.specs.declared.jobs.Job.{Job}
 use Rattle.bsp_options.specs.declared.options.Detail.{Detail}
 use Rattle.bsp_engine.specs.Asked.{asked_of, asks_for_text}
-use Rattle.bsp_engine.specs.declared.attendant.Attendant.{Attendant}
+use Rattle.bsp_engine.specs.declared.conversation.Attendant.{Attendant}
 use Rattle.bsp_engine.specs.Inside.DueAt.{due_at, due_from}
 use Rattle.bsp_engine.specs.Live.{LiveParts, after, after_batch, after_batches, opened, last_result, run_of, answer_to, answer_block, asked_text, blocks, first_text, due_of}
 use Rattle.bsp_engine.specs.Inside.LiveReplies.{live_reply, live_replies, live_replying, opening_block}

@@ -6,7 +6,7 @@ use Rattle.std.proofs.lemmas.List.{append-nil}
 use Rattle.bsp_engine.specs.declared.errors.EngineError.{EngineError}
 use Rattle.bsp_engine.specs.declared.errors.EngineError.TheVariants.{Read, Write, OutOfMemory}
 use Rattle.bsp_engine.specs.Talk.{Event, failed, heard, Fails, Goes, HasFailed, HasNotWritten, heard_in, said_in, whole_lines, unless_empty, all_lines, Due, Talks, Breaks, IsBeginning, IsDueForSome, TalksUntil}
-use Rattle.bsp_engine.specs.Inside.Talk.{kept, lines_from, rest_from, Says, SaysPart, Answered, Stopped, AttendedIf, Attended, UnattendedIf, Unattended, IsGoing, BreaksOff, Ends, TalksOn}
+use Rattle.bsp_engine.specs.Inside.Talk.{kept, lines_from, rest_from, Says, SaysPart, Answered, Stopped, AttendedIf, Attended, UnattendedIf, Unattended, IsGoing, BreaksOff, Ends}
 use Rattle.bsp_engine.proofs.HeardLines.{whole_are, all_are}
 use Rattle.bsp_engine.proofs.Logs.{goes_more, said_append, heard_only, heard_none, prompt_only, prompt_first, ended_only, says_nothing}
 

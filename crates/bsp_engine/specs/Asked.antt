@@ -47,22 +47,9 @@ asked_at (Some t) = asked_in (get_member (codes "batch") t)
 abbrev pub begins_with_word : List ℕ → List ℕ → Bool
 begins_with_word word text = bytes_eq word (take (length word) text) && is_blank (drop (length word) text)
 
--- The word stands on the line: spaces may stand around it, and a comment behind it.
-abbrev pub is_word : List ℕ → List ℕ → Bool
-is_word word [] = false
-is_word word (byte ∷ later) = if is_space byte then is_word word later else begins_with_word word (byte ∷ later)
-
 -- the line has more bytes than a document may have
 abbrev pub is_long : List ℕ → Bool
 is_long line = nat_lt most_document_bytes (length line)
-
--- the line asks for the document
-abbrev pub is_document : List ℕ → Bool
-is_document line = not (is_long line) && is_word (codes "document") line
-
--- the line asks which lines there are
-abbrev pub is_help : List ℕ → Bool
-is_help line = not (is_long line) && is_word (codes "help") line
 
 -- no space, and not the beginning of a comment
 abbrev pub is_in_word : ℕ → Bool
@@ -72,6 +59,18 @@ is_in_word byte = not (is_space byte) && not (byte == 35)
 abbrev pub behind_spaces : List ℕ → List ℕ
 behind_spaces [] = []
 behind_spaces (byte ∷ later) = if is_space byte then behind_spaces later else byte ∷ later
+
+-- The word stands on the line: spaces may stand around it, and a comment behind it.
+abbrev pub is_word : List ℕ → List ℕ → Bool
+is_word word line = begins_with_word word (behind_spaces line)
+
+-- the line asks for the document
+abbrev pub is_document : List ℕ → Bool
+is_document line = not (is_long line) && is_word (codes "document") line
+
+-- the line asks which lines there are
+abbrev pub is_help : List ℕ → Bool
+is_help line = not (is_long line) && is_word (codes "help") line
 
 -- the word with which a text begins
 abbrev pub first_word : List ℕ → List ℕ

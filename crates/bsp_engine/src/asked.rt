@@ -1,28 +1,24 @@
 //! What a line asks of a live session.
 
-ghost use Rattle.std.specs.Prelude.{◌≡◌, ◌++◌, IfOk, Some, codes};
+ghost use Rattle.std.specs.Prelude.{◌≡◌, ◌&&◌, ◌++◌, IfOk, Some, codes, not};
+ghost use Rattle.std.specs.Str.{bytes_eq};
 ghost use Rattle.toml.specs.View.{table_view};
-ghost use Rattle.bsp_engine.specs.Asked.{asked_at, asked_of, asks_for_text, document_of, is_blank, is_document, is_help, is_space, is_word, no_edits};
-ghost use Rattle.bsp_engine.specs.Tree.{tree_of};
+ghost use Rattle.bsp_engine.specs.Asked.{asked_at, asked_of, asked_place, asking_word, asks_for_text, behind_spaces, behind_word, document_of, first_word, is_blank, is_long, is_space, is_word, no_edits, number_of};
 
-use crate::asked_place::{is_turn, is_view};
 use crate::errors::JobError;
 use crate::jobs::{ArrayOf, EditForm, fits, has_negative_edit, read_each};
 use crate::limits::MOST_DOCUMENT_BYTES;
 use crate::tree::{elements, read_tree, value_at};
-use bsp_incr::Batch;
+use bsp_incr::{Batch, Place};
 use bsp_model::OutOfMemory;
 use std::alloc::{AllocError, Global};
 use toml::Table;
 
-/// What a line asks.
 #[derive(Drop)]
 pub enum Asked {
-    /// To apply a batch of edits.
     Batch(Batch),
     /// To take back the last accepted batch that still stands.
     Undo,
-    /// Nothing that can be read.
     Nothing(Unread),
 }
 
@@ -37,7 +33,6 @@ pub enum Unread {
     BadWord,
     /// It has more bytes than a document may have.
     TooLong,
-    /// There is no batch to take back.
     NothingToUndo,
 }
 
@@ -63,37 +58,33 @@ pub fn is_blank(line: &[u8]) -> bool
 fn is_word(word: &[u8], line: &[u8]) -> bool
     ensures { result ≡ is_word word.now line.now }
 {
-    for (at, byte) in line.iter().enumerate() {
-        if !is_space(*byte) {
-            let text = &line[at..];
-            return text.starts_with(word) && is_blank(&text[word.len()..]);
-        }
-    }
-    false
+    let text = behind_spaces(line);
+    text.starts_with(word) && is_blank(&text[word.len()..])
 }
 
-/// Whether the line asks for the document.
-pub fn is_document(line: &[u8]) -> bool
-    ensures { result ≡ is_document line.now }
+/// Whether the line asks by this word alone for a text.
+pub fn asks_by_word(word: &[u8], line: &[u8]) -> bool
+    ensures { result ≡ (not (is_long line.now) && is_word word.now line.now) }
 {
-    line.len() <= MOST_DOCUMENT_BYTES && is_word(b"document", line)
+    line.len() <= MOST_DOCUMENT_BYTES && is_word(word, line)
 }
 
-/// Whether the line asks which lines there are.
-pub fn is_help(line: &[u8]) -> bool
-    ensures { result ≡ is_help line.now }
+/// Whether the line asks by this word, behind which a place stands, for a text.
+pub fn asks_of_place(word: &[u8], line: &[u8]) -> bool
+    ensures { result ≡ (not (is_long line.now) && bytes_eq (asking_word line.now) word.now) }
 {
-    line.len() <= MOST_DOCUMENT_BYTES && is_word(b"help", line)
+    line.len() <= MOST_DOCUMENT_BYTES && split_word(behind_spaces(line)).0 == word
 }
 
-/// Whether the line asks for a text, for which no run is made.
 pub fn asks_for_text(line: &[u8]) -> bool
     ensures { result ≡ asks_for_text line.now }
 {
-    is_document(line) || is_help(line) || is_view(line) || is_turn(line)
+    asks_by_word(b"document", line)
+        || asks_by_word(b"help", line)
+        || asks_of_place(b"view", line)
+        || asks_of_place(b"turn", line)
 }
 
-/// The key, and the batch of no edit where no other is written.
 fn key_before(blank: bool) -> &'static [u8]
     ensures { result.now ≡ codes "batch = " ++ no_edits blank }
 {
@@ -112,7 +103,6 @@ pub fn document_of(alloc: Global, line: &[u8]) -> Result<Vec<u8>, OutOfMemory>
     ended.and(Ok(document))
 }
 
-/// The batch at the key `batch`, or J3 or J7.
 fn asked_at(alloc: Global, table: &Table) -> Result<Asked, OutOfMemory>
     ensures { IfOk result (λ asked. asked ≡ asked_at (Some (table_view table.now))) }
 {
@@ -128,21 +118,6 @@ fn asked_at(alloc: Global, table: &Table) -> Result<Asked, OutOfMemory>
     Ok(Asked::Batch(read_each::<EditForm>(alloc, elements(value))?))
 }
 
-/// What the bytes of such a document ask.
-fn asked_by(alloc: Global, document: &[u8]) -> Result<Asked, OutOfMemory>
-    ensures { IfOk result (λ asked. asked ≡ asked_at (tree_of document.now)) }
-{
-    match read_tree(alloc, document) {
-        Ok(table) => {
-            let asked = asked_at(alloc, &table);
-            drop(table);
-            asked
-        }
-        Err(JobError::Fault(_)) => Ok(Asked::Nothing(Unread::NotToml)),
-        Err(JobError::OutOfMemory) => Err(AllocError),
-    }
-}
-
 /// What a line without its LF asks.
 #[tactic(auto, unfolding(crate::specs::Asked::asked_of))]
 pub fn asked_of(alloc: Global, line: &[u8]) -> Result<Asked, OutOfMemory>
@@ -155,5 +130,64 @@ pub fn asked_of(alloc: Global, line: &[u8]) -> Result<Asked, OutOfMemory>
         return Ok(Asked::Undo);
     }
     let document = document_of(alloc, line)?;
-    asked_by(alloc, document.as_slice())
+    match read_tree(alloc, document.as_slice()) {
+        Ok(table) => asked_at(alloc, &table),
+        Err(JobError::Fault(_)) => Ok(Asked::Nothing(Unread::NotToml)),
+        Err(JobError::OutOfMemory) => Err(AllocError),
+    }
+}
+
+fn behind_spaces(text: &[u8]) -> &[u8]
+    ensures { result.now ≡ behind_spaces text.now }
+{
+    for (at, byte) in text.iter().enumerate() {
+        if !is_space(*byte) {
+            return &text[at..];
+        }
+    }
+    &[]
+}
+
+fn split_word(text: &[u8]) -> (&[u8], &[u8])
+    ensures word { result.0.now ≡ first_word text.now }
+    ensures rest { result.1.now ≡ behind_word text.now }
+{
+    for (at, byte) in text.iter().enumerate() {
+        if is_space(*byte) || *byte == b'#' {
+            return text.split_at(at);
+        }
+    }
+    (text, &[])
+}
+
+fn number_of(word: &[u8]) -> Option<u64>
+    ensures { result ≡ number_of word.now }
+{
+    if word.is_empty() {
+        return None;
+    }
+    let mut number: u64 = 0;
+    for byte in word {
+        if !byte.is_ascii_digit() {
+            return None;
+        }
+        let tens = number.checked_mul(10)?;
+        number = tens.checked_add(u64::from(*byte - b'0'))?;
+    }
+    Some(number)
+}
+
+/// The place that stands behind the first word of a line.
+pub fn asked_place(line: &[u8]) -> Option<Place>
+    ensures { result ≡ asked_place line.now }
+{
+    let (_, rest) = split_word(behind_spaces(line));
+    let (first, rest) = split_word(behind_spaces(rest));
+    let step = number_of(first)?;
+    let (second, rest) = split_word(behind_spaces(rest));
+    let pid = number_of(second)?;
+    if !is_blank(rest) {
+        return None;
+    }
+    Some(Place { step, pid })
 }

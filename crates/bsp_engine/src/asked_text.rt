@@ -1,17 +1,16 @@
 //! The texts for which a line of a live session asks.
 
-ghost use Rattle.std.specs.Prelude.{◌≡◌, OnOk};
+ghost use Rattle.std.specs.Prelude.{◌≡◌, OnOk, ◌++◌};
 ghost use Rattle.bsp_engine.specs.Help.{help_block};
 ghost use Rattle.bsp_engine.specs.Live.{asked_text};
+ghost use Rattle.bsp_engine.specs.Shown.{turn_text, view_text};
 
-use crate::asked::{is_document, is_help};
-use crate::asked_place::{asked_place, is_view};
-use crate::shown::{push_turn_text, push_view_text};
+use crate::asked::{asked_place, asks_by_word, asks_of_place};
+use bsp_incr::Place;
 use bsp_model::{Input, OutOfMemory};
 use bsp_run::History;
-use bsp_text::put_document;
+use bsp_text::{push_turn, push_view, put_document};
 
-/// The lines that there are, between the lines `help` and `end`.
 #[tactic(auto, unfolding(crate::specs::Help::help_block))]
 fn help_block() -> &'static [u8]
     ensures { result.now ≡ help_block }
@@ -28,7 +27,6 @@ end
 "
 }
 
-/// Leaves nothing in a text but the text for which a line asks.
 pub fn put_asked_text(
     text: &mut Vec<u8>,
     own: &[u8],
@@ -38,16 +36,52 @@ pub fn put_asked_text(
 ) -> Result<(), OutOfMemory>
     ensures { OnOk result (text.new.items ≡ asked_text own.now input.now history.now line.now) }
 {
-    if is_document(line) {
+    if asks_by_word(b"document", line) {
         return put_document(text, own, input);
     }
     text.clear();
-    if is_help(line) {
+    if asks_by_word(b"help", line) {
         return text.extend_from_slice(help_block());
     }
     let place = asked_place(line);
-    if is_view(line) {
+    if asks_of_place(b"view", line) {
         return push_view_text(text, history, place);
     }
     push_turn_text(text, history, place)
+}
+
+const UNREAD_PLACE: &[u8] = b"unread place\n";
+
+fn push_view_text(
+    text: &mut Vec<u8>,
+    history: &History,
+    place: Option<Place>,
+) -> Result<(), OutOfMemory>
+    ensures { OnOk result (text.new.items ≡ text.old.items ++ view_text history.now place) }
+{
+    if let Some(place) = place
+        && let Some(views) = history.views(place.step)
+        && place.pid < views.len() as u64
+    {
+        let view = views.get(place.pid as usize);
+        return push_view(text, place.step, place.pid, &view);
+    }
+    text.extend_from_slice(UNREAD_PLACE)
+}
+
+fn push_turn_text(
+    text: &mut Vec<u8>,
+    history: &History,
+    place: Option<Place>,
+) -> Result<(), OutOfMemory>
+    ensures { OnOk result (text.new.items ≡ text.old.items ++ turn_text history.now place) }
+{
+    if let Some(place) = place
+        && let Some(outcomes) = history.outcomes(place.step)
+        && place.pid < outcomes.len() as u64
+    {
+        let turn = outcomes.get(place.pid as usize);
+        return push_turn(text, place.step, place.pid, &turn);
+    }
+    text.extend_from_slice(UNREAD_PLACE)
 }

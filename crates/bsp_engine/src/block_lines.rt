@@ -3,14 +3,16 @@
 ghost use Rattle.std.specs.Prelude.{◌≡◌, ◌++◌, OnOk, codes, length};
 ghost use Rattle.bsp_text.specs.Lines.{field, line, numbered};
 ghost use Rattle.bsp_engine.specs.Text.{process_fault_line, sync_fault_word, status_lines, print_lines, cost_line, update_places, counts_line, edit_fault_word, refusal_line};
+ghost use Rattle.bsp_engine.specs.Places.{place_lines};
+ghost use Rattle.bsp_engine.specs.Inside.Places.{place_after};
+ghost use Rattle.bsp_engine.specs.Live.{unread_line, unread_word};
 
-use crate::places::{begin_line, push_places};
-use bsp_incr::{EditFault, EditRefusal, Update};
+use crate::asked::Unread;
+use bsp_incr::{EditFault, EditRefusal, Place, Update};
 use bsp_model::{CostRow, OutOfMemory, SyncFault};
 use bsp_run::{Lines, ProcessFault, Status};
-use bsp_text::{push_fault, push_joined_line, push_line};
+use bsp_text::{push_fault, push_field, push_joined_line, push_line};
 
-/// Appends a line of two parts: a word and a number, and then a word and numbers.
 fn push_parted_line(
     text: &mut Vec<u8>,
     word: &str,
@@ -25,21 +27,14 @@ fn push_parted_line(
     push_line(text, second, numbers)
 }
 
-/// Appends the line of a process's fault.
-fn push_process_fault(text: &mut Vec<u8>, fault: ProcessFault) -> Result<(), OutOfMemory>
-    ensures { OnOk result (text.new.items ≡ text.old.items ++ process_fault_line fault) }
-{
-    begin_line(text, "fault", fault.pid)?;
-    text.push(b' ')?;
-    push_fault(text, fault.fault)
-}
-
 fn push_faulted(text: &mut Vec<u8>, step: u64, faults: &[ProcessFault]) -> Result<(), OutOfMemory>
     ensures { OnOk result (text.new.items ≡ text.old.items ++ status_lines (Status.Faulted step faults.now)) }
 {
     push_line(text, "status faulted", &[step])?;
     for fault in faults {
-        push_process_fault(text, *fault)?;
+        begin_line(text, "fault", fault.pid)?;
+        text.push(b' ')?;
+        push_fault(text, fault.fault)?;
     }
     Ok(())
 }
@@ -56,7 +51,6 @@ fn sync_fault_word(fault: SyncFault) -> &'static str
     }
 }
 
-/// Appends how a run ended.
 pub fn push_status(text: &mut Vec<u8>, status: &Status) -> Result<(), OutOfMemory>
     ensures { OnOk result (text.new.items ≡ text.old.items ++ status_lines status.now) }
 {
@@ -85,7 +79,6 @@ pub fn push_lines(text: &mut Vec<u8>, pid: u64, lines: &Lines) -> Result<(), Out
     Ok(())
 }
 
-/// Appends the lines of each process.
 pub fn push_all_lines(text: &mut Vec<u8>, lines: &[Lines]) -> Result<(), OutOfMemory>
     ensures { OnOk result (text.new.items ≡ text.old.items ++ numbered print_lines 0 lines.now) }
 {
@@ -101,7 +94,6 @@ pub fn push_cost(text: &mut Vec<u8>, step: u64, row: &CostRow) -> Result<(), Out
     push_line(text, "cost", &[step, row.work, row.h, row.cost])
 }
 
-/// Appends the places of an update, if they are asked for.
 pub fn push_update_places(
     text: &mut Vec<u8>,
     places: bool,
@@ -116,7 +108,6 @@ pub fn push_update_places(
     push_places(text, "deliveries", update.redelivered.as_slice())
 }
 
-/// Appends how much was done.
 pub fn push_counts(text: &mut Vec<u8>, update: &Update) -> Result<(), OutOfMemory>
     ensures { OnOk result (text.new.items ≡ text.old.items ++ counts_line (length update.now.executed) (length update.now.redelivered)) }
 {
@@ -125,7 +116,6 @@ pub fn push_counts(text: &mut Vec<u8>, update: &Update) -> Result<(), OutOfMemor
     push_parted_line(text, "executed", executed, "redelivered", &[redelivered])
 }
 
-/// What stands before the place of a refused edit.
 fn refusal_words(fault: EditFault) -> &'static str
     ensures { result.now ≡ codes "refused " ++ edit_fault_word fault ++ codes " at" }
 {
@@ -138,9 +128,58 @@ fn refusal_words(fault: EditFault) -> &'static str
     }
 }
 
-/// Appends why a batch was refused.
 pub fn push_refusal(text: &mut Vec<u8>, refusal: EditRefusal) -> Result<(), OutOfMemory>
     ensures { OnOk result (text.new.items ≡ text.old.items ++ refusal_line refusal) }
 {
     push_line(text, refusal_words(refusal.fault), &[refusal.place as u64])
+}
+
+pub fn begin_line(text: &mut Vec<u8>, word: &str, number: u64) -> Result<(), OutOfMemory>
+    ensures { OnOk result (text.new.items ≡ text.old.items ++ (word.now ++ field number)) }
+{
+    text.extend_from_slice(word.as_bytes())?;
+    push_field(text, number)
+}
+
+fn push_place(text: &mut Vec<u8>, word: &str, step: u64, place: &Place) -> Result<(), OutOfMemory>
+    ensures { OnOk result (text.new.items ≡ text.old.items ++ place_after word.now step place.now) }
+{
+    if place.step != step {
+        text.push(b'\n')?;
+        begin_line(text, word, place.step)?;
+    }
+    push_field(text, place.pid)
+}
+
+pub fn push_places(text: &mut Vec<u8>, word: &str, places: &[Place]) -> Result<(), OutOfMemory>
+    ensures { OnOk result (text.new.items ≡ text.old.items ++ place_lines word.now places.now) }
+{
+    let Some(first) = places.first() else {
+        return Ok(());
+    };
+    let mut step = first.step;
+    begin_line(text, word, step)?;
+    for place in places {
+        push_place(text, word, step, place)?;
+        step = place.step;
+    }
+    text.extend_from_slice(b"\n")
+}
+
+fn unread_words(unread: Unread) -> &'static str
+    ensures { result.now ≡ codes "unread " ++ unread_word unread }
+{
+    match unread {
+        Unread::NotToml => "unread J1",
+        Unread::WrongType => "unread J3",
+        Unread::BadWord => "unread J7",
+        Unread::TooLong => "unread long",
+        Unread::NothingToUndo => "unread undo",
+    }
+}
+
+pub fn push_unread(text: &mut Vec<u8>, unread: Unread) -> Result<(), OutOfMemory>
+    ensures { OnOk result (text.new.items ≡ text.old.items ++ unread_line unread) }
+{
+    push_line(text, unread_words(unread), &[])
 }

@@ -1,21 +1,32 @@
-//! The blocks of a report.
+//! The blocks of a report, and the report of a job.
 
-ghost use Rattle.std.specs.Prelude.{◌≡◌, ◌++◌, IfOk, OnOk, map, option_map};
+ghost use Rattle.std.specs.Prelude.{◌≡◌, ◌++◌, IfOk, OnOk, map, option_map, ◌<◌, ◌≤◌, IfErr, None, false, true};
 ghost use Rattle.bsp_engine.specs.Blocks.{reply_lines, result_before, text_of};
 ghost use Rattle.bsp_engine.specs.Told.{alone};
+ghost use Rattle.bsp_model.specs.Input.{input_fault};
+ghost use Rattle.bsp_step.specs.Turn.{turn_of};
+ghost use Rattle.bsp_run.specs.Run.{run};
+ghost use Rattle.bsp_run.specs.Result.{result_of};
+ghost use Rattle.bsp_run.specs.RunErrors.{input_fault_of};
+ghost use Rattle.bsp_incr.specs.Replies.{AreScratchReplies};
+ghost use Rattle.bsp_engine.specs.Inside.Replies.{job_told, replies_of};
 
 use crate::block_lines::push_refusal;
-use crate::change_lines::push_changes;
+use crate::change_lines::{push_changes, push_result};
+use crate::jobs::Job;
+use crate::live::begin;
 use crate::update_lines::push_update_alone;
-use crate::whole_run::push_result;
-use bsp_incr::Reply;
-use bsp_model::OutOfMemory;
+use bsp_gate::Gate;
+use bsp_incr::{Batch, Reply, Workers, scratch_run_behind};
+use bsp_model::{Input, OutOfMemory};
 use bsp_options::Detail;
-use bsp_run::RunResult;
+use bsp_run::{RunError, RunResult};
+use bsp_scratch::wide_result;
+use bsp_step::Program;
 use bsp_text::push_line;
-use std::alloc::Global;
+use std::alloc::{AllocError, Global};
+use std::thread::Threads;
 
-/// Appends what follows the line `run K` of a reply.
 fn push_reply(
     text: &mut Vec<u8>,
     places: bool,
@@ -56,7 +67,6 @@ fn result_before<'a>(
     }
 }
 
-/// Appends the text of a report.
 pub fn push_report(text: &mut Vec<u8>, replies: &[Reply], detail: Detail) -> Result<(), OutOfMemory>
     ensures { OnOk result (text.new.items ≡ text.old.items ++ text_of detail (map alone replies.now)) }
 {
@@ -77,4 +87,65 @@ pub fn report(alloc: Global, replies: &[Reply], detail: Detail) -> Result<Vec<u8
     let mut text = Vec::new(alloc);
     let pushed = push_report(&mut text, replies, detail);
     pushed.and(Ok(text))
+}
+
+fn replies_by_runs<P: Program, R: Threads + Sync, G: Gate>(
+    workers: &Workers<'_, R, G>,
+    program: &P,
+    input: Input,
+    batches: &[Batch],
+) -> Result<Vec<Reply>, RunError>
+    ensures law { IfOk result (λ all. AreScratchReplies (P.looks program.now)
+        (turn_of (P.acts program.now) (P.ending program.now))
+        input batches.now all.items) }
+    ensures lawful { OnOk result (input_fault input ≡ None) }
+    ensures input { IfErr result (λ e. input_fault input ≡ input_fault_of e) }
+{
+    let (rt, alloc, count, gate) = (workers.rt, workers.alloc, workers.count, workers.gate);
+    let make = |input: &Input| -> Result<RunResult, OutOfMemory>
+        requires lawful { input_fault input.now ≡ None }
+        requires workers { (0 < count) × (count ≤ 16) }
+        ensures { IfOk result (λ given. given ≡ result_of (run (turn_of (P.acts program.entry.now) (P.ending program.entry.now)) input.entry.now)) }
+    { wide_result(rt, alloc, program, input, count, gate) };
+    scratch_run_behind(alloc, input, batches, &make, gate)
+}
+
+#[tactic(auto, using(bsp_incr::proofs::Replying::scratch_replies_fixed), unfolding(crate::specs::Inside::Replies::replies_of))]
+fn scratch_replies<P: Program + Drop, R: Threads + Sync, G: Gate>(
+    workers: &Workers<'_, R, G>,
+    job: Job<P>,
+) -> Result<Vec<Reply>, OutOfMemory>
+    requires lawful { input_fault job.input ≡ None }
+    ensures { IfOk result (λ all. all.items ≡ replies_of P.acts P.ending P.looks true job) }
+{
+    let Job {
+        program,
+        input,
+        batches,
+    } = job;
+    match replies_by_runs(workers, &program, input, batches.as_slice()) {
+        Ok(replies) => Ok(replies),
+        Err(RunError::Input(_)) => unreachable!(),
+        Err(RunError::OutOfMemory) => Err(AllocError),
+    }
+}
+
+/// Leaves nothing in a text but the report of a job: by a session, which is let go, or from scratch, where no update is told.
+pub fn put_report<P: Program + Drop, R: Threads + Sync, G: Gate>(
+    workers: &Workers<'_, R, G>,
+    scratch: bool,
+    detail: Detail,
+    job: Job<P>,
+    text: &mut Vec<u8>,
+) -> Result<(), OutOfMemory>
+    requires lawful { input_fault job.input ≡ None }
+    ensures { OnOk result (text.new.items ≡ text_of detail (job_told P.acts P.ending P.looks scratch detail job)) }
+{
+    text.clear();
+    if scratch {
+        let replies = scratch_replies(workers, job)?;
+        return push_report(text, replies.as_slice(), detail);
+    }
+    begin(workers, detail, job, text, b"")?;
+    Ok(())
 }

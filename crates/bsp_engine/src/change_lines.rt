@@ -1,17 +1,17 @@
-//! The text of what of a result is another than in the result before.
+//! The text of a result: all of it, or what of it is another than in the result before.
 
 ghost use Rattle.std.specs.Prelude.{◌≡◌, ◌++◌, [], Some, false, OnOk, IfOk, option_map, slice_get, unwrap_or};
 ghost use Rattle.bsp_engine.specs.Changes.{changes_lines, changes_of, other, other_lines, others, piece_if, same_lines, same_row, same_words};
 ghost use Rattle.bsp_engine.specs.Inside.Touched.{cost_changes};
 ghost use Rattle.bsp_text.specs.Lines.{numbered};
-ghost use Rattle.bsp_engine.specs.Text.{cost_line, memory_line};
+ghost use Rattle.bsp_engine.specs.Text.{cost_line, memory_line, result_lines};
+ghost use Rattle.bsp_run.specs.Result.{result_of};
 
-use crate::block_lines::{push_cost, push_lines, push_status};
+use crate::block_lines::{push_all_lines, push_cost, push_lines, push_status};
 use bsp_model::{CostRow, Memories, MemoryRef, OutOfMemory, Same};
-use bsp_run::{Lines, RunResult};
+use bsp_run::{History, Lines, RunResult};
 use bsp_text::{push_line, push_memory_line};
 
-/// The item at a place, if there is one.
 fn item_at<T>(items: &[T], at: usize) -> Option<&T>
     ensures { option_map (λ x. x.now) result ≡ slice_get items.now at }
 {
@@ -19,7 +19,6 @@ fn item_at<T>(items: &[T], at: usize) -> Option<&T>
     Some(item)
 }
 
-/// Appends the line of a memory, unless it is the same as before.
 pub fn push_other_memory<'a>(
     text: &mut Vec<u8>,
     pid: u64,
@@ -37,7 +36,6 @@ pub fn push_other_memory<'a>(
     push_memory_line(text, &[pid], new)
 }
 
-/// The memory of a process, if there is one.
 fn memory_at(memories: Option<&Memories>, pid: usize) -> Option<MemoryRef<'_>>
     ensures { result ≡ slice_get (unwrap_or (option_map (λ m. m.now) memories.entry) []) pid }
 {
@@ -48,7 +46,6 @@ fn memory_at(memories: Option<&Memories>, pid: usize) -> Option<MemoryRef<'_>>
     Some(memories.get(pid))
 }
 
-/// Appends the line of each memory that is another than before, if there were any.
 pub fn push_other_memories(
     text: &mut Vec<u8>,
     olds: Option<&Memories>,
@@ -63,7 +60,6 @@ pub fn push_other_memories(
     Ok(())
 }
 
-/// Appends the lines of a process, or that it has none any more.
 fn push_lines_or_silence(text: &mut Vec<u8>, pid: u64, lines: &Lines) -> Result<(), OutOfMemory>
     ensures { OnOk result (text.new.items ≡ text.old.items ++ other_lines pid lines.now) }
 {
@@ -73,7 +69,6 @@ fn push_lines_or_silence(text: &mut Vec<u8>, pid: u64, lines: &Lines) -> Result<
     push_lines(text, pid, lines)
 }
 
-/// Appends the lines of a process, unless they are the same as before.
 pub fn push_other_lines(
     text: &mut Vec<u8>,
     pid: u64,
@@ -106,7 +101,6 @@ fn push_all_other_lines(
     Ok(())
 }
 
-/// Appends the cost of a superstep, unless it is the same as before.
 fn push_other_cost(
     text: &mut Vec<u8>,
     step: u64,
@@ -122,7 +116,6 @@ fn push_other_cost(
     }
 }
 
-/// Appends the cost of each superstep that has another one than before.
 pub fn push_other_costs(
     text: &mut Vec<u8>,
     olds: &[CostRow],
@@ -137,7 +130,6 @@ pub fn push_other_costs(
     Ok(())
 }
 
-/// Appends the costs that have changed, the number of supersteps if it has changed, and the sum.
 pub fn push_cost_changes(
     text: &mut Vec<u8>,
     olds: &[CostRow],
@@ -153,7 +145,6 @@ pub fn push_cost_changes(
     push_line(text, "total", &[total])
 }
 
-/// Appends the lines of what of a result is another than in the result before.
 pub fn push_changes(text: &mut Vec<u8>, old: &RunResult, new: &RunResult) -> Result<(), OutOfMemory>
     ensures { OnOk result (text.new.items ≡ text.old.items ++ changes_lines (changes_of old.now new.now)) }
 {
@@ -161,4 +152,20 @@ pub fn push_changes(text: &mut Vec<u8>, old: &RunResult, new: &RunResult) -> Res
     push_other_memories(text, Some(&old.memories), &new.memories)?;
     push_all_other_lines(text, old.lines.as_slice(), new.lines.as_slice())?;
     push_cost_changes(text, old.costs.as_slice(), new.costs.as_slice(), new.total)
+}
+
+pub fn push_result(text: &mut Vec<u8>, run: &RunResult) -> Result<(), OutOfMemory>
+    ensures { OnOk result (text.new.items ≡ text.old.items ++ result_lines run.now) }
+{
+    push_status(text, &run.status)?;
+    push_other_memories(text, None, &run.memories)?;
+    push_all_lines(text, run.lines.as_slice())?;
+    push_other_costs(text, &[], run.costs.as_slice())?;
+    push_line(text, "total", &[run.total])
+}
+
+pub fn push_run(text: &mut Vec<u8>, history: &History) -> Result<(), OutOfMemory>
+    ensures { OnOk result (text.new.items ≡ text.old.items ++ result_lines (result_of history.now)) }
+{
+    push_result(text, &history.result()?)
 }

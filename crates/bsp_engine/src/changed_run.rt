@@ -1,17 +1,17 @@
 //! The changes of the run after a batch against the run before it.
 
-ghost use Rattle.std.specs.Prelude.{◌≡◌, ◌++◌, false, length, IfOk, OnOk, slice_get};
+ghost use Rattle.std.specs.Prelude.{◌≡◌, ◌++◌, false, length, IfOk, OnOk, slice_get, map, slice_set, true};
 ghost use Rattle.bsp_run.specs.Result.{lines_of, memories_of, result_of};
 ghost use Rattle.bsp_engine.specs.Changes.{changes_lines, changes_of, other_lines, others, piece_if, same_lines, same_words};
 ghost use Rattle.bsp_text.specs.Lines.{numbered};
 ghost use Rattle.bsp_engine.specs.Text.{memory_line};
-ghost use Rattle.bsp_engine.specs.Inside.Touched.{AreSameUnflagged, IsUpdateBetween, flags_of, piece_there};
-ghost use Rattle.bsp_engine.specs.Untouched.{at_limit, end_alike};
+ghost use Rattle.bsp_engine.specs.Inside.Touched.{AreSameUnflagged, IsUpdateBetween, flags_of, piece_there, flagged};
+ghost use Rattle.bsp_engine.specs.Untouched.{at_limit, end_alike, touched, word_pids};
+ghost use Rattle.std.specs.List.{flat_map};
 
 use crate::block_lines::push_status;
 use crate::change_lines::{push_cost_changes, push_other_lines, push_other_memory};
-use crate::flags::flag_touched;
-use bsp_incr::{Edit, Update};
+use bsp_incr::{Edit, Place, Update};
 use bsp_model::OutOfMemory;
 use bsp_run::{History, Status};
 use std::alloc::Global;
@@ -55,7 +55,6 @@ fn flags_of(
     Ok(flags)
 }
 
-/// Appends the line of a process's memory, if its flag is up and the memory has changed.
 fn push_memory_if(
     text: &mut Vec<u8>,
     old: &History,
@@ -76,7 +75,6 @@ fn push_memory_if(
     }
 }
 
-/// Appends the line of each changed memory.
 fn push_changed_memories(
     text: &mut Vec<u8>,
     old: &History,
@@ -93,7 +91,6 @@ fn push_changed_memories(
     Ok(())
 }
 
-/// Appends the lines of a process, if its flag is up and its lines have changed.
 fn push_lines_if(
     text: &mut Vec<u8>,
     old: &History,
@@ -114,7 +111,6 @@ fn push_lines_if(
     }
 }
 
-/// Appends the lines of each process whose lines have changed.
 fn push_changed_lines(
     text: &mut Vec<u8>,
     old: &History,
@@ -150,4 +146,38 @@ pub fn push_changed(
     push_changed_memories(text, old, new, flags.as_slice())?;
     push_changed_lines(text, old, new, flags.as_slice())?;
     push_cost_changes(text, old.costs(), new.costs(), new.total())
+}
+
+fn flag(flags: &mut [bool], pid: u64)
+    ensures { flags.new ≡ slice_set flags.old pid true }
+{
+    if pid < flags.len() as u64 {
+        flags[pid as usize] = true;
+    }
+}
+
+fn flag_edits(flags: &mut [bool], batch: &[Edit])
+    ensures { flags.new ≡ flagged flags.old (flat_map word_pids batch.now) }
+{
+    for edit in batch {
+        if let Edit::Word { pid, .. } = edit {
+            flag(flags, *pid);
+        }
+    }
+}
+
+fn flag_places(flags: &mut [bool], places: &[Place])
+    ensures { flags.new ≡ flagged flags.old (map (λ q. q.pid) places.now) }
+{
+    for place in places {
+        flag(flags, place.pid);
+    }
+}
+
+pub fn flag_touched(flags: &mut [bool], batch: &[Edit], update: &Update)
+    ensures { flags.new ≡ flagged flags.old (touched batch.now update.now) }
+{
+    flag_edits(flags, batch);
+    flag_places(flags, update.executed.as_slice());
+    flag_places(flags, update.redelivered.as_slice());
 }

@@ -29,9 +29,7 @@ pub enum JobFault {
 /// Why a document was not read as a job.
 #[derive(Clone, Copy)]
 pub enum JobError {
-    /// It is none.
     Fault(JobFault),
-    /// Memory was refused.
     OutOfMemory,
 }
 
@@ -69,20 +67,6 @@ impl From<JobError> for EngineError {
     }
 }
 
-fn input_fault_line(fault: InputFault) -> &'static str
-    ensures { result.now ≡ fault_line (EngineError.Job (JobFault.Input fault)) }
-{
-    match fault {
-        InputFault::NoProcess => "fault J6 I1",
-        InputFault::TooMany => "fault J6 I2",
-        InputFault::LengthsDiffer => "fault J6 I3",
-        InputFault::MemoryTooLong => "fault J6 I4",
-        InputFault::ArgsTooLong => "fault J6 I5",
-        InputFault::BadLimit => "fault J6 I6",
-        InputFault::BadPrice => "fault J6 I7",
-    }
-}
-
 impl EngineError {
     /// The fault line, without its LF.
     pub fn line(&self) -> &'static str
@@ -96,7 +80,13 @@ impl EngineError {
             EngineError::Job(JobFault::WrongType) => "fault J3",
             EngineError::Job(JobFault::UnknownKey) => "fault J4",
             EngineError::Job(JobFault::UnknownProgram) => "fault J5",
-            EngineError::Job(JobFault::Input(fault)) => input_fault_line(fault),
+            EngineError::Job(JobFault::Input(InputFault::NoProcess)) => "fault J6 I1",
+            EngineError::Job(JobFault::Input(InputFault::TooMany)) => "fault J6 I2",
+            EngineError::Job(JobFault::Input(InputFault::LengthsDiffer)) => "fault J6 I3",
+            EngineError::Job(JobFault::Input(InputFault::MemoryTooLong)) => "fault J6 I4",
+            EngineError::Job(JobFault::Input(InputFault::ArgsTooLong)) => "fault J6 I5",
+            EngineError::Job(JobFault::Input(InputFault::BadLimit)) => "fault J6 I6",
+            EngineError::Job(JobFault::Input(InputFault::BadPrice)) => "fault J6 I7",
             EngineError::Job(JobFault::BadWord) => "fault J7",
             EngineError::Write => "fault write",
             EngineError::OutOfMemory => "fault memory",

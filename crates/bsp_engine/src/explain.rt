@@ -3,7 +3,6 @@
 mod batch;
 mod reasons;
 mod remark;
-mod syntax;
 
 use crate::asked::document_of;
 use crate::catalogue::Catalogue;
@@ -16,7 +15,6 @@ use remark::Remark;
 use std::alloc::Global;
 use std::fs;
 use std::rt::Files;
-use syntax::tell_syntax_error;
 use toml::Table;
 
 /// The table of a document that is these written bytes, or that has words before them and an LF behind them. Where it is no TOML, there is none, and it
@@ -40,7 +38,6 @@ fn read_table(
         Ok(table) => Some(table),
         Err(error) => {
             tell_syntax_error(remark, written, skipped, &error);
-            drop(error);
             None
         }
     }
@@ -49,71 +46,81 @@ fn read_table(
 /// Says what is wrong with a document, by its first fault, and where. Of a document that is a job there is nothing to say.
 pub fn explain<C: Catalogue, R: Alloc<A = Global> + Eprint>(rt: &R, document: &[u8]) {
     let mut remark = Remark::new(rt.alloc());
-    if let Some(table) = read_table(rt.alloc(), document, document, &mut remark) {
-        if let Err(wrong) = check::<C>(&table) {
-            tell_fault(&mut remark, &table, &wrong, C::names());
-        }
-        drop(table);
+    if let Some(table) = read_table(rt.alloc(), document, document, &mut remark)
+        && let Err(wrong) = check::<C>(&table)
+    {
+        tell_fault(&mut remark, &table, &wrong, C::names());
     }
     remark.say(rt);
-    drop(remark);
 }
 
 /// Whether the answer to a line is that the line was not read as a batch, or that its batch was refused.
 fn is_without_effect(answer: &[u8]) -> bool {
-    for (at, byte) in answer.iter().enumerate() {
-        if *byte == b'\n' {
-            let told = &answer[at + 1..];
-            return told.starts_with(b"unread J") || told.starts_with(b"refused ");
-        }
-    }
-    false
-}
-
-/// Tells what is wrong with a line of a live session, where this is the input.
-fn tell_line(alloc: Global, line: &[u8], input: &Input, remark: &mut Remark) {
-    let Ok(document) = document_of(alloc, line) else {
-        return;
+    let Some(end) = answer.iter().position(|byte| *byte == b'\n') else {
+        return false;
     };
-    if let Some(table) = read_table(alloc, document.as_slice(), line, remark) {
-        if let Some(value) = value_at(&table, "batch") {
-            tell_batch_fault(remark, value, input);
-        }
-        drop(table);
-    }
-    drop(document);
+    let told = &answer[end + 1..];
+    told.starts_with(b"unread J") || told.starts_with(b"refused ")
 }
 
-/// Says what is wrong with a line of a live session, where the answer to it and the input after it are these. Of a line that had its effect there is
-/// nothing to say.
+/// Says what is wrong with a line of a live session, unless the line had its effect. Given are the answer to the line, and the input after it.
 pub fn explain_line<R: Alloc<A = Global> + Eprint>(
     rt: &R,
     line: &[u8],
     answer: &[u8],
     input: &Input,
 ) {
-    if is_without_effect(answer) {
+    if is_without_effect(answer)
+        && let Ok(document) = document_of(rt.alloc(), line)
+    {
         let mut remark = Remark::new(rt.alloc());
-        tell_line(rt.alloc(), line, input, &mut remark);
+        if let Some(table) = read_table(rt.alloc(), document.as_slice(), line, &mut remark)
+            && let Some(value) = value_at(&table, "batch")
+        {
+            tell_batch_fault(&mut remark, value, input);
+        }
         remark.say(rt);
-        drop(remark);
     }
 }
 
-/// Says why a file can't be opened, or else that it can't be read.
 pub fn explain_file<R: Alloc<A = Global> + Files + Eprint>(rt: &R, path: &str) {
     let mut remark = Remark::new(rt.alloc());
     remark.add_escaped(path);
     match fs::open(rt, path) {
-        Ok(file) => {
-            drop(file);
-            remark.add(": it can't be read");
-        }
-        Err(error) => {
-            remark.add_value(": ", &error);
-            drop(error);
-        }
+        Ok(_) => remark.add(": it can't be read"),
+        Err(error) => remark.add_value(": ", &error),
     }
     remark.say(rt);
-    drop(remark);
+}
+
+/// The line and the column, both from 1, of the place after these bytes of a text. A column counts characters.
+fn position_after(before: &[u8]) -> (usize, usize) {
+    let mut line = 1usize;
+    let mut column = 1usize;
+    for byte in before {
+        if *byte == b'\n' {
+            line = line.saturating_add(1);
+            column = 1;
+        } else if *byte & 0xC0 != 0x80 {
+            column = column.saturating_add(1);
+        }
+    }
+    (line, column)
+}
+
+/// Tells where a text is no TOML document, and the first line of the reason. So many bytes stood before the text. Where memory was refused there is no
+/// place, and nothing is told.
+fn tell_syntax_error(remark: &mut Remark, text: &[u8], skipped: usize, error: &toml::de::Error) {
+    let Some(span) = error.span() else {
+        return;
+    };
+    let start = span.start.saturating_sub(skipped).min(text.len());
+    let (row, column) = position_after(&text[..start]);
+    remark.add_value("line ", row);
+    remark.add_value(", column ", column);
+    remark.add(": ");
+    match error.message().split_once("\n") {
+        Some((first, _)) => remark.add_escaped(first),
+        None => remark.add_escaped(error.message()),
+    }
 }

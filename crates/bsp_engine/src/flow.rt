@@ -1,7 +1,14 @@
-//! Where bytes come from and go to, and how often that failed.
+//! Where bytes come from and go to, and how often that failed: a whole document is read, and a whole text is written.
 
-ghost use Rattle.std.specs.Prelude.{◌≡◌, ◌<◌, ◌≤◌, ◌+◌, ◌-◌, ◌^◌, ℕ, List, Option, length, take, IfOk, OnOk, OnErr};
+ghost use Rattle.std.specs.Prelude.{◌≡◌, ◌<◌, ◌≤◌, ◌+◌, ◌-◌, ◌^◌, ℕ, List, Option, length, take, IfOk, OnOk, OnErr, ◌≢◌, IfErr, IfSome, Ok, Err, true, false};
 ghost use Rattle.std.specs.Io.KnownBytes.{Consumes, Appends, Keeps, IsAtEnd};
+ghost use Rattle.bsp_engine.specs.Flow.{TakesAtMost, AppendsPrefix};
+ghost use Rattle.bsp_engine.specs.Inside.Flow.{Gains};
+ghost use Rattle.bsp_engine.specs.Inside.Refusal.{IsUnread};
+ghost use Rattle.bsp_engine.specs.Limits.{most_document_bytes};
+
+use crate::errors::EngineError;
+use crate::limits::MOST_DOCUMENT_BYTES;
 
 /// A read or a write failed.
 #[derive(Clone, Copy)]
@@ -45,4 +52,71 @@ pub trait Sink {
         ensures none { IfOk result (λ n. n ≡ 0 → 0 < length buf.now → failures self.new ≡ failures self.old + 1) }
         ensures empty { IfOk result (λ n. length buf.now ≡ 0 → failures self.new ≡ failures self.old) }
         ensures failed { OnErr result (failures self.new ≡ failures self.old + 1) };
+}
+
+const CHUNK: usize = 4096;
+
+/// One read, whose bytes go to the end of those before. True where no byte is left.
+fn read_some<S: Source>(source: &mut S, bytes: &mut Vec<u8>) -> Result<bool, EngineError>
+    requires failures { S.failures source.old < 2 ^ 64 - 1 }
+    requires room { length bytes.old.items ≤ most_document_bytes }
+    ensures read { OnOk result (Gains (S.remaining source.old) (S.remaining source.new) bytes.old.items bytes.new.items) }
+    ensures taken { TakesAtMost (most_document_bytes + 1 - length bytes.old.items) (S.remaining source.old) (S.remaining source.new) }
+    ensures within { OnOk result (length bytes.new.items ≤ most_document_bytes + 1) }
+    ensures more { result ≡ Ok false → length bytes.old.items < length bytes.new.items }
+    ensures end { result ≡ Ok true → (IsAtEnd (S.remaining source.new)) × (bytes.new.items ≡ bytes.old.items) }
+    ensures failed { result ≡ Err EngineError.Read → S.failures source.new ≡ S.failures source.old + 1 }
+    ensures calm { result ≢ Err EngineError.Read → S.failures source.new ≡ S.failures source.old }
+    ensures short { result ≢ Err EngineError.TooLong }
+    ensures unread { IfErr result IsUnread }
+{
+    let mut chunk = [0u8; CHUNK];
+    let most = CHUNK.min(MOST_DOCUMENT_BYTES + 1 - bytes.len());
+    let Ok(n) = source.read(&mut chunk[..most]) else {
+        return Err(EngineError::Read);
+    };
+    match bytes.extend_from_slice(&chunk[..n]) {
+        Ok(()) => Ok(n == 0),
+        Err(_) => Err(EngineError::OutOfMemory),
+    }
+}
+
+/// Makes all bytes of the source the bytes of a document, of which there are at most `MOST_DOCUMENT_BYTES`. At most one more is ever taken.
+pub fn read_all<S: Source>(source: &mut S, document: &mut Vec<u8>) -> Result<(), EngineError>
+    requires { S.failures source.old < 2 ^ 64 - 1 }
+    ensures all { OnOk result (IfSome (S.remaining source.old) (λ bytes. document.new.items ≡ bytes)) }
+    ensures end { OnOk result (IsAtEnd (S.remaining source.new)) }
+    ensures fits { OnOk result (length document.new.items ≤ most_document_bytes) }
+    ensures taken { TakesAtMost (most_document_bytes + 1) (S.remaining source.old) (S.remaining source.new) }
+    ensures long { result ≡ Err EngineError.TooLong → IfSome (S.remaining source.old) (λ bytes. most_document_bytes < length bytes) }
+    ensures failed { result ≡ Err EngineError.Read → S.failures source.new ≡ S.failures source.old + 1 }
+    ensures calm { result ≢ Err EngineError.Read → S.failures source.new ≡ S.failures source.old }
+    ensures unread { IfErr result IsUnread }
+{
+    document.clear();
+    while document.len() <= MOST_DOCUMENT_BYTES {
+        if read_some(source, document)? {
+            return Ok(());
+        }
+    }
+    Err(EngineError::TooLong)
+}
+
+/// Writes all of the text. Where a write fails or takes no byte, a beginning of the text went out.
+pub fn write_text<K: Sink>(sink: &mut K, text: &[u8]) -> Result<(), Failed>
+    requires { K.failures sink.old < 2 ^ 64 - 1 }
+    ensures ok { OnOk result (Appends (K.contents sink.old) (K.contents sink.new) text.now) }
+    ensures err { OnErr result (AppendsPrefix (K.contents sink.old) (K.contents sink.new) text.now) }
+    ensures calm { OnOk result (K.failures sink.new ≡ K.failures sink.old) }
+    ensures failed { OnErr result (K.failures sink.new ≡ K.failures sink.old + 1) }
+{
+    let mut at = 0;
+    while at < text.len() {
+        let n = sink.write(&text[at..])?;
+        if n == 0 {
+            return Err(Failed);
+        }
+        at += n;
+    }
+    Ok(())
 }

@@ -1,22 +1,17 @@
 //! The job of a document.
 //!
-//! A document is read in this order: its tree (`tree`, J1), the keys and the shapes of their values (`keys`, `shapes`; J2 to J4), whether its
-//! keys say a program (J5), the sizes of the input (`sizes`, J6), and the signs of the numbers (`signs`, J7). The first fault is answered with its
-//! place (`wrong`). Where there is none, and only then, the values are made (the catalogue's program, `inputs`, `values`).
+//! A document is read in this order: its tree (`tree`, J1), the keys and the shapes of their values (`checks`, `shapes`; J2 to J4), whether its
+//! keys say a program (J5), the sizes of the input (J6), and the signs of the numbers (J7). The first fault is answered with its place. Where
+//! there is none, and only then, the values are made (the catalogue's program, `values`).
 
-mod inputs;
-mod keys;
-mod own;
+mod checks;
 mod shapes;
-mod signs;
-mod sizes;
 mod values;
-mod wrong;
 
 ghost use Rattle.std.specs.Prelude.{◌≡◌, IfOk, IfErr, IsSomeAnd, None, OnOk, Some, Ok, Err};
 ghost use Rattle.toml.specs.View.{table_view};
 ghost use Rattle.bsp_model.specs.Input.{input_fault};
-ghost use Rattle.bsp_engine.specs.Document.{IsPrinted, own_members};
+ghost use Rattle.bsp_engine.specs.Document.{IsPrinted, own_members, without};
 ghost use Rattle.bsp_engine.specs.Refusal.{IfFault};
 ghost use Rattle.bsp_engine.specs.JobOf.{job_of_tree, job_of};
 ghost use Rattle.bsp_engine.specs.Inside.Faultless.{IsFaultless};
@@ -26,24 +21,18 @@ use crate::catalogue::Catalogue;
 use crate::errors::{JobError, JobFault};
 use crate::tree::{elements_at, read_tree};
 use bsp_incr::Batch;
-use bsp_model::{Input, Seq};
-use inputs::read_input;
-use keys::check_keys;
-use own::own_text;
-pub use shapes::{ArrayOf, Each, EditForm, Integer, Shape, all_fit, fits};
-use signs::check_signs;
-pub use signs::{NotNegative, has_negative_edit};
-use sizes::check_sizes;
-pub use sizes::count_of_args;
-use std::alloc::Global;
+use bsp_model::{Input, OutOfMemory, Seq};
+use checks::{check_keys, check_signs, check_sizes};
+pub use checks::{NotNegative, count_of_args, has_negative_edit};
+pub use shapes::{ArrayOf, Each, EditForm, Integer, Path, Shape, Wrong, all_fit, fits};
+use std::alloc::{AllocError, Global};
 use toml::Table;
+use values::read_input;
 pub use values::{Described, edit_in, read_each};
-pub use wrong::{Path, Wrong};
 
 /// A program, its input, over which a run may start, and batches of edits.
 #[derive(Drop)]
 pub struct Job<P> {
-    /// The program.
     pub program: P,
     /// The input, which has none of the faults I1 to I7.
     pub input: Input,
@@ -51,7 +40,6 @@ pub struct Job<P> {
     pub batches: Seq<Batch>,
 }
 
-/// Refuses the first of J2 to J7 that the document has.
 pub fn check<C: Catalogue>(table: &Table) -> Result<(), Wrong<'_>>
     ensures ok { OnOk result (IsFaultless C.meaning (table_view table.now)) }
     ensures wrong { IfErr result (λ w. job_of_tree C.meaning (Some (table_view table.now)) ≡ Err w.fault) }
@@ -97,9 +85,7 @@ pub fn read_job<C: Catalogue>(alloc: Global, bytes: &[u8]) -> Result<Job<C::Prog
     ensures fault { IfErr result (λ e. IfFault e (λ f. job_of C.meaning bytes.now ≡ Err f)) }
 {
     let table = read_tree(alloc, bytes)?;
-    let job = job_in::<C>(alloc, &table);
-    drop(table);
-    job
+    job_in::<C>(alloc, &table)
 }
 
 /// The same, and the text of the keys that are the catalogue's own.
@@ -114,11 +100,34 @@ pub fn read_job_and_keys<C: Catalogue>(
 {
     let table = read_tree(alloc, bytes)?;
     let job = job_in::<C>(alloc, &table)?;
-    match own_text(alloc, table) {
-        Ok(own) => Ok((job, own)),
-        Err(_) => {
-            drop(job);
-            Err(JobError::OutOfMemory)
-        }
+    Ok((job, own_text(alloc, table)?))
+}
+
+fn take_out(table: &mut Table, key: &str)
+    ensures { table_view table.new ≡ without key.now (table_view table.old) }
+{
+    table.remove(key);
+}
+
+fn take_common_out(table: &mut Table)
+    ensures { table_view table.new ≡ own_members (table_view table.old) }
+{
+    take_out(table, "limit");
+    take_out(table, "g");
+    take_out(table, "l");
+    take_out(table, "memory");
+    take_out(table, "args");
+    take_out(table, "batches");
+}
+
+/// The text of the keys that are the catalogue's own, made of the whole table of a document.
+fn own_text(alloc: Global, mut table: Table) -> Result<Vec<u8>, OutOfMemory>
+    ensures { IfOk result (λ own. IsPrinted (own_members (table_view table)) own.items) }
+{
+    take_common_out(&mut table);
+    match toml::table_to_string(alloc, &table) {
+        Ok(text) => Ok(text.into_bytes()),
+        // What was read has no date that can't be printed: memory was refused.
+        Err(_) => Err(AllocError),
     }
 }

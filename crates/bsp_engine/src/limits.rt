@@ -6,7 +6,6 @@ ghost use Rattle.bsp_engine.specs.Limits.{most_document_bytes};
 /// The largest number of bytes of a document.
 pub const MOST_DOCUMENT_BYTES: usize = 16_777_216;
 
-/// The constant is the limit that the definitions name.
 pub fn is_that_of_the_profile()
     ensures { MOST_DOCUMENT_BYTES ≡ most_document_bytes }
 {}

@@ -1,23 +1,29 @@
 //! Sessions that stay open, with what takes their batches back.
 
-ghost use Rattle.std.specs.Prelude.{◌≡◌, ◌++◌, IfOk, OnOk, None, false};
+ghost use Rattle.std.specs.Prelude.{◌≡◌, ◌++◌, IfOk, OnOk, None, false, IfErr, OnErr, Some, length, unwrap_or};
 ghost use Rattle.bsp_model.specs.Input.{input_fault};
 ghost use Rattle.bsp_step.specs.Turn.{turn_of};
 ghost use Rattle.bsp_run.specs.Run.{run};
-ghost use Rattle.bsp_incr.specs.Edits.{refusal_of};
+ghost use Rattle.bsp_incr.specs.Edits.{refusal_of, edited};
 ghost use Rattle.bsp_incr.specs.Inside.Changes.{update_of};
 ghost use Rattle.bsp_engine.specs.Blocks.{blocks_after, reply_lines, text_of};
 ghost use Rattle.bsp_engine.specs.Inside.LiveReplies.{advanced, live_replies, live_reply, live_replying, opening_block};
 ghost use Rattle.bsp_engine.specs.Inside.Replies.{job_told};
 ghost use Rattle.bsp_engine.specs.Live.{after, after_batch, after_batches, answer_lines, answer_to, last_result, opened, run_of, undos_after};
+ghost use Rattle.bsp_run.specs.Result.{result_of};
+ghost use Rattle.bsp_incr.specs.Replies.{refusal_in};
+ghost use Rattle.bsp_incr.specs.declared.reply.Reply.TheVariants.{Done};
+ghost use Rattle.bsp_engine.specs.Told.{told_by};
+ghost use Rattle.bsp_engine.specs.Inside.Given.{result_if};
+ghost use Rattle.bsp_engine.specs.Inside.Touched.{IsUpdateBetween};
+ghost use Rattle.bsp_engine.specs.Untouched.{AreRunsAround};
 
-use crate::accepted::{apply, push_accepted};
 use crate::asked::{Asked, Unread};
-use crate::block_lines::push_refusal;
+use crate::block_lines::{push_refusal, push_unread};
+use crate::change_lines::push_run;
+use crate::changed_run::push_changed;
 use crate::jobs::Job;
-use crate::unread::push_unread;
 use crate::update_lines::push_update;
-use crate::whole_run::push_run;
 use bsp_crew::DEPTH_OF_RUNS;
 use bsp_gate::Gate;
 use bsp_incr::{Batch, Edit, EditError, Session, Update, Workers};
@@ -35,7 +41,6 @@ use std::thread::Threads;
 #[derive(Drop)]
 pub struct Live<P: Program> {
     session: Session<P>,
-    /// What the blocks tell.
     detail: Detail,
     /// The batches that take the accepted ones back that still stand, the newest first.
     undos: VecDeque<Batch>,
@@ -50,7 +55,6 @@ impl<P: Program> Model for Live<P> {
 }
 
 impl<P: Program + Drop> Live<P> {
-    /// The input as it is now.
     pub fn input(&self) -> &Input
         ensures { result.now ≡ self.now.input }
     {
@@ -67,7 +71,6 @@ impl<P: Program + Drop> Live<P> {
     }
 }
 
-/// The session of a lawful input, and what was done for it.
 fn open<P: Program + Drop, R: Threads + Sync, G: Gate>(
     workers: &Workers<'_, R, G>,
     detail: Detail,
@@ -99,7 +102,6 @@ fn open<P: Program + Drop, R: Threads + Sync, G: Gate>(
     }
 }
 
-/// Appends the block of the opening, for which this was done.
 fn push_opening<P: Program + Drop>(
     live: &Live<P>,
     update: &Update,
@@ -123,7 +125,6 @@ fn push_opening<P: Program + Drop>(
     )
 }
 
-/// Keeps what takes a batch back, unless the batch is refused.
 fn keep_undo<P: Program + Drop>(
     alloc: Global,
     live: &mut Live<P>,
@@ -138,7 +139,57 @@ fn keep_undo<P: Program + Drop>(
     }
 }
 
-/// Applies a batch of edits, and appends the lines of its reply.
+/// Applies a batch of edits. The history that it replaced, if it replaced one, goes to `before`.
+fn apply<P: Program + Drop, R: Threads + Sync, G: Gate>(
+    workers: &Workers<'_, R, G>,
+    session: &mut Session<P>,
+    batch: &[Edit],
+    before: &mut Option<History>,
+) -> Result<Update, EditError>
+    ensures refused { IfErr result (λ e. refusal_of session.old.input batch.now ≡ refusal_in e) }
+    ensures program { session.new.program ≡ session.old.program }
+    ensures input { OnOk result (session.new.input ≡ edited session.old.input batch.now) }
+    ensures runs { IfOk result (λ update. AreRunsAround (turn_of (P.acts session.old.program) (P.ending session.old.program)) (P.looks session.old.program)
+        session.old.input batch.now update session.old.history session.new.history) }
+    ensures before { OnOk result (unwrap_or before.new session.new.history ≡ session.old.history) }
+    ensures kept { OnErr result (session.new ≡ session.old) }
+{
+    // That the input is lawful, and the history its run, is known where they are read.
+    let _input = session.input();
+    let _history = session.history();
+    session.apply_keeping(
+        workers.rt,
+        workers.alloc,
+        batch,
+        workers.count,
+        workers.gate,
+        before,
+    )
+}
+
+fn push_accepted<P: Program>(
+    text: &mut Vec<u8>,
+    detail: Detail,
+    program: &P,
+    nprocs: usize,
+    old: &History,
+    new: &History,
+    batch: &[Edit],
+    update: &Update,
+) -> Result<(), OutOfMemory>
+    requires count { nprocs ≡ length (result_of old.now).memories }
+    requires update { IsUpdateBetween old.now batch.now update.now new.now }
+    ensures { OnOk result (text.new.items ≡ text.old.items ++ reply_lines detail.places (result_if detail.changes old.now)
+        (told_by detail (P.looks program.now) (Some old.now) new.now (Done (result_of new.now) (Some update.now)))) }
+{
+    if detail.changes {
+        push_changed(text, nprocs, old, new, batch, update)?;
+    } else {
+        push_run(text, new)?;
+    }
+    push_update(text, detail, program, Some(old), new, update)
+}
+
 fn advance<P: Program + Drop, R: Threads + Sync, G: Gate>(
     workers: &Workers<'_, R, G>,
     live: &mut Live<P>,
@@ -185,7 +236,6 @@ fn make<P: Program + Drop, R: Threads + Sync, G: Gate>(
     advance(workers, live, text, batch)
 }
 
-/// Makes batches, and appends the block of each; the first has the number 1.
 fn make_all<P: Program + Drop, R: Threads + Sync, G: Gate>(
     workers: &Workers<'_, R, G>,
     live: &mut Live<P>,
@@ -253,7 +303,6 @@ pub fn begin<P: Program + Drop, R: Threads + Sync, G: Gate>(
     }
 }
 
-/// Does what a line asks, and appends what is answered.
 pub fn push_answer<P: Program + Drop, R: Threads + Sync, G: Gate>(
     workers: &Workers<'_, R, G>,
     live: &mut Live<P>,
@@ -264,17 +313,9 @@ pub fn push_answer<P: Program + Drop, R: Threads + Sync, G: Gate>(
     ensures text { OnOk result (text.new.items ≡ text.old.items ++ answer_lines live.old.detail.places (last_result P.acts P.ending live.old) (answer_to (live_replying P.acts P.ending P.looks) live.old asked)) }
 {
     match asked {
-        Asked::Batch(batch) => {
-            let made = make(workers, live, text, batch.as_slice());
-            drop(batch);
-            made
-        }
+        Asked::Batch(batch) => make(workers, live, text, batch.as_slice()),
         Asked::Undo => match live.undos.pop_front() {
-            Some(undo) => {
-                let advanced = advance(workers, live, text, undo.as_slice());
-                drop(undo);
-                advanced
-            }
+            Some(undo) => advance(workers, live, text, undo.as_slice()),
             None => push_unread(text, Unread::NothingToUndo),
         },
         Asked::Nothing(unread) => push_unread(text, unread),

@@ -17,7 +17,6 @@ const NEVER: u64 = u64::MAX;
 
 /// A runtime that tells whether its standard error is a terminal.
 pub trait Watched {
-    /// Whether somebody may watch standard error.
     fn is_watched(&self) -> bool;
 }
 
@@ -38,12 +37,10 @@ pub struct Progress<'a, R> {
     since: AtomicU64,
     /// When the line was written that stands there, or `NEVER` where none does.
     written: AtomicU64,
-    /// The number of the present run.
     run: AtomicU64,
 }
 
 impl<'a, R: Clock + Eprint> Progress<'a, R> {
-    /// The gate of work that begins now.
     pub fn new(rt: &'a R, is_shown: bool) -> Progress<'a, R> {
         Progress {
             rt,
@@ -58,7 +55,6 @@ impl<'a, R: Clock + Eprint> Progress<'a, R> {
         }
     }
 
-    /// The present time, where progress is shown.
     fn millis(&self) -> Option<u64> {
         let began = self.began?;
         let now = Instant::now(self.rt).ok()?;
@@ -85,15 +81,6 @@ impl<'a, R: Clock + Eprint> Progress<'a, R> {
                 .compare_exchange(written, now, Ordering::SeqCst, Ordering::SeqCst)
                 .is_ok()
     }
-
-    /// The work goes on with a run. After a pause its time begins anew.
-    fn enter_run(&self, number: u64) {
-        self.run.store(number, Ordering::SeqCst);
-        if self.since.load(Ordering::SeqCst) == NEVER {
-            let now = self.millis().unwrap_or(NEVER);
-            self.since.store(now, Ordering::SeqCst);
-        }
-    }
 }
 
 impl<'a, R: Clock + Eprint + Sync> Gate for Progress<'a, R> {
@@ -105,7 +92,12 @@ impl<'a, R: Clock + Eprint + Sync> Gate for Progress<'a, R> {
 
     fn enter(&self, depth: usize, number: u64) {
         if depth == DEPTH_OF_RUNS {
-            self.enter_run(number);
+            self.run.store(number, Ordering::SeqCst);
+            // After a pause the time of the work begins anew.
+            if self.since.load(Ordering::SeqCst) == NEVER {
+                let now = self.millis().unwrap_or(NEVER);
+                self.since.store(now, Ordering::SeqCst);
+            }
         } else if self.claims_line() {
             let run = self.run.load(Ordering::SeqCst);
             let _ = eprint!(self.rt; "\rrun {run}, superstep {number}\x1b[K");

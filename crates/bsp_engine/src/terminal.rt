@@ -1,13 +1,14 @@
 //! Two ends of a conversation: what is heard and what is said, in the order in which it was.
 
-ghost use Rattle.std.specs.Prelude.{◌≡◌, ◌≤◌, ◌∷◌, [], List, Option, length, take, IfOk, OnErr};
+ghost use Rattle.std.specs.Prelude.{◌≡◌, ◌≤◌, ◌∷◌, [], List, Option, length, take, IfOk, OnErr, ◌+◌, ◌-◌, ◌^◌, ◌<◌, nat_lt};
 ghost use Rattle.bsp_engine.specs.Talk.{Event, Fails, Goes, heard, said};
 
 use crate::explain::explain_line;
-use crate::flow::Failed;
+use crate::flow::{Failed, Sink, Source};
 use bsp_model::Input;
 use std::alloc::Global;
 use std::io::{Read, Write};
+use std::marker::Model;
 
 /// Where bytes come from and where they go to, of which the one may wait for the other.
 pub trait Terminal {
@@ -53,23 +54,90 @@ impl<'a, E: Alloc<A = Global> + Eprint, R: Read, W: Write> Terminal for Console<
     ghost log = { λ _. None };
 
     fn hear(&mut self, buf: &mut [u8]) -> Result<usize, Failed> {
-        match self.reader.read(buf) {
-            Ok(n) => Ok(n),
-            Err(_) => Err(Failed),
-        }
+        self.reader.read(buf).or(Err(Failed))
     }
 
     fn say(&mut self, buf: &[u8]) -> Result<usize, Failed> {
-        let Ok(n) = self.writer.write(buf) else {
-            return Err(Failed);
-        };
-        match self.writer.flush() {
-            Ok(()) => Ok(n),
-            Err(_) => Err(Failed),
-        }
+        let n = self.writer.write(buf).or(Err(Failed))?;
+        self.writer.flush().and(Ok(n)).or(Err(Failed))
     }
 
     fn answered(&mut self, line: &[u8], answer: &[u8], input: &Input) {
         explain_line(self.rt, line, answer, input);
+    }
+}
+
+/// A reader or writer of std, and how often it failed. It answers as that does; any error is `Failed`.
+#[derive(Drop)]
+pub struct Counted<T> {
+    inner: T,
+    failures: u64,
+}
+
+impl<T> Model for Counted<T> {
+    ghost use Rattle.bsp_engine.specs.Counting.{Counting};
+
+    ghost Value = { Counting T };
+
+    ghost view = { λ c. record { inner = c.inner; failures = c.failures } };
+}
+
+impl<T> Counted<T> {
+    /// No failure is counted yet.
+    pub fn new(inner: T) -> Counted<T>
+        ensures { result ≡ record { inner = inner; failures = 0 } }
+    {
+        Counted { inner, failures: 0 }
+    }
+
+    /// Whether a failure is counted.
+    pub fn has_failed(&self) -> bool
+        ensures { result ≡ nat_lt 0 self.now.failures }
+    {
+        self.failures > 0
+    }
+
+    fn count_failure(&mut self)
+        requires { self.old.failures < 2 ^ 64 - 1 }
+        ensures { self.new ≡ record self.old { failures = self.old.failures + 1 } }
+    {
+        self.failures += 1;
+    }
+}
+
+impl<R: Read> Source for Counted<R> {
+    ghost remaining = { λ c. R.remaining c.inner };
+
+    ghost failures = { λ c. c.failures };
+
+    fn read(&mut self, buf: &mut [u8]) -> Result<usize, Failed> {
+        match self.inner.read(buf) {
+            Ok(n) => Ok(n),
+            Err(_) => {
+                self.count_failure();
+                Err(Failed)
+            }
+        }
+    }
+}
+
+impl<W: Write> Sink for Counted<W> {
+    ghost contents = { λ c. W.contents c.inner };
+
+    ghost failures = { λ c. c.failures };
+
+    fn write(&mut self, buf: &[u8]) -> Result<usize, Failed> {
+        match self.inner.write(buf) {
+            Ok(n) => {
+                if n == 0 && !buf.is_empty() {
+                    self.count_failure();
+                }
+                Ok(n)
+            }
+            Err(_) => {
+                self.count_failure();
+                Err(Failed)
+            }
+        }
     }
 }

@@ -6,13 +6,11 @@
 ghost use Rattle.std.specs.Prelude.{◌<◌, ◌≤◌};
 
 use crate::catalogue::Catalogue;
-use crate::counted::Counted;
-use crate::documents::engine;
+use crate::documents::{engine, follow};
 use crate::errors::EngineError;
 use crate::explain::{explain, explain_file};
-use crate::following::follow;
 use crate::progress::{Progress, Watched};
-use crate::terminal::Console;
+use crate::terminal::{Console, Counted};
 use bsp_gate::Gate;
 use bsp_options::{Options, Tool, read_options, words_status};
 use std::alloc::Global;
@@ -23,12 +21,6 @@ use std::thread::Threads;
 use std::time::Clock;
 use std::{env, fs, io};
 
-/// The words of the command line, the program's name first.
-fn given_words<R: Env + Alloc<A = Global>>(rt: &R) -> io::Result<Vec<String>> {
-    Ok(env::args(rt)?.collect(rt.alloc())?)
-}
-
-/// Says on standard error why there is no report, or not all of it.
 fn failed<R: Eprint>(rt: &R, error: EngineError) -> ExitCode {
     let _ = eprintln!(rt; "{}", error.line());
     ExitCode::from(error.status())
@@ -72,7 +64,7 @@ fn ended<C: Catalogue, R: Alloc<A = Global> + Eprint>(
     status
 }
 
-/// Runs the job of the document in a file, and then answers each line of standard input. It is told whether the file can't be read.
+/// Runs the job of the document in a file, and then answers each line of standard input. Whether the file can't be read is told too.
 fn follow_file<
     C: Catalogue,
     R: Alloc<A = Global> + Files + Input + Print + Eprint + Threads + Clock + Sync,
@@ -82,13 +74,11 @@ fn follow_file<
     path: &str,
     document: &mut Vec<u8>,
     progress: &Progress<'_, R>,
-    is_unread: &mut bool,
-) -> Result<(), EngineError>
+) -> (Result<(), EngineError>, bool)
     requires workers { (0 < options.workers) × (options.workers ≤ 16) }
 {
     let Ok(file) = fs::open(rt, path) else {
-        *is_unread = true;
-        return Err(EngineError::Read);
+        return (Err(EngineError::Read), true);
     };
     let mut source = Counted::new(file);
     let mut terminal = Console::new(rt, rt.reader(), io::writer(rt));
@@ -101,10 +91,7 @@ fn follow_file<
         document,
         progress,
     );
-    *is_unread = source.has_failed();
-    drop(terminal);
-    drop(source);
-    outcome
+    (outcome, source.has_failed())
 }
 
 /// Runs a job, shows its progress, and says why there is no report where that is so.
@@ -116,26 +103,23 @@ fn run_shown<
 {
     let progress = Progress::new(rt, !options.quiet && rt.is_watched());
     let mut document = Vec::new(rt.alloc());
-    let mut is_unread = false;
-    let outcome = match path {
-        None => engine::<C, R, _, _, _>(
-            rt,
-            rt.alloc(),
-            options,
-            &mut Counted::new(rt.reader()),
-            &mut Counted::new(io::writer(rt)),
-            &mut document,
-            &progress,
-        ),
-        Some(path) => {
-            let unread = &mut is_unread;
-            follow_file::<C, R>(rt, options, path, &mut document, &progress, unread)
+    let (outcome, is_unread) = match path {
+        None => {
+            let told = engine::<C, R, _, _, _>(
+                rt,
+                rt.alloc(),
+                options,
+                &mut Counted::new(rt.reader()),
+                &mut Counted::new(io::writer(rt)),
+                &mut document,
+                &progress,
+            );
+            (told, false)
         }
+        Some(path) => follow_file::<C, R>(rt, options, path, &mut document, &progress),
     };
     progress.leave();
     let status = ended::<C, R>(rt, outcome, document.as_slice());
-    drop(document);
-    drop(progress);
     if is_unread {
         explain_file(rt, path.unwrap_or(""));
     }
@@ -145,29 +129,30 @@ fn run_shown<
 /// An option that asks of a session for more than a run from scratch has, if one was given.
 fn option_of_sessions(options: Options, path: Option<&str>) -> Option<&'static str> {
     if path.is_some() {
-        return Some("--follow <FILE>");
+        Some("--follow <FILE>")
+    } else if options.detail.why {
+        Some("--why")
+    } else if options.detail.update_cost {
+        Some("--update-cost")
+    } else {
+        None
     }
-    if options.detail.why {
-        return Some("--why");
-    }
-    if options.detail.update_cost {
-        return Some("--update-cost");
-    }
-    None
 }
 
 /// Does what the words ask for, unless the options do not go together; the first word is the program's name.
 fn run_words<
     C: Catalogue,
     R: Alloc<A = Global> + Files + Input + Print + Eprint + Watched + Threads + Clock + Sync,
->(rt: &R, tool: &Tool, words: &[&str]) -> ExitCode {
-    let (options, path) = match read_options(rt.alloc(), tool, words) {
-        Ok(read) => read,
-        Err(error) => {
-            let status = refused(rt, &error);
-            drop(error);
-            return status;
+>(rt: &R, tool: &Tool, words: &[String]) -> ExitCode {
+    let mut texts = Vec::new(rt.alloc());
+    for word in words {
+        if texts.push(word.as_str()).is_err() {
+            return failed(rt, EngineError::OutOfMemory);
         }
+    }
+    let (options, path) = match read_options(rt.alloc(), tool, texts.as_slice()) {
+        Ok(read) => read,
+        Err(error) => return refused(rt, &error),
     };
     match option_of_sessions(options, path) {
         Some(option) if options.scratch => {
@@ -178,21 +163,8 @@ fn run_words<
     }
 }
 
-/// The same of the words of the command line.
-fn run_given<
-    C: Catalogue,
-    R: Alloc<A = Global> + Files + Input + Print + Eprint + Watched + Threads + Clock + Sync,
->(rt: &R, tool: &Tool, words: &[String]) -> ExitCode {
-    let mut texts = Vec::new(rt.alloc());
-    for word in words {
-        if texts.push(word.as_str()).is_err() {
-            drop(texts);
-            return failed(rt, EngineError::OutOfMemory);
-        }
-    }
-    let status = run_words::<C, R>(rt, tool, texts.as_slice());
-    drop(texts);
-    status
+fn given_words<R: Env + Alloc<A = Global>>(rt: &R) -> io::Result<Vec<String>> {
+    Ok(env::args(rt)?.collect(rt.alloc())?)
 }
 
 /// All that a tool does: it reads the words of its command line, and then runs the job of the document on standard input, of which the report
@@ -203,15 +175,7 @@ pub fn run_tool<
     R: Env + Alloc<A = Global> + Files + Input + Print + Eprint + Watched + Threads + Clock + Sync,
 >(rt: &R, tool: &Tool) -> ExitCode {
     match given_words(rt) {
-        Ok(words) => {
-            let status = run_given::<C, R>(rt, tool, words.as_slice());
-            drop(words);
-            status
-        }
-        Err(error) => {
-            let status = unread(rt, &error);
-            drop(error);
-            status
-        }
+        Ok(words) => run_words::<C, R>(rt, tool, words.as_slice()),
+        Err(error) => unread(rt, &error),
     }
 }

@@ -44,20 +44,14 @@ pub fn has(table: &Table, key: &str) -> bool
 pub fn text_at<'a>(table: &'a Table, key: &str) -> Option<&'a str>
     ensures { option_copied result ≡ text_at key.now (table_view table.now) }
 {
-    match value_at(table, key) {
-        Some(value) => value.as_str(),
-        None => None,
-    }
+    value_at(table, key)?.as_str()
 }
 
 /// The integer at a key of the top.
 pub fn integer_at(table: &Table, key: &str) -> Option<i64>
     ensures { result ≡ integer_at key.now (table_view table.now) }
 {
-    match value_at(table, key) {
-        Some(value) => value.as_integer(),
-        None => None,
-    }
+    value_at(table, key)?.as_integer()
 }
 
 /// The elements of an array; of another value none.

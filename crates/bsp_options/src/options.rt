@@ -41,13 +41,15 @@ pub struct Options {
 /// A tool: how its command line is called, and what the help tells. The options are those of every tool.
 #[derive(Clone, Copy)]
 pub struct Tool {
-    /// The name of the program.
     pub name: &'static str,
     /// What the tool does, in a line.
     pub about: &'static str,
     /// What the help says below the options: `after_help!` of the tool's keys and an example.
     pub after_help: &'static str,
 }
+
+const SCRATCH_HELP: &str =
+    "Runs each input from its first superstep, on one thread, and reuses nothing";
 
 const PLACES_HELP: &str = "Lists the places of turns and deliveries, by superstep and process";
 
@@ -72,7 +74,6 @@ fn workers_arg<'a>(alloc: Global) -> Arg<'a>
         .default_value("1")
 }
 
-/// An option that is given or not.
 fn flag_arg<'a>(alloc: Global, name: &'a str, help: &'a str) -> Arg<'a>
     ensures own { result.global ≡ false }
     ensures rule { rule_of result ≡ flag_rule name.now }
@@ -93,42 +94,23 @@ fn follow_arg<'a>(alloc: Global) -> Arg<'a>
         .help("Reads the document from FILE, then answers each line of standard input as it comes")
 }
 
-/// The command with the options that say how a job is run.
-fn running_command<'a>(alloc: Global, tool: &Tool) -> Result<Command<'a>, AllocError>
-    ensures { IfOk result (λ c. app_of c ≡ with_rule (with_rule (with_version (new_app tool.now.name.now)) workers_rule) scratch_rule) }
+fn command<'a>(alloc: Global, tool: &Tool) -> Result<Command<'a>, AllocError>
+    ensures { IfOk result (λ c. app_of c ≡ tool_app tool.now.name.now) }
 {
     Command::new(alloc, tool.name)
         .version(VERSION)
         .about(tool.about)
         .after_help(tool.after_help)
         .arg(workers_arg(alloc))?
-        .arg(flag_arg(
-            alloc,
-            "scratch",
-            "Runs each input from its first superstep, on one thread, and reuses nothing",
-        ))
-}
-
-/// The same command with the options that say what the blocks tell.
-fn telling_command<'a>(alloc: Global, tool: &Tool) -> Result<Command<'a>, AllocError>
-    ensures { IfOk result (λ c. app_of c ≡ with_details (with_rule (with_rule (with_version (new_app tool.now.name.now)) workers_rule) scratch_rule)) }
-{
-    running_command(alloc, tool)?
+        .arg(flag_arg(alloc, "scratch", SCRATCH_HELP))?
         .arg(flag_arg(alloc, "places", PLACES_HELP))?
         .arg(flag_arg(alloc, "changes", CHANGES_HELP))?
         .arg(flag_arg(alloc, "why", WHY_HELP))?
-        .arg(flag_arg(alloc, "update-cost", UPDATE_COST_HELP))
-}
-
-fn command<'a>(alloc: Global, tool: &Tool) -> Result<Command<'a>, AllocError>
-    ensures { IfOk result (λ c. app_of c ≡ tool_app tool.now.name.now) }
-{
-    telling_command(alloc, tool)?
+        .arg(flag_arg(alloc, "update-cost", UPDATE_COST_HELP))?
         .arg(follow_arg(alloc))?
         .arg(flag_arg(alloc, "quiet", QUIET_HELP))
 }
 
-/// The number, if it is from 1 to 16, else 1.
 fn number_or_1(number: Option<u8>) -> usize
     ensures { result ≡ number_or_1 number }
 {
@@ -138,57 +120,32 @@ fn number_or_1(number: Option<u8>) -> usize
     }
 }
 
-fn workers_in(matches: &ArgMatches<'_>) -> usize
-    ensures { result ≡ workers_of (one_text (found_of matches.now) (codes "workers")) }
-{
-    number_or_1(matches.get_one::<u8>("workers"))
-}
-
-/// Whether a flag was given.
 fn is_given(matches: &ArgMatches<'_>, flag: &str) -> bool
     ensures { result ≡ is_given (one_text (found_of matches.now) flag.now) }
 {
     matches.get_one::<bool>(flag).unwrap_or(false)
 }
 
-/// The file that is to be followed.
-fn follow_in<'a>(matches: &ArgMatches<'a>) -> Option<&'a str>
-    ensures { option_map (λ s. s.now) result ≡ first_of (codes "follow") (rows_of (found_of matches.now)) }
-{
-    matches.get_str("follow")
-}
-
-fn either(one: bool, other: bool) -> bool
-    ensures { result ≡ one || other }
-{
-    one || other
-}
-
 fn detail_in(matches: &ArgMatches<'_>) -> Detail
     ensures { result ≡ detail_of (rows_of (found_of matches.now)) }
 {
-    let places = is_given(matches, "places");
-    let changes = is_given(matches, "changes");
     let why = is_given(matches, "why");
-    let update_cost = is_given(matches, "update-cost");
     Detail {
-        places: either(places, why),
-        changes,
+        places: is_given(matches, "places") | why,
+        changes: is_given(matches, "changes"),
         why,
-        update_cost,
+        update_cost: is_given(matches, "update-cost"),
     }
 }
 
 fn options_in(matches: &ArgMatches<'_>) -> Options
     ensures { result ≡ options_of (rows_of (found_of matches.now)) }
 {
-    let scratch = is_given(matches, "scratch");
-    let quiet = is_given(matches, "quiet");
     Options {
-        workers: workers_in(matches),
-        scratch,
+        workers: number_or_1(matches.get_one::<u8>("workers")),
+        scratch: is_given(matches, "scratch"),
         detail: detail_in(matches),
-        quiet,
+        quiet: is_given(matches, "quiet"),
     }
 }
 
@@ -220,10 +177,9 @@ pub fn read_options<'a>(
     ensures kinds { FailsBy (fault_of (tool_app tool.now.name.now) (map (λ w. w.now) words.entry.now)) result }
 {
     let matches = read_matches(alloc, tool, words)?;
-    let options = options_in(&matches);
-    let path = follow_in(&matches);
+    let read = (options_in(&matches), matches.get_str("follow"));
     drop(matches);
-    Ok((options, path))
+    Ok(read)
 }
 
 /// The exit status where the words were refused: 0 where that is the help or the version, 1 where memory was refused, else 2. It takes no memory.

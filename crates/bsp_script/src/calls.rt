@@ -14,14 +14,10 @@ use bsp_scripts::{Call, Operand, Turn};
 use std::alloc::Global;
 use toml::Value;
 
-/// A reference, or else a number.
 fn operand_of(value: &Value) -> Operand
     ensures { result ≡ operand_of (view value.now) }
 {
-    match reference_in(value) {
-        Some(reference) => reference,
-        None => Operand::Number(natural_of(value.as_integer())),
-    }
+    reference_in(value).unwrap_or(Operand::Number(natural_of(value.as_integer())))
 }
 
 fn operand_at(values: &[Value], place: usize) -> Operand
@@ -42,7 +38,6 @@ fn operands_at(alloc: Global, values: &[Value], place: usize) -> Result<Seq<Oper
     }
 }
 
-/// The operands of a call that has any number of them.
 fn all_operands(alloc: Global, values: &[Value]) -> Result<Seq<Operand>, OutOfMemory>
     ensures { IfOk result (λ operands. operands ≡ map operand_of (drop 1 (map view values.now))) }
 {

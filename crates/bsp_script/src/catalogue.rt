@@ -3,8 +3,7 @@
 ghost use Rattle.std.specs.Prelude.{◌≡◌};
 
 use crate::calls::TurnForm;
-use crate::shapes::ScriptForm;
-use crate::signs::is_any_superstep_negative;
+use crate::shapes::{ScriptForm, is_any_superstep_negative};
 use bsp_engine::tree::{elements_at, has, value_at};
 use bsp_engine::{ArrayOf, Catalogue, fits, read_each};
 use bsp_model::OutOfMemory;

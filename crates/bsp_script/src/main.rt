@@ -6,7 +6,6 @@ mod catalogue;
 mod names;
 mod references;
 mod shapes;
-mod signs;
 
 use bsp_engine::{Tool, after_help, run_tool};
 use catalogue::Scripts;

@@ -2,12 +2,11 @@
 
 ghost use Rattle.std.specs.Prelude.{◌≡◌, map};
 ghost use Rattle.toml.specs.View.{view};
-ghost use Rattle.bsp_script.specs.Names.{act_named, other_named, name_of, name_in};
+ghost use Rattle.bsp_script.specs.Names.{act_named, other_named, name_in};
 ghost use Rattle.bsp_script.specs.Shapes.{kinds_of};
 
 use toml::Value;
 
-/// The name of a call.
 #[derive(Clone, Copy)]
 pub enum Name {
     Store,
@@ -34,13 +33,10 @@ pub enum Name {
 pub enum Kind {
     /// An operand: an integer, or a reference to an own word or argument.
     One,
-    /// A list of operands.
     Many,
-    /// An integer.
     Plain,
 }
 
-/// The calls of a context that have operands alone.
 fn act_named(text: &str) -> Option<Name>
     ensures { result ≡ act_named text.now }
 {
@@ -58,7 +54,6 @@ fn act_named(text: &str) -> Option<Name>
     }
 }
 
-/// Those that read or take first what they use, and those that end the turn.
 fn other_named(text: &str) -> Option<Name>
     ensures { result ≡ other_named text.now }
 {
@@ -75,20 +70,12 @@ fn other_named(text: &str) -> Option<Name>
     }
 }
 
-fn name_of(text: &str) -> Option<Name>
-    ensures { result ≡ name_of text.now }
-{
-    match act_named(text) {
-        Some(name) => Some(name),
-        None => other_named(text),
-    }
-}
-
 /// The name with which the values begin, if it is that of a call.
 pub fn name_in(values: &[Value]) -> Option<Name>
     ensures { result ≡ name_in (map view values.now) }
 {
-    name_of(values.first()?.as_str()?)
+    let text = values.first()?.as_str()?;
+    act_named(text).or(other_named(text))
 }
 
 impl Name {

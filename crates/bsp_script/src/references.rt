@@ -54,12 +54,8 @@ fn reference_of(text: &str) -> Option<Operand>
     None
 }
 
-/// The reference that the value is, if it is one.
 pub fn reference_in(value: &Value) -> Option<Operand>
     ensures { result ≡ reference_in (view value.now) }
 {
-    match value.as_str() {
-        Some(text) => reference_of(text),
-        None => None,
-    }
+    reference_of(value.as_str()?)
 }

@@ -1,19 +1,20 @@
-//! Whether a value is a script (J3).
+//! Whether a value is a script (J3), and whether a number of it is negative (J7).
 
 ghost use Rattle.std.specs.Prelude.{◌≡◌, map};
 ghost use Rattle.toml.specs.View.{view};
 ghost use Rattle.bsp_script.specs.Shapes.{is_of_kind, are_of_kinds, has_operands, is_call};
+ghost use Rattle.std.specs.List.{list_any};
+ghost use Rattle.bsp_script.specs.Signs.{has_negative_turn};
 
 use crate::names::{Kind, Name, name_in};
 use crate::references::reference_in;
-use bsp_engine::tree::elements;
-use bsp_engine::{ArrayOf, Path, Shape, all_fit, fits};
+use bsp_engine::tree::{elements, is_negative};
+use bsp_engine::{ArrayOf, Each, NotNegative, Path, Shape, all_fit, fits};
 use toml::Value;
 
 /// An integer, or a reference to an own word or argument.
 pub struct OperandForm;
 
-/// An array of a call's name and its operands.
 pub struct CallForm;
 
 /// A script: an array of supersteps, a superstep an array of turns, and a turn an array of calls.
@@ -84,4 +85,25 @@ fn is_call(value: &Value) -> bool
         Some(name) => has_operands(name, operands),
         None => false,
     }
+}
+
+/// An operand, or a list of operands, of which none is negative.
+struct NoSign;
+
+impl Shape for NoSign {
+    ghost use Rattle.std.specs.Prelude.{◌&&◌, not};
+    ghost use Rattle.std.specs.List.{list_all};
+    ghost use Rattle.bsp_engine.specs.Tree.{elements, is_negative};
+
+    ghost fits = { λ d. not (is_negative d) && list_all (λ w. not (is_negative w)) (elements d) };
+
+    fn misfit(value: &Value) -> Option<Path> {
+        Path::whole_unless(!is_negative(value) && fits::<Each<NotNegative>>(value))
+    }
+}
+
+pub fn is_any_superstep_negative(supersteps: &[Value]) -> bool
+    ensures { result ≡ list_any has_negative_turn (map view supersteps.now) }
+{
+    !all_fit::<Each<Each<Each<NoSign>>>>(supersteps)
 }

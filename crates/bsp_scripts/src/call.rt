@@ -2,17 +2,13 @@
 
 ghost use Rattle.std.specs.Prelude.{◌≡◌};
 ghost use Rattle.bsp_scripts.specs.Calls.{call_plan, call_looks};
-ghost use Rattle.bsp_scripts.specs.declared.call.Call.TheVariants.{Abort};
 ghost use Rattle.bsp_scripts.specs.Inside.Making.{Makes};
 
-mod local;
-mod messages;
-mod registration;
-mod remote;
+mod making;
 
 use crate::Operand;
-use crate::exit::Exit;
-use crate::operand::is_any_word_at;
+use crate::exit::{Exit, made};
+use crate::operand::{is_any_word_at, read_all};
 use bsp_model::{End, Seq};
 use bsp_step::Ctx;
 use std::alloc::Global;
@@ -72,43 +68,42 @@ impl Room {
     }
 }
 
-/// Ends the turn and the whole computation, with a code that is read first.
-fn abort(ctx: &Ctx<'_>, code: &Operand) -> Result<(), Exit>
-    ensures { Makes ctx.now (call_plan ctx.now (Abort code.now)) ctx.now result }
-{
-    let code = code.read(ctx)?;
-    Err(Exit::Ended(End::Abort(code)))
-}
-
 impl Call {
-    /// Makes the call.
     pub(crate) fn make(&self, ctx: &mut Ctx<'_>, room: &mut Room) -> Result<(), Exit>
         ensures { Makes ctx.old (call_plan ctx.old self.now) ctx.new result }
     {
         match self {
-            Call::Store(address, value) => local::store(ctx, address, value),
-            Call::Charge(amount) => local::charge(ctx, amount),
-            Call::Put(pid, words, area, offset) => {
-                remote::put(ctx, pid, words, area, offset, &mut room.words)
-            }
+            Call::Store(address, value) => made(ctx.store(address.read(ctx)?, value.read(ctx)?)),
+            Call::Charge(amount) => made(ctx.charge(amount.read(ctx)?)),
+            Call::Put(pid, words, area, offset) => making::put(ctx, pid, words, area, offset, room),
             Call::Get(pid, area, offset, into, len) => {
-                remote::get(ctx, pid, area, offset, into, len)
+                making::get(ctx, pid, area, offset, into, len)
             }
-            Call::Send(pid, tag, words) => messages::send(ctx, pid, tag, words, room),
-            Call::PushReg(start, len) => registration::push_reg(ctx, start, len),
-            Call::PopReg(start) => registration::pop_reg(ctx, start),
-            Call::SetTagsize(size) => messages::set_tagsize(ctx, size),
-            Call::Print(words) => local::print(ctx, words, &mut room.words),
-            Call::Add(address, value) => local::add(ctx, *address, value),
+            Call::Send(pid, tag, words) => making::send(ctx, pid, tag, words, room),
+            Call::PushReg(start, len) => made(ctx.push_reg(start.read(ctx)?, len.read(ctx)?)),
+            Call::PopReg(start) => made(ctx.pop_reg(start.read(ctx)?)),
+            Call::SetTagsize(size) => made(ctx.set_tagsize(size.read(ctx)?)),
+            Call::Print(words) => {
+                read_all(ctx, words, &mut room.words)?;
+                made(ctx.print(room.words.as_slice()))
+            }
+            Call::Add(address, value) => {
+                let word = Operand::Word(*address).read(ctx)?;
+                let value = value.read(ctx)?;
+                made(ctx.store(*address, word.wrapping_add(value)))
+            }
             Call::MoveInto(count, into) => {
-                messages::move_into(*room.words.allocator(), ctx, *count, *into)
+                making::move_into(*room.words.allocator(), ctx, *count, *into)
             }
-            Call::PrintQsize => messages::print_qsize(ctx),
-            Call::PrintGetTag => messages::print_get_tag(ctx, &mut room.words),
-            Call::PrintTagSize => messages::print_tag_size(ctx),
+            Call::PrintQsize => {
+                let (messages, words) = ctx.qsize();
+                made(ctx.print(&[messages as u64, words as u64]))
+            }
+            Call::PrintGetTag => making::print_get_tag(ctx, &mut room.words),
+            Call::PrintTagSize => made(ctx.print(&[ctx.tag_size()])),
             Call::Sync => Err(Exit::Ended(End::Sync)),
             Call::Halt => Err(Exit::Ended(End::Halt)),
-            Call::Abort(code) => abort(ctx, code),
+            Call::Abort(code) => Err(Exit::Ended(End::Abort(code.read(ctx)?))),
         }
     }
 

@@ -12,7 +12,6 @@ use bsp_step::Ctx;
 /// What stands for a word in a call.
 #[derive(Clone, Copy)]
 pub enum Operand {
-    /// This word.
     Number(u64),
     /// The word at this address of the own memory, as it is when the call is made. Where there is none, the turn ends by `Abort(1)`.
     Word(u64),
@@ -59,14 +58,8 @@ pub(crate) fn read_all(
     Ok(())
 }
 
-/// Whether one of the operands names the own word at the address.
 pub(crate) fn is_any_word_at(operands: &[Operand], address: u64) -> bool
     ensures { result ≡ list_any (is_word_at address) operands.now }
 {
-    for operand in operands {
-        if operand.is_word_at(address) {
-            return true;
-        }
-    }
-    false
+    operands.iter().any(|operand| operand.is_word_at(address))
 }

@@ -17,12 +17,10 @@ use std::alloc::Global;
 /// What a process does in a superstep: calls, in order. A turn that none of them ends syncs.
 #[derive(Drop)]
 pub struct Turn {
-    /// The calls.
     pub calls: Seq<Call>,
 }
 
 impl Turn {
-    /// Makes the calls, up to the one that ends the turn.
     fn make_calls(&self, alloc: Global, ctx: &mut Ctx<'_>) -> Result<(), Exit>
         ensures { Makes ctx.old (calls_plan ctx.old self.now.calls) ctx.new result }
     {
@@ -33,7 +31,6 @@ impl Turn {
         Ok(())
     }
 
-    /// Takes the turn, and answers how it ends.
     fn take(&self, alloc: Global, ctx: &mut Ctx<'_>) -> Result<End, Stop>
         ensures { let plan = calls_plan ctx.old self.now.calls in Runs ctx.old plan.acts (unwrap_or plan.ending Sync) ctx.new result }
     {
@@ -44,16 +41,11 @@ impl Turn {
         }
     }
 
-    /// Whether a call names the own word at the address.
     fn looks_at(&self, address: u64) -> bool
         ensures { result ≡ turn_looks (Some self.now) address }
     {
-        for call in self.calls.as_slice() {
-            if call.looks_at(address) {
-                return true;
-            }
-        }
-        false
+        let calls = self.calls.as_slice();
+        calls.iter().any(|call| call.looks_at(address))
     }
 }
 

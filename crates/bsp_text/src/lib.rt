@@ -2,14 +2,10 @@
 //! then a beginning of what was to be appended may stand there.
 #![tactic(auto)]
 
-mod fault_lines;
 mod lines;
 mod session_document;
 mod turn_lines;
-mod view_lines;
 
-pub use fault_lines::push_fault;
 pub use lines::{push_field, push_fields, push_joined_line, push_line, push_memory_line};
 pub use session_document::put_document;
-pub use turn_lines::push_turn;
-pub use view_lines::push_view;
+pub use turn_lines::{push_fault, push_turn, push_view};

@@ -48,7 +48,6 @@ fn write_bytes(room: &mut [u8], end: usize, bytes: &[u8]) -> usize
     start
 }
 
-/// Appends a line that is written to the end of this room first: a word, numbers, more numbers, and LF.
 fn push_written(
     text: &mut Vec<u8>,
     room: &mut [u8],
@@ -91,7 +90,6 @@ pub fn push_fields(text: &mut Vec<u8>, numbers: &[u64]) -> Result<(), OutOfMemor
     Ok(())
 }
 
-/// Appends a line of any length: a word, the numbers of three lists, and LF.
 fn push_in_pieces(
     text: &mut Vec<u8>,
     word: &[u8],
@@ -108,7 +106,6 @@ fn push_in_pieces(
     text.extend_from_slice(b"\n")
 }
 
-/// Appends a line: a word, numbers, more numbers, and LF.
 fn push_parts(
     text: &mut Vec<u8>,
     word: &[u8],
@@ -154,19 +151,6 @@ pub fn push_joined_line(
     push_in_pieces(text, word.as_bytes(), first, second, third)
 }
 
-/// Appends each word of a memory after a space.
-fn push_memory(text: &mut Vec<u8>, memory: &MemoryRef<'_>) -> Result<(), OutOfMemory>
-    ensures { OnOk result (text.new.items ≡ text.old.items ++ fields memory.now) }
-{
-    let mut address = 0;
-    while address < memory.len() {
-        let page = memory.words_from(address as u64);
-        push_fields(text, page)?;
-        address += page.len();
-    }
-    Ok(())
-}
-
 /// Appends each number after a space. Most lines of memories have one.
 #[inline(always)]
 fn push_numbers(text: &mut Vec<u8>, numbers: &[u64]) -> Result<(), OutOfMemory>
@@ -189,6 +173,11 @@ pub fn push_memory_line(
 {
     text.extend_from_slice(b"memory")?;
     push_numbers(text, numbers)?;
-    push_memory(text, memory)?;
+    let mut address = 0;
+    while address < memory.len() {
+        let page = memory.words_from(address as u64);
+        push_fields(text, page)?;
+        address += page.len();
+    }
     text.extend_from_slice(b"\n")
 }

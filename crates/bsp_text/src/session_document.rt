@@ -15,7 +15,6 @@ trait Written {
     // The text of a value.
     ghost written: { Self → List ℕ };
 
-    /// Appends the text of the value.
     fn push_to(&self, text: &mut Vec<u8>) -> Result<(), OutOfMemory>
         ensures { OnOk result (text.new.items ≡ text.old.items ++ written self.now) };
 }
@@ -60,27 +59,17 @@ fn comma(number: usize) -> &'static [u8]
     if number == 0 { b"" } else { b", " }
 }
 
-/// Appends the items of an array.
-fn push_items<T: Written>(text: &mut Vec<u8>, items: &[T]) -> Result<(), OutOfMemory>
-    ensures { OnOk result (text.new.items ≡ text.old.items ++ numbered (entry T.written) 0 items.now) }
-{
-    for (number, item) in items.iter().enumerate() {
-        text.extend_from_slice(comma(number))?;
-        item.push_to(text)?;
-    }
-    Ok(())
-}
-
-/// Appends the array of these items.
 fn push_array<T: Written>(text: &mut Vec<u8>, items: &[T]) -> Result<(), OutOfMemory>
     ensures { OnOk result (text.new.items ≡ text.old.items ++ array_text T.written items.now) }
 {
     text.extend_from_slice(b"[")?;
-    push_items(text, items)?;
+    for (number, item) in items.iter().enumerate() {
+        text.extend_from_slice(comma(number))?;
+        item.push_to(text)?;
+    }
     text.extend_from_slice(b"]")
 }
 
-/// Appends the line of a key.
 fn push_key<T: Written>(text: &mut Vec<u8>, key: &str, value: &T) -> Result<(), OutOfMemory>
     ensures { OnOk result (text.new.items ≡ text.old.items ++ (key.now ++ codes " = " ++ T.written value.now ++ 10 ∷ [])) }
 {

@@ -3,7 +3,7 @@ use Rattle.std.specs.Prelude.{ℕ, ◌+◌, ◌++◌, Bool, List}
 use Rattle.bsp_model.specs.declared.fault.End.{End}
 use Rattle.bsp_step.specs.ViewParts.{ViewParts}
 use Rattle.bsp_step.specs.Act.{Act}
-use Rattle.bsp_engine.specs.declared.attendant.Attendant.{Attendant}
+use Rattle.bsp_engine.specs.declared.conversation.Attendant.{Attendant}
 use Rattle.bsp_engine.specs.Live.{blocks}
 use Rattle.bsp_engine.specs.Talk.{Due}
 use Rattle.bsp_engine.specs.Inside.LiveReplies.{live_replying}

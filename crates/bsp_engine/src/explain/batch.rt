@@ -8,12 +8,8 @@ use bsp_model::Input;
 use bsp_model::limits::{HIGHEST_PRICE, MOST_SUPERSTEPS};
 use toml::Value;
 
-/// The word of an edit, if it has one.
 fn word_of(edit: &Value) -> Option<&str> {
-    match elements(edit).first() {
-        Some(word) => word.as_str(),
-        None => None,
-    }
+    elements(edit).first()?.as_str()
 }
 
 /// Tells nothing but which of the edits it is. They count from 0, as in `refused`.
@@ -68,21 +64,16 @@ fn tell_part(
     }
 }
 
-/// Tells why the edit is refused, if it is.
 fn tell_refusal(remark: &mut Remark, input: &Input, edit: Edit) {
     match edit {
         Edit::Word { pid, addr, .. } => {
-            let count = match input.mems.as_slice().get(pid as usize) {
-                Some(memory) => Some(memory.len()),
-                None => None,
-            };
+            let memory = input.mems.as_slice().get(pid as usize);
+            let count = memory.map(|memory| memory.len());
             tell_part(remark, input, pid, " words", count, addr);
         }
         Edit::Arg { pid, index, .. } => {
-            let count = match input.args.as_slice().get(pid as usize) {
-                Some(args) => Some(args.len()),
-                None => None,
-            };
+            let args = input.args.as_slice().get(pid as usize);
+            let count = args.map(|args| args.len());
             tell_part(remark, input, pid, " arguments", count, index);
         }
         Edit::Limit(n) if n == 0 || n > MOST_SUPERSTEPS => {
@@ -94,7 +85,6 @@ fn tell_refusal(remark: &mut Remark, input: &Input, edit: Edit) {
     }
 }
 
-/// Tells the first refused edit and the reason.
 fn tell_first_refusal(remark: &mut Remark, edits: &[Value], input: &Input) {
     for (place, edit) in edits.iter().enumerate() {
         name_edit(remark, edit, place);
@@ -107,7 +97,6 @@ fn tell_first_refusal(remark: &mut Remark, edits: &[Value], input: &Input) {
     remark.line.clear();
 }
 
-/// Tells what is wrong with an edit of a batch.
 fn tell_edit(remark: &mut Remark, edits: &[Value], place: usize, reason: Option<&str>) {
     if let Some(edit) = edits.get(place) {
         name_edit(remark, edit, place);
@@ -115,7 +104,6 @@ fn tell_edit(remark: &mut Remark, edits: &[Value], place: usize, reason: Option<
     }
 }
 
-/// Tells what is wrong with a value that was not made as a batch, where this is the input.
 pub fn tell_batch_fault(remark: &mut Remark, value: &Value, input: &Input) {
     let edits = elements(value);
     if let Some(path) = ArrayOf::<EditForm>::misfit(value) {

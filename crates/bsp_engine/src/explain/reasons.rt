@@ -27,43 +27,17 @@ fn tell_place(remark: &mut Remark, wrong: &Wrong<'_>) {
 
 /// Which shape is missing: that of the value at a key, of one of its elements, or of an element of that element.
 fn shape_reason(wrong: &Wrong<'_>) -> &'static str {
-    let is_whole = wrong.path.outer.is_none();
-    match wrong.key {
-        "limit" | "g" | "l" => "not an integer",
-        "memory" | "args" => {
-            if is_whole {
-                "not an array of arrays of integers"
-            } else {
-                "not an array of integers"
-            }
-        }
-        "batches" => {
-            if is_whole {
-                "not an array of batches"
-            } else if wrong.path.inner.is_none() {
-                "not an array of edits"
-            } else {
-                "not an edit"
-            }
-        }
+    match (wrong.key, wrong.path.outer, wrong.path.inner) {
+        ("limit" | "g" | "l", _, _) => "not an integer",
+        ("memory" | "args", None, _) => "not an array of arrays of integers",
+        ("memory" | "args", Some(_), _) => "not an array of integers",
+        ("batches", None, _) => "not an array of batches",
+        ("batches", Some(_), None) => "not an array of edits",
+        ("batches", Some(_), Some(_)) => "not an edit",
         _ => "a value of another shape",
     }
 }
 
-/// What is wrong, where no number tells more.
-fn reason(wrong: &Wrong<'_>) -> &'static str {
-    match wrong.fault {
-        JobFault::Input(_) => "",
-        JobFault::MissingKey => "this key is missing",
-        JobFault::WrongType => shape_reason(wrong),
-        JobFault::UnknownKey => "there is no such key",
-        JobFault::UnknownProgram => "there is no such program",
-        JobFault::BadWord => "a negative number",
-        JobFault::NotToml => "not TOML",
-    }
-}
-
-/// Tells how many words the row of a process has, and how many it may have.
 fn tell_words(remark: &mut Remark, table: &Table, wrong: &Wrong<'_>, most: usize) {
     if let Some(row) = elements_at(table, wrong.key).get(wrong.path.outer.unwrap_or(0)) {
         remark.add_value("", elements(row).len());
@@ -71,7 +45,6 @@ fn tell_words(remark: &mut Remark, table: &Table, wrong: &Wrong<'_>, most: usize
     }
 }
 
-/// Tells which size or number of the described input is past its limit.
 fn tell_size(remark: &mut Remark, table: &Table, wrong: &Wrong<'_>, fault: InputFault) {
     let number = integer_at(table, wrong.key).unwrap_or(0);
     let processes = elements_at(table, "memory").len();
@@ -93,7 +66,6 @@ fn tell_size(remark: &mut Remark, table: &Table, wrong: &Wrong<'_>, fault: Input
     }
 }
 
-/// Tells the place of what is wrong, and the reason. The programs have these names.
 pub fn tell_fault(remark: &mut Remark, table: &Table, wrong: &Wrong<'_>, names: &str) {
     if let Some((_, number)) = EngineError::Job(wrong.fault).line().split_once("J6 ") {
         remark.add(number);
@@ -101,12 +73,18 @@ pub fn tell_fault(remark: &mut Remark, table: &Table, wrong: &Wrong<'_>, names: 
     }
     tell_place(remark, wrong);
     remark.add(": ");
-    remark.add(reason(wrong));
     match wrong.fault {
         JobFault::Input(fault) => tell_size(remark, table, wrong, fault),
-        JobFault::UnknownProgram if !names.is_empty() => {
-            remark.add_value("; this tool has ", names);
+        JobFault::MissingKey => remark.add("this key is missing"),
+        JobFault::WrongType => remark.add(shape_reason(wrong)),
+        JobFault::UnknownKey => remark.add("there is no such key"),
+        JobFault::UnknownProgram => {
+            remark.add("there is no such program");
+            if !names.is_empty() {
+                remark.add_value("; this tool has ", names);
+            }
         }
-        _ => {}
+        JobFault::BadWord => remark.add("a negative number"),
+        JobFault::NotToml => remark.add("not TOML"),
     }
 }

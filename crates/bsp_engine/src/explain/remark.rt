@@ -11,7 +11,6 @@ pub struct Remark {
 }
 
 impl Remark {
-    /// Nothing is told yet.
     pub fn new(alloc: Global) -> Remark {
         Remark {
             line: String::new(alloc),
@@ -19,18 +18,12 @@ impl Remark {
         }
     }
 
-    /// Appends words.
     pub fn add(&mut self, words: &str) {
-        if self.line.push_str(words).is_err() {
-            self.is_cut = true;
-        }
+        self.is_cut |= self.line.push_str(words).is_err();
     }
 
-    /// Appends words, and then a value.
     pub fn add_value<V: Display + Copy>(&mut self, words: &str, value: V) {
-        if write!(self.line, "{words}{value}").is_err() {
-            self.is_cut = true;
-        }
+        self.is_cut |= write!(self.line, "{words}{value}").is_err();
     }
 
     /// Appends a text with the code of each control character in its place, so that it stays on one line.
@@ -41,17 +34,12 @@ impl Remark {
             } else {
                 self.line.push(c)
             };
-            if added.is_err() {
-                self.is_cut = true;
-            }
+            self.is_cut |= added.is_err();
         }
     }
 
-    /// Appends that a value is past its limits, and the limits.
     pub fn add_limits<V: Display + Copy>(&mut self, value: V, least: u64, most: u64) {
-        if write!(self.line, "{value}, not {least} to {most}").is_err() {
-            self.is_cut = true;
-        }
+        self.is_cut |= write!(self.line, "{value}, not {least} to {most}").is_err();
     }
 
     /// Writes the line to standard error, unless there is nothing to tell.

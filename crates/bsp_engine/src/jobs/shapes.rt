@@ -5,9 +5,9 @@ ghost use Rattle.std.specs.List.{list_all};
 ghost use Rattle.toml.specs.Data.{get_member};
 ghost use Rattle.toml.specs.View.{view, table_view};
 ghost use Rattle.bsp_engine.specs.Keys.{is_form, passes};
+ghost use Rattle.bsp_engine.specs.declared.errors.JobError.TheVariants.{Fault};
 
-use super::wrong::{Path, Wrong};
-use crate::errors::JobFault;
+use crate::errors::{JobError, JobFault};
 use crate::tree::{begins_with, elements, value_at};
 use std::marker::PhantomData;
 use toml::{Table, Value};
@@ -26,10 +26,8 @@ pub trait Shape {
         ensures { is_some result ≡ not (fits (view value.now)) };
 }
 
-/// An integer.
 pub struct Integer;
 
-/// An edit of one of the four forms.
 pub struct EditForm;
 
 /// An array, each of whose elements has a shape.
@@ -88,7 +86,6 @@ impl<T: Shape> Shape for Each<T> {
     }
 }
 
-/// The first of the values that has another shape.
 fn first_misfit<T: Shape>(values: &[Value]) -> Option<Path>
     ensures { is_some result ≡ not (list_all T.fits (map view values.now)) }
 {
@@ -140,4 +137,53 @@ pub fn fits<T: Shape>(value: &Value) -> bool
     ensures { result ≡ T.fits (view value.now) }
 {
     T::misfit(value).is_none()
+}
+
+/// A place in a value: at which element of the array, and at which element of that.
+#[derive(Clone, Copy)]
+pub struct Path {
+    pub(crate) outer: Option<usize>,
+    pub(crate) inner: Option<usize>,
+}
+
+const WHOLE: Path = Path {
+    outer: None,
+    inner: None,
+};
+
+impl Path {
+    /// The whole value, unless it fits.
+    pub fn whole_unless(fits: bool) -> Option<Path>
+        ensures { is_some result ≡ not fits }
+    {
+        if fits { None } else { Some(WHOLE) }
+    }
+}
+
+/// The first fault of a document, and where it is: in the value at a key, or at the key itself.
+#[derive(Clone, Copy)]
+pub struct Wrong<'a> {
+    pub fault: JobFault,
+    pub key: &'a str,
+    pub path: Path,
+}
+
+impl<'a> Wrong<'a> {
+    pub fn at_key(fault: JobFault, key: &'a str) -> Wrong<'a>
+        ensures { result.fault ≡ fault }
+    {
+        Wrong {
+            fault,
+            key,
+            path: WHOLE,
+        }
+    }
+}
+
+impl From<Wrong<'_>> for JobError {
+    ghost from_gives = { λ wrong e. e ≡ Fault wrong.fault };
+
+    fn from(wrong: Wrong<'_>) -> JobError {
+        JobError::Fault(wrong.fault)
+    }
 }

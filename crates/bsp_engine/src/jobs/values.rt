@@ -1,21 +1,24 @@
 //! The values that a document describes. They are of use only where the document has no fault.
 
-ghost use Rattle.std.specs.Prelude.{◌≡◌, IfOk, map};
-ghost use Rattle.toml.specs.View.{view};
-ghost use Rattle.bsp_engine.specs.Values.{edit_of};
+ghost use Rattle.std.specs.Prelude.{◌≡◌, IfOk, map, codes};
+ghost use Rattle.toml.specs.View.{view, table_view};
+ghost use Rattle.bsp_engine.specs.Values.{edit_of, args_of, input_of, row_of};
+ghost use Rattle.toml.specs.Data.{get_member};
+ghost use Rattle.bsp_engine.specs.Tree.{elements_at};
 
 use super::shapes::{ArrayOf, EditForm, Integer};
-use crate::tree::{begins_with, elements, natural_of, number_at};
+use crate::tree::{
+    begins_with, elements, elements_at, integer_at, natural_of, number_at, value_at,
+};
 use bsp_incr::Edit;
-use bsp_model::{Memory, OutOfMemory, Seq};
+use bsp_model::{Input, Memory, OutOfMemory, Seq, Words};
 use std::alloc::Global;
-use toml::Value;
+use toml::{Table, Value};
 
 /// How values of a document are read, each for what it describes.
 pub trait Described {
     ghost use Rattle.toml.specs.Data.{Data};
 
-    /// What is read.
     type Item: Drop;
 
     // What a value describes.
@@ -80,7 +83,6 @@ impl<T: Described> Described for ArrayOf<T> {
     }
 }
 
-/// The edit of one of the four forms.
 pub fn edit_in(values: &[Value]) -> Edit
     ensures { result ≡ edit_of (map view values.now) }
 {
@@ -115,4 +117,41 @@ pub fn read_each<T: Described>(alloc: Global, values: &[Value]) -> Result<Seq<T:
         all.push(T::read(alloc, value)?)?;
     }
     Ok(Seq::from_vec(all))
+}
+
+/// The arguments of a process without any, whatever its memory is.
+struct NoWords;
+
+impl Described for NoWords {
+    ghost use Rattle.std.specs.Prelude.{[]};
+
+    type Item = Words;
+
+    ghost described = { λ _. [] };
+
+    fn read(alloc: Global, _value: &Value) -> Result<Words, OutOfMemory> {
+        Ok(Seq::new(alloc))
+    }
+}
+
+#[tactic(auto, using(crate::proofs::Trees::no_words))]
+fn arguments_at(alloc: Global, table: &Table) -> Result<Seq<Words>, OutOfMemory>
+    ensures { IfOk result (λ a. a ≡ args_of (get_member (codes "args") (table_view table.now)) (map row_of (elements_at (codes "memory") (table_view table.now)))) }
+{
+    match value_at(table, "args") {
+        Some(value) => read_each::<ArrayOf<Integer>>(alloc, elements(value)),
+        None => read_each::<NoWords>(alloc, elements_at(table, "memory")),
+    }
+}
+
+pub fn read_input(alloc: Global, table: &Table) -> Result<Input, OutOfMemory>
+    ensures { IfOk result (λ i. i ≡ input_of (table_view table.now)) }
+{
+    Ok(Input {
+        mems: read_each::<Row>(alloc, elements_at(table, "memory"))?,
+        args: arguments_at(alloc, table)?,
+        limit: natural_of(integer_at(table, "limit")),
+        g: natural_of(integer_at(table, "g")),
+        l: natural_of(integer_at(table, "l")),
+    })
 }

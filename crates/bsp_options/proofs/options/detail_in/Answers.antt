@@ -7,8 +7,8 @@ use Rattle.bsp_options.proofs.options.detail_in.Goals as goal
 pub returns : goal.returns
 returns c =
     let found = found_of c.args.matches.now in
-    let places = c.is_given-places.ensures ∙ ap is_given (one_text-rows found (codes "places")) in
-    let changes = c.is_given-changes.ensures ∙ ap is_given (one_text-rows found (codes "changes")) in
     let why = c.is_given-why.ensures ∙ ap is_given (one_text-rows found (codes "why")) in
-    let update_cost = c.is_given-update_cost.ensures ∙ ap is_given (one_text-rows found (codes "update-cost")) in
-    rw (c.either.ensures, places, changes, why, update_cost)
+    let places = c.is_given.ensures ∙ ap is_given (one_text-rows found (codes "places")) in
+    let changes = c.is_given-2.ensures ∙ ap is_given (one_text-rows found (codes "changes")) in
+    let update_cost = c.is_given-3.ensures ∙ ap is_given (one_text-rows found (codes "update-cost")) in
+    rw (places, why, changes, update_cost)

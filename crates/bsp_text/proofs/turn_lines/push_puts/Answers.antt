@@ -1,8 +1,0 @@
-use Rattle.std.proofs.Common.{arith}
-use Rattle.bsp_text.specs.TurnLines.{put_line}
-use Rattle.bsp_text.proofs.Showing.{piece_at}
-use Rattle.bsp_text.proofs.turn_lines.push_puts.Goals as goal
-
-pub loop-place-preserved : goal.loop-place-preserved
-loop-place-preserved c =
-    piece_at put_line c.args.text.now.items _ _ c.args.puts.now c.loop-place.place _ (omega arith) c.at-put.ensures c.loop-place.invariant c.in_ok-push_joined_line.ensures
