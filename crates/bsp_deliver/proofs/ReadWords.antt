@@ -2,10 +2,13 @@
 use Rattle.std.proofs.Common.{◌≡◌, ◌≤◌, ◌<◌, ◌+◌, ◌-◌, ◌%◌, ◌++◌, ℕ, List, [], length, take, drop, set, get_or, cond, ap, sym, ◌∙◌, arith, length-take, length-append, length-drop, append_assoc, append-nil}
 use Rattle.std.proofs.Math.Seq.{take-add, take-append_seam, drop-append-add}
 use Rattle.std.proofs.lemmas.Bool.{le-leb}
-use Rattle.std.proofs.lemmas.List.{ext_get_or, get_or-take, get_or-drop, length-take-le, drop-drop, set-set, set-get_or, get_or-set_same, take-append-drop}
-use Rattle.std.proofs.lemmas.List.FromFn.{get_or-map-range_with_len}
+use Rattle.std.proofs.lemmas.List.{ext_get_or, get_or-map, get_or-take, get_or-drop, length-take-le, drop-drop, set-set, set-get_or, get_or-set_same, take-append-drop}
+use Rattle.std.proofs.lemmas.List.FromFn.{fill_by_all, get_or-map-range_with_len}
 use Rattle.bsp_model.specs.Memory.{memory_written, rest_of_page}
-use Rattle.bsp_deliver.specs.Requests.{each_below}
+use Rattle.bsp_model.specs.declared.request.Get.{Get}
+use Rattle.bsp_step.specs.OutcomeParts.{OutcomeParts, outcome_of, no_outcome}
+use Rattle.bsp_deliver.specs.Readable.{IsReadable}
+use Rattle.bsp_deliver.specs.Requests.{each_below, words_read}
 use Rattle.bsp_deliver.proofs.Writes.{length-each_below}
 
 -- those of a page are the next ones
@@ -88,3 +91,17 @@ piece_written first ms now place start xs ys zs within fits ms_is now_is all =
     ∙ set-set first place so_far (memory_written so_far (start + length xs) ys)
     ∙ ap (set first place) (written_on old xs ys start fits)
     ∙ ap (λ (ws : List ℕ). set first place (memory_written old start ws)) (sym all)
+
+-- those that lie together are a part of the memory
+pub words_together : (memory : List ℕ) (start len : ℕ) → start + len ≤ length memory → take len (drop start memory) ≡ each_below len (λ i. get_or memory (start + i) 0)
+words_together memory start len fits =
+    fill_by_all (λ i. get_or memory (start + i) 0) (take len (drop start memory)) len 0 (length-take-le len (drop start memory) (omega (arith, fits, length-drop start memory)))
+    (λ k l. get_or-take len (drop start memory) k 0 l ∙ get_or-drop start memory k 0)
+
+-- a get's words stand in the owner's memory
+pub readable_inside : (os : List OutcomeParts) (g : Get) → IsReadable os g → g.start + g.len ≤ length (outcome_of os g.owner).memory
+readable_inside os g h = omega (arith, h.inside, get_or-map (λ (o : OutcomeParts). length o.memory) os g.owner no_outcome 0 h.known)
+
+pub read_together : (os : List OutcomeParts) (g : Get) (memory : List ℕ) → IsReadable os g → memory ≡ (outcome_of os g.owner).memory → take g.len (drop g.start memory) ≡ words_read os g
+read_together os g memory h is =
+    ap (λ (m : List ℕ). take g.len (drop g.start m)) is ∙ words_together (outcome_of os g.owner).memory g.start g.len (readable_inside os g h)

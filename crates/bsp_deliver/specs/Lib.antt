@@ -6,4 +6,4 @@ pub mod SyncFault
 pub mod Cost
 pub mod Touched
 pub mod Inside
-pub mod Sorting
+pub mod Origins

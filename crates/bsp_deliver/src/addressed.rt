@@ -2,81 +2,62 @@
 
 ghost use Rattle.std.specs.Prelude.{◌≡◌, ◌<◌, ◌↔◌, length, IsTrue, slice_index_or};
 
-use bsp_model::{Put, Send};
-use bsp_step::OutcomeRef;
+use bsp_model::{Block, BlocksRef, Put, Send};
 
-/// A kind of requests that are addressed to processes. A request is told by the outcome of the turn that issued it, and its place there.
-pub(crate) trait Addressed {
-    ghost use Rattle.std.specs.Prelude.{◌≡◌, ℕ, List};
-    ghost use Rattle.bsp_step.specs.OutcomeParts.{OutcomeParts};
+/// A kind of requests that are addressed to processes.
+pub(crate) trait Addressed: Block {
+    ghost use Rattle.std.specs.Prelude.{◌≡◌, ℕ};
 
     ghost addressee: { Self → ℕ };
 
-    ghost issued: { OutcomeParts → List Self };
+    fn addressee_at(requests: &BlocksRef<'_, Self>, place: usize) -> u64
+        requires { place < length requests.now }
+        ensures { (r : Self) × (r ≡ slice_index_or requests.now place r) × (result ≡ addressee r) };
 
-    fn count(outcome: &OutcomeRef<'_>) -> usize
-        ensures { result ≡ length (issued outcome.now) };
-
-    fn addressee_at(outcome: &OutcomeRef<'_>, place: usize) -> u64
-        requires { place < length (issued outcome.now) }
-        ensures { (r : Self) × (r ≡ slice_index_or (issued outcome.now) place r) × (result ≡ addressee r) };
-
-    /// Whether the request at a place is that of another outcome at another.
+    /// Whether the request at a place is that of another list at another.
     fn same_at(
-        outcome: &OutcomeRef<'_>,
+        requests: &BlocksRef<'_, Self>,
         place: usize,
-        other: &OutcomeRef<'_>,
+        others: &BlocksRef<'_, Self>,
         other_place: usize,
     ) -> bool
-        requires known { place < length (issued outcome.now) }
-        requires known_other { other_place < length (issued other.now) }
-        ensures { (r : Self) × (s : Self) × (r ≡ slice_index_or (issued outcome.now) place r) × (s ≡ slice_index_or (issued other.now) other_place s) × (IsTrue result ↔ (r ≡ s)) };
+        requires known { place < length requests.now }
+        requires known_other { other_place < length others.now }
+        ensures { (r : Self) × (s : Self) × (r ≡ slice_index_or requests.now place r) × (s ≡ slice_index_or others.now other_place s) × (IsTrue result ↔ (r ≡ s)) };
 }
 
 impl Addressed for Put {
     ghost addressee = { λ p. p.target };
 
-    ghost issued = { λ o. o.puts };
-
-    fn count(outcome: &OutcomeRef<'_>) -> usize {
-        outcome.puts.len()
-    }
-
-    fn addressee_at(outcome: &OutcomeRef<'_>, place: usize) -> u64 {
-        let put = outcome.puts.at(place);
+    fn addressee_at(puts: &BlocksRef<'_, Put>, place: usize) -> u64 {
+        let put = puts.at(place);
         put.target
     }
 
     fn same_at(
-        outcome: &OutcomeRef<'_>,
+        puts: &BlocksRef<'_, Put>,
         place: usize,
-        other: &OutcomeRef<'_>,
+        others: &BlocksRef<'_, Put>,
         other_place: usize,
     ) -> bool {
-        outcome.puts.same_at(place, &other.puts, other_place)
+        puts.same_at(place, others, other_place)
     }
 }
 
 impl Addressed for Send {
     ghost addressee = { λ m. m.target };
 
-    ghost issued = { λ o. o.sends };
-
-    fn count(outcome: &OutcomeRef<'_>) -> usize {
-        outcome.sends.len()
-    }
-
-    fn addressee_at(outcome: &OutcomeRef<'_>, place: usize) -> u64 {
-        let send = outcome.sends.at(place);
+    fn addressee_at(sends: &BlocksRef<'_, Send>, place: usize) -> u64 {
+        let send = sends.at(place);
         send.target
     }
 
     fn same_at(
-        outcome: &OutcomeRef<'_>,
+        sends: &BlocksRef<'_, Send>,
         place: usize,
-        other: &OutcomeRef<'_>,
+        others: &BlocksRef<'_, Send>,
         other_place: usize,
     ) -> bool {
-        outcome.sends.same_at(place, &other.sends, other_place)
+        sends.same_at(place, others, other_place)
     }
 }

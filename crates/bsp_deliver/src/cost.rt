@@ -53,7 +53,8 @@ impl Sums {
     fn count(&mut self, targets: &Targets, source: u64, target: u64, count: u64)
         requires small { IsSmall (record { source = source; target = target; count = count }) }
         requires room { HasRoom self.old 1 }
-        ensures { self.new ≡ counted_to (is_target targets.now) self.old (record { source = source; target = target; count = count }) }
+        ensures { self.new ≡ counted_to (is_target targets.now) self.old
+            (record { source = source; target = target; count = count }) }
     {
         if source != target && targets.contain(target) {
             self.sent[source as usize] += count;
@@ -113,7 +114,8 @@ impl Sums {
         requires alone { OnTrue puts_alone (All HasPutsAlone outcomes.now) }
         requires deliverable { AreDeliverable outcomes.now }
         requires room { HasRoom self.old MOST_REQUESTS }
-        ensures sums { self.new ≡ fold (counted_to (is_target targets.now)) self.old (transfers_of p (outcome_of outcomes.now p)) }
+        ensures sums { self.new ≡ fold (counted_to (is_target targets.now)) self.old (transfers_of p
+            (outcome_of outcomes.now p)) }
         ensures room { (n : ℕ) → HasRoom self.old (MOST_REQUESTS + n) → HasRoom self.new n }
     {
         let own = outcomes.get(p);

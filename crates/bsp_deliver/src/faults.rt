@@ -33,8 +33,8 @@ fn has_halt(outcomes: &Outcomes) -> bool
     false
 }
 
-/// Whether all processes made the same choice as the first. Where no choice stands, they are not gone over.
-fn is_same_choice(first: &OutcomeRef<'_>, outcomes: &Outcomes) -> bool
+/// Whether all processes chose the tag size that the first one chose. Where no choice stands, no process is looked at.
+fn is_same_tag_choice(first: &OutcomeRef<'_>, outcomes: &Outcomes) -> bool
     ensures { result ≡ list_all (λ o. same_tag first.now.tag o.tag) outcomes.now }
 {
     if first.tag.is_none() && outcomes.is_without(ListKind::Tags) {
@@ -62,7 +62,7 @@ pub fn sync_fault(outcomes: &Outcomes, table: &Table) -> Option<SyncFault>
     if !syncs {
         return None;
     }
-    if !is_same_choice(&outcomes.get(0), outcomes) {
+    if !is_same_tag_choice(&outcomes.get(0), outcomes) {
         return Some(SyncFault::TagMismatch);
     }
     table.fault(outcomes)

@@ -1,29 +1,31 @@
 //! Marks of the processes to which a sender's requests have changed.
 
 ghost use Rattle.std.specs.Prelude.{◌≡◌, ℕ, ◌<◌, ◌≤◌, ◌==◌, filter, map, take, drop, length, All};
+ghost use Rattle.bsp_step.specs.OutcomeParts.{outcome_of};
 ghost use Rattle.bsp_deliver.specs.Inside.Comparison.{HasSameParcel};
 ghost use Rattle.bsp_deliver.specs.Inside.Marks.{AreMarkedUnless, AreToKnown};
 
 use crate::addressed::Addressed;
 use crate::same::are_same_to;
-use bsp_model::{ProcessSet, Put, Send};
-use bsp_step::OutcomeRef;
+use bsp_model::{BlocksRef, ProcessSet};
+use bsp_step::Outcomes;
 
 /// Marks the processes to which the requests at the first places differ, as far as the requests at each place are to one process in both
 /// lists. Returns how far that is.
 #[inline(always)]
 fn mark_aligned<R: Addressed>(
     marks: &mut ProcessSet,
-    old: &OutcomeRef<'_>,
-    new: &OutcomeRef<'_>,
+    old: &BlocksRef<'_, R>,
+    new: &BlocksRef<'_, R>,
 ) -> usize
-    requires { All (λ r. R.addressee r < length marks.old) (R.issued old.now) }
-    ensures in_old { result ≤ length (R.issued old.now) }
-    ensures in_new { result ≤ length (R.issued new.now) }
-    ensures aligned { map R.addressee (take result (R.issued old.now)) ≡ map R.addressee (take result (R.issued new.now)) }
-    ensures marked { AreMarkedUnless (λ d. filter (λ r. R.addressee r == d) (take result (R.issued old.now)) ≡ filter (λ r. R.addressee r == d) (take result (R.issued new.now))) marks.old marks.new }
+    requires { All (λ r. R.addressee r < length marks.old) old.now }
+    ensures in_old { result ≤ length old.now }
+    ensures in_new { result ≤ length new.now }
+    ensures aligned { map R.addressee (take result old.now) ≡ map R.addressee (take result new.now) }
+    ensures marked { AreMarkedUnless (λ d. filter (λ r. R.addressee r == d) (take result old.now)
+        ≡ filter (λ r. R.addressee r == d) (take result new.now)) marks.old marks.new }
 {
-    let shared = R::count(old).min(R::count(new));
+    let shared = old.len().min(new.len());
     for i in 0..shared {
         let addressee = R::addressee_at(old, i);
         if addressee != R::addressee_at(new, i) {
@@ -40,39 +42,47 @@ fn mark_aligned<R: Addressed>(
 #[inline(always)]
 fn mark_unaligned<R: Addressed>(
     marks: &mut ProcessSet,
-    old: &OutcomeRef<'_>,
-    new: &OutcomeRef<'_>,
+    old: &BlocksRef<'_, R>,
+    new: &BlocksRef<'_, R>,
     from: usize,
 )
-    requires in_old { from ≤ length (R.issued old.now) }
-    requires in_new { from ≤ length (R.issued new.now) }
-    ensures { AreMarkedUnless (λ d. filter (λ r. R.addressee r == d) (drop from (R.issued old.now)) ≡ filter (λ r. R.addressee r == d) (drop from (R.issued new.now))) marks.old marks.new }
+    requires in_old { from ≤ length old.now }
+    requires in_new { from ≤ length new.now }
+    ensures { AreMarkedUnless (λ d. filter (λ r. R.addressee r == d) (drop from old.now)
+        ≡ filter (λ r. R.addressee r == d) (drop from new.now)) marks.old marks.new }
 {
-    if from == R::count(old) && from == R::count(new) {
+    if from == old.len() && from == new.len() {
         return;
     }
     for d in 0..marks.count() {
-        if !marks.contains(d) && !are_same_to::<R>(old, new, from, d as u64) {
+        if !marks.contains(d) && !are_same_to(old, new, from, d as u64) {
             marks.insert(d);
         }
     }
 }
 
 #[inline(always)]
-fn mark_changes<R: Addressed>(marks: &mut ProcessSet, old: &OutcomeRef<'_>, new: &OutcomeRef<'_>)
-    requires { All (λ r. R.addressee r < length marks.old) (R.issued old.now) }
-    ensures { AreMarkedUnless (λ d. filter (λ r. R.addressee r == d) (R.issued old.now) ≡ filter (λ r. R.addressee r == d) (R.issued new.now)) marks.old marks.new }
+fn mark_changes<R: Addressed>(
+    marks: &mut ProcessSet,
+    old: &BlocksRef<'_, R>,
+    new: &BlocksRef<'_, R>,
+)
+    requires { All (λ r. R.addressee r < length marks.old) old.now }
+    ensures { AreMarkedUnless (λ d. filter (λ r. R.addressee r == d) old.now
+        ≡ filter (λ r. R.addressee r == d) new.now) marks.old marks.new }
 {
-    let aligned = mark_aligned::<R>(marks, old, new);
-    mark_unaligned::<R>(marks, old, new, aligned);
+    let aligned = mark_aligned(marks, old, new);
+    mark_unaligned(marks, old, new, aligned);
 }
 
-/// Marks the processes to which an outcome brings other puts or messages than before.
+/// Marks the processes to which a process brings other puts or messages than before.
 #[inline(always)]
-pub fn mark_parcels(marks: &mut ProcessSet, old: &OutcomeRef<'_>, new: &OutcomeRef<'_>)
-    requires { AreToKnown (length marks.old) old.now }
-    ensures { AreMarkedUnless (λ d. HasSameParcel d old.now new.now) marks.old marks.new }
+pub fn mark_parcels(marks: &mut ProcessSet, old: &Outcomes, new: &Outcomes, p: usize)
+    requires in_old { p < length old.now }
+    requires in_new { p < length new.now }
+    requires known { AreToKnown (length marks.old) (outcome_of old.now p) }
+    ensures { AreMarkedUnless (λ d. HasSameParcel d (outcome_of old.now p) (outcome_of new.now p)) marks.old marks.new }
 {
-    mark_changes::<Put>(marks, old, new);
-    mark_changes::<Send>(marks, old, new);
+    mark_changes(marks, &old.puts(p), &new.puts(p));
+    mark_changes(marks, &old.sends(p), &new.sends(p));
 }

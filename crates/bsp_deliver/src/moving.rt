@@ -7,8 +7,9 @@ ghost use Rattle.bsp_deliver.specs.Condition.{AreDeliverable};
 ghost use Rattle.bsp_deliver.specs.Inside.Gathering.{put_at};
 
 use crate::Cells;
-use crate::gathering::{deliver_some, queues_after};
-use crate::writing::{memories_after, write_puts};
+use crate::delivery::deliver_some;
+use crate::next_memories::{memories_after, write_puts};
+use crate::next_queues::queues_after;
 use bsp_model::{Memories, OutOfMemory};
 use bsp_step::{ListKind, Outcomes, PutRows};
 use std::alloc::Global;

@@ -5,14 +5,14 @@ ghost use Rattle.bsp_deliver.specs.Requests.{words_read};
 ghost use Rattle.bsp_deliver.specs.Delivery.{delivery_parts};
 ghost use Rattle.bsp_deliver.specs.Condition.{AreDeliverable};
 ghost use Rattle.bsp_deliver.specs.Readable.{IsReadable};
-ghost use Rattle.bsp_deliver.specs.Inside.Comparison.{AllBringSame, BringsSame, HasSameOwn, HaveGetsUnlessMarked, ReadsSame};
+ghost use Rattle.bsp_deliver.specs.Inside.Comparison.{AllBringSame, BringsSame, KeepsOwn, HaveGetsUnlessMarked, ReadsSame};
 ghost use Rattle.bsp_deliver.specs.Inside.Marks.{AreMarkedUnless};
 ghost use Rattle.bsp_deliver.specs.Touched.{AreSameUnlessMarked, AreTouched};
 
 use crate::marking::mark_parcels;
-use crate::same::is_same_answer;
+use crate::same::get_reads_same_words;
 use bsp_model::{Get, ProcessSet, Same, are_same};
-use bsp_step::{ListKind, OutcomeRef, Outcomes};
+use bsp_step::{ListKind, Outcomes};
 
 /// Whether gets read the words that they read before. Those of an owner whose outcome has not changed are the same.
 fn read_same_words(old: &Outcomes, new: &Outcomes, changed: &ProcessSet, gets: &[Get]) -> bool
@@ -23,7 +23,7 @@ fn read_same_words(old: &Outcomes, new: &Outcomes, changed: &ProcessSet, gets: &
     ensures { IsTrue result ↔ (map (words_read old.now) gets.now ≡ map (words_read new.now) gets.now) }
 {
     for get in gets {
-        if changed.contains(get.owner as usize) && !is_same_answer(old, new, get) {
+        if changed.contains(get.owner as usize) && !get_reads_same_words(old, new, get) {
             return false;
         }
     }
@@ -31,10 +31,12 @@ fn read_same_words(old: &Outcomes, new: &Outcomes, changed: &ProcessSet, gets: &
 }
 
 #[inline(always)]
-fn have_same_own(old: &OutcomeRef<'_>, new: &OutcomeRef<'_>) -> bool
-    ensures { IsTrue result ↔ HasSameOwn old.now new.now }
+fn have_same_memory_and_gets(old: &Outcomes, new: &Outcomes, p: usize) -> bool
+    requires in_old { p < length old.now }
+    requires in_new { p < length new.now }
+    ensures { IsTrue result ↔ KeepsOwn old.now new.now p }
 {
-    old.memory.same(&new.memory) && are_same(old.gets, new.gets)
+    old.memory(p).same(&new.memory(p)) && are_same(old.gets(p), new.gets(p))
 }
 
 /// Marks the processes to which a process brings other puts or messages than before, and the process itself where its memory or its gets are others.
@@ -46,10 +48,8 @@ fn mark_changes_of(marks: &mut ProcessSet, old: &Outcomes, new: &Outcomes, p: us
     requires before { AreDeliverable old.now }
     ensures { AreMarkedUnless (BringsSame old.now new.now p) marks.old marks.new }
 {
-    let earlier = old.get(p);
-    let later = new.get(p);
-    mark_parcels(marks, &earlier, &later);
-    if !have_same_own(&earlier, &later) {
+    mark_parcels(marks, old, new, p);
+    if !have_same_memory_and_gets(old, new, p) {
         marks.insert(p);
     }
 }

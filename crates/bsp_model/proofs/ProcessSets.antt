@@ -1,10 +1,10 @@
 -- The processes of a set, one after the other.
-use Rattle.std.proofs.Common.{◌≡◌, ◌<◌, ◌≤◌, ◌+◌, ◌-◌, ℕ, zero, suc, Bool, true, false, cond, List, [], ◌∷◌, filter, length, get_or, All, inl, inr, refl, sym, ap, ◌∙◌, subst, arith}
+use Rattle.std.proofs.Common.{◌≡◌, ◌<◌, ◌≤◌, ◌+◌, ◌-◌, ℕ, zero, suc, Bool, true, false, cond, List, [], ◌∷◌, filter, length, replicate, get_or, All, inl, inr, refl, sym, ap, ◌∙◌, subst, arith}
 use Rattle.std.specs.Prelude.{◌↔◌, IsTrue, slice_get, None, Some, not}
 use Rattle.std.specs.Option.{is_some}
 use Rattle.std.specs.List.{range_with_len, Contains}
 use Rattle.std.proofs.lemmas.Bool.{false≢true, cases_lt, cases_eq, cases_Bool, cond-true, cond-false}
-use Rattle.std.proofs.lemmas.List.{get_or_past}
+use Rattle.std.proofs.lemmas.List.{get_or-replicate, get_or_past, length-replicate}
 use Rattle.std.proofs.lemmas.List.Elements.{All-from_get_or, All-contains, filter_passes}
 use Rattle.bsp_model.specs.ProcessSet.{processes_in, processes_from}
 use Rattle.bsp_model.specs.Replaced.{IsAscending}
@@ -154,3 +154,16 @@ no_first [] true e = (λ _. refl, λ _. refl)
 no_first [] false e = absurd (false≢true e)
 no_first (x ∷ xs) true e = absurd (false≢true (sym e))
 no_first (x ∷ xs) false e = (λ t. absurd (false≢true t), λ h. cc)
+
+-- all do
+range_passes : (f : ℕ → Bool) (a n : ℕ) → ((k : ℕ) → a ≤ k → k < a + n → f k ≡ true) → filter f (range_with_len a n) ≡ range_with_len a n
+range_passes f a zero all = refl
+range_passes f a (suc n) all =
+    cond-true (f a) (a ∷ filter f (range_with_len (a + 1) n)) (filter f (range_with_len (a + 1) n)) (all a (omega arith) (omega arith))
+    ∙ ap (λ ks. a ∷ ks) (range_passes f (a + 1) n (λ k l m. all k (omega (arith, l)) (omega (arith, m))))
+
+-- the members of the set of all
+pub all_members : (n : ℕ) → processes_in (replicate n true) ≡ range_with_len 0 n
+all_members n =
+    ap (λ m. filter (λ p. get_or (replicate n true) p false) (range_with_len 0 m)) (length-replicate n true)
+    ∙ range_passes (λ p. get_or (replicate n true) p false) 0 n (λ k low high. get_or-replicate n k true false (omega (arith, high)))

@@ -1,4 +1,4 @@
-//! What several processes have, by process, and how that of some is replaced.
+//! An item for each of several processes, and how the items of some are replaced.
 
 ghost use Rattle.std.specs.Prelude.{ℕ, ◌≡◌, ◌<◌, ◌≤◌, ◌++◌, [], All, IfOk, List, OnErr, OnOk, length, slice_range};
 ghost use Rattle.bsp_model.specs.Replaced.{replaced, IsAscending};
@@ -7,13 +7,13 @@ use crate::OutOfMemory;
 use crate::places::end_of_run;
 use std::alloc::Global;
 
-/// What several processes have, by process, in lists behind which what consecutive processes have elsewhere is copied in one piece.
+/// An item for each of several processes, in flat lists. The items of consecutive processes are copied in one piece.
 pub trait ByProcess: Sized {
     ghost Item: { Type 0 };
 
     ghost items: { Self → List Item };
 
-    // What all have, with what is new in the place of that of its processes.
+    // All items, with new items in the places of the items of their processes.
     ghost lay: { Self → List ℕ → Self → Self };
 
     ghost lays: { (all : Self) (processes : List ℕ) (new : Self) → items (lay all processes new) ≡ replaced (items all) processes (items new) };

@@ -59,13 +59,14 @@ impl<T: ByProcess + Drop> Layered<T> {
         self.base.count()
     }
 
-    /// What all processes have, but for what lies apart, and that.
+    /// The base list of all processes, and the items that lie apart, which replace the items of their processes.
     #[inline(always)]
     pub fn layers(&self) -> (&T, Option<&Apart<T>>)
         ensures base { IfNone result.1 (self.now ≡ result.0.now) }
         ensures both { IfSome result.1 (λ a. T.items self.now
             ≡ replaced (T.items result.0.now) a.now.processes.items (T.items a.now.items)) }
-        ensures apart { IfSome result.1 (λ a. AreApart (T.items result.0.now) a.now.processes.items (T.items a.now.items)) }
+        ensures apart { IfSome result.1 (λ a. AreApart (T.items result.0.now) a.now.processes.items
+            (T.items a.now.items)) }
     {
         match &self.apart {
             Some(apart) => (&self.base, Some(apart)),
@@ -90,7 +91,7 @@ impl<T: ByProcess + Drop> Layered<T> {
         }
     }
 
-    /// A list of all in which what is new of these processes gives the same as in this one.
+    /// The base list, where `processes` has every process whose item lies apart. Else a new list, in which these items have their places.
     fn below(&self, alloc: Global, processes: &[usize]) -> Result<Shared<T>, OutOfMemory>
         requires { IsAscending processes.now }
         ensures count { IfOk result (λ all. length (T.items all) ≡ length (T.items self.now)) }

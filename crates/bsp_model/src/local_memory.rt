@@ -148,7 +148,7 @@ impl LocalMemory {
         StoresRef {
             ranges: self.ranges.as_slice(),
             values: self.values.as_slice(),
-            memory: memory.again(),
+            memory: memory.reborrow(),
         }
     }
 

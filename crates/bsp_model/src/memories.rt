@@ -37,6 +37,19 @@ impl Model for Memories {
     ghost invariant = { λ m. ArePaged m.pages m.lasts };
 }
 
+/// Takes the full pages of a memory, of which there may be none.
+#[inline(always)]
+fn take_full(pages: &mut Vec<Page>) -> Result<SharedSeq<Page>, OutOfMemory>
+    ensures full { IfOk result (λ full. full ≡ pages.old.items) }
+    ensures none { pages.new.items ≡ [] }
+{
+    if pages.is_empty() {
+        return Ok(SharedSeq::new());
+    }
+    let none = Vec::new(*pages.allocator());
+    SharedSeq::from_vec(mem::replace(pages, none))
+}
+
 impl Memories {
     /// No memories, which take no memory.
     pub fn new(alloc: Global) -> Memories
@@ -113,8 +126,7 @@ impl Memories {
         ensures few { length memory.new ≤ length memory.old }
     {
         memory.len = memory.last.len();
-        let none = Vec::new(*memory.pages.allocator());
-        let full = SharedSeq::from_vec(mem::replace(&mut memory.pages, none))?;
+        let full = take_full(&mut memory.pages)?;
         self.pages.put(self.lasts.len(), full)?;
         self.lasts.push_from(&mut memory.last)?;
         memory.len = 0;
@@ -155,8 +167,10 @@ impl Memories {
     #[inline]
     pub fn write(&mut self, pid: usize, start: u64, words: &[u64]) -> Result<bool, OutOfMemory>
         requires { pid < length self.old }
-        ensures within { IfOk result (λ found. found ≡ nat_le (start + length words.now) (length (slice_index_or self.old pid []))) }
-        ensures written { IfOk result (λ found. self.new ≡ slice_set self.old pid (memory_written (slice_index_or self.old pid []) start words.now)) }
+        ensures within { IfOk result (λ found. found ≡ nat_le (start + length words.now) (length
+            (slice_index_or self.old pid []))) }
+        ensures written { IfOk result (λ found. self.new ≡ slice_set self.old pid (memory_written
+            (slice_index_or self.old pid []) start words.now)) }
         ensures err { OnErr result (self.new ≡ self.old) }
     {
         if !self.pages.row(pid).is_empty() {
@@ -172,7 +186,8 @@ impl Memories {
     #[inline(never)]
     fn write_paged(&mut self, pid: usize, start: u64, words: &[u64]) -> Result<bool, OutOfMemory>
         requires { pid < length self.old }
-        ensures within { IfOk result (λ found. found ≡ nat_le (start + length words.now) (length (row_at self.old pid))) }
+        ensures within { IfOk result (λ found. found ≡ nat_le (start + length words.now) (length
+            (row_at self.old pid))) }
         ensures written { let new = memory_written (row_at self.old pid) start words.now in
             IfOk result (λ found. self.new ≡ slice_set self.old pid new) }
         ensures err { OnErr result (self.new ≡ self.old) }

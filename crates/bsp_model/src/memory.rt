@@ -180,7 +180,8 @@ impl Memory {
         requires { start + len ≤ length self.old }
         ensures made { let changed = C.makes change.now (take len (drop start self.old)) in
             IfOk result (λ made. made ≡ true → self.new ≡ memory_written self.old start changed) }
-        ensures count { IfOk result (λ made. made ≡ true → length (C.makes change.now (take len (drop start self.old))) ≡ len) }
+        ensures count { IfOk result (λ made. made ≡ true → length (C.makes change.now (take len
+            (drop start self.old))) ≡ len) }
         ensures left { IfOk result (λ made. made ≡ false → self.new ≡ self.old) }
         ensures err { OnErr result (self.new ≡ self.old) }
     {

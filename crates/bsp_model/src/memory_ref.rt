@@ -33,7 +33,7 @@ impl<'a> Model for MemoryRef<'a> {
 
 impl<'a> MemoryRef<'a> {
     #[inline(always)]
-    pub(crate) fn of_words(&self, words: &'a [u64]) -> MemoryRef<'a>
+    pub(crate) fn over_words(&self, words: &'a [u64]) -> MemoryRef<'a>
         ensures words { result ≡ words.now }
         ensures fits { length result < 2 ^ 64 }
     {
@@ -46,7 +46,7 @@ impl<'a> MemoryRef<'a> {
     }
 
     #[inline(always)]
-    pub(crate) fn again(&self) -> MemoryRef<'a>
+    pub(crate) fn reborrow(&self) -> MemoryRef<'a>
         ensures same { result ≡ self.now }
         ensures fits { length self.now < 2 ^ 64 }
     {
@@ -121,6 +121,12 @@ impl<'a> MemoryRef<'a> {
         &words[..words.len().min(most)]
     }
 
+    /// Whether some of the words lie in pages. It is for speed.
+    #[inline(always)]
+    pub fn has_pages(&self) -> bool {
+        !self.pages.is_empty()
+    }
+
     /// How many words from `address` on lie in one piece: at least those up to the end of the page. Memories of the same words may differ in it.
     pub fn piece_len(&self, address: u64) -> usize
         ensures some { address < length self.now → 0 < result }
@@ -149,7 +155,7 @@ impl<'a> MemoryRef<'a> {
 
     /// Whether the `len` words from `start` on are those that another memory has from `other_start` on, though they lie in other pieces.
     #[inline(never)]
-    pub(crate) fn has_same_words(
+    pub fn has_same_words(
         &self,
         start: u64,
         other: &MemoryRef<'_>,

@@ -100,7 +100,8 @@ impl Page {
     /// Makes `words` the words from `start` on: in place where nobody shares the page, else in a new one.
     pub fn write(&mut self, alloc: Global, start: usize, words: &[u64]) -> Result<(), OutOfMemory>
         requires { start + length words.now ≤ WORDS_OF_A_PAGE }
-        ensures ok { OnOk result (self.new ≡ take start self.old ++ words.now ++ drop (start + length words.now) self.old) }
+        ensures ok { OnOk result (self.new ≡ take start self.old ++ words.now
+            ++ drop (start + length words.now) self.old) }
         ensures err { OnErr result (self.new ≡ self.old) }
         ensures len { length self.old ≡ WORDS_OF_A_PAGE }
     {

@@ -24,7 +24,8 @@ fn new_pages(
     requires inside { start + length words.now ≤ WORDS_OF_A_PAGE * count }
     requires each { WORDS_OF_A_PAGE * count < start + length words.now + WORDS_OF_A_PAGE }
     ensures count { IfOk result (λ new. length new.items ≡ count) }
-    ensures words { IfOk result (λ new. (i : ℕ) → i < WORDS_OF_A_PAGE * count → paged_word new.items i ≡ word_after (λ j. paged_word pages.now (WORDS_OF_A_PAGE * first + j)) start words.now i) }
+    ensures words { IfOk result (λ new. (i : ℕ) → i < WORDS_OF_A_PAGE * count → paged_word new.items i
+        ≡ word_after (λ j. paged_word pages.now (WORDS_OF_A_PAGE * first + j)) start words.now i) }
 {
     let mut new = Vec::with_capacity(alloc, count)?;
     for k in 0..count {
@@ -139,7 +140,8 @@ pub fn cut_write(full: usize, len: usize, start: u64, words: &[u64]) -> Option<C
 
 pub fn are_same_pages(pages: &[Page], others: &[Page]) -> bool
     requires { length pages.now ≡ length others.now }
-    ensures { IsTrue result ↔ ((i : ℕ) → i < WORDS_OF_A_PAGE * length pages.now → paged_word pages.now i ≡ paged_word others.now i) }
+    ensures { IsTrue result ↔ ((i : ℕ) → i < WORDS_OF_A_PAGE * length pages.now → paged_word pages.now i
+        ≡ paged_word others.now i) }
 {
     for k in 0..pages.len() {
         let page = &pages[k];

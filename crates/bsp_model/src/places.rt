@@ -4,10 +4,10 @@ ghost use Rattle.std.specs.Prelude.{◌≡◌, ◌≢◌, ◌≤◌, ◌+◌, �
 ghost use Rattle.std.specs.List.{Contains};
 ghost use Rattle.bsp_model.specs.Replaced.{IsAscending};
 
-/// Of how many processes one may have what it has in a place apart.
+/// The new items of at most one process in so many lie apart.
 const ONE_APART_OF: usize = 4;
 
-/// Whether what so few of so many processes have is to lie apart, where others are to share the rest.
+/// Whether the new items of `some` of `all` processes are few enough to lie apart.
 pub fn are_few(some: usize, all: usize) -> bool
     ensures { result ≡ nat_le some (all / ONE_APART_OF) }
 {

@@ -4,8 +4,8 @@ ghost use Rattle.std.specs.Prelude.{◌≡◌, ◌<◌, ◌≤◌, ◌^◌, ◌-
 ghost use Rattle.std.specs.Iterator.{YieldsFirst, item_count};
 ghost use Rattle.bsp_model.specs.ProcessSet.{processes_from, processes_in, union};
 
-use crate::OutOfMemory;
 use crate::limits::MOST_PROCESSES;
+use crate::{OutOfMemory, numbers};
 use std::alloc::Global;
 use std::marker::Model;
 
@@ -142,6 +142,10 @@ impl ProcessSet {
         ensures { IfOk result (λ members. members.items ≡ processes_in self.now) }
     {
         let mut members = Vec::with_capacity(alloc, self.bits.count_ones() as usize)?;
+        if self.bits == ones(self.count) {
+            members.extend_from_slice(numbers(self.count))?;
+            return Ok(members);
+        }
         for process in self.iter() {
             members.push(process)?;
         }

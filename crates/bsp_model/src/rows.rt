@@ -182,6 +182,14 @@ impl<T: Copy> Rows<T> {
         }
     }
 
+    /// Leaves out the rows from a place on.
+    #[inline(always)]
+    pub fn cut(&mut self, place: usize)
+        ensures { AreCut [] (row_at self.old) place (row_at self.new) }
+    {
+        self.truncate(place);
+    }
+
     #[inline(always)]
     pub(crate) fn fill(&mut self, count: usize) -> Result<(), OutOfMemory>
         requires { length self.old ≤ count }
@@ -243,7 +251,7 @@ impl<T: Copy> Rows<T> {
         self.push(row)
     }
 
-    /// Makes the rows of `more` from `from` on, and before `to`, those from `place` on. After `OutOfMemory` those from `place` on are left out.
+    /// Copies the rows `from` to `to` of `more`, the last excluded, to `place` and the places behind it. After `OutOfMemory` no row stands from `place` on.
     pub fn take_range(
         &mut self,
         place: usize,

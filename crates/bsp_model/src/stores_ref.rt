@@ -115,8 +115,8 @@ impl<'a> StoresRef<'a> {
         ensures fits { length result.0 < 2 ^ 64 }
     {
         match range_beside(self.ranges, self.values) {
-            Some(range) => (self.memory.again(), range.start),
-            None => (self.memory.of_words(self.values), 0),
+            Some(range) => (self.memory.reborrow(), range.start),
+            None => (self.memory.over_words(self.values), 0),
         }
     }
 
@@ -141,7 +141,7 @@ impl<'a> StoresRef<'a> {
     }
 
     /// Makes the stores again in another memory, range by range. What lies past its end is left out. After `OutOfMemory` some of them are made.
-    pub fn make_again(&self, memory: &mut Memory) -> Result<(), OutOfMemory>
+    pub fn replay_on(&self, memory: &mut Memory) -> Result<(), OutOfMemory>
         ensures { OnOk result (memory.new ≡ made_again memory.old self.now) }
     {
         match range_beside(self.ranges, self.values) {

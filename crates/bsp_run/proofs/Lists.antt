@@ -24,11 +24,6 @@ pub range_more : (n : ℕ) → range_with_len 0 (n + 1) ≡ range_with_len 0 n +
 range_more n =
     sym (map_same (range_with_len 0 (n + 1))) ∙ map-range_with_len_more (λ k. k) 0 n n (omega arith) ∙ ap (λ ks. ks ++ n ∷ []) (map_same (range_with_len 0 n))
 
--- the first of the numbers below n
-pub take_range : (n k : ℕ) → k ≤ n → take k (range_with_len 0 n) ≡ range_with_len 0 k
-take_range n k within =
-    ap (take k) (sym (map_same (range_with_len 0 n))) ∙ take-map-range_with_len (λ j. j) 0 n k within ∙ map_same (range_with_len 0 k)
-
 -- the numbers below n are below n
 pub range_below : (n : ℕ) → All (λ k. k < n) (range_with_len 0 n)
 range_below n = λ k d l.

@@ -48,7 +48,7 @@ pub fn cost_of_delivery(g: u64, l: u64, outcomes: &Outcomes) -> CostRow
     cost_row(g, l, largest_work(outcomes), h_of(outcomes))
 }
 
-/// The cost at these prices of a superstep that had another cost at others.
+/// The cost at these prices of a superstep whose work and h-relation are recorded.
 pub fn cost_at(g: u64, l: u64, row: &CostRow) -> CostRow
     requires small_g { g ≤ HIGHEST_PRICE }
     requires small_l { l ≤ HIGHEST_PRICE }

@@ -13,7 +13,7 @@ use bsp_step::{ListKind, Outcomes};
 use bsp_table::Table;
 use std::alloc::Global;
 
-/// Whether some process has a fault. Where no fault stands, they are not gone over.
+/// Whether some process has a fault. Where no fault stands, no process is looked at.
 fn has_fault(outcomes: &Outcomes) -> bool
     ensures { result ≡ list_any (λ o. is_some o.fault) outcomes.now }
 {
@@ -44,7 +44,8 @@ fn faults(alloc: Global, outcomes: &Outcomes) -> Result<Seq<ProcessFault>, OutOf
     Ok(faults)
 }
 
-/// How the run ends with a superstep of these outcomes, or none where the superstep ends by delivery.
+/// How the run ends with a superstep of these outcomes, or none where the superstep ends by delivery. Faults of processes come before the fault of the
+/// superstep's end (this profile).
 #[tactic(auto, unfolding(crate::specs::Ending::end_of))]
 pub fn end_of(
     alloc: Global,

@@ -4,7 +4,7 @@ ghost use Rattle.std.specs.Prelude.{◌≡◌, ◌≤◌, length};
 ghost use Rattle.bsp_run.specs.Supersteps.{supersteps_of};
 
 use crate::History;
-use crate::keeping::is_limit;
+use crate::limit::is_limit;
 use bsp_model::limits::{HIGHEST_PRICE, MOST_SUPERSTEPS};
 
 impl History {

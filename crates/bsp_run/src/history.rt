@@ -10,7 +10,8 @@ ghost use Rattle.bsp_run.specs.Inside.Lines.{AreLinesUnlessMarked};
 ghost use Rattle.bsp_run.specs.Result.{status_of, memories_of, lines_of, costs_of, total_of, result_of};
 
 use crate::costs::{all_costs, total_of};
-use crate::keeping::{is_limit, last_turn};
+use crate::keeping::last_turn;
+use crate::limit::is_limit;
 use crate::lines::all_lines;
 use crate::{Arguments, Lines, Phase, RunResult, Status, Superstep, Tape, Views};
 use bsp_model::{
@@ -63,8 +64,8 @@ impl Tape {
         self.finish_sharing(&SharedSeq::new(), &ProcessSet::none(0))
     }
 
-    /// The history of a run that has ended, or `OutOfMemory`. It shares the lines of each process that are the same in another history. Those of a
-    /// process that is not marked are not looked at, where both runs have as many supersteps.
+    /// The history of a run that has ended, or `OutOfMemory`. Where both runs have as many supersteps, a process that is not marked shares its lines with
+    /// the other history.
     pub fn finish_like(self, other: &History, marks: &ProcessSet) -> Result<History, OutOfMemory>
         requires ended { is_ended self.phase ≡ true }
         requires marks { LinesDifferAtMost other.now self marks.now }
@@ -79,7 +80,7 @@ impl Tape {
         self.finish_sharing(&other.sums.lines, marks)
     }
 
-    /// The history of a run that has ended. It shares those of these lines that are the same, as those of a process that is not marked are.
+    /// The history of a run that has ended. A process that is not marked has the lines that it had, and shares them.
     fn finish_sharing(
         self,
         lines: &SharedSeq<Lines>,

@@ -1,16 +1,12 @@
 //! What a tape keeps of a superstep, and what comes after it.
 
 ghost use Rattle.std.specs.Prelude.{◌≡◌, ◌≤◌, ◌==◌, ◌++◌, ◌∷◌, [], length, map, All, IfOk, OnOk, OnErr, None, Some, option_map, if◌then◌else◌};
-ghost use Rattle.bsp_table.specs.NextTable.{AreFull, AreSlots, AreSlotsInside, AreSlotsWithin, ArePushesInside, AreWithin, next_table, table_fault};
-ghost use Rattle.bsp_run.specs.State.{pops_of, pushes_of};
 ghost use Rattle.bsp_run.specs.Run.{phase_after, is_limit};
-ghost use Rattle.bsp_run.specs.Inside.Condition.{CanSync};
 
+use crate::limit::is_limit;
 use crate::{Phase, Status, Superstep, Views};
 use bsp_model::{CostRow, OutOfMemory, Shared};
 use bsp_step::Outcomes;
-use bsp_table::{Table, TableFault};
-use std::alloc::AllocError;
 use std::mem;
 
 /// What comes after the turns.
@@ -20,29 +16,6 @@ pub fn phase_after(end: Option<Status>) -> Phase
     match end {
         None => Phase::Turned,
         Some(status) => Phase::Ended(status),
-    }
-}
-
-/// What comes after the delivery of so many supersteps. The limit is looked at here alone, so a lower limit cuts the run behind that delivery.
-pub fn phase_at(steps: u64, limit: u64) -> Phase
-    ensures { result ≡ (if steps == limit then Phase.Ended Status.Limit else Phase.Open) }
-{
-    if steps == limit {
-        Phase::Ended(Status::Limit)
-    } else {
-        Phase::Open
-    }
-}
-
-/// The table after a superstep whose end has no fault.
-pub fn next_table(table: &Table, outcomes: &Outcomes) -> Result<Table, OutOfMemory>
-    requires { CanSync table.now outcomes.now }
-    ensures next { IfOk result (λ t. t ≡ next_table table.now (pops_of outcomes.now) (pushes_of outcomes.now)) }
-{
-    match table.synced(outcomes) {
-        Ok(next) => Ok(next),
-        Err(TableFault::OutOfMemory) => Err(AllocError),
-        Err(TableFault::Sync(_)) => unreachable!(),
     }
 }
 
@@ -72,13 +45,6 @@ pub fn keep_superstep(
     });
     costs.push_reserved(row);
     Ok(())
-}
-
-/// Whether the run has ended at the limit.
-pub fn is_limit(phase: &Phase) -> bool
-    ensures { result ≡ is_limit phase.now }
-{
-    matches!(phase, Phase::Ended(Status::Limit))
 }
 
 /// The outcomes of the superstep that ended the run; at the limit there is none such.

@@ -1,4 +1,4 @@
-//! What is known of the superstep after one whose turns are taken.
+//! The next superstep of a tape whose turns are taken: its setting and its views.
 
 ghost use Rattle.std.specs.Prelude.{◌≡◌, ◌<◌, All, IfOk, length, map};
 ghost use Rattle.bsp_model.specs.Replaced.{replaced, IsAscending};

@@ -29,8 +29,10 @@ fn push_first(
 {
     let given = memory.as_ref();
     match recording {
-        Recording::Kept => cells.push_copy(&given, &queue.as_ref()),
-        Recording::None => cells.push_copy(&given.to_one_piece()?.as_ref(), &queue.as_ref()),
+        Recording::None if given.has_pages() => {
+            cells.push(&mut given.to_one_piece()?, &queue.as_ref())
+        }
+        _ => cells.push_copy(&given, &queue.as_ref()),
     }
 }
 

@@ -10,7 +10,8 @@ ghost use Rattle.bsp_run.specs.Result.{largest_work, cost_of_delivery, IsSmall};
 ghost use Rattle.bsp_run.specs.TakingOver.{CanTakeOver, outcomes_there};
 
 use crate::costs::cost_at;
-use crate::keeping::{keep_superstep, phase_at};
+use crate::keeping::keep_superstep;
+use crate::limit::phase_at;
 use crate::{History, Phase, Tape, Views};
 use bsp_model::{CostRow, OutOfMemory, Shared, TryCopy};
 use bsp_step::Outcomes;

@@ -14,7 +14,8 @@ ghost use Rattle.bsp_run.specs.RunErrors.{input_fault_of};
 ghost use Rattle.bsp_run.specs.Result.{cost_of_delivery, IsSmall};
 
 use crate::costs::cost_of_delivery;
-use crate::keeping::{keep_superstep, phase_after, phase_at};
+use crate::keeping::{keep_superstep, phase_after};
+use crate::limit::phase_at;
 use crate::opening::{Recording, add_first_cells};
 use crate::{Arguments, Phase, RunError, Setting, Status, Superstep, Views, ViewsRef};
 use bsp_deliver::Cells;

@@ -12,12 +12,10 @@ ghost use Rattle.bsp_run.specs.Inside.Opening.{CanOpen, state_of};
 ghost use Rattle.bsp_run.specs.Inside.Settings.{IsSettingOf, AreTurned, HaveTurns};
 
 use crate::ending::end_of;
-use crate::keeping::next_table;
 use crate::opening::{Recording, add_first_cells, shared_args};
-use crate::process_numbers::numbers;
 use crate::{Arguments, Setting, Status};
 use bsp_deliver::{Cells, next_tag_size};
-use bsp_model::{Input, Layered, OutOfMemory, TryCopy};
+use bsp_model::{Input, Layered, OutOfMemory, TryCopy, numbers};
 use bsp_step::{Outcomes, View};
 use std::alloc::Global;
 use std::marker::Model;
@@ -103,7 +101,7 @@ impl Views {
         Ok(Setting {
             step: setting.step + 1,
             args: setting.args.copy()?,
-            table: next_table(&setting.table, outcomes)?,
+            table: setting.table.next(outcomes)?,
             tag_size: next_tag_size(setting.tag_size, outcomes),
         })
     }

@@ -102,17 +102,17 @@ at_push ends memories lists end memory o count has is =
     let es : get_or (ends ++ end ∷ []) (length ends) no_end ≡ record { ended = o.ended; work = o.work } = get_or_push ends end no_end (length ends) refl ∙ is in
     let ms : get_or (memories ++ memory ∷ []) (length ends) [] ≡ memory = get_or_push memories memory [] (length ends) count in
     λ i. record {
-      fault = has.faults i;
+      fault = has.rare.faults i;
       ended = (es i).ended;
       memory = ms i;
       stores = (ap (stores_beside lists.stores (length ends)) ms ∙ has.stores) i;
       puts = has.puts i;
-      gets = has.gets i;
-      sends = has.sends i;
-      pops = has.pops i;
-      pushes = has.pushes i;
-      tag = has.tags i;
-      lines = has.lines i;
+      gets = has.rare.gets i;
+      sends = has.rare.sends i;
+      pops = has.rare.pops i;
+      pushes = has.rare.pushes i;
+      tag = has.rare.tags i;
+      lines = has.rare.lines i;
       work = (es i).work;
     }
 

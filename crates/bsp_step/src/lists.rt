@@ -2,7 +2,8 @@
 
 ghost use Rattle.std.specs.Prelude.{◌≡◌, ◌≤◌, ◌<◌, ◌+◌, ◌-◌, ℕ, OnOk};
 ghost use Rattle.std.specs.Bool.{OnTrue};
-ghost use Rattle.bsp_step.specs.Inside.Outcomes.{IsWithoutColumn, first_at, AreSameLists, HasLists};
+ghost use Rattle.bsp_step.specs.OutcomeParts.{no_outcome};
+ghost use Rattle.bsp_step.specs.Inside.Outcomes.{IsWithoutColumn, first_at, AreSameLists, HasLists, HasRareLists};
 
 use crate::{Ended, ListKind, Outcome, OutcomeRef, TurnLists};
 use bsp_model::{
@@ -104,6 +105,50 @@ impl Lists {
         self.lines.clear();
     }
 
+    #[inline(always)]
+    fn cut_rare(&mut self, place: usize)
+        ensures stores { self.new.stores ≡ self.old.stores }
+        ensures puts { self.new.puts ≡ self.old.puts }
+        ensures before { (k : ℕ) → k < place → AreSameLists self.old k self.new k }
+        ensures there { HasRareLists self.new place no_outcome }
+    {
+        self.faults.cut(place);
+        self.gets.cut(place);
+        self.sends.cut(place);
+        self.pops.cut(place);
+        self.pushes.cut(place);
+        self.tags.cut(place);
+        self.lines.cut(place);
+    }
+
+    /// Puts copies of the lists that few turns fill.
+    #[inline(always)]
+    fn put_rare(&mut self, place: usize, outcome: &OutcomeRef<'_>) -> Result<(), OutOfMemory>
+        ensures stores { self.new.stores ≡ self.old.stores }
+        ensures puts { self.new.puts ≡ self.old.puts }
+        ensures before { (k : ℕ) → k < place → AreSameLists self.old k self.new k }
+        ensures there { OnOk result (HasRareLists self.new place outcome.now) }
+    {
+        let done = self.faults.put(place, outcome.fault.as_slice());
+        let done = done.and(self.gets.put(place, outcome.gets));
+        let done = done.and(self.sends.put(place, &outcome.sends));
+        let done = done.and(self.pops.put(place, outcome.pops));
+        let done = done.and(self.pushes.put(place, outcome.pushes));
+        let done = done.and(self.tags.put(place, outcome.tag.as_slice()));
+        done.and(self.lines.put(place, &outcome.lines))
+    }
+
+    /// The same for an outcome that a turn has just left. It is not inlined, so that the other turns do not gather the parts of their outcomes.
+    #[inline(never)]
+    fn put_rare_of(&mut self, place: usize, outcome: &Outcome) -> Result<(), OutOfMemory>
+        ensures stores { self.new.stores ≡ self.old.stores }
+        ensures puts { self.new.puts ≡ self.old.puts }
+        ensures before { (k : ℕ) → k < place → AreSameLists self.old k self.new k }
+        ensures there { OnOk result (HasRareLists self.new place outcome.now) }
+    {
+        self.put_rare(place, &outcome.as_ref())
+    }
+
     /// Puts copies of an outcome's lists. The stores are kept beside the memory that is kept of the process.
     #[inline(always)]
     pub(crate) fn put(
@@ -115,33 +160,25 @@ impl Lists {
         ensures before { (k : ℕ) → k < place → AreSameLists self.old k self.new k }
         ensures there { OnOk result (HasLists self.new place memory.now outcome.now) }
     {
-        let done = self.faults.put(place, outcome.fault.as_slice());
-        let done = done.and(self.stores.put(place, &outcome.stores, memory));
+        let done = self.stores.put(place, &outcome.stores, memory);
         let done = done.and(self.puts.put(place, &outcome.puts));
-        let done = done.and(self.gets.put(place, outcome.gets));
-        let done = done.and(self.sends.put(place, &outcome.sends));
-        let done = done.and(self.pops.put(place, outcome.pops));
-        let done = done.and(self.pushes.put(place, outcome.pushes));
-        let done = done.and(self.tags.put(place, outcome.tag.as_slice()));
-        done.and(self.lines.put(place, &outcome.lines))
+        done.and(self.put_rare(place, outcome))
     }
 
-    /// The same for an outcome that a turn has just left. Each of its lists is read when its turn comes.
+    /// The same for an outcome that a turn has just left. Few turns leave more than a memory, stores and puts.
     #[inline(always)]
     pub(crate) fn put_turn(&mut self, place: usize, outcome: &Outcome) -> Result<(), OutOfMemory>
         ensures before { (k : ℕ) → k < place → AreSameLists self.old k self.new k }
         ensures there { OnOk result (HasLists self.new place outcome.now.memory outcome.now) }
     {
         let lists: &TurnLists = &outcome.lists;
-        let done = self.faults.put(place, outcome.fault.as_slice());
-        let done = done.and(self.stores.put_local(place, &lists.local));
+        let done = self.stores.put_local(place, &lists.local);
         let done = done.and(self.puts.put(place, &lists.puts.as_ref()));
-        let done = done.and(self.gets.put(place, lists.gets.as_slice()));
-        let done = done.and(self.sends.put(place, &lists.sends.as_ref()));
-        let done = done.and(self.pops.put(place, lists.pops.as_slice()));
-        let done = done.and(self.pushes.put(place, lists.pushes.as_slice()));
-        let done = done.and(self.tags.put(place, outcome.tag.as_slice()));
-        done.and(self.lines.put(place, &lists.lines.as_ref()))
+        if !outcome.is_plain() {
+            return done.and(self.put_rare_of(place, outcome));
+        }
+        self.cut_rare(place);
+        done
     }
 
     #[inline(always)]

@@ -1,7 +1,9 @@
 //! What a turn leaves.
 
 ghost use Rattle.std.specs.Prelude.{◌≡◌, ◌↔◌, IfOk, IsTrue};
+ghost use Rattle.std.specs.Bool.{OnTrue};
 ghost use Rattle.bsp_step.specs.OutcomeParts.{no_outcome};
+ghost use Rattle.bsp_step.specs.Inside.Outcomes.{IsPlain};
 
 use crate::TurnLists;
 use bsp_model::{
@@ -56,6 +58,21 @@ impl Outcome {
             tag: None,
             work: 0,
         })
+    }
+
+    /// Whether the turn left nothing but its memory, its stores, puts and work.
+    #[inline(always)]
+    pub(crate) fn is_plain(&self) -> bool
+        ensures { OnTrue result (IsPlain self.now) }
+    {
+        let lists: &TurnLists = &self.lists;
+        self.fault.is_none()
+            && lists.gets.as_slice().is_empty()
+            && lists.sends.as_ref().is_empty()
+            && lists.pops.as_slice().is_empty()
+            && lists.pushes.as_slice().is_empty()
+            && self.tag.is_none()
+            && lists.lines.as_ref().is_empty()
     }
 
     /// This outcome, to be read where it lies.

@@ -10,7 +10,9 @@ mod putting;
 mod room;
 
 use crate::{ListKind, OutcomeRef, OutcomeRows};
-use bsp_model::{Get, Layered, OutOfMemory, PrintedLinesRef, PutsRef, SendsRef, TryCopy};
+use bsp_model::{
+    Get, Layered, MemoryRef, OutOfMemory, PrintedLinesRef, PutsRef, SendsRef, TryCopy,
+};
 use bsp_table::{Area, Registers};
 use std::alloc::Global;
 use std::marker::Model;
@@ -77,7 +79,16 @@ impl Outcomes {
         rows.get(place)
     }
 
-    /// The puts that the turn of a process left. Where nothing else of an outcome is asked for, this and the like of it are cheaper than `get`.
+    /// The memory that the turn of a process left. Where little of an outcome is asked for, this and the like of it are cheaper than `get`.
+    #[inline(always)]
+    pub fn memory(&self, pid: usize) -> MemoryRef<'_>
+        requires { pid < length self.now }
+        ensures { result ≡ (outcome_of self.now pid).memory }
+    {
+        self.get(pid).memory
+    }
+
+    /// The puts that the turn of a process left.
     #[inline(always)]
     pub fn puts(&self, pid: usize) -> PutsRef<'_>
         requires { pid < length self.now }

@@ -12,7 +12,7 @@ use Rattle.std.proofs.lemmas.List.Filters.{length-filter_both}
 use Rattle.std.proofs.lemmas.List.Folds.{list_any_none, list_all-map, list_all_at}
 use Rattle.std.proofs.lemmas.List.Sums.{list_all-from_AllPass}
 use Rattle.std.proofs.lemmas.List.Elements.{filter_agree, filter-append, All-nil, All-cons, All-tail, All-map, All-filter, All-append}
-use Rattle.std.proofs.lemmas.List.FromFn.{length-range_with_len, get_or-range_with_len, length-map-range_with_len, map-range_with_len_more}
+use Rattle.std.proofs.lemmas.List.FromFn.{fill_by_all, length-range_with_len, get_or-range_with_len, length-map-range_with_len, map-range_with_len_more}
 use Rattle.bsp_model.specs.Limits.{most_slots}
 use Rattle.bsp_model.specs.declared.fault.SyncFault.{SyncFault}
 use Rattle.bsp_model.specs.declared.fault.SyncFault.TheVariants.{PopMismatch, PushMismatch, TooManySlots}
@@ -229,3 +229,23 @@ pub alike_where_none : {X : Type 0} (same : List X → List X → Bool) (all : L
 alike_where_none same all nothing alike is none =
     let empty : All (λ x. x ≡ []) all = OnTrue_at is none in
     sym (are_alike_all same all [] (λ k l some. ap (λ first. same first (get_or all k [])) (empty 0 [] (omega arith)) ∙ ap (same []) (empty k [] l) ∙ alike))
+
+filter_all : (ks : List ℕ) → filter (λ _. true) ks ≡ ks
+filter_all [] = refl
+filter_all (k ∷ ks) = ap (λ js. k ∷ js) (filter_all ks)
+
+first_empty : (pushes : List (List Area)) → All (λ pushed. pushed ≡ []) pushes → count_of_pushes pushes ≡ 0
+first_empty [] none = refl
+first_empty (pushed ∷ others) none = ap length (none 0 [] (omega arith))
+
+-- Without pops and pushes the table stays as it is.
+pub unchanged : (slots : List (List Area)) (pops : List (List ℕ)) (pushes : List (List Area)) → 1 ≤ length pops → table_fault slots pops pushes ≡ None
+    → All (λ popped. popped ≡ []) pops → All (λ pushed. pushed ≡ []) pushes → slots ≡ next_table slots pops pushes
+unchanged slots pops pushes some faultless no_pops no_pushes =
+    let all : ℕ → List Area = λ slot. get_or slots slot [] in
+    let kept : kept_slots slots pops ≡ slots =
+    kept_of_first slots pops pushes some faultless
+    ∙ ap (λ (popped : List ℕ). kept_slots slots (popped ∷ [])) (no_pops 0 [] (omega (arith, some)))
+    ∙ ap (map all) (filter_all (range_with_len 0 (length slots)))
+    ∙ sym (fill_by_all all slots (length slots) [] refl (λ k l. refl)) in
+    sym ((λ i. kept i ++ map (pushed_slot pushes) (range_with_len 0 (first_empty pushes no_pushes i))) ∙ append-nil slots)

@@ -148,8 +148,28 @@ impl Table {
         Ok(kept)
     }
 
-    /// The table after the superstep: the slots that are not popped, and one for the `k`-th pushes of all processes, for each `k`
-    /// (Hill et al. 1998). Pops are resolved against this table, so a pop never removes a push of its own superstep (this profile).
+    /// The table after a superstep whose end has no fault: the slots that are not popped, and one for the `k`-th pushes of all processes, for each `k`
+    /// (Hill et al. 1998). Pops are resolved against this table, so a pop never removes a push of its own superstep (this profile). Or `OutOfMemory`.
+    pub fn next<R: Registers>(&self, all: &R) -> Result<Table, OutOfMemory>
+        requires some { 1 ≤ length (R.pops all.now) }
+        requires faultless { table_fault self.now (R.pops all.now) (R.pushes all.now) ≡ None }
+        ensures { IfOk result (λ t. t ≡ next_table self.now (R.pops all.now) (R.pushes all.now)) }
+    {
+        if all.has_no_pops() && all.has_no_pushes() {
+            return self.copy();
+        }
+        let nprocs = all.count();
+        let mut slots = self.kept(all.pops(0))?;
+        for k in 0..all.pushes(0).len() {
+            slots.push(pushed(self.alloc, all, nprocs, k)?)?;
+        }
+        Ok(Table {
+            alloc: self.alloc,
+            slots: slots.share()?,
+        })
+    }
+
+    /// The same, where the superstep's end may have a fault.
     /// Errors: the first of S3 `PopMismatch`, S4 `PushMismatch` and S5 `TooManySlots` that holds, before any memory is taken; then `OutOfMemory`.
     pub fn synced<R: Registers>(&self, all: &R) -> Result<Table, TableFault>
         requires some { 1 ≤ length (R.pops all.now) }
@@ -163,20 +183,16 @@ impl Table {
         // What callers keep of their tables.
         ensures full_after { IfOk result (AreFull (length (R.pops all.now))) }
         ensures few_after { IfOk result (λ t. length t ≤ MOST_SLOTS) }
-        ensures inside { (sizes : List ℕ) → AreSlotsInside sizes self.now → ArePushesInside sizes (R.pushes all.now) → IfOk result (AreSlotsInside sizes) }
-        ensures within { (bound : ℕ) → AreSlotsWithin bound self.now → All (AreWithin bound) (R.pushes all.now) → IfOk result (AreSlotsWithin bound) }
+        ensures inside { (sizes : List ℕ) → AreSlotsInside sizes self.now → ArePushesInside sizes (R.pushes all.now)
+            → IfOk result (AreSlotsInside sizes) }
+        ensures within { (bound : ℕ) → AreSlotsWithin bound self.now → All (AreWithin bound) (R.pushes all.now)
+            → IfOk result (AreSlotsWithin bound) }
     {
         if let Some(fault) = self.fault(all) {
             return Err(TableFault::Sync(fault));
         }
-        let nprocs = all.count();
-        let mut slots = self.kept(all.pops(0))?;
-        for k in 0..all.pushes(0).len() {
-            slots.push(pushed(self.alloc, all, nprocs, k)?)?;
-        }
-        Ok(Table {
-            alloc: self.alloc,
-            slots: slots.share()?,
-        })
+        // That pops and pushes are of as many processes is known where these are counted.
+        let _nprocs = all.count();
+        Ok(self.next(all)?)
     }
 }

@@ -17,7 +17,8 @@ impl Blocks<Put> {
     /// Adds a put. After `OutOfMemory` nothing has changed.
     #[inline]
     pub fn push(&mut self, target: u64, start: u64, words: &[u64]) -> Result<(), OutOfMemory>
-        ensures ok { OnOk result (self.new ≡ self.old ++ record { target = target; start = start; words = words.now } ∷ []) }
+        ensures ok { OnOk result (self.new ≡ self.old ++ record { target = target; start = start; words = words.now }
+            ∷ []) }
         ensures err { OnErr result (self.new ≡ self.old) }
     {
         self.add(PutHead { target, start }, &[], words)
@@ -29,7 +30,8 @@ impl<'a> BlocksRef<'a, Put> {
     #[inline]
     pub fn at(&self, place: usize) -> PutView<'a>
         requires { place < length self.now }
-        ensures { slice_get self.now place ≡ Some (record { target = result.target; start = result.start; words = result.words.now }) }
+        ensures { slice_get self.now place ≡ Some
+            (record { target = result.target; start = result.start; words = result.words.now }) }
     {
         let (head, words) = self.parts(place);
         PutView {
@@ -52,7 +54,8 @@ impl Blocks<Send> {
     /// Adds a message. After `OutOfMemory` nothing has changed.
     #[inline]
     pub fn push(&mut self, target: u64, tag: &[u64], words: &[u64]) -> Result<(), OutOfMemory>
-        ensures ok { OnOk result (self.new ≡ self.old ++ record { target = target; tag = tag.now; words = words.now } ∷ []) }
+        ensures ok { OnOk result (self.new ≡ self.old ++ record { target = target; tag = tag.now; words = words.now }
+            ∷ []) }
         ensures err { OnErr result (self.new ≡ self.old) }
     {
         let tag_len = tag.len();
@@ -65,7 +68,8 @@ impl<'a> BlocksRef<'a, Send> {
     #[inline]
     pub fn at(&self, place: usize) -> SendView<'a>
         requires { place < length self.now }
-        ensures { slice_get self.now place ≡ Some (record { target = result.target; tag = result.tag.now; words = result.words.now }) }
+        ensures { slice_get self.now place ≡ Some
+            (record { target = result.target; tag = result.tag.now; words = result.words.now }) }
     {
         let (head, words) = self.parts(place);
         let (tag, words) = words.split_at(head.tag_len);

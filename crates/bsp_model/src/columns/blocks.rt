@@ -83,6 +83,14 @@ impl<X: Block> BlockColumn<X> {
         BlocksRef { heads, words }
     }
 
+    /// Leaves out the blocks of the processes from a place on.
+    #[inline(always)]
+    pub fn cut(&mut self, place: usize)
+        ensures { AreCut [] (row_at self.old) place (row_at self.new) }
+    {
+        self.pairs.cut(place);
+    }
+
     /// Makes `blocks` those of a process, and takes away those of the processes behind it. After `OutOfMemory` it has none either.
     #[inline(always)]
     pub fn put(&mut self, place: usize, blocks: &BlocksRef<'_, X>) -> Result<(), OutOfMemory>
@@ -92,7 +100,7 @@ impl<X: Block> BlockColumn<X> {
         self.pairs.put_pair(place, blocks.heads, blocks.words)
     }
 
-    /// Makes the rows of `more` from `from` on, and before `to`, those from `place` on. After `OutOfMemory` those from `place` on are left out.
+    /// Copies the rows `from` to `to` of `more`, the last excluded, to `place` and the places behind it. After `OutOfMemory` no row stands from `place` on.
     pub fn take_range(
         &mut self,
         place: usize,
@@ -129,7 +137,8 @@ impl BlockColumn<Put> {
     /// The first process from `from` on that puts something to a process of the set.
     pub fn next_to(&self, targets: &ProcessSet, from: usize) -> Option<usize>
         ensures later { IfSome result (λ next. from ≤ next) }
-        ensures before { IfSome result (λ next. (k : ℕ) → from ≤ k → k < next → AreToNone targets.now (row_at self.now k)) }
+        ensures before { IfSome result (λ next. (k : ℕ) → from ≤ k → k < next
+            → AreToNone targets.now (row_at self.now k)) }
         ensures there { IfSome result (λ next. ¬ AreToNone targets.now (row_at self.now next)) }
         ensures none { IfNone result ((k : ℕ) → from ≤ k → AreToNone targets.now (row_at self.now k)) }
     {

@@ -108,7 +108,7 @@ impl<A: Copy, B: Copy> Pairs<A, B> {
         both
     }
 
-    /// Makes the rows of `more` from `from` on, and before `to`, those from `place` on. After `OutOfMemory` those from `place` on are left out.
+    /// Copies the rows `from` to `to` of `more`, the last excluded, to `place` and the places behind it. After `OutOfMemory` no row stands from `place` on.
     pub fn take_range(
         &mut self,
         place: usize,
@@ -144,11 +144,11 @@ impl Pairs<Range, u64> {
         StoresRef {
             ranges,
             values,
-            memory: memory.again(),
+            memory: memory.reborrow(),
         }
     }
 
-    /// Makes these those of a process beside its memory, and leaves those behind it out. After `OutOfMemory` its own are left out too.
+    /// Puts the stores of a process beside its memory. The rows behind the process are left out, and after `OutOfMemory` its own row too.
     pub fn put(
         &mut self,
         place: usize,

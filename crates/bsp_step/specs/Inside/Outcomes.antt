@@ -1,5 +1,5 @@
 -- What several outcomes leave, in columns.
-use Rattle.std.specs.Prelude.{ℕ, List, [], Option, ◌≡◌, ◌<◌, length, map, slice_get, slice_index_or}
+use Rattle.std.specs.Prelude.{ℕ, List, [], Option, None, ◌≡◌, ◌<◌, length, map, slice_get, slice_index_or}
 use Rattle.std.specs.List.{range_with_len}
 use Rattle.bsp_model.specs.Columns.{row_at}
 use Rattle.bsp_model.specs.Inside.Beside.{stores_beside, AreBeside}
@@ -57,18 +57,32 @@ pub record AreOutcomes (ends : List TurnEnd) (memories : List (List ℕ)) (lists
   pub beside : (k : ℕ) → k < length ends → AreBeside lists.stores k (slice_index_or memories k [])
   pub lawful : (k : ℕ) → k < length ends → IsOutcome (outcome_at ends memories lists k)
 
--- The lists have those of this outcome as the rows of a process, its stores beside this memory.
-pub record HasLists (lists : Lists) (k : ℕ) (memory : List ℕ) (o : OutcomeParts) : Type 0 where
+-- The lists that few turns fill have those of this outcome as the rows of a process.
+pub record HasRareLists (lists : Lists) (k : ℕ) (o : OutcomeParts) : Type 0 where
   pub faults : first_at lists.faults k ≡ o.fault
-  pub beside : AreBeside lists.stores k memory
-  pub stores : stores_beside lists.stores k memory ≡ o.stores
-  pub puts : row_at lists.puts k ≡ o.puts
   pub gets : row_at lists.gets k ≡ o.gets
   pub sends : row_at lists.sends k ≡ o.sends
   pub pops : row_at lists.pops k ≡ o.pops
   pub pushes : row_at lists.pushes k ≡ o.pushes
   pub tags : first_at lists.tags k ≡ o.tag
   pub lines : row_at lists.lines k ≡ o.lines
+
+-- An outcome has none of them.
+pub record IsPlain (o : OutcomeParts) : Type 0 where
+  pub fault : o.fault ≡ None
+  pub gets : o.gets ≡ []
+  pub sends : o.sends ≡ []
+  pub pops : o.pops ≡ []
+  pub pushes : o.pushes ≡ []
+  pub tag : o.tag ≡ None
+  pub lines : o.lines ≡ []
+
+-- The lists have those of this outcome as the rows of a process, its stores beside this memory.
+pub record HasLists (lists : Lists) (k : ℕ) (memory : List ℕ) (o : OutcomeParts) : Type 0 where
+  pub beside : AreBeside lists.stores k memory
+  pub stores : stores_beside lists.stores k memory ≡ o.stores
+  pub puts : row_at lists.puts k ≡ o.puts
+  pub rare : HasRareLists lists k o
 
 -- A process has the rows that another one has in other lists.
 pub record AreSameLists (old : Lists) (j : ℕ) (new : Lists) (k : ℕ) : Type 0 where

@@ -10,7 +10,7 @@ pub loop-d-preserved : goal.loop-d-preserved
 loop-d-preserved g c =
     let d : ℕ = c.loop-d.d in
     let marks : List Bool = c.loop-d.marks in
-    let S : ℕ → Type 0 = λ k. filter (λ r. g.R.Addressed.addressee r == k) (drop c.args.from (g.R.Addressed.issued c.args.old.now)) ≡ filter (λ r. g.R.Addressed.addressee r == k) (drop c.args.from (g.R.Addressed.issued c.args.new.now)) in
+    let S : ℕ → Type 0 = λ k. filter (λ r. g.R.Addressed.addressee r == k) (drop c.args.from c.args.old.now) ≡ filter (λ r. g.R.Addressed.addressee r == k) (drop c.args.from c.args.new.now) in
     let within : d < length marks = omega (arith, c.loop-d-test.true, c.count-d-end.ensures, c.loop-d.invariant.count) in
     let here : get_or marks d true ≡ get_or marks d false = get_or_default marks d true false within in
     let step : AreMarkedUnless (λ k. k ≡ d → S k) marks c.if-not-contains.marks =

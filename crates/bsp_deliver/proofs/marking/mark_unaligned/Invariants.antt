@@ -5,6 +5,6 @@ use Rattle.bsp_deliver.proofs.marking.mark_unaligned.Given as goal
 -- of the processes so far those are marked to which the requests differ
 abbrev pub invariant-loop-d : goal.invariant-loop-d
 invariant-loop-d g l =
-    let old = drop l.from (g.R.Addressed.issued l.old) in
-    let new = drop l.from (g.R.Addressed.issued l.new) in
+    let old = drop l.from l.old in
+    let new = drop l.from l.new in
     AreMarkedUnless (λ k. k < l.d → filter (λ r. g.R.Addressed.addressee r == k) old ≡ filter (λ r. g.R.Addressed.addressee r == k) new) l.initial.marks l.marks

@@ -5,8 +5,8 @@ use Rattle.bsp_deliver.proofs.same.are_same_to.Given as goal
 abbrev pub invariant-loop-i : goal.invariant-loop-i
 invariant-loop-i g l =
     let to : g.row.R.Denot → Bool = λ r. g.R.Addressed.addressee r == l.d in
-    let old = g.R.Addressed.issued l.old in
-    let new = g.R.Addressed.issued l.new in
+    let old = l.old in
+    let new = l.new in
     record {
       forth : filter to (drop l.from old) ≡ filter to (drop l.from new) → filter to (drop l.i old) ≡ filter to (drop l.j new);
       back : filter to (drop l.i old) ≡ filter to (drop l.j new) → filter to (drop l.from old) ≡ filter to (drop l.from new);
@@ -17,4 +17,4 @@ invariant-loop-i g l =
     }
 
 abbrev pub decreases-loop-i : goal.decreases-loop-i
-decreases-loop-i g l = length (g.R.Addressed.issued l.old) - l.i
+decreases-loop-i g l = length l.old - l.i

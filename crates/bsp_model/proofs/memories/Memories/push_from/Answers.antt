@@ -22,13 +22,13 @@ returns-in_err-push_from-clause-err c =
 
 pub invariant_of-self-2 : goal.invariant_of-self-2
 invariant_of-self-2 c =
-    let put : IsPut [] (row_at c.self.inside.pages) (length c.self.inside.lasts) c.memory.inside.pages.items (row_at c.put.new.self) = rw (c.len.ensures, c.in_ok-full.ensures, c.replace.ensures.value) at c.in_ok-put.ensures.ok in
+    let put : IsPut [] (row_at c.self.inside.pages) (length c.self.inside.lasts) c.memory.inside.pages.items (row_at c.put.new.self) = rw (c.len.ensures, c.in_ok-full.ensures.full) at c.in_ok-put.ensures.ok in
     rw c.in_ok-push_from.ensures.ok
     (ArePaged-push c.self.inside.pages c.put.new.self c.self.inside.lasts c.memory.inside.pages.items c.memory.inside.last.items c.memory.inside.len c.self.invariant put c.memory.invariant)
 
 pub returns-clause-ok : goal.returns-clause-ok
 returns-clause-ok c =
-    let put : IsPut [] (row_at c.self.inside.pages) (length c.self.inside.lasts) c.memory.inside.pages.items (row_at c.put.new.self) = rw (c.len.ensures, c.in_ok-full.ensures, c.replace.ensures.value) at c.in_ok-put.ensures.ok in
+    let put : IsPut [] (row_at c.self.inside.pages) (length c.self.inside.lasts) c.memory.inside.pages.items (row_at c.put.new.self) = rw (c.len.ensures, c.in_ok-full.ensures.full) at c.in_ok-put.ensures.ok in
     rw c.in_ok-push_from.ensures.ok
     (memories_of-push c.self.inside.pages c.put.new.self c.self.inside.lasts c.args.self.now c.memory.inside.pages.items c.memory.inside.last.items _ c.memory.inside.len c.self.view_is put c.memory.invariant c.memory.view_is)
 
@@ -41,13 +41,13 @@ left : (full : List (List ℕ)) (last : List ℕ) (len count : ℕ) → len ≤ 
 left full last len count few = omega (arith, few, length-words_of full last len)
 
 pub returns-in_err-full-clause-few : goal.returns-in_err-full-clause-few
-returns-in_err-full-clause-few c = left c.replace.new.dest.items _ _ _ (omega (arith, words_len _ _ _ _ c.memory.view_is, c.memory.invariant.count, c.len-memory-inside.ensures))
+returns-in_err-full-clause-few c = left c.take_full.new.pages.items _ _ _ (omega (arith, words_len _ _ _ _ c.memory.view_is, c.memory.invariant.count, c.len-memory-inside.ensures))
 
 pub returns-in_err-put-clause-few : goal.returns-in_err-put-clause-few
-returns-in_err-put-clause-few c = left c.replace.new.dest.items _ _ _ (omega (arith, words_len _ _ _ _ c.memory.view_is, c.memory.invariant.count, c.len-memory-inside.ensures))
+returns-in_err-put-clause-few c = left c.take_full.new.pages.items _ _ _ (omega (arith, words_len _ _ _ _ c.memory.view_is, c.memory.invariant.count, c.len-memory-inside.ensures))
 
 pub returns-in_err-push_from-clause-few : goal.returns-in_err-push_from-clause-few
-returns-in_err-push_from-clause-few c = left c.replace.new.dest.items _ _ _ (omega (arith, words_len _ _ _ _ c.memory.view_is, c.memory.invariant.count, c.len-memory-inside.ensures))
+returns-in_err-push_from-clause-few c = left c.take_full.new.pages.items _ _ _ (omega (arith, words_len _ _ _ _ c.memory.view_is, c.memory.invariant.count, c.len-memory-inside.ensures))
 
 pub returns-clause-few : goal.returns-clause-few
-returns-clause-few c = left c.replace.new.dest.items c.push_from.new.words.items 0 _ (omega arith)
+returns-clause-few c = left c.take_full.new.pages.items c.push_from.new.words.items 0 _ (omega arith)

@@ -1,6 +1,0 @@
-use Rattle.bsp_deliver.proofs.Gathered.{ArePlacedTo}
-use Rattle.bsp_deliver.proofs.writing.places_of.Given as goal
-
--- the processes so far have their places
-abbrev pub invariant-loop-place : goal.invariant-loop-place
-invariant-loop-place l = ArePlacedTo l.count l.place l.processes l.places.items
