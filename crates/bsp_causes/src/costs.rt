@@ -129,7 +129,8 @@ fn add_rows(cost: &mut UpdateCost, run: &History, update: &Update) -> Result<(),
     requires executed { AreInOrder update.now.executed }
     requires redelivered { AreInOrder update.now.redelivered }
     requires none { cost.old.total ≡ 0 }
-    ensures { OnOk result (cost.new ≡ with_rows cost.old (rows_from run.now.g run.now.l update.now 0 (supersteps_of run.now))) }
+    ensures { OnOk result (cost.new ≡ with_rows cost.old (rows_from run.now.g run.now.l update.now 0
+        (supersteps_of run.now))) }
 {
     let turns = update.executed.as_slice();
     let deliveries = update.redelivered.as_slice();

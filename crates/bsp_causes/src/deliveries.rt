@@ -11,14 +11,14 @@ ghost use Rattle.bsp_incr.specs.Inside.Before.{outcomes_if_any};
 ghost use Rattle.bsp_causes.specs.DeliveryCauses.{HaveAsMany, processes_where, reads_others, parcel_causes, delivery_causes};
 ghost use Rattle.bsp_causes.specs.Inside.Parts.{AreComparedAt, is_other};
 
-use bsp_deliver::{are_same_puts, are_same_sends, is_same_answer};
+use bsp_deliver::{are_same_puts, are_same_sends, get_reads_same_words};
 use bsp_incr::Place;
 use bsp_model::{Get, OutOfMemory, Same, Seq, are_same};
 use bsp_run::History;
 use bsp_step::{OutcomeRef, Outcomes};
 use std::alloc::Global;
 
-/// Why a delivery was made again: on what it depends that is another than in the run before.
+/// Why a delivery was made again: which of its parts differ from the run before.
 #[derive(Drop)]
 pub struct DeliveryCauses {
     /// The run before has no delivery at the place. Then nothing else is named.
@@ -48,7 +48,7 @@ fn reads_others(old: &Outcomes, new: &Outcomes, owner: u64, gets: &[Get]) -> boo
     ensures { result ≡ list_any (reads_others old.now new.now owner) gets.now }
 {
     for get in gets {
-        if get.owner == owner && !is_same_answer(old, new, get) {
+        if get.owner == owner && !get_reads_same_words(old, new, get) {
             return true;
         }
     }
@@ -130,7 +130,7 @@ fn delivered_in<'a>(run: Option<&'a History>, step: u64) -> Option<&'a Outcomes>
     Some(&superstep.outcomes)
 }
 
-/// Why the delivery at a place of the run `after` was made, against the run `before`, or `OutOfMemory`: on what it depends that is another. Where
+/// Why the delivery at a place of the run `after` was made, against the run `before`, or `OutOfMemory`: which of its parts differ. Where
 /// both runs have a delivery at the place, their supersteps there have as many processes.
 pub fn delivery_causes(
     alloc: Global,
@@ -140,7 +140,8 @@ pub fn delivery_causes(
 ) -> Result<DeliveryCauses, OutOfMemory>
     requires known { HasDelivery after.now.past place }
     requires as_many { HaveAsMany (delivered_before (option_map (λ h. h.now) before)) after.now.past place }
-    ensures { IfOk result (λ c. c ≡ delivery_causes (delivered_before (option_map (λ h. h.now) before.entry)) after.now.past place) }
+    ensures { IfOk result (λ c. c ≡ delivery_causes (delivered_before (option_map
+        (λ h. h.now) before.entry)) after.now.past place) }
 {
     let new = delivered_in(Some(after), place.step).unwrap();
     let pid = place.pid as usize;

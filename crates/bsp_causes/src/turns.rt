@@ -49,7 +49,8 @@ fn add_other_words_from<P: Program>(
     new: &[u64],
 ) -> Result<(), OutOfMemory>
     requires { first + length old.now ≤ MOST_MEMORY_WORDS }
-    ensures { OnOk result (words.new ≡ words.old ++ other_words_from (P.looks program.now view.now) first old.now new.now) }
+    ensures { OnOk result (words.new ≡ words.old ++ other_words_from
+        (P.looks program.now view.now) first old.now new.now) }
 {
     if are_same_words(old, new) {
         return Ok(());
@@ -69,7 +70,8 @@ fn add_other_words<P: Program>(
     old: &View<'_>,
     new: &View<'_>,
 ) -> Result<(), OutOfMemory>
-    ensures { OnOk result (words.new ≡ words.old ++ other_words (P.looks program.now old.now) old.now.memory new.now.memory) }
+    ensures { OnOk result (words.new ≡ words.old ++ other_words
+        (P.looks program.now old.now) old.now.memory new.now.memory) }
 {
     let mut address = 0;
     while address < old.memory.len() as u64 {

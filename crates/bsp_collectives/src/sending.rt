@@ -122,7 +122,8 @@ pub fn scan(ctx: &mut Ctx<'_>, word: u64) -> Result<(), Stop>
 /// Sends the words to the processes from `first` on.
 fn send_from(ctx: &mut Ctx<'_>, first: u64, words: &[u64]) -> Result<(), Stop>
     requires { first ≤ ctx.old.view.nprocs }
-    ensures { Runs ctx.old (sends ctx.old.view (λ _. words.now) (range_with_len first (ctx.old.view.nprocs - first))) tt ctx.new result }
+    ensures { Runs ctx.old (sends ctx.old.view (λ _. words.now) (range_with_len first
+        (ctx.old.view.nprocs - first))) tt ctx.new result }
 {
     for pid in first..ctx.nprocs() {
         send(ctx, pid, words)?;

@@ -58,8 +58,10 @@ impl<J: SharedRun> Crew<J> {
         requires { J.turn ≡ turn_of (P.acts program.now) (P.ending program.now) }
     {
         let work = |place: usize|
-            requires { (place < length self.now.seats.items) × (J.turn ≡ turn_of (P.acts program.now) (P.ending program.now)) }
+            requires { (place < length self.now.seats.items) × (J.turn
+                ≡ turn_of (P.acts program.now) (P.ending program.now)) }
         { self.seats[place].attend(alloc, program, &self.over, gate) };
+        // Where a thread cannot start, its seat stays empty: the calling thread works the parts of that seat.
         let _ = map_indices(rt, alloc, self.seats.len(), &work);
     }
 

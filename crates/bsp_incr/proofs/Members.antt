@@ -1,6 +1,6 @@
 -- Sets of processes: what they are filled with, and who is in them.
 use Rattle.std.proofs.Common.{◌≡◌, ◌≢◌, ◌<◌, ℕ, zero, suc, Bool, true, false, cond, List, [], ◌∷◌, All, map, replicate, length, get_or, arith, refl, sym, ap, ◌∙◌, subst}
-use Rattle.std.specs.Prelude.{filter, not, slice_set}
+use Rattle.std.specs.Prelude.{filter, slice_set}
 use Rattle.std.specs.List.{Contains, range_with_len}
 use Rattle.std.proofs.lemmas.List.{get_or_default, get_or-replicate, length-replicate}
 use Rattle.std.proofs.lemmas.List.Elements.{filter_passes}
@@ -22,18 +22,9 @@ pub member_if : (test : ℕ → Bool) (b : Bool) (set : List Bool) (p : ℕ) (la
 member_if test true set p later e = ap (λ b. with_members set (cond b (p ∷ filter test later) (filter test later))) (sym e)
 member_if test false set p later e = ap (λ b. with_members set (cond b (p ∷ filter test later) (filter test later))) (sym e)
 
--- so it is where the test is turned round
-pub member_if_not : (test : ℕ → Bool) (b : Bool) (set : List Bool) (p : ℕ) (later : List ℕ) → test p ≡ not b → with_members (cond b set (slice_set set p true)) (filter test later) ≡ with_members set (filter test (p ∷ later))
-member_if_not test true set p later e = member_if test false set p later e
-member_if_not test false set p later e = member_if test true set p later e
-
 pub length_if : (b : Bool) (set : List Bool) (p : ℕ) → length (cond b (slice_set set p true) set) ≡ length set
 length_if true set p = length-set set p true
 length_if false set p = refl
-
-pub length_if_not : (b : Bool) (set : List Bool) (p : ℕ) → length (cond b set (slice_set set p true)) ≡ length set
-length_if_not true set p = refl
-length_if_not false set p = length-set set p true
 
 put_or_not : (b x : Bool) → x ≡ false → cond b true x ≡ b
 put_or_not true x e = refl

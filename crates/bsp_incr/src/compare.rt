@@ -2,7 +2,7 @@
 
 mod alike;
 mod before;
-mod beside;
+mod both_supersteps;
 mod doubtful;
 mod known_table;
 mod looking;
@@ -12,7 +12,7 @@ mod places;
 
 pub use alike::{Alike, alike_beside};
 pub use before::views_after;
-pub use beside::{OpenSuperstep, delivered_beside, open_superstep};
+pub use both_supersteps::{OpenSuperstep, delivered_beside, open_superstep};
 pub use doubtful::Doubtful;
 pub use known_table::KnownTable;
 pub use looking::{has_table, serves};

@@ -39,7 +39,7 @@ pub fn out_of_reach_sees_the_same()
     ensures { SeesTheSame }
 {}
 
-/// Its turn is not taken again.
+/// A process that the edits do not reach takes no turn again.
 pub fn updates_are_within_reach()
     ensures { UpdatesAreWithinReach }
 {}

@@ -1,4 +1,4 @@
-//! A worker pool over one claim word, and the pool as a machine.
+//! A worker pool over one claim word, and the pool as a machine. Sessions and runs have workers of their own, those of `bsp_crew`.
 //!
 //! `phase` works a list of inputs by 1 to 16 threads and gives the outputs in the order of the inputs. Its workers draw
 //! the numbers of the inputs from a `Deck`, each with a `Pass`. `Core` is the pool as a machine on one thread, event by

@@ -42,7 +42,8 @@ pub fn phase<W: Work, G: Gate, R: Threads + Sync>(
 
 /// Keeps the outputs of these shares by their numbers.
 fn keep_all<T: Drop>(kept: &mut Vec<Option<T>>, shares: Vec<Share<T>>)
-    ensures { (outs : List T) → All (IsShare outs) shares.items → AreKept outs kept.old.items → AreKept outs kept.new.items }
+    ensures { (outs : List T) → All (IsShare outs) shares.items → AreKept outs kept.old.items
+        → AreKept outs kept.new.items }
 {
     let mut shares = shares;
     while let Some(share) = shares.pop() {

@@ -162,7 +162,8 @@ fn draw_beside<W: Work, G: Gate, R: Threads + Sync>(
         &|_place: usize, hand: &mut Hand<W::Out>|
             requires accepts { All (W.accepts jobs.now.work.now) jobs.now.inputs.now }
             requires hand { IsReady jobs.now.deck (map (W.does jobs.now.work.now) jobs.now.inputs.now) hand.now }
-            ensures { IsHand jobs.entry.now.deck (map (W.does jobs.entry.now.work.now) jobs.entry.now.inputs.now) hand.exit.now }
+            ensures { IsHand jobs.entry.now.deck (map
+                (W.does jobs.entry.now.work.now) jobs.entry.now.inputs.now) hand.exit.now }
         { draw_all(jobs, hand, &mut Watch::new(jobs.gate, 1)) },
     );
 }

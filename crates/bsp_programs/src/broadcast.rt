@@ -42,7 +42,8 @@ impl Program for Broadcast {
 
 /// The turn of a process.
 fn run(ctx: &mut Ctx<'_>) -> Result<End, Stop>
-    ensures { let plan = broadcast_plan ctx.old.view ctx.old.memory in Runs ctx.old plan.acts plan.ending ctx.new result }
+    ensures { let plan = broadcast_plan ctx.old.view ctx.old.memory
+        in Runs ctx.old plan.acts plan.ending ctx.new result }
 {
     let step = ctx.step();
     if step == 0 {
@@ -70,7 +71,8 @@ fn run(ctx: &mut Ctx<'_>) -> Result<End, Stop>
 
 /// Puts the word to word 0 of every other process.
 fn put_to_others(ctx: &mut Ctx<'_>, word: u64) -> Result<(), Stop>
-    ensures { Runs ctx.old (puts_to_others ctx.old.view.pid word (range_with_len 0 ctx.old.view.nprocs)) tt ctx.new result }
+    ensures { Runs ctx.old (puts_to_others ctx.old.view.pid word
+        (range_with_len 0 ctx.old.view.nprocs)) tt ctx.new result }
 {
     let own = ctx.pid();
     for pid in 0..ctx.nprocs() {

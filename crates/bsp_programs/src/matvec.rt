@@ -61,7 +61,8 @@ impl Program for MatVec {
 
 /// The turn of a process.
 fn run(alloc: Global, ctx: &mut Ctx<'_>) -> Result<End, Stop>
-    ensures { let plan = matvec_plan ctx.old.view ctx.old.memory ctx.old.left in Runs ctx.old plan.acts plan.ending ctx.new result }
+    ensures { let plan = matvec_plan ctx.old.view ctx.old.memory ctx.old.left
+        in Runs ctx.old plan.acts plan.ending ctx.new result }
 {
     let Some(block) = ctx.arg(0) else {
         return Ok(End::Abort(2));
@@ -82,7 +83,8 @@ fn run(alloc: Global, ctx: &mut Ctx<'_>) -> Result<End, Stop>
 
 /// Finds out whether the memory has all words that are needed, and chooses tags of one word.
 fn check_memory(ctx: &mut Ctx<'_>, layout: Layout) -> Result<End, Stop>
-    ensures { let plan = matvec_checking layout.nprocs layout.block ctx.old.memory in Runs ctx.old plan.acts plan.ending ctx.new result }
+    ensures { let plan = matvec_checking layout.nprocs layout.block ctx.old.memory
+        in Runs ctx.old plan.acts plan.ending ctx.new result }
 {
     let needed = layout.product_start() + layout.block;
     if needed > 0 && ctx.load(needed - 1).is_none() {
@@ -95,7 +97,8 @@ fn check_memory(ctx: &mut Ctx<'_>, layout: Layout) -> Result<End, Stop>
 /// Sends the own block of the vector to every process.
 fn send_block(ctx: &mut Ctx<'_>, layout: Layout) -> Result<End, Stop>
     requires { layout.nprocs ≡ ctx.old.view.nprocs }
-    ensures { let plan = matvec_sending layout.nprocs ctx.old.view.pid layout.block ctx.old.memory in Runs ctx.old plan.acts plan.ending ctx.new result }
+    ensures { let plan = matvec_sending layout.nprocs ctx.old.view.pid layout.block ctx.old.memory
+        in Runs ctx.old plan.acts plan.ending ctx.new result }
 {
     let Some(block) = ctx.words_at(layout.block_start(), layout.block)? else {
         return Ok(End::Abort(1));
@@ -106,7 +109,8 @@ fn send_block(ctx: &mut Ctx<'_>, layout: Layout) -> Result<End, Stop>
 
 /// Sends the words to every process, with the own number as their tag.
 fn send_to_all(ctx: &mut Ctx<'_>, words: &[u64]) -> Result<(), Stop>
-    ensures { Runs ctx.old (sends_to_all ctx.old.view.pid words.now (range_with_len 0 ctx.old.view.nprocs)) tt ctx.new result }
+    ensures { Runs ctx.old (sends_to_all ctx.old.view.pid words.now
+        (range_with_len 0 ctx.old.view.nprocs)) tt ctx.new result }
 {
     let own = ctx.pid();
     for pid in 0..ctx.nprocs() {

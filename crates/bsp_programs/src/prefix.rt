@@ -71,7 +71,8 @@ fn run(ctx: &mut Ctx<'_>) -> Result<End, Stop>
 
 /// Makes the sum the own word, and goes on.
 fn keep_sum(ctx: &mut Ctx<'_>, sum: u64) -> Result<End, Stop>
-    ensures { let plan = prefix_adding ctx.old.view ctx.old.memory sum in Runs ctx.old plan.acts plan.ending ctx.new result }
+    ensures { let plan = prefix_adding ctx.old.view ctx.old.memory sum
+        in Runs ctx.old plan.acts plan.ending ctx.new result }
 {
     ctx.store(0, sum)?;
     ctx.charge(1)?;
@@ -80,7 +81,8 @@ fn keep_sum(ctx: &mut Ctx<'_>, sum: u64) -> Result<End, Stop>
 
 /// Puts the own word to the process that is as far on as this superstep reaches, if there is one; prints it where the reach is that of all processes.
 fn send_or_print(ctx: &mut Ctx<'_>) -> Result<End, Stop>
-    ensures { let plan = prefix_sending ctx.old.view ctx.old.memory in Runs ctx.old plan.acts plan.ending ctx.new result }
+    ensures { let plan = prefix_sending ctx.old.view ctx.old.memory
+        in Runs ctx.old plan.acts plan.ending ctx.new result }
 {
     let reach = distance(ctx.step());
     if reach >= ctx.nprocs() {

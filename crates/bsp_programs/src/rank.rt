@@ -69,7 +69,8 @@ fn add_received(ctx: &mut Ctx<'_>) -> Result<End, Stop>
 
 /// Makes these the own successor and rank, and goes on.
 fn jump(ctx: &mut Ctx<'_>, successor: u64, rank: u64) -> Result<End, Stop>
-    ensures { let plan = rank_jumping ctx.old.view ctx.old.memory successor rank in Runs ctx.old plan.acts plan.ending ctx.new result }
+    ensures { let plan = rank_jumping ctx.old.view ctx.old.memory successor rank
+        in Runs ctx.old plan.acts plan.ending ctx.new result }
 {
     ctx.store(0, successor)?;
     ctx.store(1, rank)?;

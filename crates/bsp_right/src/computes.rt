@@ -35,7 +35,8 @@ pub fn run_computing<P: Computes>(
     input: &Input,
 ) -> Result<History, RunError>
     ensures lawful { OnOk result (input_fault input.now ≡ None) }
-    ensures run { IfOk result (λ history. history ≡ run (turn_of (P.acts program.now) (P.ending program.now)) input.now) }
+    ensures run { IfOk result (λ history. history ≡ run (turn_of (P.acts program.now)
+        (P.ending program.now)) input.now) }
     ensures computes { IfOk result (λ history. P.computes program.now input.now history) }
     ensures input { IfErr result (λ e. input_fault input.now ≡ input_fault_of e) }
 {

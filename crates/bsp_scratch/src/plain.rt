@@ -12,8 +12,8 @@ ghost use Rattle.bsp_run.specs.Result.{result_of};
 use crate::unrecorded::{Unrecorded, all_turns};
 use bsp_crew::{Crew, Pace, SharedRun, calls_workers};
 use bsp_gate::Gate;
-use bsp_model::{Input, OutOfMemory, Shared};
-use bsp_run::{Phase, Recording, RunResult, Views, numbers};
+use bsp_model::{Input, OutOfMemory, Shared, numbers};
+use bsp_run::{Phase, Recording, RunResult, Views};
 use bsp_step::Program;
 use std::alloc::Global;
 use std::marker::Brand;
@@ -55,7 +55,8 @@ pub(crate) fn supersteps<J: SharedRun, P: Program, G: Gate>(
 ) -> Result<Shared<Views>, OutOfMemory>
     requires lawful { input_fault input.now ≡ None }
     requires under_way { IsUnderway (turn_of (P.acts program.now) (P.ending program.now)) input.now views kept.old }
-    requires crew { IfSome crew (λ _. AreOfRun (turn_of (P.acts program.now) (P.ending program.now)) input.now J.turn J.views) }
+    requires crew { IfSome crew (λ _. AreOfRun (turn_of (P.acts program.now)
+        (P.ending program.now)) input.now J.turn J.views) }
     ensures stands { IfOk result
         (λ next. Stands (turn_of (P.acts program.now) (P.ending program.now)) input.now next kept.new kept.new.end) }
     ensures over { IfNone pace (IfOk result (λ _. kept.new.end ≡ None → input.now.limit ≤ kept.new.step)) }
@@ -95,7 +96,8 @@ pub(crate) fn finish<J: SharedRun, P: Program, G: Gate>(
 ) -> Result<RunResult, OutOfMemory>
     requires lawful { input_fault input.now ≡ None }
     requires under_way { IsUnderway (turn_of (P.acts program.now) (P.ending program.now)) input.now views kept }
-    requires crew { IfSome crew (λ _. AreOfRun (turn_of (P.acts program.now) (P.ending program.now)) input.now J.turn J.views) }
+    requires crew { IfSome crew (λ _. AreOfRun (turn_of (P.acts program.now)
+        (P.ending program.now)) input.now J.turn J.views) }
     ensures { IfOk result (λ r. r ≡ result_of (run (turn_of (P.acts program.now) (P.ending program.now)) input.now)) }
 {
     let views = supersteps(alloc, program, input, views, &mut kept, crew, None, gate)?;

@@ -32,7 +32,8 @@ impl Turn {
     }
 
     fn take(&self, alloc: Global, ctx: &mut Ctx<'_>) -> Result<End, Stop>
-        ensures { let plan = calls_plan ctx.old self.now.calls in Runs ctx.old plan.acts (unwrap_or plan.ending Sync) ctx.new result }
+        ensures { let plan = calls_plan ctx.old self.now.calls in Runs ctx.old plan.acts
+            (unwrap_or plan.ending Sync) ctx.new result }
     {
         match self.make_calls(alloc, ctx) {
             Ok(()) => Ok(End::Sync),

@@ -1,4 +1,4 @@
-//! Whether a delivery depends on the same as another.
+//! Whether two deliveries to a process bring the same requests, and read the same words.
 
 ghost use Rattle.std.specs.Prelude.{◌≡◌, ◌<◌, ◌↔◌, IsTrue, map, length, All};
 ghost use Rattle.bsp_deliver.specs.Requests.{words_read};
@@ -7,7 +7,7 @@ ghost use Rattle.bsp_deliver.specs.Condition.{AreDeliverable};
 ghost use Rattle.bsp_deliver.specs.Readable.{IsReadable};
 ghost use Rattle.bsp_deliver.specs.Inside.Comparison.{HasSameParcel};
 
-use bsp_deliver::{are_same_puts, are_same_sends, is_same_answer};
+use bsp_deliver::{are_same_puts, are_same_sends, get_reads_same_words};
 use bsp_model::{Get, are_same};
 use bsp_step::{OutcomeRef, Outcomes};
 
@@ -21,7 +21,8 @@ fn is_same_parcel(old: &OutcomeRef<'_>, new: &OutcomeRef<'_>, d: u64) -> bool
 /// Whether the puts and the sends to `d` are equal lists, senders kept. It takes no memory.
 pub fn parcel_same(old: &Outcomes, new: &Outcomes, d: usize) -> bool
     requires as_many { length old.now ≡ length new.now }
-    ensures { IsTrue result ↔ ((delivery_parts old.now d).puts ≡ (delivery_parts new.now d).puts) × ((delivery_parts old.now d).sends ≡ (delivery_parts new.now d).sends) }
+    ensures { IsTrue result ↔ ((delivery_parts old.now d).puts ≡ (delivery_parts new.now d).puts)
+        × ((delivery_parts old.now d).sends ≡ (delivery_parts new.now d).sends) }
 {
     for sender in 0..old.len() {
         if !is_same_parcel(&old.get(sender), &new.get(sender), d as u64) {
@@ -38,7 +39,7 @@ fn read_the_same(old: &Outcomes, new: &Outcomes, gets: &[Get]) -> bool
     ensures { IsTrue result ↔ (map (words_read old.now) gets.now ≡ map (words_read new.now) gets.now) }
 {
     for get in gets {
-        if !is_same_answer(old, new, get) {
+        if !get_reads_same_words(old, new, get) {
             return false;
         }
     }

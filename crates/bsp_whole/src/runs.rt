@@ -31,8 +31,10 @@ fn checked(input: &Input) -> Result<(), RunError>
 /// the words of BSP. `Input(f)` comes exactly where the input's check answers f; or `OutOfMemory`.
 pub fn run_plain<P: Program>(alloc: Global, program: &P, input: &Input) -> Result<History, RunError>
     ensures lawful { OnOk result (input_fault input.now ≡ None) }
-    ensures run { IfOk result (λ history. history ≡ run (turn_of (P.acts program.now) (P.ending program.now)) input.now) }
-    ensures law { IfOk result (λ history. IsBspRun (turn_of (P.acts program.now) (P.ending program.now)) input.now history) }
+    ensures run { IfOk result (λ history. history ≡ run (turn_of (P.acts program.now)
+        (P.ending program.now)) input.now) }
+    ensures law { IfOk result (λ history. IsBspRun (turn_of (P.acts program.now)
+        (P.ending program.now)) input.now history) }
     ensures input { IfErr result (λ e. input_fault input.now ≡ input_fault_of e) }
 {
     checked(input)?;
@@ -51,8 +53,10 @@ pub fn run_wide<P: Program, G: Gate, R: Threads + Sync>(
 ) -> Result<History, RunError>
     requires workers { (0 < workers) × (workers ≤ 16) }
     ensures lawful { OnOk result (input_fault input.now ≡ None) }
-    ensures run { IfOk result (λ history. history ≡ run (turn_of (P.acts program.now) (P.ending program.now)) input.now) }
-    ensures law { IfOk result (λ history. IsBspRun (turn_of (P.acts program.now) (P.ending program.now)) input.now history) }
+    ensures run { IfOk result (λ history. history ≡ run (turn_of (P.acts program.now)
+        (P.ending program.now)) input.now) }
+    ensures law { IfOk result (λ history. IsBspRun (turn_of (P.acts program.now)
+        (P.ending program.now)) input.now history) }
     ensures input { IfErr result (λ e. input_fault input.now ≡ input_fault_of e) }
 {
     checked(input)?;
@@ -73,7 +77,8 @@ pub fn run_result<P: Program>(
     input: &Input,
 ) -> Result<RunResult, RunError>
     ensures lawful { OnOk result (input_fault input.now ≡ None) }
-    ensures result { IfOk result (λ r. r ≡ result_of (run (turn_of (P.acts program.now) (P.ending program.now)) input.now)) }
+    ensures result { IfOk result (λ r. r ≡ result_of (run (turn_of (P.acts program.now)
+        (P.ending program.now)) input.now)) }
     ensures law { IfOk result (λ r. IsBspResult (turn_of (P.acts program.now) (P.ending program.now)) input.now r) }
     ensures input { IfErr result (λ e. input_fault input.now ≡ input_fault_of e) }
 {
@@ -92,7 +97,8 @@ pub fn run_result_wide<P: Program, G: Gate, R: Threads + Sync>(
 ) -> Result<RunResult, RunError>
     requires workers { (0 < workers) × (workers ≤ 16) }
     ensures lawful { OnOk result (input_fault input.now ≡ None) }
-    ensures result { IfOk result (λ r. r ≡ result_of (run (turn_of (P.acts program.now) (P.ending program.now)) input.now)) }
+    ensures result { IfOk result (λ r. r ≡ result_of (run (turn_of (P.acts program.now)
+        (P.ending program.now)) input.now)) }
     ensures law { IfOk result (λ r. IsBspResult (turn_of (P.acts program.now) (P.ending program.now)) input.now r) }
     ensures input { IfErr result (λ e. input_fault input.now ≡ input_fault_of e) }
 {

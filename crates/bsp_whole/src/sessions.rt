@@ -144,7 +144,8 @@ pub fn scratch_run<P: Program>(
 {
     let make = |input: &Input| -> Result<RunResult, OutOfMemory>
         requires { input_fault input.now ≡ None }
-        ensures { IfOk result (λ given. given ≡ result_of (run (turn_of (P.acts program.entry.now) (P.ending program.entry.now)) input.entry.now)) }
+        ensures { IfOk result (λ given. given ≡ result_of (run (turn_of (P.acts program.entry.now)
+            (P.ending program.entry.now)) input.entry.now)) }
     { lawful_result(alloc, program, input, &Open) };
     scratch_run_behind(alloc, input, batches, &make, &Open)
 }

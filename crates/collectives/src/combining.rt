@@ -46,7 +46,8 @@ impl Program for Combining {
 impl Combining {
     /// The turn of a process.
     fn run(self, alloc: Global, ctx: &mut Ctx<'_>) -> Result<End, Stop>
-        ensures { let plan = combining_plan self ctx.old.view ctx.old.memory ctx.old.left in Runs ctx.old plan.acts plan.ending ctx.new result }
+        ensures { let plan = combining_plan self ctx.old.view ctx.old.memory ctx.old.left
+            in Runs ctx.old plan.acts plan.ending ctx.new result }
     {
         let Some(code) = ctx.arg(0) else {
             return Ok(End::Abort(2));

@@ -66,7 +66,8 @@ impl Moving {
 
     /// The turn of a process.
     fn run(self, alloc: Global, ctx: &mut Ctx<'_>) -> Result<End, Stop>
-        ensures { let plan = moving_plan self ctx.old.view ctx.old.memory ctx.old.left in Runs ctx.old plan.acts plan.ending ctx.new result }
+        ensures { let plan = moving_plan self ctx.old.view ctx.old.memory ctx.old.left
+            in Runs ctx.old plan.acts plan.ending ctx.new result }
     {
         let Some(count) = ctx.arg(0) else {
             return Ok(End::Abort(2));
@@ -83,7 +84,8 @@ impl Moving {
 
     /// Makes the first half over the own words.
     fn begin(self, ctx: &mut Ctx<'_>, count: u64) -> Result<End, Stop>
-        ensures { let plan = beginning self ctx.old.view count ctx.old.memory in Runs ctx.old plan.acts plan.ending ctx.new result }
+        ensures { let plan = beginning self ctx.old.view count ctx.old.memory
+            in Runs ctx.old plan.acts plan.ending ctx.new result }
     {
         let Some(words) = ctx.words_at(0, count)? else {
             return Ok(End::Abort(1));

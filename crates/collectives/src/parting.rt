@@ -44,7 +44,8 @@ impl Program for Parting {
 
 /// The turn of a process.
 fn run(alloc: Global, ctx: &mut Ctx<'_>) -> Result<End, Stop>
-    ensures { let plan = parting_plan ctx.old.view ctx.old.memory ctx.old.left in Runs ctx.old plan.acts plan.ending ctx.new result }
+    ensures { let plan = parting_plan ctx.old.view ctx.old.memory ctx.old.left
+        in Runs ctx.old plan.acts plan.ending ctx.new result }
 {
     let Some(count) = ctx.arg(0) else {
         return Ok(End::Abort(2));
@@ -57,7 +58,8 @@ fn run(alloc: Global, ctx: &mut Ctx<'_>) -> Result<End, Stop>
 
 /// Sends each process its part of the own words.
 fn deal(alloc: Global, ctx: &mut Ctx<'_>, count: u64) -> Result<End, Stop>
-    ensures { let plan = dealing ctx.old.view count ctx.old.memory in Runs ctx.old plan.acts plan.ending ctx.new result }
+    ensures { let plan = dealing ctx.old.view count ctx.old.memory
+        in Runs ctx.old plan.acts plan.ending ctx.new result }
 {
     let Some(words) = ctx.words_at(0, count)? else {
         return Ok(End::Abort(1));

@@ -80,7 +80,8 @@ fn run(ctx: &mut Ctx<'_>) -> Result<End, Stop>
 /// Makes a time step, and goes on.
 fn advance(ctx: &mut Ctx<'_>, time_steps: u64) -> Result<End, Stop>
     requires { 3 ≤ length ctx.old.memory }
-    ensures { let plan = heat_advancing ctx.old.view time_steps ctx.old.memory in Runs ctx.old plan.acts plan.ending ctx.new result }
+    ensures { let plan = heat_advancing ctx.old.view time_steps ctx.old.memory
+        in Runs ctx.old plan.acts plan.ending ctx.new result }
 {
     store_next_cells(ctx)?;
     charge_cells(ctx, time_steps)
@@ -90,7 +91,8 @@ fn advance(ctx: &mut Ctx<'_>, time_steps: u64) -> Result<End, Stop>
 #[tactic(auto, using(crate::specs::Cells::length_of_own_cells))]
 fn charge_cells(ctx: &mut Ctx<'_>, time_steps: u64) -> Result<End, Stop>
     requires { 3 ≤ length ctx.old.memory }
-    ensures { let plan = heat_charging ctx.old.view time_steps (own_cells ctx.old.memory) in Runs ctx.old plan.acts plan.ending ctx.new result }
+    ensures { let plan = heat_charging ctx.old.view time_steps (own_cells ctx.old.memory)
+        in Runs ctx.old plan.acts plan.ending ctx.new result }
 {
     ctx.charge(ctx.memory_len() - 2)?;
     tell(ctx, time_steps)
@@ -147,8 +149,10 @@ fn store_block(ctx: &mut Ctx<'_>, start: u64, count: u64, before: u64) -> Result
     requires some { 1 ≤ count }
     requires within { start + count < length ctx.old.memory }
     requires fits { start + count < 2 ^ 64 }
-    ensures acted { Runs ctx.old (stores start (next_cells (before ∷ take (count + 1) (drop start ctx.old.memory)))) (slice_index ctx.old.memory (start + count - 1)) ctx.new result }
-    ensures memory { OnOk result (ctx.new.memory ≡ stored ctx.old.memory start (next_cells (before ∷ take (count + 1) (drop start ctx.old.memory)))) }
+    ensures acted { Runs ctx.old (stores start (next_cells (before ∷ take (count + 1) (drop start ctx.old.memory))))
+        (slice_index ctx.old.memory (start + count - 1)) ctx.new result }
+    ensures memory { OnOk result (ctx.new.memory ≡ stored ctx.old.memory start (next_cells (before ∷ take (count + 1)
+        (drop start ctx.old.memory)))) }
     ensures view { OnOk result (ctx.new.view ≡ ctx.old.view) }
 {
     let last = ctx.load(start + count - 1).unwrap();
@@ -168,7 +172,8 @@ fn next_cell(before: u64, own: u64, after: u64) -> u64
 /// Puts the outer ones of the own cells to the neighbours where time steps are left; else prints the sum of all.
 fn tell(ctx: &mut Ctx<'_>, time_steps: u64) -> Result<End, Stop>
     requires { 3 ≤ length ctx.old.memory }
-    ensures { let plan = heat_telling ctx.old.view time_steps (own_cells ctx.old.memory) in Runs ctx.old plan.acts plan.ending ctx.new result }
+    ensures { let plan = heat_telling ctx.old.view time_steps (own_cells ctx.old.memory)
+        in Runs ctx.old plan.acts plan.ending ctx.new result }
 {
     if ctx.step() > time_steps {
         let sum = sum_of_cells(ctx);

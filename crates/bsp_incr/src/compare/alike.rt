@@ -7,7 +7,7 @@ ghost use Rattle.bsp_incr.specs.Inside.Alike.{AllCostAlike, AllEndAlike, CostsAl
 ghost use Rattle.bsp_incr.specs.Inside.Given.{delivered_beside};
 ghost use Rattle.bsp_incr.specs.Inside.Marks.{OutcomesDifferAtMost};
 
-use crate::compare::beside::delivered_beside;
+use crate::compare::both_supersteps::delivered_beside;
 use crate::compare::doubtful::Doubtful;
 use crate::compare::known_table::KnownTable;
 use crate::compare::moving::{gets_move_alike, puts_move_alike, sends_move_alike};

@@ -1,4 +1,4 @@
-//! What is read of the run before when a run is made again.
+//! The views and the outcomes of the run before, where a run is made again.
 
 ghost use Rattle.std.specs.Prelude.{◌≡◌, ◌<◌, [], IfNone, IfSome, Some, length, option_map};
 ghost use Rattle.bsp_deliver.specs.Condition.{AreDeliverable};
@@ -22,7 +22,7 @@ pub fn views_before<'a>(old: Option<&'a History>, step: usize) -> ViewsRef<'a>
     }
 }
 
-/// The outcomes of these turns; none where there were no such turns.
+/// The outcomes of a superstep of the run before; none where it took no turns of such a superstep.
 pub fn outcomes_before<'a>(old: Option<&'a History>, step: usize) -> Option<&'a Outcomes>
     ensures some { IfSome result (λ o. o.now ≡ outcomes_before (option_map (λ k. k.now) old.entry) step) }
     ensures deliverable { IfSome result (λ o. AreDeliverable o.now) }

@@ -4,7 +4,7 @@ ghost use Rattle.std.specs.Prelude.{◌↔◌, IsTrue};
 ghost use Rattle.bsp_incr.specs.Inside.Marks.{AreMarked};
 ghost use Rattle.bsp_incr.specs.Inside.Known.{AreDoubtful, AreMarkedAlone, HaveSameTable, IsKnown};
 
-use crate::compare::beside::OpenSuperstep;
+use crate::compare::both_supersteps::OpenSuperstep;
 use crate::compare::known_table::KnownTable;
 use crate::compare::looking::has_table;
 use bsp_model::ProcessSet;

@@ -12,7 +12,7 @@ use bsp_run::{Arguments, Tape, copied};
 use bsp_step::Program;
 use std::alloc::Global;
 
-/// The arguments of each process: those of the run before, but for those of some processes, which are those of an input.
+/// The arguments of each process: those of the run before, and for some processes those of an input.
 fn args_again(
     alloc: Global,
     old: &Arguments,
@@ -35,8 +35,8 @@ fn args_again(
     SharedSeq::from_vec(all)
 }
 
-/// A run of an input whose superstep 0 is open. Of the run before, if there was one, it takes what the processes see that are not marked, and the
-/// arguments of those who have no others.
+/// A run of an input whose superstep 0 is open. A process that is not marked shares its memory with the run before, if there was one. A process whose
+/// arguments were not edited shares these.
 pub fn opened<P: Program, G>(
     given: &Given<'_, P, G>,
     marks: &ProcessSet,

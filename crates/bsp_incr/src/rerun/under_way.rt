@@ -12,9 +12,9 @@ use std::alloc::Global;
 /// An update under way, between two supersteps of the run that is made again.
 #[derive(Drop)]
 pub struct UnderWay {
-    /// Who may see something else in the open superstep than in the run before. The table and the tag size are left aside.
+    /// The processes whose memory, queue or arguments may differ in the open superstep from the run before.
     pub marks: ProcessSet,
-    /// What is known of these.
+    /// What is known of the table and the tag size of the open superstep.
     pub table: KnownTable,
     /// What was done again so far.
     pub update: Update,

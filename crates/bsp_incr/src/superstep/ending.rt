@@ -92,7 +92,7 @@ fn next_setting(
     Ok(setting)
 }
 
-/// What the processes see in the next superstep, after the deliveries that were made: what the other processes see lies where it lay in the run before.
+/// The views of the next superstep, after the deliveries that were made. A process without a delivery shares its memory and queue with the run before.
 /// `known` is what is known of the table there.
 fn next_views_like<P: Program, G>(
     given: &Given<'_, P, G>,

@@ -9,8 +9,9 @@ use crate::compare::OpenSuperstep;
 use bsp_model::OutOfMemory;
 use bsp_step::{OutcomeRows, Outcomes, Program};
 
-/// Adds the turn of a process for which the recorded one serves, over the memory that it sees now: no call is made.
-pub fn add_served<P: Program>(
+/// Adds the outcome of a process whose recorded turn serves, without a call of the program: the recorded stores are replayed on the memory that the
+/// process sees now.
+pub fn add_reused_turn<P: Program>(
     rows: &mut OutcomeRows,
     program: &P,
     superstep: &OpenSuperstep<'_, '_>,
@@ -29,6 +30,6 @@ pub fn add_served<P: Program>(
     let outcome = old_outcomes.get(p);
     let view = superstep.views.get(p);
     let mut memory = view.memory.to_memory()?;
-    outcome.stores.make_again(&mut memory)?;
+    outcome.stores.replay_on(&mut memory)?;
     rows.push_over(&outcome, &mut memory)
 }

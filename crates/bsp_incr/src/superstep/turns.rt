@@ -1,8 +1,7 @@
 //! The turns of a superstep, of which those that serve from the run before are not taken again.
 
-ghost use Rattle.std.specs.Prelude.{◌≡◌, ◌<◌, ◌++◌, [], All, IfNone, IfOk, IfSome, OnOk, map, length, slice_index_or, slice_set, true, false, if◌then◌else◌};
+ghost use Rattle.std.specs.Prelude.{◌≡◌, ◌<◌, ◌++◌, [], All, IfNone, IfOk, IfSome, OnOk, filter, map, length, slice_index_or, true, false};
 ghost use Rattle.bsp_model.specs.ProcessSet.{processes_in};
-ghost use Rattle.bsp_model.specs.Replaced.{replaced};
 ghost use Rattle.bsp_deliver.specs.Requests.{each_below};
 ghost use Rattle.bsp_run.specs.Law.{views_in};
 ghost use Rattle.bsp_crew.specs.Parts.{AreOfRun};
@@ -11,15 +10,15 @@ ghost use Rattle.bsp_incr.specs.Inside.Changes.{differ_in, processes_where};
 ghost use Rattle.bsp_run.specs.TurnBy.{turn_by};
 ghost use Rattle.bsp_incr.specs.Inside.Known.{AreDoubtful};
 ghost use Rattle.bsp_incr.specs.Inside.Marks.{ViewsDifferAtMost};
-ghost use Rattle.bsp_incr.specs.Inside.OpenSuperstep.{differs_now, stays_now};
+ghost use Rattle.bsp_incr.specs.Inside.OpenSuperstep.{differs_now};
 
 use crate::Place;
 use crate::compare::{Doubtful, OpenSuperstep, add_places, serves};
 use crate::rerun::Given;
-use crate::superstep::reuse::add_served;
+use crate::superstep::reuse::add_reused_turn;
 use bsp_crew::{Crew, SharedRun, wide_turns};
 use bsp_gate::Gate;
-use bsp_model::{OutOfMemory, ProcessSet, Seq, TryCopy};
+use bsp_model::{ByProcess, OutOfMemory, ProcessSet, Seq};
 use bsp_step::{Outcome, OutcomeRows, Outcomes, Program};
 
 /// Whether the turn of a process has to be taken, which may be asked of the doubtful ones alone. The tables are not compared where all processes are known
@@ -45,52 +44,41 @@ fn needs_turn<P: Program>(
     )
 }
 
-fn served_turns<P: Program, G>(
+/// The turns of doubtful processes, in order: those that had to be taken, and of the other processes the recorded turns, whose stores are replayed.
+fn renewed_turns<P: Program, G>(
     given: &Given<'_, P, G>,
     superstep: &OpenSuperstep<'_, '_>,
     old_outcomes: &Outcomes,
     processes: &[usize],
+    needed: &ProcessSet,
+    taken: &OutcomeRows,
 ) -> Result<OutcomeRows, OutOfMemory>
     requires known { All (λ p. p < length superstep.now.views.now) processes.now }
     requires recorded { old_outcomes.now ≡ map (turn_by P.Program given.now.program) superstep.now.old_views }
-    requires serve { All (λ p. differs_now (P.looks given.now.program) superstep.now p ≡ false) processes.now }
+    requires needed { needed.now ≡ each_below (length superstep.now.views.now)
+        (differs_now (P.looks given.now.program) superstep.now) }
+    requires taken { taken.now ≡ turns_of (turn_by P.Program given.now.program) superstep.now.views.now
+        (filter (differs_now (P.looks given.now.program) superstep.now) processes.now) }
     ensures { IfOk result (λ all. all
         ≡ turns_of (turn_by P.Program given.now.program) superstep.now.views.now processes.now) }
 {
-    let mut served = OutcomeRows::with_capacity(given.alloc, processes.len())?;
+    let mut renewed = OutcomeRows::with_capacity(given.alloc, processes.len())?;
+    let mut at = 0;
     for process in processes {
-        add_served(
-            &mut served,
-            given.program,
-            superstep,
-            old_outcomes,
-            *process,
-        )?;
+        if needed.contains(*process) {
+            renewed.append_range(taken, at, at + 1)?;
+            at += 1;
+        } else {
+            add_reused_turn(
+                &mut renewed,
+                given.program,
+                superstep,
+                old_outcomes,
+                *process,
+            )?;
+        }
     }
-    Ok(served)
-}
-
-/// The recorded outcomes, with new ones for the processes for which the recorded turns serve.
-fn with_served_turns<P: Program, G>(
-    given: &Given<'_, P, G>,
-    superstep: &OpenSuperstep<'_, '_>,
-    old_outcomes: &Outcomes,
-    served: &ProcessSet,
-) -> Result<Outcomes, OutOfMemory>
-    requires views { length served.now ≡ length superstep.now.views.now }
-    requires outcomes { length served.now ≡ length old_outcomes.now }
-    requires recorded { old_outcomes.now ≡ map (turn_by P.Program given.now.program) superstep.now.old_views }
-    requires serve { All (λ p. differs_now (P.looks given.now.program) superstep.now p ≡ false)
-        (processes_in served.now) }
-    ensures { IfOk result (λ all. all ≡ replaced old_outcomes.now (processes_in served.now)
-        (turns_of (turn_by P.Program given.now.program) superstep.now.views.now (processes_in served.now))) }
-{
-    if served.is_empty() {
-        return old_outcomes.copy();
-    }
-    let processes = served.members(given.alloc)?;
-    let turns = served_turns(given, superstep, old_outcomes, processes.as_slice())?;
-    old_outcomes.replaced(given.alloc, processes, turns)
+    Ok(renewed)
 }
 
 /// The turns of these processes, which the workers take, in the lists of the spare outcome.
@@ -123,82 +111,53 @@ fn taken_turns<P: Program, J: SharedRun, G: Gate>(
     taken.and(Ok(rows))
 }
 
-/// The doubtful processes of an open superstep, by whether their turns have to be taken.
-#[derive(Clone, Copy)]
-struct Needs {
-    taken: ProcessSet,
-    /// Those for which the recorded turns serve.
-    served: ProcessSet,
-}
-
-impl Needs {
-    fn insert(&mut self, process: usize, is_taken: bool)
-        requires taken { process < length self.old.taken }
-        requires served { process < length self.old.served }
-        ensures taken { self.new.taken
-            ≡ (if is_taken then slice_set self.old.taken process true else self.old.taken) }
-        ensures served { self.new.served
-            ≡ (if is_taken then self.old.served else slice_set self.old.served process true) }
-    {
-        if is_taken {
-            self.taken.insert(process);
-        } else {
-            self.served.insert(process);
+/// The doubtful processes whose turns have to be taken.
+fn needed_among<P: Program, G>(
+    given: &Given<'_, P, G>,
+    superstep: &OpenSuperstep<'_, '_>,
+    doubtful: &Doubtful,
+) -> ProcessSet
+    requires doubtful { AreDoubtful superstep.now.old_views superstep.now.views.now doubtful.now }
+    ensures { result ≡ each_below (length superstep.now.views.now)
+        (differs_now (P.looks given.now.program) superstep.now) }
+{
+    if superstep.old_views.is_empty() {
+        return doubtful.processes;
+    }
+    let mut needed = ProcessSet::none(doubtful.processes.count());
+    for process in doubtful.processes.iter() {
+        if needs_turn(given.program, superstep, doubtful, process) {
+            needed.insert(process);
         }
     }
-
-    /// Who of the doubtful processes has to take a turn.
-    fn among<P: Program, G>(
-        given: &Given<'_, P, G>,
-        superstep: &OpenSuperstep<'_, '_>,
-        doubtful: &Doubtful,
-    ) -> Needs
-        requires doubtful { AreDoubtful superstep.now.old_views superstep.now.views.now doubtful.now }
-        ensures taken { result.taken ≡ each_below (length superstep.now.views.now)
-            (differs_now (P.looks given.now.program) superstep.now) }
-        ensures served { result.served ≡ each_below (length superstep.now.views.now)
-            (stays_now (P.looks given.now.program) superstep.now doubtful.now.processes) }
-    {
-        let none = ProcessSet::none(doubtful.processes.count());
-        let mut needs = Needs {
-            taken: none,
-            served: none,
-        };
-        for process in doubtful.processes.iter() {
-            let is_taken = needs_turn(given.program, superstep, doubtful, process);
-            needs.insert(process, is_taken);
-        }
-        needs
-    }
+    needed
 }
 
-/// The recorded outcomes, with new ones of the processes whose turns were taken, and of those for which the recorded turns serve.
+/// The recorded outcomes, with new ones of the doubtful processes. Where all of these took their turns, the outcomes are those that were taken.
 fn over_recorded<P: Program, G>(
     given: &Given<'_, P, G>,
     superstep: &OpenSuperstep<'_, '_>,
     old_outcomes: &Outcomes,
-    served: &ProcessSet,
-    processes: Vec<usize>,
+    doubtful: &ProcessSet,
+    needed: &ProcessSet,
     taken: OutcomeRows,
 ) -> Result<Outcomes, OutOfMemory>
     requires some { 0 < length superstep.now.old_views }
     requires recorded { old_outcomes.now ≡ map (turn_by P.Program given.now.program) superstep.now.old_views }
-    requires processes { processes.items ≡ processes_where (length superstep.now.views.now)
+    requires doubtful { ViewsDifferAtMost superstep.now.old_views superstep.now.views.now doubtful.now }
+    requires needed { needed.now ≡ each_below (length superstep.now.views.now)
         (differs_now (P.looks given.now.program) superstep.now) }
-    requires served { (set : _) × ((ViewsDifferAtMost superstep.now.old_views superstep.now.views.now set)
-        × (served.now ≡ each_below (length superstep.now.views.now)
-        (stays_now (P.looks given.now.program) superstep.now set))) }
-    requires turns { taken ≡ turns_of (turn_by P.Program given.now.program) superstep.now.views.now processes.items }
+    requires turns { taken ≡ turns_of (turn_by P.Program given.now.program) superstep.now.views.now (processes_in needed.now) }
     ensures { IfOk result (λ all. all ≡ map (turn_by P.Program given.now.program) superstep.now.views.now) }
 {
-    match with_served_turns(given, superstep, old_outcomes, served) {
-        Ok(renewed) => renewed.replaced(given.alloc, processes, taken),
-        Err(error) => {
-            drop(processes);
-            drop(taken);
-            Err(error)
-        }
+    let processes = doubtful.members(given.alloc)?;
+    if taken.count() == processes.len() {
+        return old_outcomes.replaced(given.alloc, processes, taken);
     }
+    let asked = processes.as_slice();
+    let renewed = renewed_turns(given, superstep, old_outcomes, asked, needed, &taken)?;
+    drop(taken);
+    old_outcomes.replaced(given.alloc, processes, renewed)
 }
 
 /// The turns of a superstep: the workers take those that have to be taken, and their places are added.
@@ -221,12 +180,13 @@ pub fn turns_again<P: Program, J: SharedRun, G: Gate>(
     ensures executed { OnOk result (executed.new ≡ executed.old
         ++ differ_in (P.looks given.now.program) superstep.now.step superstep.now.old_views superstep.now.views.now) }
 {
-    let needs = Needs::among(given, superstep, doubtful);
-    add_places(executed, superstep.step, &needs.taken)?;
-    let processes = needs.taken.members(given.alloc)?;
+    let needed = needed_among(given, superstep, doubtful);
+    add_places(executed, superstep.step, &needed)?;
+    let processes = needed.members(given.alloc)?;
     let taken = taken_turns(given, superstep, processes.as_slice(), spare, crew)?;
+    drop(processes);
     match superstep.old_outcomes {
-        Some(old) => over_recorded(given, superstep, old, &needs.served, processes, taken),
+        Some(old) => over_recorded(given, superstep, old, &doubtful.processes, &needed, taken),
         None => taken.share(),
     }
 }

@@ -11,7 +11,8 @@ use std::alloc::Global;
 
 /// Multiplies the own rows by the whole vector; stores and prints the product.
 pub(super) fn multiply(alloc: Global, ctx: &mut Ctx<'_>, layout: Layout) -> Result<End, Stop>
-    ensures { let plan = matvec_multiplying layout.nprocs layout.block ctx.old.memory in Runs ctx.old plan.acts plan.ending ctx.new result }
+    ensures { let plan = matvec_multiplying layout.nprocs layout.block ctx.old.memory
+        in Runs ctx.old plan.acts plan.ending ctx.new result }
 {
     let Some(matrix) = ctx.words_at(0, layout.block_start())? else {
         return Ok(End::Abort(1));
@@ -26,7 +27,8 @@ pub(super) fn multiply(alloc: Global, ctx: &mut Ctx<'_>, layout: Layout) -> Resu
 /// Stores the product, charges for its multiplications, and prints it.
 fn answer(ctx: &mut Ctx<'_>, layout: Layout, product: &[u64]) -> Result<End, Stop>
     requires { length product.now ≤ 64 }
-    ensures { let plan = matvec_answering layout.nprocs layout.block product.now in Runs ctx.old plan.acts plan.ending ctx.new result }
+    ensures { let plan = matvec_answering layout.nprocs layout.block product.now
+        in Runs ctx.old plan.acts plan.ending ctx.new result }
 {
     ctx.store_words(layout.product_start(), product)?;
     ctx.charge(layout.block_start())?;
@@ -41,7 +43,8 @@ fn product_of(
     vector: &[u64],
 ) -> Result<Words, OutOfMemory>
     requires { length matrix.now ≡ layout.block * (layout.nprocs * layout.block) }
-    ensures { IfOk result (λ words. words ≡ product_of layout.block (layout.nprocs * layout.block) matrix.now vector.now) }
+    ensures { IfOk result (λ words. words ≡ product_of layout.block
+        (layout.nprocs * layout.block) matrix.now vector.now) }
 {
     let columns = layout.columns() as usize;
     let mut product = Words::new(alloc);

@@ -19,7 +19,8 @@ pub(super) fn receive_and_multiply(
     ctx: &mut Ctx<'_>,
     layout: Layout,
 ) -> Result<End, Stop>
-    ensures { let plan = matvec_receiving layout.nprocs layout.block ctx.old.memory ctx.old.left in Runs ctx.old plan.acts plan.ending ctx.new result }
+    ensures { let plan = matvec_receiving layout.nprocs layout.block ctx.old.memory ctx.old.left
+        in Runs ctx.old plan.acts plan.ending ctx.new result }
 {
     let mut words = [0; 64];
     let words = &mut words[..layout.block as usize];
@@ -49,7 +50,8 @@ fn sender_of_first(ctx: &Ctx<'_>, layout: Layout) -> Option<u64>
 /// Takes the first message, which is as long as the words, and stores its words from `start` on.
 fn take_block(ctx: &mut Ctx<'_>, start: u64, words: &mut [u64]) -> Result<(), Stop>
     requires { length (first_words ctx.old.left) ≡ length words.old }
-    ensures ran { Runs ctx.old (act.move_into (length words.old) ∷ stores start (first_words ctx.old.left)) tt ctx.new result }
+    ensures ran { Runs ctx.old (act.move_into (length words.old) ∷ stores start
+        (first_words ctx.old.left)) tt ctx.new result }
     ensures memory { OnOk result (ctx.new.memory ≡ stored ctx.old.memory start (first_words ctx.old.left)) }
     ensures left { OnOk result (ctx.new.left ≡ drop 1 ctx.old.left) }
     ensures view { OnOk result (ctx.new.view ≡ ctx.old.view) }

@@ -7,13 +7,13 @@ use Rattle.bsp_whole.proofs.parcels.read_the_same.Goals as goal
 abbrev no_get : Get
 no_get = record { owner = 0; start = 0; len = 0; into = 0 }
 
-pub returns-then-not-is_same_answer : goal.returns-then-not-is_same_answer
-returns-then-not-is_same_answer c =
+pub returns-then-not-get_reads_same_words : goal.returns-then-not-get_reads_same_words
+returns-then-not-get_reads_same_words c =
     let gets = c.args.gets.now in
     let i = c.loop-get.get-index in (
       λ t. cc,
       λ h.
           let here : words_read c.args.old.now (get_or gets i no_get) ≡ words_read c.args.new.now (get_or gets i no_get) =
           sym (get_or-map (words_read c.args.old.now) gets i no_get [] c.loop-get-test.true) ∙ ap (λ (xs : List (List ℕ)). get_or xs i []) h ∙ get_or-map (words_read c.args.new.now) gets i no_get [] c.loop-get-test.true in
-          sym c.if-not-is_same_answer.true ∙ c.is_same_answer.ensures.1 here,
+          sym c.if-not-get_reads_same_words.true ∙ c.get_reads_same_words.ensures.1 here,
     )

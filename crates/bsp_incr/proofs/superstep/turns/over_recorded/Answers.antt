@@ -1,61 +1,74 @@
-use Rattle.std.proofs.Common.{◌≡◌, ◌<◌, ◌∙◌, Bool, List, All, ap, sym, subst, length, refl}
-use Rattle.std.specs.Prelude.{IfOk}
+use Rattle.std.proofs.Common.{◌≡◌, ◌<◌, ◌∙◌, IfOk, List, All, ap, arith, get_or, length, sym, subst, false}
+use Rattle.std.specs.Prelude.{filter}
 use Rattle.std.proofs.lemmas.List.{length-map}
-use Rattle.std.proofs.lemmas.List.FromFn.{length-map-range_with_len}
 use Rattle.bsp_model.specs.ProcessSet.{processes_in}
-use Rattle.bsp_model.specs.Replaced.{replaced, IsAscending}
-use Rattle.bsp_model.proofs.Replaced.{length-replaced}
+use Rattle.bsp_model.specs.Replaced.{IsAscending}
 use Rattle.bsp_step.specs.OutcomeParts.{OutcomeParts}
+use Rattle.bsp_run.specs.Condition.{no_view}
 use Rattle.bsp_run.specs.Shares.{turns_of}
 use Rattle.bsp_run.specs.TurnBy.{turn_by}
-use Rattle.bsp_incr.specs.Inside.OpenSuperstep.{differs_now, stays_now}
-use Rattle.bsp_incr.proofs.Gathering.{listed_below, processes_where-ascending, processes_where-each_below}
-use Rattle.bsp_incr.proofs.Retaking.{served_stay, turns_in_place}
+use Rattle.bsp_incr.specs.Inside.OpenSuperstep.{differs_now}
+use Rattle.bsp_incr.proofs.Gathering.{processes_where-ascending}
+use Rattle.bsp_incr.proofs.Members.{members_known}
+use Rattle.bsp_incr.proofs.Retaking.{all_pass, needed_are, turns_in_place}
 use Rattle.bsp_incr.proofs.superstep.turns.over_recorded.Goals as goal
 
-pub with_served_turns-requires-clause-views : goal.with_served_turns-requires-clause-views
-with_served_turns-requires-clause-views g c κs within =
-    let superstep = c.args.superstep.now in
-    ap (λ (bs : List Bool). length bs) c.requires.served.1.1 ∙ length-map-range_with_len (stays_now (g.P.Program.looks c.args.given.now.program) superstep c.requires.served.0) 0 (length superstep.views.now)
+pub renewed_turns-requires-clause-known : goal.renewed_turns-requires-clause-known
+renewed_turns-requires-clause-known g c κs within =
+    members_known c.args.doubtful.now (length c.args.superstep.now.views.now) c.as_slice-asked.result.now c.requires.doubtful.count (c.as_slice-asked.ensures.value ∙ c.in_ok-processes.ensures)
 
-pub with_served_turns-requires-clause-outcomes : goal.with_served_turns-requires-clause-outcomes
-with_served_turns-requires-clause-outcomes g c κs within =
+pub renewed_turns-requires-clause-taken : goal.renewed_turns-requires-clause-taken
+renewed_turns-requires-clause-taken g c κs within =
     let superstep = c.args.superstep.now in
-    let long : length c.args.old_outcomes.now ≡ length superstep.views.now = ap (λ (os : List OutcomeParts). length os) c.requires.recorded ∙ length-map superstep.old_views (turn_by g.P.Program c.args.given.now.program) ∙ superstep.count c.requires.some in
-    with_served_turns-requires-clause-views g c κs within ∙ sym long
+    let looks = g.P.Program.looks c.args.given.now.program in
+    c.requires.turns
+    ∙ ap (turns_of (turn_by g.P.Program c.args.given.now.program) superstep.views.now)
+    (needed_are looks superstep.old_views superstep.views.now c.args.doubtful.now c.args.needed.now c.requires.doubtful c.requires.needed
+    ∙ ap (filter (differs_now looks superstep)) (sym (c.as_slice-asked.ensures.value ∙ c.in_ok-processes.ensures)))
 
-pub with_served_turns-requires-clause-serve : goal.with_served_turns-requires-clause-serve
-with_served_turns-requires-clause-serve g c κs within =
-    let superstep = c.args.superstep.now in
-    let set = c.requires.served.0 in
-    served_stay (g.P.Program.looks c.args.given.now.program) superstep.old_views superstep.views.now set (processes_in c.args.served.now)
-    (processes_where-each_below (length superstep.views.now) (stays_now (g.P.Program.looks c.args.given.now.program) superstep set) c.args.served.now c.requires.served.1.1)
+pub replaced-requires-clause-ascending : goal.replaced-requires-clause-ascending
+replaced-requires-clause-ascending g c =
+    subst IsAscending (sym c.in_ok-processes.ensures) (processes_where-ascending (length c.args.doubtful.now) (λ p. get_or c.args.doubtful.now p false))
+
+pub replaced-requires-2-clause-ascending : goal.replaced-requires-2-clause-ascending
+replaced-requires-2-clause-ascending g c =
+    subst IsAscending (sym c.in_ok-processes.ensures) (processes_where-ascending (length c.args.doubtful.now) (λ p. get_or c.args.doubtful.now p false))
 
 pub replaced-requires-clause-known : goal.replaced-requires-clause-known
 replaced-requires-clause-known g c =
     let superstep = c.args.superstep.now in
-    let turn = turn_by g.P.Program c.args.given.now.program in
-    let new = superstep.views.now in
-    let long : length c.args.old_outcomes.now ≡ length new = ap (λ (os : List OutcomeParts). length os) c.requires.recorded ∙ length-map superstep.old_views turn ∙ superstep.count c.requires.some in
-    let after : length c.in-Ok.renewed ≡ length new = ap (λ (os : List OutcomeParts). length os) c.in-Ok.ensures ∙ length-replaced c.args.old_outcomes.now (processes_in c.args.served.now) (turns_of turn new (processes_in c.args.served.now)) ∙ long in
-    subst (λ m. All (λ p. p < m) c.args.processes.items) (sym after) (listed_below (length new) (differs_now (g.P.Program.looks c.args.given.now.program) superstep) c.args.processes.items c.requires.processes)
+    let long = ap (λ (os : List OutcomeParts). length os) c.requires.recorded ∙ length-map superstep.old_views (turn_by g.P.Program c.args.given.now.program) ∙ superstep.count c.requires.some in
+    members_known c.args.doubtful.now (length c.args.old_outcomes.now) c.in_ok-processes.processes.items (c.requires.doubtful.count ∙ sym long) c.in_ok-processes.ensures
 
-pub replaced-requires-clause-ascending : goal.replaced-requires-clause-ascending
-replaced-requires-clause-ascending g c =
+pub replaced-requires-2-clause-known : goal.replaced-requires-2-clause-known
+replaced-requires-2-clause-known g c =
     let superstep = c.args.superstep.now in
-    subst IsAscending (sym c.requires.processes) (processes_where-ascending (length superstep.views.now) (differs_now (g.P.Program.looks c.args.given.now.program) superstep))
+    let long = ap (λ (os : List OutcomeParts). length os) c.requires.recorded ∙ length-map superstep.old_views (turn_by g.P.Program c.args.given.now.program) ∙ superstep.count c.requires.some in
+    members_known c.args.doubtful.now (length c.args.old_outcomes.now) c.in_ok-processes.processes.items (c.requires.doubtful.count ∙ sym long) c.in_ok-processes.ensures
 
-pub returns-in-Ok : goal.returns-in-Ok
-returns-in-Ok g c =
+pub returns-then-count-len : goal.returns-then-count-len
+returns-then-count-len g c =
     let superstep = c.args.superstep.now in
     let turn = turn_by g.P.Program c.args.given.now.program in
     let looks = g.P.Program.looks c.args.given.now.program in
     let old = superstep.old_views in
     let new = superstep.views.now in
-    let set = c.requires.served.0 in
-    let served = processes_where-each_below (length new) (stays_now looks superstep set) c.args.served.now c.requires.served.1.1 in
-    subst (λ (os : List OutcomeParts). IfOk c.replaced.result (λ all. all ≡ os))
-    (ap (λ (os : List OutcomeParts). replaced os c.args.processes.items c.args.taken) c.in-Ok.ensures
-    ∙ turns_in_place turn looks old new set c.args.old_outcomes.now (turns_of turn new (processes_in c.args.served.now)) c.args.taken (processes_in c.args.served.now) c.args.processes.items
-    c.requires.served.1.0 (superstep.count c.requires.some) c.requires.recorded served c.requires.processes refl c.requires.turns)
+    let set = c.args.doubtful.now in
+    let ps = c.in_ok-processes.processes.items in
+    let goes = differs_now looks superstep in
+    let some = needed_are looks old new set c.args.needed.now c.requires.doubtful c.requires.needed in
+    let all = all_pass goes (processes_in set)
+    (omega (arith, c.count.ensures, c.if-count-len.true, ap (λ (os : List OutcomeParts). length os) c.requires.turns, length-map (processes_in c.args.needed.now) (λ p. turn (get_or new p no_view)), ap length some, ap length c.in_ok-processes.ensures)) in
+    subst (λ (os : List OutcomeParts). IfOk c.replaced.result (λ o. o ≡ os))
+    (turns_in_place turn old new set c.args.old_outcomes.now c.args.taken ps c.requires.doubtful (superstep.count c.requires.some) c.requires.recorded c.in_ok-processes.ensures
+    (c.requires.turns ∙ ap (turns_of turn new) (some ∙ all ∙ sym c.in_ok-processes.ensures)))
     c.replaced.ensures
+
+pub returns : goal.returns
+returns g c =
+    let superstep = c.args.superstep.now in
+    let turn = turn_by g.P.Program c.args.given.now.program in
+    subst (λ (os : List OutcomeParts). IfOk c.replaced-2.result (λ o. o ≡ os))
+    (turns_in_place turn superstep.old_views superstep.views.now c.args.doubtful.now c.args.old_outcomes.now c.in_ok-renewed.renewed c.in_ok-processes.processes.items c.requires.doubtful (superstep.count c.requires.some) c.requires.recorded c.in_ok-processes.ensures
+    (c.in_ok-renewed.ensures ∙ ap (turns_of turn superstep.views.now) c.as_slice-asked.ensures.value))
+    c.replaced-2.ensures

@@ -14,18 +14,13 @@ taken_turns-requires-clause-known g c κs within =
     let superstep = c.args.superstep.now in
     let goes = differs_now (g.P.Program.looks c.args.given.now.program) superstep in
     listed_below (length superstep.views.now) goes c.as_slice.result.now
-    (c.as_slice.ensures.value ∙ c.in_ok-processes.ensures ∙ processes_where-each_below (length superstep.views.now) goes c.among-needs.result.taken c.among-needs.ensures.taken)
-
-pub over_recorded-requires-clause-processes : goal.over_recorded-requires-clause-processes
-over_recorded-requires-clause-processes g c κs within =
-    let superstep = c.args.superstep.now in
-    c.in_ok-processes.ensures ∙ processes_where-each_below (length superstep.views.now) (differs_now (g.P.Program.looks c.args.given.now.program) superstep) c.among-needs.result.taken c.among-needs.ensures.taken
+    (c.as_slice.ensures.value ∙ c.in_ok-processes.ensures ∙ processes_where-each_below (length superstep.views.now) goes c.needed_among-needed.result c.needed_among-needed.ensures)
 
 pub returns-in-Some-clause-executed : goal.returns-in-Some-clause-executed
 returns-in-Some-clause-executed g c =
     let superstep = c.args.superstep.now in
     let goes = differs_now (g.P.Program.looks c.args.given.now.program) superstep in
-    let processes = processes_where-each_below (length superstep.views.now) goes c.among-needs.result.taken c.among-needs.ensures.taken in
+    let processes = processes_where-each_below (length superstep.views.now) goes c.needed_among-needed.result c.needed_among-needed.ensures in
     on_ok c.over_recorded.result (c.in_ok-add_places.ensures ∙ ap (λ ps. c.args.executed.now ++ places_of superstep.step ps) processes)
 
 pub returns-in-None : goal.returns-in-None
@@ -34,7 +29,7 @@ returns-in-None g c =
     let turn = turn_by g.P.Program c.args.given.now.program in
     let looks = g.P.Program.looks c.args.given.now.program in
     let none = subst (λ (o : Option (Bor (List OutcomeParts))). IfNone o (superstep.old_views ≡ [])) c.in-None.is c.requires.none in
-    let needed = processes_where-each_below (length superstep.views.now) (differs_now looks superstep) c.among-needs.result.taken c.among-needs.ensures.taken in
+    let needed = processes_where-each_below (length superstep.views.now) (differs_now looks superstep) c.needed_among-needed.result c.needed_among-needed.ensures in
     let turns = turns_of_none turn looks superstep.old_views superstep.views.now c.as_slice.result.now c.in_ok-taken.taken (ap (λ (vs : List ViewParts). length vs) none) (c.as_slice.ensures.value ∙ c.in_ok-processes.ensures ∙ needed) c.in_ok-taken.ensures in
     record {
       turns = subst (λ (os : List OutcomeParts). IfOk c.share.result (λ all. all ≡ os)) turns c.share.ensures;

@@ -1,6 +1,6 @@
 use Rattle.bsp_step.specs.Turn.{turn_of}
 use Rattle.bsp_run.specs.Law.{views_in}
-use Rattle.bsp_scratch.proofs.beside.wide_result.Given as goal
+use Rattle.bsp_scratch.proofs.by_workers.wide_result.Given as goal
 
 abbrev pub ghosts-by_crew : goal.ghosts-by_crew
 ghosts-by_crew g a =

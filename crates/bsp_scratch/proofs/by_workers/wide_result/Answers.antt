@@ -6,7 +6,7 @@ use Rattle.bsp_step.specs.Turn.{turn_of}
 use Rattle.bsp_run.specs.Run.{start, run}
 use Rattle.bsp_scratch.specs.Inside.IsUnrecorded.{IsUnrecorded}
 use Rattle.bsp_scratch.proofs.Underway.{underway_from_start, is_over}
-use Rattle.bsp_scratch.proofs.beside.wide_result.Goals as goal
+use Rattle.bsp_scratch.proofs.by_workers.wide_result.Goals as goal
 
 pub numbers-processes-requires : goal.numbers-processes-requires
 numbers-processes-requires g c =

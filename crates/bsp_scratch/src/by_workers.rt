@@ -12,8 +12,8 @@ use crate::plain::{finish, lawful_result, result_at_end, supersteps};
 use crate::unrecorded::Unrecorded;
 use bsp_crew::{Crew, Pace, SharedRun, workers_beside};
 use bsp_gate::Gate;
-use bsp_model::{Input, OutOfMemory, Shared};
-use bsp_run::{Recording, RunResult, Views, numbers};
+use bsp_model::{Input, OutOfMemory, Shared, numbers};
+use bsp_run::{Recording, RunResult, Views};
 use bsp_step::Program;
 use std::alloc::Global;
 use std::marker::Brand;
@@ -42,7 +42,8 @@ fn beside_crew<J: SharedRun, P: Program, G: Gate, R: Threads + Sync>(
         requires lawful { input_fault input.now ≡ None }
         requires under_way { IsUnderway (turn_of (P.acts program.now) (P.ending program.now)) input.now views kept }
         requires crew { AreOfRun (turn_of (P.acts program.now) (P.ending program.now)) input.now J.turn J.views }
-        ensures { IfOk result (λ r. r ≡ result_of (run (turn_of (P.acts program.entry.now) (P.ending program.entry.now)) input.entry.now)) }
+        ensures { IfOk result (λ r. r ≡ result_of (run (turn_of (P.acts program.entry.now)
+            (P.ending program.entry.now)) input.entry.now)) }
     {
         let result = finish(alloc, program, input, views, kept, Some(crew), gate);
         crew.dismiss();

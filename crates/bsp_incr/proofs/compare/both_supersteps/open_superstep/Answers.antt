@@ -13,7 +13,7 @@ use Rattle.bsp_incr.specs.Inside.Marks.{HaveOneTable}
 use Rattle.bsp_incr.proofs.Carrying.{nothing}
 use Rattle.bsp_incr.proofs.Remaking.{count_taken}
 use Rattle.bsp_incr.proofs.RunBefore.{table_before, turns_before, open_table}
-use Rattle.bsp_incr.proofs.compare.beside.open_superstep.Goals as goal
+use Rattle.bsp_incr.proofs.compare.both_supersteps.open_superstep.Goals as goal
 
 pub returns-clause-given : goal.returns-clause-given
 returns-clause-given g c = subst (IsMaking g.P.Program) c.given.view_is c.given.invariant

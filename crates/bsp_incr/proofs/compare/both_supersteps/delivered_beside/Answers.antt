@@ -4,7 +4,7 @@ use Rattle.bsp_run.specs.Run.{Run}
 use Rattle.bsp_run.specs.TurnBy.{turn_by}
 use Rattle.bsp_incr.specs.Inside.Given.{Making}
 use Rattle.bsp_incr.proofs.RunBefore.{delivered_there}
-use Rattle.bsp_incr.proofs.compare.beside.delivered_beside.Goals as goal
+use Rattle.bsp_incr.proofs.compare.both_supersteps.delivered_beside.Goals as goal
 
 pub returns-in-Some-get-clause-count : goal.returns-in-Some-get-clause-count
 returns-in-Some-get-clause-count g c =
