@@ -27,7 +27,7 @@ use Rattle.bsp_engine.specs.Live.{LiveParts, after, after_batch, after_batches, 
 use Rattle.bsp_engine.specs.Inside.LiveReplies.{live_reply, live_replies, live_replying, opening_block}
 use Rattle.bsp_engine.specs.Inside.Replies.{job_told, replies_of}
 use Rattle.bsp_engine.specs.Told.{told_after, told_by}
-use Rattle.bsp_engine.specs.Blocks.{reply_block, result_before, blocks_after, text_of}
+use Rattle.bsp_engine.specs.Blocks.{reply_block, compared_result, blocks_after, text_of}
 
 module _ {P : Type 0} (acts : P → ViewParts → List Act) (ending : P → ViewParts → End) (looks : P → ViewParts → ℕ → Bool) where
   -- the replies of an open session are those of the job's
@@ -39,12 +39,12 @@ module _ {P : Type 0} (acts : P → ViewParts → List Act) (ending : P → View
   live_replies-from live (batch ∷ later) = ap (λ l. live_reply acts ending looks live batch ∷ l) (live_replies-from (after_batch live batch) later)
 
   -- the result that the blocks after a batch are told against
-  pub last_result-next : (live : LiveParts P) (batch : List Edit) → last_result acts ending (after_batch live batch) ≡ result_before live.detail.changes (last_result acts ending live) (live_reply acts ending looks live batch).reply
+  pub last_result-next : (live : LiveParts P) (batch : List Edit) → last_result acts ending (after_batch live batch) ≡ compared_result live.detail.changes (last_result acts ending live) (live_reply acts ending looks live batch).reply
   unfolding last_result live_reply
   last_result-next live batch =
       let turn = turn_of (acts live.program) (ending live.program) in
       elim (refusal_of live.input batch) as (λ r. cond live.detail.changes (Some (result_of (run turn (input_if r live.input (edited live.input batch))))) None
-      ≡ result_before live.detail.changes (cond live.detail.changes (Some (result_of (run turn live.input))) None) (reply_if r (done (looks live.program) (Some (run turn live.input)) (run turn (edited live.input batch))))) [
+      ≡ compared_result live.detail.changes (cond live.detail.changes (Some (result_of (run turn live.input))) None) (reply_if r (done (looks live.program) (Some (run turn live.input)) (run turn (edited live.input batch))))) [
         | Some refusal ↦ refl
         | None ↦ refl
       ]
@@ -56,7 +56,7 @@ module _ {P : Type 0} (acts : P → ViewParts → List Act) (ending : P → View
   blocks-batch detail k live next batch later same is =
       let reply = live_reply acts ending looks live batch in
       ap (λ b. reply_block detail.places k (last_result acts ending live) reply ++ blocks_after detail (k + 1) b (live_replies acts ending looks (after_batch live batch) later))
-      (ap (λ (d : Detail). result_before d.changes (last_result acts ending live) reply.reply) (sym same) ∙ sym (last_result-next live batch))
+      (ap (λ (d : Detail). compared_result d.changes (last_result acts ending live) reply.reply) (sym same) ∙ sym (last_result-next live batch))
       ∙ ap (λ (v : LiveParts P). reply_block detail.places k (last_result acts ending live) reply ++ blocks_after detail (k + 1) (last_result acts ending v) (live_replies acts ending looks v later)) (sym is)
 
   -- the opening and the batches make the report

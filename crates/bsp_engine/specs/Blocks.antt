@@ -27,15 +27,15 @@ abbrev pub reply_block : Bool → ℕ → Option RunResult → ToldReply → Lis
 reply_block places k before told = line (codes "run") (k ∷ []) ++ reply_lines places before told
 
 -- With changes, the result of the last block that has one; without, none.
-abbrev pub result_before : Bool → Option RunResult → Reply → Option RunResult
-result_before changes before (Done result update) = if changes then Some result else None
-result_before changes before (Refused refusal) = before
+abbrev pub compared_result : Bool → Option RunResult → Reply → Option RunResult
+compared_result changes before (Done result update) = if changes then Some result else None
+compared_result changes before (Refused refusal) = before
 
 -- the blocks of replies, of which the first has this number, after a block with this result
 abbrev pub blocks_after : Detail → ℕ → Option RunResult → List ToldReply → List ℕ
 blocks_after detail k before [] = []
 blocks_after detail k before (told ∷ later) =
-    reply_block detail.places k before told ++ blocks_after detail (k + 1) (result_before detail.changes before told.reply) later
+    reply_block detail.places k before told ++ blocks_after detail (k + 1) (compared_result detail.changes before told.reply) later
 
 -- the text of a report
 abbrev pub text_of : Detail → List ToldReply → List ℕ

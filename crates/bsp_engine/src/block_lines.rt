@@ -20,7 +20,8 @@ fn push_parted_line(
     second: &str,
     numbers: &[u64],
 ) -> Result<(), OutOfMemory>
-    ensures { OnOk result (text.new.items ≡ text.old.items ++ (word.now ++ field number ++ codes " " ++ line second.now numbers.now)) }
+    ensures { OnOk result (text.new.items ≡ text.old.items ++ (word.now ++ field number ++ codes " "
+        ++ line second.now numbers.now)) }
 {
     begin_line(text, word, number)?;
     text.push(b' ')?;
@@ -109,7 +110,8 @@ pub fn push_update_places(
 }
 
 pub fn push_counts(text: &mut Vec<u8>, update: &Update) -> Result<(), OutOfMemory>
-    ensures { OnOk result (text.new.items ≡ text.old.items ++ counts_line (length update.now.executed) (length update.now.redelivered)) }
+    ensures { OnOk result (text.new.items ≡ text.old.items ++ counts_line (length update.now.executed)
+        (length update.now.redelivered)) }
 {
     let executed = update.executed.len() as u64;
     let redelivered = update.redelivered.len() as u64;

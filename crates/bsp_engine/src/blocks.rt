@@ -1,7 +1,7 @@
 //! The blocks of a report, and the report of a job.
 
 ghost use Rattle.std.specs.Prelude.{◌≡◌, ◌++◌, IfOk, OnOk, map, option_map, ◌<◌, ◌≤◌, IfErr, None, false, true};
-ghost use Rattle.bsp_engine.specs.Blocks.{reply_lines, result_before, text_of};
+ghost use Rattle.bsp_engine.specs.Blocks.{reply_lines, compared_result, text_of};
 ghost use Rattle.bsp_engine.specs.Told.{alone};
 ghost use Rattle.bsp_model.specs.Input.{input_fault};
 ghost use Rattle.bsp_step.specs.Turn.{turn_of};
@@ -14,9 +14,9 @@ ghost use Rattle.bsp_engine.specs.Inside.Replies.{job_told, replies_of};
 use crate::block_lines::push_refusal;
 use crate::change_lines::{push_changes, push_result};
 use crate::jobs::Job;
-use crate::live::begin;
+use crate::live_blocks::begin;
 use crate::update_lines::push_update_alone;
-use bsp_gate::Gate;
+use bsp_gate::{Gate, let_go};
 use bsp_incr::{Batch, Reply, Workers, scratch_run_behind};
 use bsp_model::{Input, OutOfMemory};
 use bsp_options::Detail;
@@ -33,7 +33,8 @@ fn push_reply(
     before: Option<&RunResult>,
     reply: &Reply,
 ) -> Result<(), OutOfMemory>
-    ensures { OnOk result (text.new.items ≡ text.old.items ++ reply_lines places (option_map (λ r. r.now) before.entry) (alone reply.now)) }
+    ensures { OnOk result (text.new.items ≡ text.old.items ++ reply_lines places (option_map
+        (λ r. r.now) before.entry) (alone reply.now)) }
 {
     match reply {
         Reply::Done {
@@ -50,13 +51,14 @@ fn push_reply(
     }
 }
 
-/// With changes, the result of the last block that has one.
-fn result_before<'a>(
+/// With changes, the result that the next block is compared with: that of the last block that was not refused.
+fn compared_result<'a>(
     changes: bool,
     before: Option<&'a RunResult>,
     reply: &'a Reply,
 ) -> Option<&'a RunResult>
-    ensures { option_map (λ r. r.now) result ≡ result_before changes (option_map (λ r. r.now) before.entry) reply.now }
+    ensures { option_map (λ r. r.now) result ≡ compared_result changes (option_map
+        (λ r. r.now) before.entry) reply.now }
 {
     match reply {
         Reply::Done {
@@ -74,7 +76,7 @@ pub fn push_report(text: &mut Vec<u8>, replies: &[Reply], detail: Detail) -> Res
     for (number, reply) in replies.iter().enumerate() {
         push_line(text, "run", &[number as u64])?;
         push_reply(text, detail.places, before, reply)?;
-        before = result_before(detail.changes, before, reply);
+        before = compared_result(detail.changes, before, reply);
     }
     Ok(())
 }
@@ -105,7 +107,8 @@ fn replies_by_runs<P: Program, R: Threads + Sync, G: Gate>(
     let make = |input: &Input| -> Result<RunResult, OutOfMemory>
         requires lawful { input_fault input.now ≡ None }
         requires workers { (0 < count) × (count ≤ 16) }
-        ensures { IfOk result (λ given. given ≡ result_of (run (turn_of (P.acts program.entry.now) (P.ending program.entry.now)) input.entry.now)) }
+        ensures { IfOk result (λ given. given ≡ result_of (run (turn_of (P.acts program.entry.now)
+            (P.ending program.entry.now)) input.entry.now)) }
     { wide_result(rt, alloc, program, input, count, gate) };
     scratch_run_behind(alloc, input, batches, &make, gate)
 }
@@ -146,6 +149,7 @@ pub fn put_report<P: Program + Drop, R: Threads + Sync, G: Gate>(
         let replies = scratch_replies(workers, job)?;
         return push_report(text, replies.as_slice(), detail);
     }
-    begin(workers, detail, job, text, b"")?;
+    let live = begin(workers, detail, job, text, b"")?;
+    let_go(live, workers.gate);
     Ok(())
 }

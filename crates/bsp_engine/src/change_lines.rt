@@ -1,4 +1,4 @@
-//! The text of a result: all of it, or what of it is another than in the result before.
+//! The text of a result: all of it, or its changes against the result before.
 
 ghost use Rattle.std.specs.Prelude.{◌≡◌, ◌++◌, [], Some, false, OnOk, IfOk, option_map, slice_get, unwrap_or};
 ghost use Rattle.bsp_engine.specs.Changes.{changes_lines, changes_of, other, other_lines, others, piece_if, same_lines, same_row, same_words};
@@ -19,6 +19,7 @@ fn item_at<T>(items: &[T], at: usize) -> Option<&T>
     Some(item)
 }
 
+/// A line `memory`, unless the words are those of before.
 pub fn push_other_memory<'a>(
     text: &mut Vec<u8>,
     pid: u64,
@@ -60,6 +61,7 @@ pub fn push_other_memories(
     Ok(())
 }
 
+/// The lines `print` of a process, or a line `silent` where it printed nothing.
 fn push_lines_or_silence(text: &mut Vec<u8>, pid: u64, lines: &Lines) -> Result<(), OutOfMemory>
     ensures { OnOk result (text.new.items ≡ text.old.items ++ other_lines pid lines.now) }
 {
@@ -130,6 +132,7 @@ pub fn push_other_costs(
     Ok(())
 }
 
+/// The lines `cost` that differ, a line `costs` with the number of supersteps where that differs, and the line `total`.
 pub fn push_cost_changes(
     text: &mut Vec<u8>,
     olds: &[CostRow],
@@ -145,6 +148,7 @@ pub fn push_cost_changes(
     push_line(text, "total", &[total])
 }
 
+/// Appends the status, the memories, printed lines and costs that differ from the result before, and the total.
 pub fn push_changes(text: &mut Vec<u8>, old: &RunResult, new: &RunResult) -> Result<(), OutOfMemory>
     ensures { OnOk result (text.new.items ≡ text.old.items ++ changes_lines (changes_of old.now new.now)) }
 {

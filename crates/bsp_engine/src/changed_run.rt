@@ -45,7 +45,8 @@ fn flags_of(
     update: &Update,
 ) -> Result<Vec<bool>, OutOfMemory>
     requires { nprocs ≡ length (result_of old.now).memories }
-    ensures { IfOk result (λ flags. flags.items ≡ flags_of (result_of old.now) (result_of new.now) batch.now update.now) }
+    ensures { IfOk result (λ flags. flags.items ≡ flags_of (result_of old.now)
+        (result_of new.now) batch.now update.now) }
 {
     if !end_alike(old, new) {
         return Vec::from_elem(alloc, true, nprocs);
@@ -139,7 +140,8 @@ pub fn push_changed(
 ) -> Result<(), OutOfMemory>
     requires count { nprocs ≡ length (result_of old.now).memories }
     requires update { IsUpdateBetween old.now batch.now update.now new.now }
-    ensures { OnOk result (text.new.items ≡ text.old.items ++ changes_lines (changes_of (result_of old.now) (result_of new.now))) }
+    ensures { OnOk result (text.new.items ≡ text.old.items ++ changes_lines (changes_of (result_of old.now)
+        (result_of new.now))) }
 {
     let flags = flags_of(*text.allocator(), nprocs, old, new, batch, update)?;
     push_status(text, new.status())?;

@@ -17,7 +17,8 @@ use crate::catalogue::Catalogue;
 use crate::errors::{EngineError, JobError};
 use crate::jobs::read_job_and_keys;
 use crate::limits::MOST_DOCUMENT_BYTES;
-use crate::live::{Live, begin, push_answer};
+use crate::live::Live;
+use crate::live_blocks::{begin, push_answer};
 use crate::terminal::Terminal;
 use bsp_crew::DEPTH_OF_RUNS;
 use bsp_gate::Gate;
@@ -115,8 +116,10 @@ fn answer<P: Program + Drop, R: Threads + Sync, G: Gate, T: Terminal>(
     terminal: &mut T,
     line: &[u8],
 ) -> Result<(), EngineError>
-    ensures ok { OnOk result (Answered (due_at P.acts P.ending P.looks attendant.old) (due_at P.acts P.ending P.looks attendant.new) line.now (T.log terminal.old) (T.log terminal.new)) }
-    ensures err { IfErr result (λ e. Stopped (due_at P.acts P.ending P.looks attendant.old) line.now (T.log terminal.old) (T.log terminal.new) e) }
+    ensures ok { OnOk result (Answered (due_at P.acts P.ending P.looks attendant.old)
+        (due_at P.acts P.ending P.looks attendant.new) line.now (T.log terminal.old) (T.log terminal.new)) }
+    ensures err { IfErr result (λ e. Stopped (due_at P.acts P.ending P.looks attendant.old) line.now
+        (T.log terminal.old) (T.log terminal.new) e) }
 {
     let answered = respond(workers, attendant, line);
     workers.gate.leave();
@@ -139,8 +142,12 @@ fn attend_all<P: Program + Drop, R: Threads + Sync, G: Gate, T: Terminal>(
     begun: &mut Vec<u8>,
     bytes: &[u8],
 ) -> Result<(), EngineError>
-    ensures ok { OnOk result (GoesOn (due_at P.acts P.ending P.looks attendant.old) (due_at P.acts P.ending P.looks attendant.new) begun.old.items bytes.now begun.new.items (T.log terminal.old) (T.log terminal.new)) }
-    ensures err { IfErr result (λ e. BreaksOff (due_at P.acts P.ending P.looks attendant.old) begun.old.items bytes.now (T.log terminal.old) (T.log terminal.new) e) }
+    ensures ok { OnOk result (GoesOn (due_at P.acts P.ending P.looks attendant.old)
+        (due_at P.acts P.ending P.looks attendant.new) begun.old.items bytes.now begun.new.items (T.log terminal.old)
+        (T.log terminal.new)) }
+    ensures err { IfErr result (λ e. BreaksOff
+        (due_at P.acts P.ending P.looks attendant.old) begun.old.items bytes.now (T.log terminal.old)
+        (T.log terminal.new) e) }
 {
     for byte in bytes {
         if *byte == b'\n' {
@@ -166,9 +173,13 @@ fn attend_more<P: Program + Drop, R: Threads + Sync, G: Gate, T: Terminal>(
     begun: &mut Vec<u8>,
     chunk: &mut [u8],
 ) -> Result<bool, EngineError>
-    ensures more { result ≡ Ok true → GoesOn (due_at P.acts P.ending P.looks attendant.old) (due_at P.acts P.ending P.looks attendant.new) begun.old.items [] begun.new.items (T.log terminal.old) (T.log terminal.new) }
-    ensures end { result ≡ Ok false → TalksOn (due_at P.acts P.ending P.looks attendant.old) begun.old.items (T.log terminal.old) (T.log terminal.new) }
-    ensures err { IfErr result (λ e. BreaksOff (due_at P.acts P.ending P.looks attendant.old) begun.old.items [] (T.log terminal.old) (T.log terminal.new) e) }
+    ensures more { result ≡ Ok true → GoesOn (due_at P.acts P.ending P.looks attendant.old)
+        (due_at P.acts P.ending P.looks attendant.new) begun.old.items [] begun.new.items (T.log terminal.old)
+        (T.log terminal.new) }
+    ensures end { result ≡ Ok false → TalksOn (due_at P.acts P.ending P.looks attendant.old) begun.old.items
+        (T.log terminal.old) (T.log terminal.new) }
+    ensures err { IfErr result (λ e. BreaksOff (due_at P.acts P.ending P.looks attendant.old) begun.old.items []
+        (T.log terminal.old) (T.log terminal.new) e) }
 {
     let Ok(n) = terminal.hear(chunk) else {
         return Err(EngineError::Read);
@@ -191,7 +202,8 @@ pub fn talk<P: Program + Drop, R: Threads + Sync, G: Gate, T: Terminal>(
     attendant: &mut Attendant<P>,
     terminal: &mut T,
 ) -> Result<(), EngineError>
-    ensures { TalksUntil (due_from P.acts P.ending P.looks attendant.old) (T.log terminal.old) (T.log terminal.new) result }
+    ensures { TalksUntil (due_from P.acts P.ending P.looks attendant.old) (T.log terminal.old)
+        (T.log terminal.new) result }
 {
     workers.gate.leave();
     say_all(terminal, attendant.text.as_slice())?;

@@ -17,7 +17,7 @@ use crate::errors::{EngineError, JobError, JobFault};
 use crate::flow::{Sink, Source, read_all, write_text};
 use crate::jobs::read_job;
 use crate::terminal::Terminal;
-use bsp_gate::Gate;
+use bsp_gate::{Gate, let_go};
 use bsp_incr::Workers;
 use bsp_options::Options;
 use std::alloc::Global;
@@ -30,8 +30,11 @@ fn put_report_of<C: Catalogue, R: Threads + Sync, G: Gate>(
     text: &mut Vec<u8>,
 ) -> Result<(), JobError>
     requires short { length bytes.now ≤ most_document_bytes }
-    ensures ok { OnOk result (report_of C.meaning C.Program.acts C.Program.ending C.Program.looks options.scratch options.detail bytes.now ≡ Ok text.new.items) }
-    ensures fault { IfErr result (λ e. IfFault e (λ f. report_of C.meaning C.Program.acts C.Program.ending C.Program.looks options.scratch options.detail bytes.now ≡ Err (EngineError.Job f))) }
+    ensures ok { OnOk result
+        (report_of C.meaning C.Program.acts C.Program.ending C.Program.looks options.scratch options.detail bytes.now
+        ≡ Ok text.new.items) }
+    ensures fault { IfErr result (λ e. IfFault e
+        (λ f. report_of C.meaning C.Program.acts C.Program.ending C.Program.looks options.scratch options.detail bytes.now ≡ Err (EngineError.Job f))) }
 {
     let job = read_job::<C>(workers.alloc, bytes)?;
     Ok(put_report(workers, options.scratch, options.detail, job, text)?)
@@ -67,7 +70,8 @@ pub fn engine<C: Catalogue, R: Threads + Sync, S: Source, K: Sink, G: Gate>(
     ensures taken { TakesAtMost (most_document_bytes + 1) (S.remaining reader.old) (S.remaining reader.new) }
 
     // The document is there for whoever tells more of its fault.
-    ensures document { (fault : JobFault) → result ≡ Err (EngineError.Job fault) → IfSome (S.remaining reader.old) (λ bytes. document.new.items ≡ bytes) }
+    ensures document { (fault : JobFault) → result ≡ Err (EngineError.Job fault)
+        → IfSome (S.remaining reader.old) (λ bytes. document.new.items ≡ bytes) }
 
     // Failures are counted where they are answered.
     ensures read_failed { result ≡ Err EngineError.Read → S.failures reader.new ≡ S.failures reader.old + 1 }
@@ -133,6 +137,6 @@ pub fn follow<C: Catalogue, R: Threads + Sync, S: Source, T: Terminal, G: Gate>(
     };
     let mut attendant = attendant_of::<C, _, _>(&workers, options.detail, document.as_slice())?;
     let talked = talk(&workers, &mut attendant, terminal);
-    drop(attendant);
+    let_go(attendant, gate);
     talked
 }

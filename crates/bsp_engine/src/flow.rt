@@ -60,8 +60,10 @@ const CHUNK: usize = 4096;
 fn read_some<S: Source>(source: &mut S, bytes: &mut Vec<u8>) -> Result<bool, EngineError>
     requires failures { S.failures source.old < 2 ^ 64 - 1 }
     requires room { length bytes.old.items ≤ most_document_bytes }
-    ensures read { OnOk result (Gains (S.remaining source.old) (S.remaining source.new) bytes.old.items bytes.new.items) }
-    ensures taken { TakesAtMost (most_document_bytes + 1 - length bytes.old.items) (S.remaining source.old) (S.remaining source.new) }
+    ensures read { OnOk result (Gains (S.remaining source.old)
+        (S.remaining source.new) bytes.old.items bytes.new.items) }
+    ensures taken { TakesAtMost (most_document_bytes + 1 - length bytes.old.items) (S.remaining source.old)
+        (S.remaining source.new) }
     ensures within { OnOk result (length bytes.new.items ≤ most_document_bytes + 1) }
     ensures more { result ≡ Ok false → length bytes.old.items < length bytes.new.items }
     ensures end { result ≡ Ok true → (IsAtEnd (S.remaining source.new)) × (bytes.new.items ≡ bytes.old.items) }
@@ -88,7 +90,8 @@ pub fn read_all<S: Source>(source: &mut S, document: &mut Vec<u8>) -> Result<(),
     ensures end { OnOk result (IsAtEnd (S.remaining source.new)) }
     ensures fits { OnOk result (length document.new.items ≤ most_document_bytes) }
     ensures taken { TakesAtMost (most_document_bytes + 1) (S.remaining source.old) (S.remaining source.new) }
-    ensures long { result ≡ Err EngineError.TooLong → IfSome (S.remaining source.old) (λ bytes. most_document_bytes < length bytes) }
+    ensures long { result ≡ Err EngineError.TooLong → IfSome (S.remaining source.old) (λ bytes. most_document_bytes
+        < length bytes) }
     ensures failed { result ≡ Err EngineError.Read → S.failures source.new ≡ S.failures source.old + 1 }
     ensures calm { result ≢ Err EngineError.Read → S.failures source.new ≡ S.failures source.old }
     ensures unread { IfErr result IsUnread }

@@ -18,6 +18,7 @@ mod jobs;
 mod laws;
 pub mod limits;
 mod live;
+mod live_blocks;
 mod progress;
 mod terminal;
 mod tool;

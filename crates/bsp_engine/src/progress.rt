@@ -110,4 +110,8 @@ impl<'a, R: Clock + Eprint + Sync> Gate for Progress<'a, R> {
             let _ = eprint!(self.rt; "\r\x1b[K");
         }
     }
+
+    fn ends_process(&self) -> bool {
+        true
+    }
 }

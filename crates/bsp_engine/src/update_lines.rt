@@ -137,7 +137,8 @@ fn push_why_turns<P: Program>(
     places: &[Place],
 ) -> Result<(), OutOfMemory>
     requires known { All (HasTurn (supersteps_of new.now)) places.now }
-    ensures { OnOk result (text.new.items ≡ text.old.items ++ flat_map (why_turn_line (P.looks program.now) (option_map (λ h. h.now) old.entry) new.now) places.now) }
+    ensures { OnOk result (text.new.items ≡ text.old.items ++ flat_map (why_turn_line (P.looks program.now)
+        (option_map (λ h. h.now) old.entry) new.now) places.now) }
 {
     for place in places {
         begin_step(text, "why turn", place)?;
@@ -156,7 +157,8 @@ fn push_why_deliveries(
 ) -> Result<(), OutOfMemory>
     requires known { All (HasDelivery new.now.past) places.now }
     requires as_many { All (HaveAsMany (delivered_before (option_map (λ h. h.now) old)) new.now.past) places.now }
-    ensures { OnOk result (text.new.items ≡ text.old.items ++ flat_map (why_delivery_line (option_map (λ h. h.now) old.entry) new.now) places.now) }
+    ensures { OnOk result (text.new.items ≡ text.old.items ++ flat_map (why_delivery_line (option_map
+        (λ h. h.now) old.entry) new.now) places.now) }
 {
     for place in places {
         begin_step(text, "why delivery", place)?;

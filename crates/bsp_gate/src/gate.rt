@@ -1,5 +1,6 @@
 //! The gate before a job.
 
+use std::mem;
 use std::time::{Clock, Instant};
 
 /// A place that a worker passes before a job, as to hold it there in a test. A job is a turn, a delivery, or a job of a phase.
@@ -17,6 +18,11 @@ pub trait Gate: Sync {
 
     /// Called where the work is done, or pauses.
     fn leave(&self) {}
+
+    /// Whether the process ends with the work. Then no memory has to be given back piece by piece.
+    fn ends_process(&self) -> bool {
+        false
+    }
 }
 
 /// The gate that does nothing and tells no time.
@@ -45,5 +51,14 @@ impl<'a, C: Clock + Sync> Gate for Timed<'a, C> {
 
     fn now(&self) -> Option<Instant> {
         Instant::now(self.clock).ok()
+    }
+}
+
+/// Drops a value, unless the process ends with the work.
+pub fn let_go<T: Drop, G: Gate>(value: T, gate: &G) {
+    if gate.ends_process() {
+        mem::forget(value);
+    } else {
+        drop(value);
     }
 }

@@ -3,4 +3,4 @@
 
 mod gate;
 
-pub use gate::{Gate, Open, Timed};
+pub use gate::{Gate, Open, Timed, let_go};

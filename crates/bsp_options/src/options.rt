@@ -28,9 +28,9 @@ pub struct Detail {
 /// What the words ask for.
 #[derive(Clone, Copy)]
 pub struct Options {
-    /// The number of workers that share a session's work, 1 to 16.
+    /// The number of workers that share the work, 1 to 16.
     pub workers: usize,
-    /// Whether each input is run from its first superstep, on one thread.
+    /// Whether each input is run from its first superstep, and no record is kept.
     pub scratch: bool,
     /// What the report tells.
     pub detail: Detail,
@@ -48,8 +48,7 @@ pub struct Tool {
     pub after_help: &'static str,
 }
 
-const SCRATCH_HELP: &str =
-    "Runs each input from its first superstep, on one thread, and reuses nothing";
+const SCRATCH_HELP: &str = "Runs each input from its first superstep, and reuses nothing";
 
 const PLACES_HELP: &str = "Lists the places of turns and deliveries, by superstep and process";
 
@@ -154,8 +153,10 @@ fn read_matches<'a>(
     tool: &Tool,
     words: &'a [&'a str],
 ) -> Result<ArgMatches<'a>, Error>
-    ensures rows { IfOk result (λ m. rows_of (found_of m) ≡ matches_of (tool_app tool.now.name.now) (map (λ w. w.now) words.entry.now)) }
-    ensures refused { IfErr result (λ e. takes (tool_app tool.now.name.now) (map (λ w. w.now) words.entry.now) ≡ true → kind_of e ≡ ErrorKind.OutOfMemory) }
+    ensures rows { IfOk result (λ m. rows_of (found_of m) ≡ matches_of (tool_app tool.now.name.now) (map
+        (λ w. w.now) words.entry.now)) }
+    ensures refused { IfErr result (λ e. takes (tool_app tool.now.name.now) (map (λ w. w.now) words.entry.now) ≡ true
+        → kind_of e ≡ ErrorKind.OutOfMemory) }
     ensures kinds { FailsBy (fault_of (tool_app tool.now.name.now) (map (λ w. w.now) words.entry.now)) result }
 {
     command(alloc, tool)?.try_get_matches_from(words)
@@ -169,11 +170,14 @@ pub fn read_options<'a>(
     tool: &Tool,
     words: &'a [&'a str],
 ) -> Result<(Options, Option<&'a str>), Error>
-    ensures options { IfOk result (λ r. r.0 ≡ options_of (matches_of (tool_app tool.now.name.now) (map (λ w. w.now) words.entry.now))) }
-    ensures follow { IfOk result (λ r. option_map (λ s. s.now) r.1 ≡ first_of (codes "follow") (matches_of (tool_app tool.now.name.now) (map (λ w. w.now) words.entry.now))) }
+    ensures options { IfOk result (λ r. r.0 ≡ options_of (matches_of (tool_app tool.now.name.now) (map
+        (λ w. w.now) words.entry.now))) }
+    ensures follow { IfOk result (λ r. option_map (λ s. s.now) r.1
+        ≡ first_of (codes "follow") (matches_of (tool_app tool.now.name.now) (map (λ w. w.now) words.entry.now))) }
     ensures least { IfOk result (λ r. 1 ≤ r.0.workers) }
     ensures most { IfOk result (λ r. r.0.workers ≤ 16) }
-    ensures refused { IfErr result (λ e. takes (tool_app tool.now.name.now) (map (λ w. w.now) words.entry.now) ≡ true → kind_of e ≡ ErrorKind.OutOfMemory) }
+    ensures refused { IfErr result (λ e. takes (tool_app tool.now.name.now) (map (λ w. w.now) words.entry.now) ≡ true
+        → kind_of e ≡ ErrorKind.OutOfMemory) }
     ensures kinds { FailsBy (fault_of (tool_app tool.now.name.now) (map (λ w. w.now) words.entry.now)) result }
 {
     let matches = read_matches(alloc, tool, words)?;
@@ -187,7 +191,8 @@ pub fn words_status(error: &Error) -> u8
     ensures help { kind_of error.now ≡ ErrorKind.DisplayHelp → result ≡ 0 }
     ensures version { kind_of error.now ≡ ErrorKind.DisplayVersion → result ≡ 0 }
     ensures memory { kind_of error.now ≡ ErrorKind.OutOfMemory → result ≡ 1 }
-    ensures refused { kind_of error.now ≢ ErrorKind.DisplayHelp → kind_of error.now ≢ ErrorKind.DisplayVersion → kind_of error.now ≢ ErrorKind.OutOfMemory → result ≡ 2 }
+    ensures refused { kind_of error.now ≢ ErrorKind.DisplayHelp → kind_of error.now ≢ ErrorKind.DisplayVersion
+        → kind_of error.now ≢ ErrorKind.OutOfMemory → result ≡ 2 }
 {
     match error.kind() {
         ErrorKind::DisplayHelp | ErrorKind::DisplayVersion => 0,

@@ -151,17 +151,6 @@ pub fn push_joined_line(
     push_in_pieces(text, word.as_bytes(), first, second, third)
 }
 
-/// Appends each number after a space. Most lines of memories have one.
-#[inline(always)]
-fn push_numbers(text: &mut Vec<u8>, numbers: &[u64]) -> Result<(), OutOfMemory>
-    ensures { OnOk result (text.new.items ≡ text.old.items ++ fields numbers.now) }
-{
-    if let [number] = numbers {
-        return push_field(text, *number);
-    }
-    push_fields(text, numbers)
-}
-
 /// Appends a line: the word `memory`, numbers, the words of a memory, and LF.
 #[inline]
 pub fn push_memory_line(
@@ -171,8 +160,12 @@ pub fn push_memory_line(
 ) -> Result<(), OutOfMemory>
     ensures { OnOk result (text.new.items ≡ text.old.items ++ line (codes "memory") (numbers.now ++ memory.now)) }
 {
+    let words = memory.words_from(0);
+    if words.len() == memory.len() {
+        return push_parts(text, b"memory", numbers, words);
+    }
     text.extend_from_slice(b"memory")?;
-    push_numbers(text, numbers)?;
+    push_fields(text, numbers)?;
     let mut address = 0;
     while address < memory.len() {
         let page = memory.words_from(address as u64);

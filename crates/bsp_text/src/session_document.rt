@@ -71,7 +71,8 @@ fn push_array<T: Written>(text: &mut Vec<u8>, items: &[T]) -> Result<(), OutOfMe
 }
 
 fn push_key<T: Written>(text: &mut Vec<u8>, key: &str, value: &T) -> Result<(), OutOfMemory>
-    ensures { OnOk result (text.new.items ≡ text.old.items ++ (key.now ++ codes " = " ++ T.written value.now ++ 10 ∷ [])) }
+    ensures { OnOk result (text.new.items ≡ text.old.items ++ (key.now ++ codes " = " ++ T.written value.now
+        ++ 10 ∷ [])) }
 {
     text.extend_from_slice(key.as_bytes())?;
     text.extend_from_slice(b" = ")?;

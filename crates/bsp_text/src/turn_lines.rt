@@ -30,7 +30,8 @@ fn push_ended(text: &mut Vec<u8>, fault: Option<Fault>, ended: Ended) -> Result<
 }
 
 fn push_stores(text: &mut Vec<u8>, stores: &StoresRef<'_>) -> Result<(), OutOfMemory>
-    ensures { OnOk result (text.new.items ≡ text.old.items ++ store_lines (ranges_stored stores.now) (words_stored stores.now)) }
+    ensures { OnOk result (text.new.items ≡ text.old.items ++ store_lines (ranges_stored stores.now)
+        (words_stored stores.now)) }
 {
     let words = stores.to_words(*text.allocator())?;
     let mut from = 0;

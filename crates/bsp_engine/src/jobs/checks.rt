@@ -40,7 +40,8 @@ fn missing_key<C: Catalogue>(table: &Table) -> Option<&'static str>
 
 fn check_shapes<C: Catalogue>(table: &Table) -> Result<(), Wrong<'static>>
     ensures ok { OnOk result (has_right_shapes C.meaning (table_view table.now) ≡ true) }
-    ensures wrong { IfErr result (λ w. (has_right_shapes C.meaning (table_view table.now) ≡ false) × (w.fault ≡ JobFault.WrongType)) }
+    ensures wrong { IfErr result (λ w. (has_right_shapes C.meaning (table_view table.now) ≡ false) × (w.fault
+        ≡ JobFault.WrongType)) }
 {
     let fault = JobFault::WrongType;
     if !C::has_right_shapes(table) {
@@ -120,7 +121,8 @@ fn check_integer<'a>(
     fault: InputFault,
 ) -> Result<(), Wrong<'a>>
     ensures ok { OnOk result (is_between low high (integer_at key.now (table_view table.now)) ≡ true) }
-    ensures wrong { IfErr result (λ w. (is_between low high (integer_at key.now (table_view table.now)) ≡ false) × (w.fault ≡ JobFault.Input fault)) }
+    ensures wrong { IfErr result (λ w. (is_between low high (integer_at key.now (table_view table.now)) ≡ false)
+        × (w.fault ≡ JobFault.Input fault)) }
 {
     if is_between(low, high, integer_at(table, key)) {
         return Ok(());
@@ -131,7 +133,8 @@ fn check_integer<'a>(
 /// Refuses the first of I1 to I7 that the described input has. It takes no memory.
 pub fn check_sizes(table: &Table) -> Result<(), Wrong<'static>>
     ensures ok { OnOk result (described_fault (table_view table.now) ≡ None) }
-    ensures wrong { IfErr result (λ w. ((fault : InputFault) × (described_fault (table_view table.now) ≡ Some fault) × (w.fault ≡ JobFault.Input fault))) }
+    ensures wrong { IfErr result (λ w. ((fault : InputFault) × (described_fault (table_view table.now) ≡ Some fault)
+        × (w.fault ≡ JobFault.Input fault))) }
 {
     let memories = elements_at(table, "memory").len();
     if memories == 0 {
@@ -188,7 +191,8 @@ fn check_common_signs(table: &Table) -> Result<(), Wrong<'static>>
 
 pub fn check_signs<C: Catalogue>(table: &Table) -> Result<(), Wrong<'static>>
     ensures ok { OnOk result (has_negative_word C.meaning (table_view table.now) ≡ false) }
-    ensures wrong { IfErr result (λ w. (has_negative_word C.meaning (table_view table.now) ≡ true) × (w.fault ≡ JobFault.BadWord)) }
+    ensures wrong { IfErr result (λ w. (has_negative_word C.meaning (table_view table.now) ≡ true) × (w.fault
+        ≡ JobFault.BadWord)) }
 {
     if C::has_negative_word(table) {
         let key = C::key_at_fault(table);

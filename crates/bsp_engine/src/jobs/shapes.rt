@@ -121,7 +121,8 @@ pub fn check_shape<'a, T: Shape>(
     fault: JobFault,
 ) -> Result<(), Wrong<'a>>
     ensures ok { OnOk result (passes T.fits (get_member key.now (table_view table.now)) ≡ true) }
-    ensures wrong { IfErr result (λ w. (passes T.fits (get_member key.now (table_view table.now)) ≡ false) × (w.fault ≡ fault)) }
+    ensures wrong { IfErr result (λ w. (passes T.fits (get_member key.now (table_view table.now)) ≡ false) × (w.fault
+        ≡ fault)) }
 {
     let Some(value) = value_at(table, key) else {
         return Ok(());

@@ -136,7 +136,8 @@ impl Described for NoWords {
 
 #[tactic(auto, using(crate::proofs::Trees::no_words))]
 fn arguments_at(alloc: Global, table: &Table) -> Result<Seq<Words>, OutOfMemory>
-    ensures { IfOk result (λ a. a ≡ args_of (get_member (codes "args") (table_view table.now)) (map row_of (elements_at (codes "memory") (table_view table.now)))) }
+    ensures { IfOk result (λ a. a ≡ args_of (get_member (codes "args") (table_view table.now)) (map row_of
+        (elements_at (codes "memory") (table_view table.now)))) }
 {
     match value_at(table, "args") {
         Some(value) => read_each::<ArrayOf<Integer>>(alloc, elements(value)),

@@ -9,7 +9,7 @@ use Rattle.bsp_engine.proofs.Beginning.{opened_run, opening_told}
 use Rattle.bsp_engine.proofs.Handing.{told}
 use Rattle.bsp_text.proofs.Numbering.{three_parts}
 use Rattle.bsp_engine.proofs.UpdateSteps.{opening_steps}
-use Rattle.bsp_engine.proofs.live.push_opening.Goals as goal
+use Rattle.bsp_engine.proofs.live_blocks.push_opening.Goals as goal
 
 pub push_update-requires-clause-steps : goal.push_update-requires-clause-steps
 push_update-requires-clause-steps g c κs within =

@@ -8,7 +8,7 @@ use Rattle.bsp_incr.proofs.Lawful.{edited_count}
 use Rattle.bsp_engine.specs.Inside.Touched.{IsUpdateBetween}
 use Rattle.bsp_engine.proofs.Endings.{count_result_memories}
 use Rattle.bsp_engine.proofs.Made.{accepted_text, borrowed_or, refused_text}
-use Rattle.bsp_engine.proofs.live.advance.Goals as goal
+use Rattle.bsp_engine.proofs.live_blocks.apply_and_tell.Goals as goal
 
 pub push_accepted-pushed-requires-clause-count : goal.push_accepted-pushed-requires-clause-count
 push_accepted-pushed-requires-clause-count g c κs within =

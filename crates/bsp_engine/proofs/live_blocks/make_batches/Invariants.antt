@@ -2,7 +2,7 @@ use Rattle.std.proofs.Common.{◌≡◌, ◌+◌, ◌++◌, drop}
 use Rattle.bsp_engine.specs.Blocks.{blocks_after}
 use Rattle.bsp_engine.specs.Live.{after_batches, last_result}
 use Rattle.bsp_engine.specs.Inside.LiveReplies.{live_replies}
-use Rattle.bsp_engine.proofs.live.make_all.Given as goal
+use Rattle.bsp_engine.proofs.live_blocks.make_batches.Given as goal
 
 -- the batches that are left, and their blocks
 abbrev pub invariant-loop-index : goal.invariant-loop-index
