@@ -71,6 +71,16 @@ class Progress(InAPlace):
         self.fails("0 passed, 1 failed", "heat was not built", "ci/progress")
 
 
+class Threads(InAPlace):
+    def test_a_program_whose_workers_do_not_come(self):
+        self.place.program("heat", "exit 0")
+        self.fails("0 passed, 2 failed", "it has ended before all was said", "ci/threads")
+
+    def test_a_program_that_is_not_built(self):
+        self.place.script("bin/rt", "exit 1")
+        self.fails("0 passed, 1 failed", "heat was not built", "ci/threads")
+
+
 class Live(InAPlace):
     """Each flaw with talks of which one shows it."""
 
