@@ -24,7 +24,7 @@ LAST = (
     live(40),
     Part(("ci/sessions",), 7),
     Part(("ci/progress",), 3),
-    Part(("ci/threads",), 2),
+    Part(("ci/threads",), 3),
     Part(("ci/tried",), 1),
     Part(("ci/count_allocations",), 6),
     Part(("ci/refuse_allocations",), 14_000),

@@ -1,22 +1,20 @@
 //! Sessions that stay open, with what takes their batches back.
 
-ghost use Rattle.std.specs.Prelude.{◌≡◌, IfOk, OnOk, None, IfErr, OnErr, unwrap_or};
+ghost use Rattle.std.specs.Prelude.{◌≡◌, IfOk, OnOk, None, unwrap_or};
 ghost use Rattle.bsp_model.specs.Input.{input_fault};
 ghost use Rattle.bsp_step.specs.Turn.{turn_of};
 ghost use Rattle.bsp_run.specs.Run.{run};
 ghost use Rattle.bsp_incr.specs.Edits.{refusal_of, edited};
 ghost use Rattle.bsp_incr.specs.Inside.Changes.{update_of};
-ghost use Rattle.bsp_engine.specs.Live.{opened, run_of, undos_after};
-ghost use Rattle.bsp_incr.specs.Replies.{refusal_in};
+ghost use Rattle.bsp_engine.specs.Live.{opened, run_of};
 ghost use Rattle.bsp_engine.specs.Untouched.{AreRunsAround};
 
 use bsp_gate::Gate;
-use bsp_incr::{Batch, Edit, EditError, Session, Update, Workers};
+use bsp_incr::{Batch, Edit, Session, Update, Workers};
 use bsp_model::{Input, OutOfMemory};
 use bsp_options::Detail;
-use bsp_run::{History, RunError};
+use bsp_run::History;
 use bsp_step::Program;
-use std::alloc::{AllocError, Global};
 use std::collections::VecDeque;
 use std::marker::Model;
 use std::thread::Threads;
@@ -66,64 +64,40 @@ pub(crate) fn open<P: Program + Drop, R: Threads + Sync, G: Gate>(
     ensures update { IfOk result (λ r. r.1 ≡ update_of (P.looks program) None (run (turn_of (P.acts program)
         (P.ending program)) input)) }
 {
-    match Session::open(
+    let (session, update) = Session::open_lawful(
         workers.rt,
         workers.alloc,
         program,
         input,
         workers.count,
         workers.gate,
-    ) {
-        Ok((session, update)) => {
-            let live = Live {
-                session,
-                detail,
-                undos: VecDeque::new(workers.alloc),
-            };
-            Ok((live, update))
-        }
-        Err(RunError::Input(_)) => unreachable!(),
-        Err(RunError::OutOfMemory) => Err(AllocError),
-    }
+    )?;
+    let live = Live {
+        session,
+        detail,
+        undos: VecDeque::new(workers.alloc),
+    };
+    Ok((live, update))
 }
 
-/// Keeps the batch that takes this one back, unless this one is refused.
-pub(crate) fn keep_undo<P: Program + Drop>(
-    alloc: Global,
-    live: &mut Live<P>,
-    batch: &[Edit],
-) -> Result<(), OutOfMemory>
-    ensures { OnOk result (live.new ≡ record live.old {
-      undos = undos_after
-          (refusal_of live.old.input batch.now) live.old batch.now;
-    }) }
-{
-    match live.session.undo_of(alloc, batch) {
-        Ok(undo) => Ok(live.undos.push_front(undo)?),
-        Err(EditError::Refused(_)) => Ok(()),
-        Err(EditError::OutOfMemory) => Err(AllocError),
-    }
-}
-
-/// Applies a batch of edits. The history that it replaced, if it replaced one, goes to `before`.
+/// Applies an accepted batch of edits. The history that it replaced, if it replaced one, goes to `before`.
 pub(crate) fn apply<P: Program + Drop, R: Threads + Sync, G: Gate>(
     workers: &Workers<'_, R, G>,
     session: &mut Session<P>,
     batch: &[Edit],
     before: &mut Option<History>,
-) -> Result<Update, EditError>
-    ensures refused { IfErr result (λ e. refusal_of session.old.input batch.now ≡ refusal_in e) }
+) -> Result<Update, OutOfMemory>
+    requires accepted { refusal_of session.old.input batch.now ≡ None }
     ensures program { session.new.program ≡ session.old.program }
     ensures input { OnOk result (session.new.input ≡ edited session.old.input batch.now) }
     ensures runs { IfOk result (λ update. AreRunsAround (turn_of (P.acts session.old.program) (P.ending session.old.program)) (P.looks session.old.program)
         session.old.input batch.now update session.old.history session.new.history) }
     ensures before { OnOk result (unwrap_or before.new session.new.history ≡ session.old.history) }
-    ensures kept { OnErr result (session.new ≡ session.old) }
 {
     // That the input is lawful, and the history its run, is known where they are read.
     let _input = session.input();
     let _history = session.history();
-    session.apply_keeping(
+    session.apply_accepted(
         workers.rt,
         workers.alloc,
         batch,

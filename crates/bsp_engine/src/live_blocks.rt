@@ -4,6 +4,7 @@ ghost use Rattle.std.specs.Prelude.{◌≡◌, ◌++◌, IfOk, OnOk, None, false
 ghost use Rattle.bsp_model.specs.Input.{input_fault};
 ghost use Rattle.bsp_step.specs.Turn.{turn_of};
 ghost use Rattle.bsp_run.specs.Run.{run};
+ghost use Rattle.bsp_incr.specs.Edits.{refusal_of};
 ghost use Rattle.bsp_incr.specs.Inside.Changes.{update_of};
 ghost use Rattle.bsp_engine.specs.Blocks.{blocks_after, reply_lines, text_of};
 ghost use Rattle.bsp_engine.specs.Inside.LiveReplies.{advanced, live_replies, live_reply, live_replying, opening_block};
@@ -20,7 +21,7 @@ use crate::block_lines::{push_refusal, push_unread};
 use crate::change_lines::push_run;
 use crate::changed_run::push_changed;
 use crate::jobs::Job;
-use crate::live::{Live, apply, keep_undo, open};
+use crate::live::{Live, apply, open};
 use crate::update_lines::push_update;
 use bsp_crew::DEPTH_OF_RUNS;
 use bsp_gate::Gate;
@@ -81,13 +82,14 @@ fn push_accepted<P: Program>(
     push_update(text, detail, program, Some(old), new, update)
 }
 
-/// Applies a batch, and appends the lines of its reply.
+/// Applies an accepted batch, and appends the lines of its reply.
 fn apply_and_tell<P: Program + Drop, R: Threads + Sync, G: Gate>(
     workers: &Workers<'_, R, G>,
     live: &mut Live<P>,
     text: &mut Vec<u8>,
     batch: &[Edit],
 ) -> Result<(), OutOfMemory>
+    requires accepted { refusal_of live.old.input batch.now ≡ None }
     ensures after { OnOk result (live.new ≡ advanced live.old batch.now) }
     ensures text { OnOk result (text.new.items ≡ text.old.items
         ++ reply_lines live.old.detail.places (last_result P.acts P.ending live.old)
@@ -96,13 +98,9 @@ fn apply_and_tell<P: Program + Drop, R: Threads + Sync, G: Gate>(
     let mut before = None;
     let update = match apply(workers, &mut live.session, batch, &mut before) {
         Ok(update) => update,
-        Err(EditError::Refused(refusal)) => {
+        Err(error) => {
             drop(before);
-            return push_refusal(text, refusal);
-        }
-        Err(EditError::OutOfMemory) => {
-            drop(before);
-            return Err(AllocError);
+            return Err(error);
         }
     };
     let detail = live.detail;
@@ -116,7 +114,7 @@ fn apply_and_tell<P: Program + Drop, R: Threads + Sync, G: Gate>(
     pushed
 }
 
-/// The same, and keeps the batch that takes this one back, unless this one is refused.
+/// Makes a batch, appends the lines of its reply, and keeps the batch that takes this one back, unless this one is refused.
 fn make_batch<P: Program + Drop, R: Threads + Sync, G: Gate>(
     workers: &Workers<'_, R, G>,
     live: &mut Live<P>,
@@ -128,8 +126,32 @@ fn make_batch<P: Program + Drop, R: Threads + Sync, G: Gate>(
         ++ reply_lines live.old.detail.places (last_result P.acts P.ending live.old)
         (live_reply P.acts P.ending P.looks live.old batch.now)) }
 {
-    keep_undo(workers.alloc, live, batch)?;
-    apply_and_tell(workers, live, text, batch)
+    match live.session.undo_of(workers.alloc, batch) {
+        Ok(undo) => {
+            live.undos.push_front(undo)?;
+            apply_and_tell(workers, live, text, batch)
+        }
+        Err(EditError::Refused(refusal)) => push_refusal(text, refusal),
+        Err(EditError::OutOfMemory) => Err(AllocError),
+    }
+}
+
+/// Makes a batch that takes an earlier one back, and appends the lines of its reply.
+fn make_undo<P: Program + Drop, R: Threads + Sync, G: Gate>(
+    workers: &Workers<'_, R, G>,
+    live: &mut Live<P>,
+    text: &mut Vec<u8>,
+    undo: &[Edit],
+) -> Result<(), OutOfMemory>
+    ensures after { OnOk result (live.new ≡ advanced live.old undo.now) }
+    ensures text { OnOk result (text.new.items ≡ text.old.items
+        ++ reply_lines live.old.detail.places (last_result P.acts P.ending live.old)
+        (live_reply P.acts P.ending P.looks live.old undo.now)) }
+{
+    match live.session.refusal(undo) {
+        Some(refusal) => push_refusal(text, refusal),
+        None => apply_and_tell(workers, live, text, undo),
+    }
 }
 
 fn make_batches<P: Program + Drop, R: Threads + Sync, G: Gate>(
@@ -217,7 +239,7 @@ pub fn push_answer<P: Program + Drop, R: Threads + Sync, G: Gate>(
     match asked {
         Asked::Batch(batch) => make_batch(workers, live, text, batch.as_slice()),
         Asked::Undo => match live.undos.pop_front() {
-            Some(undo) => apply_and_tell(workers, live, text, undo.as_slice()),
+            Some(undo) => make_undo(workers, live, text, undo.as_slice()),
             None => push_unread(text, Unread::NothingToUndo),
         },
         Asked::Nothing(unread) => push_unread(text, unread),

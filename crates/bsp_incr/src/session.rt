@@ -4,7 +4,7 @@ mod replies;
 
 use crate::edit::{are_there, refusal_of};
 use crate::rerun::{Workers, recorded_run, rerun_edited};
-use crate::{Edit, EditError, Update};
+use crate::{Edit, EditError, EditRefusal, Update};
 use bsp_gate::Gate;
 use bsp_model::{Input, OutOfMemory};
 use bsp_run::{History, RunError};
@@ -64,6 +64,25 @@ impl<P: Program + Drop> Session<P> {
         if let Err(fault) = input.check() {
             return Err(RunError::Input(fault));
         }
+        Ok(Session::open_lawful(rt, alloc, program, input, workers, gate)?)
+    }
+
+    /// The same, where the input is lawful. Or `OutOfMemory`.
+    pub fn open_lawful<R: Threads + Sync, G: Gate>(
+        rt: &R,
+        alloc: Global,
+        program: P,
+        input: Input,
+        workers: usize,
+        gate: &G,
+    ) -> Result<(Session<P>, Update), OutOfMemory>
+        requires workers { (0 < workers) × (workers ≤ 16) }
+        requires lawful { input_fault input ≡ None }
+        ensures program { IfOk result (λ r. r.0.program ≡ program) }
+        ensures given { IfOk result (λ r. r.0.input ≡ input) }
+        ensures law { IfOk result (λ r. IsBspRun (turn_of (P.acts program) (P.ending program)) input r.0.history) }
+        ensures exact { IfOk result (λ r. IsExact (P.looks program) None r.0.history r.1) }
+    {
         let workers = Workers {
             rt,
             alloc,
@@ -103,6 +122,13 @@ impl<P: Program + Drop> Session<P> {
         &self.history
     }
 
+    /// The first edit of a batch that is refused, or `None` where the batch is accepted. It takes no memory.
+    pub fn refusal(&self, edits: &[Edit]) -> Option<EditRefusal>
+        ensures { result ≡ refusal_of self.now.input edits.now }
+    {
+        refusal_of(&self.input, edits)
+    }
+
     /// Applies a batch of edits, and makes the run again as far as it has changed: 1 to 16 workers take the turns and make the deliveries that have
     /// to be. `Refused` exactly where the batch is not accepted, with the first refused edit's place and fault; else `Ok` or `OutOfMemory`.
     /// After every `Err` nothing has changed.
@@ -125,14 +151,18 @@ impl<P: Program + Drop> Session<P> {
             (Some self.old.history) self.new.history u) }
         ensures err { OnErr result (self.new ≡ self.old) }
     {
+        if let Some(refusal) = self.refusal(edits) {
+            return Err(EditError::Refused(refusal));
+        }
         let mut before = None;
-        let applied = self.apply_keeping(rt, alloc, edits, workers, gate, &mut before);
+        let applied = self.apply_accepted(rt, alloc, edits, workers, gate, &mut before);
         drop(before);
-        applied
+        Ok(applied?)
     }
 
-    /// The same, and hands out the history that the batch replaced: `before` is `None` where the batch left the history as it was.
-    pub fn apply_keeping<R: Threads + Sync, G: Gate>(
+    /// Applies a batch that is accepted, as `apply` does, and hands out the history that the batch replaced: `before` is `None` where the batch left
+    /// the history as it was. After `OutOfMemory` nothing has changed.
+    pub fn apply_accepted<R: Threads + Sync, G: Gate>(
         &mut self,
         rt: &R,
         alloc: Global,
@@ -140,10 +170,9 @@ impl<P: Program + Drop> Session<P> {
         workers: usize,
         gate: &G,
         before: &mut Option<History>,
-    ) -> Result<Update, EditError>
+    ) -> Result<Update, OutOfMemory>
         requires workers { (0 < workers) × (workers ≤ 16) }
-        ensures accepted { OnOk result (refusal_of self.old.input edits.now ≡ None) }
-        ensures refused { IfErr result (λ e. refusal_of self.old.input edits.now ≡ refusal_in e) }
+        requires accepted { refusal_of self.old.input edits.now ≡ None }
         ensures program { self.new.program ≡ self.old.program }
         ensures given { OnOk result (self.new.input ≡ edited self.old.input edits.now) }
         ensures law { OnOk result (IsBspRun (turn_of (P.acts self.old.program) (P.ending self.old.program))
@@ -154,9 +183,6 @@ impl<P: Program + Drop> Session<P> {
         ensures err { OnErr result (self.new ≡ self.old) }
     {
         drop(before.take());
-        if let Some(refusal) = refusal_of(&self.input, edits) {
-            return Err(EditError::Refused(refusal));
-        }
         if are_there(&self.input, edits) {
             return Ok(Update::none(alloc));
         }

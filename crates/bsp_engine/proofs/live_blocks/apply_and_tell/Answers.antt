@@ -3,11 +3,10 @@ use Rattle.bsp_model.specs.declared.input.Input.{Input}
 use Rattle.bsp_step.specs.Turn.{turn_of}
 use Rattle.bsp_run.specs.Run.{Run}
 use Rattle.bsp_run.specs.Result.{result_of}
-use Rattle.bsp_incr.specs.Replies.{refusal_in}
 use Rattle.bsp_incr.proofs.Lawful.{edited_count}
 use Rattle.bsp_engine.specs.Inside.Touched.{IsUpdateBetween}
 use Rattle.bsp_engine.proofs.Endings.{count_result_memories}
-use Rattle.bsp_engine.proofs.Made.{accepted_text, borrowed_or, refused_text}
+use Rattle.bsp_engine.proofs.Made.{accepted_text, borrowed_or}
 use Rattle.bsp_engine.proofs.live_blocks.apply_and_tell.Goals as goal
 
 pub push_accepted-pushed-requires-clause-count : goal.push_accepted-pushed-requires-clause-count
@@ -44,8 +43,3 @@ returns-clause-text g c =
     ∙ (λ k. unwrap_or (c.as_ref.ensures.value k) (c.history-new.ensures.history k)) ∙ c.in-Ok.ensures.before in
     accepted_text g.P.Program.acts g.P.Program.ending g.P.Program.looks c.program-program.result.now c.live.inside.detail _ c.args.live.now c.args.batch.now c.in-Ok.update session.history c.apply.new.session.history c.unwrap_or-old.result.now c.history-new.result.now c.push_accepted-pushed.result _ _
     c.live.view_is refl (c.program-program.ensures ∙ c.in-Ok.ensures.program) c.in-Ok.ensures.runs old c.history-new.ensures.history c.push_accepted-pushed.ensures
-
-pub returns-in-Err-Refused-clause-text : goal.returns-in-Err-Refused-clause-text
-returns-in-Err-Refused-clause-text g c =
-    refused_text g.P.Program.acts g.P.Program.ending g.P.Program.looks _ c.args.live.now c.args.batch.now c.in-Err-Refused.refusal c.push_refusal.result _ _
-    c.live.view_is (c.in-Err-Refused.ensures.refused ∙ ap refusal_in c.in-Err-Refused.field-0-is) c.push_refusal.ensures

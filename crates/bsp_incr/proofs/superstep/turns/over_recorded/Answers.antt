@@ -1,4 +1,4 @@
-use Rattle.std.proofs.Common.{◌≡◌, ◌<◌, ◌∙◌, IfOk, List, All, ap, arith, get_or, length, sym, subst, false}
+use Rattle.std.proofs.Common.{◌≡◌, ◌∙◌, IfOk, List, ap, arith, get_or, length, sym, subst, false}
 use Rattle.std.specs.Prelude.{filter}
 use Rattle.std.proofs.lemmas.List.{length-map}
 use Rattle.bsp_model.specs.ProcessSet.{processes_in}

@@ -1,4 +1,4 @@
-use Rattle.std.proofs.Common.{◌≡◌, ◌<◌, ◌+◌, ◌++◌, ◌∷◌, ◌∙◌, [], ℕ, Bool, List, true, false, arith, ap, get_or, length, map, sym, take, refl}
+use Rattle.std.proofs.Common.{◌≡◌, ◌<◌, ◌+◌, ◌++◌, ◌∷◌, ◌∙◌, [], ℕ, List, true, false, arith, ap, get_or, length, map, sym, take}
 use Rattle.std.specs.Prelude.{filter}
 use Rattle.std.proofs.lemmas.List.{get_or_default, length-append, length-map, map_more}
 use Rattle.bsp_step.specs.OutcomeParts.{OutcomeParts, no_outcome}
@@ -7,7 +7,7 @@ use Rattle.bsp_run.specs.TurnBy.{turn_by}
 use Rattle.bsp_incr.specs.Inside.Given.{Making}
 use Rattle.bsp_incr.specs.Inside.OpenSuperstep.{differs_now}
 use Rattle.bsp_deliver.proofs.Senders.{filter_more_no, filter_more_yes}
-use Rattle.bsp_incr.proofs.Retaking.{fewer, needed_there, next_passes, one_of}
+use Rattle.bsp_incr.proofs.Retaking.{needed_there, next_passes, one_of}
 use Rattle.bsp_incr.proofs.superstep.turns.renewed_turns.Goals.{then-contains+in_ok-append_range, else-contains+in_ok-add_reused_turn}
 use Rattle.bsp_incr.proofs.superstep.turns.renewed_turns.Goals as goal
 
