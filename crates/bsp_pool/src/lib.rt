@@ -12,11 +12,10 @@ mod phases;
 mod round;
 mod row;
 mod turning;
-mod watch;
 mod work;
 mod worker;
 
-pub use bsp_gate::{Gate, Open, Timed};
+pub use bsp_gate::{Gate, Open};
 pub use deck::{Deck, Pass};
 pub use machine::{Core, CoreRefusal, Event};
 pub use phases::phase;

@@ -15,7 +15,6 @@ use std::thread::Threads;
 
 /// The output of each input, in the order of the inputs, whoever worked it. There are `workers` (1 to 16), but no more
 /// than inputs. Each draws numbers from one deck, passes the gate with the number, and works that input.
-/// Where the gate tells the time, the calling thread begins alone, and starts the others once what is left seems worth it.
 ///
 /// No worker's want of memory ends the call. What no worker handed over, the calling thread works once all have
 /// left, and passes no gate for it.

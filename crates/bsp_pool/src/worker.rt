@@ -8,7 +8,6 @@ ghost use Rattle.bsp_pool.specs.Passes.{pass_of};
 ghost use Rattle.bsp_pool.specs.Shares.{HasEachNumber, IsShare, numbers_of};
 ghost use Rattle.bsp_pool.specs.Inside.Hands.{HasUnits, IsHand, IsReady, IsSplit, IsGathered};
 
-use crate::watch::Watch;
 use crate::work::Work;
 use crate::{Deck, OutOfMemory, Pass};
 use bsp_gate::Gate;
@@ -45,8 +44,7 @@ pub(crate) struct Hand<T> {
     pub(crate) share: Share<T>,
 }
 
-/// The most numbers that a worker draws alone, and again beside other workers, so that its pass stays within 2^32 for
-/// its unit.
+/// The most numbers that a worker draws, so that its pass stays within 2^32 for its unit.
 const MOST_DRAWS: u64 = 2147483648;
 
 /// Works the input of this number into the share.
@@ -96,17 +94,14 @@ fn draw_one<W: Work, G: Gate>(jobs: &Jobs<W, G>, hand: &mut Hand<W::Out>) -> boo
     true
 }
 
-/// Draws numbers and works their inputs until the worker leaves, the watch calls others, or `MOST_DRAWS` numbers are drawn.
-fn draw_all<W: Work, G: Gate>(jobs: &Jobs<W, G>, hand: &mut Hand<W::Out>, watch: &mut Watch)
+/// Draws numbers and works their inputs until the worker leaves, or `MOST_DRAWS` numbers are drawn.
+fn draw_all<W: Work, G: Gate>(jobs: &Jobs<W, G>, hand: &mut Hand<W::Out>)
     requires accepts { All (W.accepts jobs.now.work.now) jobs.now.inputs.now }
     requires hand { IsReady jobs.now.deck (map (W.does jobs.now.work.now) jobs.now.inputs.now) hand.old }
-    ensures hand { IsHand jobs.now.deck (map (W.does jobs.now.work.now) jobs.now.inputs.now) hand.new }
-    ensures drawn { length hand.new.pass.numbers ≤ length hand.old.pass.numbers + 2 ^ 31 }
+    ensures { IsHand jobs.now.deck (map (W.does jobs.now.work.now) jobs.now.inputs.now) hand.new }
 {
-    for draws in 0..MOST_DRAWS {
-        let done = draws as usize;
-        let left = jobs.inputs.len().saturating_sub(done);
-        if watch.calls_others(jobs.gate, done, left) || !draw_one(jobs, hand) {
+    for _draw in 0..MOST_DRAWS {
+        if !draw_one(jobs, hand) {
             return;
         }
     }
@@ -130,9 +125,8 @@ fn begin<W: Work, G: Gate>(jobs: &Jobs<W, G>, pass: &mut Pass) -> Hand<W::Out>
     }
 }
 
-/// Where there are to be several workers, the others begin, and all draw, each in a thread of its own where threads can
-/// be made.
-fn draw_beside<W: Work, G: Gate, R: Threads + Sync>(
+/// So many workers begin, and all draw, each in a thread of its own where threads can be made.
+fn draw_by_all<W: Work, G: Gate, R: Threads + Sync>(
     rt: &R,
     jobs: &Jobs<W, G>,
     pass: &mut Pass,
@@ -140,31 +134,27 @@ fn draw_beside<W: Work, G: Gate, R: Threads + Sync>(
     workers: usize,
 )
     requires accepts { All (W.accepts jobs.now.work.now) jobs.now.inputs.now }
-    requires workers { workers ≤ 16 }
+    requires workers { (0 < workers) × (workers ≤ 16) }
     requires room { workers ≤ vec_capacity hands.old }
-    requires split { IsSplit jobs.now.deck pass.old (vec_len hands.old) }
-    requires ready { All (IsReady jobs.now.deck (map (W.does jobs.now.work.now) jobs.now.inputs.now)) hands.old.items }
+    requires none { hands.old.items ≡ [] }
+    requires split { IsSplit jobs.now.deck pass.old 0 }
     ensures split { IsSplit jobs.now.deck pass.new (vec_len hands.new) }
     ensures hands { All (IsHand jobs.now.deck (map (W.does jobs.now.work.now) jobs.now.inputs.now)) hands.new.items }
-    ensures len { vec_len hands.new ≤ max (vec_len hands.old) workers }
+    ensures len { vec_len hands.new ≤ workers }
 {
-    if workers < 2 {
-        return;
-    }
-    for _worker in hands.len()..workers {
+    for _worker in 0..workers {
         hands.push_reserved(begin(jobs, pass));
     }
-    let threads = hands.len().max(1);
     for_each_mut(
         rt,
         hands.as_mut_slice(),
-        threads,
+        workers,
         &|_place: usize, hand: &mut Hand<W::Out>|
             requires accepts { All (W.accepts jobs.now.work.now) jobs.now.inputs.now }
             requires hand { IsReady jobs.now.deck (map (W.does jobs.now.work.now) jobs.now.inputs.now) hand.now }
             ensures { IsHand jobs.entry.now.deck (map
                 (W.does jobs.entry.now.work.now) jobs.entry.now.inputs.now) hand.exit.now }
-        { draw_all(jobs, hand, &mut Watch::new(jobs.gate, 1)) },
+        { draw_all(jobs, hand) },
     );
 }
 
@@ -191,8 +181,7 @@ fn hand_over<W: Work, G: Gate>(
 
 /// What workers gather of the outputs of these inputs: for each worker a share, the outputs with their numbers. There
 /// are `workers` (1 to 16), but no more than inputs. Each draws numbers from one deck, passes the gate with the number,
-/// and works that input. Where the gate tells the time, the calling thread begins alone, and starts the others once
-/// what is left seems worth it. No number stands in two shares.
+/// and works that input. No number stands in two shares.
 ///
 /// Where a worker drew past the end and none gave a number up, the shares have every number. A number that no share
 /// has is for the caller to work. Where memory for the deck or the lists is refused, there is no share.
@@ -228,11 +217,7 @@ pub(crate) fn gather<W: Work, G: Gate, R: Threads + Sync>(
         inputs,
         gate,
     };
-    let mut first = begin(&jobs, &mut pass);
-    let mut watch = Watch::new(gate, useful);
-    draw_all(&jobs, &mut first, &mut watch);
-    hands.push_reserved(first);
-    draw_beside(rt, &jobs, &mut pass, &mut hands, watch.workers.min(useful));
+    draw_by_all(rt, &jobs, &mut pass, &mut hands, useful);
     hand_over(&jobs, &mut pass, hands, &mut shares);
     jobs.deck.close(pass);
     shares

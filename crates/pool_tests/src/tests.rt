@@ -4,4 +4,3 @@ mod machine;
 mod meeting;
 mod phase;
 mod refusals;
-mod timed;

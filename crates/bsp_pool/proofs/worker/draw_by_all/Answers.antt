@@ -2,7 +2,7 @@ use Rattle.std.proofs.Common.{◌∙◌, ◌<◌, arith, drop, length, map, subs
 use Rattle.std.specs.Prelude.{All}
 use Rattle.bsp_pool.specs.Inside.Hands.{IsHand}
 use Rattle.bsp_pool.proofs.HandSteps.{front_all, ready_more, split_more}
-use Rattle.bsp_pool.proofs.worker.draw_beside.Goals as goal
+use Rattle.bsp_pool.proofs.worker.draw_by_all.Goals as goal
 
 pub loop-worker-preserved : goal.loop-worker-preserved
 loop-worker-preserved g c =
