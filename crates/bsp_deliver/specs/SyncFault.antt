@@ -13,6 +13,13 @@ abbrev pub is_sync : Ended → Bool
 is_sync Sync = true
 is_sync Halt = false
 
+-- some processes end by sync, and some by halt
+abbrev pub some_sync : List OutcomeParts → Bool
+some_sync os = list_any (λ o. is_sync o.ended) os
+
+abbrev pub some_halt : List OutcomeParts → Bool
+some_halt os = list_any (λ o. not (is_sync o.ended)) os
+
 -- the same size, or none both times
 abbrev pub same_tag : Option ℕ → Option ℕ → Bool
 same_tag None None = true
@@ -24,8 +31,8 @@ same_tag (Some m) (Some n) = m == n
 -- first fault of the table (this profile).
 abbrev pub sync_fault : List OutcomeParts → List (List Area) → Option SyncFault
 sync_fault os slots =
-    if list_any (λ o. is_sync o.ended) os && list_any (λ o. not (is_sync o.ended)) os then Some MixedEnd
-    else (if not (list_any (λ o. is_sync o.ended) os) then None
+    if some_sync os && some_halt os then Some MixedEnd
+    else (if not (some_sync os) then None
     else (if not (are_alike same_tag (map (λ o. o.tag) os)) then Some TagMismatch
     else table_fault slots (map (λ o. o.pops) os) (map (λ o. o.pushes) os)))
 

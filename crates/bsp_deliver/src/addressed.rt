@@ -23,7 +23,11 @@ pub(crate) trait Addressed: Block {
     ) -> bool
         requires known { place < length requests.now }
         requires known_other { other_place < length others.now }
-        ensures { (r : Self) × (s : Self) × (r ≡ slice_index_or requests.now place r) × (s ≡ slice_index_or others.now other_place s) × (IsTrue result ↔ (r ≡ s)) };
+        ensures { (r : Self) × (s : Self) × (r ≡ slice_index_or requests.now place r)
+            × (s ≡ slice_index_or others.now other_place s) × (IsTrue result ↔ (r ≡ s)) }
+    {
+        requests.same_at(place, others, other_place)
+    }
 }
 
 impl Addressed for Put {
@@ -33,15 +37,6 @@ impl Addressed for Put {
         let put = puts.at(place);
         put.target
     }
-
-    fn same_at(
-        puts: &BlocksRef<'_, Put>,
-        place: usize,
-        others: &BlocksRef<'_, Put>,
-        other_place: usize,
-    ) -> bool {
-        puts.same_at(place, others, other_place)
-    }
 }
 
 impl Addressed for Send {
@@ -50,14 +45,5 @@ impl Addressed for Send {
     fn addressee_at(sends: &BlocksRef<'_, Send>, place: usize) -> u64 {
         let send = sends.at(place);
         send.target
-    }
-
-    fn same_at(
-        sends: &BlocksRef<'_, Send>,
-        place: usize,
-        others: &BlocksRef<'_, Send>,
-        other_place: usize,
-    ) -> bool {
-        sends.same_at(place, others, other_place)
     }
 }

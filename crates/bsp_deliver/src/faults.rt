@@ -1,36 +1,35 @@
 //! The faults of a superstep's end, and the next tag size.
 
-ghost use Rattle.std.specs.Prelude.{◌≡◌, ◌≤◌, length, All, not};
-ghost use Rattle.std.specs.List.{list_any, list_all};
+ghost use Rattle.std.specs.Prelude.{◌≡◌, ◌≤◌, ◌&&◌, false, length, All};
+ghost use Rattle.std.specs.List.{list_all};
 ghost use Rattle.bsp_table.specs.NextTable.{AreSlots};
-ghost use Rattle.bsp_deliver.specs.SyncFault.{is_sync, same_tag, sync_fault, next_tag_size};
+ghost use Rattle.bsp_deliver.specs.SyncFault.{some_sync, some_halt, same_tag, sync_fault, next_tag_size};
 
 use bsp_model::SyncFault;
 use bsp_model::limits::MOST_TAG_WORDS;
 use bsp_step::{Ended, ListKind, OutcomeRef, Outcomes};
 use bsp_table::Table;
 
-/// Whether some process ended by sync. It takes no memory.
-pub fn has_sync(outcomes: &Outcomes) -> bool
-    ensures { result ≡ list_any (λ o. is_sync o.ended) outcomes.now }
+/// Whether some processes ended by sync and some by halt.
+fn is_mixed(outcomes: &Outcomes) -> bool
+    requires { 1 ≤ length outcomes.now }
+    ensures { result ≡ some_sync outcomes.now && some_halt outcomes.now }
 {
-    for pid in 0..outcomes.len() {
-        if matches!(outcomes.get(pid).ended, Ended::Sync) {
+    let first = outcomes.get(0).ended;
+    for pid in 1..outcomes.len() {
+        if outcomes.get(pid).ended != first {
             return true;
         }
     }
     false
 }
 
-fn has_halt(outcomes: &Outcomes) -> bool
-    ensures { result ≡ list_any (λ o. not (is_sync o.ended)) outcomes.now }
+/// Whether all processes ended by sync, where all ended alike. It takes no memory.
+pub fn all_sync(outcomes: &Outcomes) -> bool
+    requires some { 1 ≤ length outcomes.now }
+    ensures { some_sync outcomes.now && some_halt outcomes.now ≡ false → result ≡ some_sync outcomes.now }
 {
-    for pid in 0..outcomes.len() {
-        if matches!(outcomes.get(pid).ended, Ended::Halt) {
-            return true;
-        }
-    }
-    false
+    matches!(outcomes.get(0).ended, Ended::Sync)
 }
 
 /// Whether all processes chose the tag size that the first one chose. Where no choice stands, no process is looked at.
@@ -55,11 +54,10 @@ pub fn sync_fault(outcomes: &Outcomes, table: &Table) -> Option<SyncFault>
     requires slots { All (λ o. AreSlots table.now o.pops) outcomes.now }
     ensures { result ≡ sync_fault outcomes.now table.now }
 {
-    let syncs = has_sync(outcomes);
-    if syncs && has_halt(outcomes) {
+    if is_mixed(outcomes) {
         return Some(SyncFault::MixedEnd);
     }
-    if !syncs {
+    if !all_sync(outcomes) {
         return None;
     }
     if !is_same_tag_choice(&outcomes.get(0), outcomes) {

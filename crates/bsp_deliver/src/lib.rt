@@ -17,7 +17,7 @@ mod touched;
 pub use cells::Cells;
 pub use cost::{h_of, h_to};
 pub use delivery::deliver_some;
-pub use faults::{has_sync, next_tag_size, sync_fault};
+pub use faults::{all_sync, next_tag_size, sync_fault};
 pub use moving::deliver_moving;
 pub use next_memories::memory_with_gets;
 pub use same::{are_same_puts, are_same_sends, get_reads_same_words};

@@ -5,4 +5,3 @@ mod computes;
 mod programs;
 
 pub use computes::{Computes, run_computing, session_computes};
-pub use programs::{run_broadcast, run_matvec, run_prefix, run_rank};

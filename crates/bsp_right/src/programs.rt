@@ -1,18 +1,10 @@
 //! What the bundled programs compute.
 
-ghost use Rattle.std.specs.Prelude.{◌≡◌, ◌<◌, ◌^◌, All, None, IfOk, IfErr, OnOk, slice_index};
-ghost use Rattle.bsp_model.specs.Input.{input_fault};
-ghost use Rattle.bsp_run.specs.RunErrors.{input_fault_of};
-ghost use Rattle.bsp_right.specs.Told.{Tells};
-ghost use Rattle.bsp_right.specs.Summed.{Sums};
-ghost use Rattle.bsp_right.specs.Multiplied.{Multiplies};
-ghost use Rattle.bsp_right.specs.Ranked.{Ranks};
+ghost use Rattle.std.specs.Prelude.{◌≡◌, ◌<◌, ◌^◌, All, slice_index};
 
-use crate::{Computes, run_computing};
+use crate::Computes;
 use bsp_model::{Input, Memory};
 use bsp_programs::{Broadcast, Bundled, MatVec, Prefix, Rank};
-use bsp_run::{History, RunError};
-use std::alloc::Global;
 
 /// Where all processes name one root, the run of a broadcast halts, and every process ends with the root's word as its word 0 and has printed it
 /// once. The total cost is `(P - 1) * g + 2 * l`.
@@ -22,15 +14,6 @@ impl Computes for Broadcast {
     ghost computes = { λ _. Tells };
 
     fn law(_input: &Input) {}
-}
-
-/// A broadcast, run on one thread. `Input(f)` comes exactly where the input's check answers f; or `OutOfMemory`.
-pub fn run_broadcast(alloc: Global, input: &Input) -> Result<History, RunError>
-    ensures lawful { OnOk result (input_fault input.now ≡ None) }
-    ensures computes { IfOk result (λ history. Tells input.now history) }
-    ensures input { IfErr result (λ e. input_fault input.now ≡ input_fault_of e) }
-{
-    run_computing(alloc, &Broadcast, input)
 }
 
 /// The run of prefix sums halts, and every process ends with the sum of the words 0 of the processes up to itself, modulo 2^64, as its word 0, and
@@ -61,15 +44,6 @@ fn first_word(memory: &Memory) -> u64
     memory.load(0).unwrap_or(0)
 }
 
-/// Prefix sums, run on one thread. `Input(f)` comes exactly where the input's check answers f; or `OutOfMemory`.
-pub fn run_prefix(alloc: Global, input: &Input) -> Result<History, RunError>
-    ensures lawful { OnOk result (input_fault input.now ≡ None) }
-    ensures computes { IfOk result (λ history. Sums input.now history) }
-    ensures input { IfErr result (λ e. input_fault input.now ≡ input_fault_of e) }
-{
-    run_computing(alloc, &Prefix, input)
-}
-
 /// Where all processes name one number b of rows and their memories have room, the run of a product halts, and every process ends with its b words
 /// of the product of the whole matrix and the whole vector, modulo 2^64, and has printed them as one line. The total cost is
 /// `P * b * b + (P - 1) * (b + 1) * g + 2 * l`.
@@ -81,15 +55,6 @@ impl Computes for MatVec {
     fn law(_input: &Input) {}
 }
 
-/// A product, run on one thread. `Input(f)` comes exactly where the input's check answers f; or `OutOfMemory`.
-pub fn run_matvec(alloc: Global, input: &Input) -> Result<History, RunError>
-    ensures lawful { OnOk result (input_fault input.now ≡ None) }
-    ensures computes { IfOk result (λ history. Multiplies input.now history) }
-    ensures input { IfErr result (λ e. input_fault input.now ≡ input_fault_of e) }
-{
-    run_computing(alloc, &MatVec, input)
-}
-
 /// Where the processes are the elements of one linked list, wherever in the list each of them stands, the run of list ranking halts, and every
 /// process ends with the number of its successors as its word 1, and has printed it once. With k the least number such that 2^k is not below P, the
 /// total cost is `(2^(k + 1) - 2) * g + (k + 1) * l + k`.
@@ -99,15 +64,6 @@ impl Computes for Rank {
     ghost computes = { λ _. Ranks };
 
     fn law(_input: &Input) {}
-}
-
-/// List ranking, run on one thread. `Input(f)` comes exactly where the input's check answers f; or `OutOfMemory`.
-pub fn run_rank(alloc: Global, input: &Input) -> Result<History, RunError>
-    ensures lawful { OnOk result (input_fault input.now ≡ None) }
-    ensures computes { IfOk result (λ history. Ranks input.now history) }
-    ensures input { IfErr result (λ e. input_fault input.now ≡ input_fault_of e) }
-{
-    run_computing(alloc, &Rank, input)
 }
 
 /// The claims of the four programs.

@@ -7,7 +7,7 @@ ghost use Rattle.bsp_table.specs.NextTable.{AreSlots};
 ghost use Rattle.bsp_run.specs.Ending.{end_of, faults_from};
 
 use crate::{ProcessFault, Status};
-use bsp_deliver::{has_sync, sync_fault};
+use bsp_deliver::{all_sync, sync_fault};
 use bsp_model::{OutOfMemory, Seq};
 use bsp_step::{ListKind, Outcomes};
 use bsp_table::Table;
@@ -46,7 +46,7 @@ fn faults(alloc: Global, outcomes: &Outcomes) -> Result<Seq<ProcessFault>, OutOf
 
 /// How the run ends with a superstep of these outcomes, or none where the superstep ends by delivery. Faults of processes come before the fault of the
 /// superstep's end (this profile).
-#[tactic(auto, unfolding(crate::specs::Ending::end_of))]
+#[tactic(auto, using(bsp_deliver::proofs::EndTests::not_mixed), unfolding(crate::specs::Ending::end_of))]
 pub fn end_of(
     alloc: Global,
     step: u64,
@@ -64,7 +64,7 @@ pub fn end_of(
     if let Some(fault) = sync_fault(outcomes, table) {
         return Ok(Some(Status::SyncFaulted { step, fault }));
     }
-    if has_sync(outcomes) {
+    if all_sync(outcomes) {
         return Ok(None);
     }
     Ok(Some(Status::Halted))

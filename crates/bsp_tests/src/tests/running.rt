@@ -8,8 +8,7 @@ use crate::hello::Hello;
 use bsp_gate::{Gate, Open};
 use bsp_incr::{Reply, Session};
 use bsp_model::{Input, TryCopy};
-use bsp_programs::Bundled;
-use bsp_right::{run_broadcast, run_matvec, run_prefix, run_rank};
+use bsp_right::run_computing;
 use bsp_run::{History, RunError, RunResult};
 use bsp_whole::{run_plain, run_result, run_result_wide, run_wide, session_run};
 use std::alloc::Global;
@@ -27,15 +26,6 @@ pub enum Way {
     UnrecordedWide,
     Opened,
     Replied,
-}
-
-fn compute(alloc: Global, program: Bundled, input: &Input) -> Result<History, RunError> {
-    match program {
-        Bundled::Broadcast(_) => run_broadcast(alloc, input),
-        Bundled::Prefix(_) => run_prefix(alloc, input),
-        Bundled::MatVec(_) => run_matvec(alloc, input),
-        Bundled::Rank(_) => run_rank(alloc, input),
-    }
 }
 
 fn is_recorded(run: Result<History, RunError>, end: &End) -> Result<bool, RunError> {
@@ -109,7 +99,7 @@ fn is_run_on<R: Threads + Sync, G: Gate>(
     let program = known.program;
     match way {
         Way::Plain => is_recorded(run_plain(alloc, &program, input), &known.end),
-        Way::Computing => is_recorded(compute(alloc, program, input), &known.end),
+        Way::Computing => is_recorded(run_computing(alloc, &program, input), &known.end),
         Way::Wide => {
             let run = run_wide(rt, alloc, &program, input, workers, gate);
             is_recorded(run, &known.end)
