@@ -29,10 +29,6 @@ with_rows-twice c xs ys =
     let total : (c.total + total_again xs) + total_again ys ≡ c.total + total_again (xs ++ ys) = omega (arith, sum_by-append (λ (r : StepCost). r.row.cost) xs ys) in
     (λ i. record { rows = append_assoc c.rows xs ys i; total = total i })
 
--- no row
-pub with_rows-none : (c : UpdateCost) → c ≡ with_rows c []
-with_rows-none c = let total : c.total ≡ c.total + 0 = omega arith in (λ i. record { rows = sym (append-nil c.rows) i; total = total i })
-
 -- the rows of one superstep more
 pub rows_more : (g l : ℕ) (u : Update) (ss : List Superstep) (s : ℕ) (c now new : UpdateCost) → s < length ss → now ≡ with_rows c (rows_from g l u 0 (take s ss)) → new ≡ with_rows now (row_of g l u s (superstep_at ss s).outcomes)
     → new ≡ with_rows c (rows_from g l u 0 (take (s + 1) ss))
@@ -42,27 +38,8 @@ rows_more g l u ss s c now new here before row =
     ∙ with_rows-twice c (rows_from g l u 0 (take s ss)) (row_of g l u s (superstep_at ss s).outcomes)
     ∙ ap (with_rows c) (sym (rows_from-append g l u 0 s (take s ss) (superstep_at ss s) long) ∙ ap (rows_from g l u 0) (sym (take_more ss s no_superstep here)))
 
--- where no delivery was made
-pub row_none : (g l : ℕ) (turned : List ℕ) (delivered : List Place) (os : List OutcomeParts) → length delivered ≡ 0
-    → record { work = work_of turned os; h = 0; cost = work_of turned os } ≡ row_again g l turned (processes_of delivered) os
-row_none g l turned [] os e = refl
-row_none g l turned (d ∷ ds) os e = absurd (omega arith)
-
 -- where some delivery was made
 pub row_some : (g l : ℕ) (turned : List ℕ) (delivered : List Place) (os : List OutcomeParts) (w h : ℕ) → (length delivered ≡ 0 → ⊥) → w ≡ work_of turned os → h ≡ h_relation_to (is_one_of (processes_of delivered)) os
     → record { work = w; h = h; cost = w + h * g + l } ≡ row_again g l turned (processes_of delivered) os
 row_some g l turned [] os w h some work e = absurd (some refl)
 row_some g l turned (d ∷ ds) os w h some work e = (λ i. record { work = work i; h = e i; cost = work i + e i * g + l })
-
--- where nothing was done again
-pub row_if-none : (g l s : ℕ) (turned delivered : List Place) (os : List OutcomeParts) → length turned ≡ 0 → length delivered ≡ 0 → row_if g l s (processes_of turned) (processes_of delivered) os ≡ []
-row_if-none g l s [] [] os t d = refl
-row_if-none g l s (p ∷ ps) ds os t d = absurd (omega arith)
-row_if-none g l s [] (p ∷ ps) os t d = absurd (omega arith)
-
--- where something was
-pub row_if-some : (g l s : ℕ) (turned delivered : List Place) (os : List OutcomeParts) → (length turned ≡ 0 → length delivered ≡ 0 → ⊥)
-    → row_if g l s (processes_of turned) (processes_of delivered) os ≡ record { step = s; row = row_again g l (processes_of turned) (processes_of delivered) os } ∷ []
-row_if-some g l s [] [] os some = absurd (some refl refl)
-row_if-some g l s (p ∷ ps) ds os some = refl
-row_if-some g l s [] (p ∷ ps) os some = refl

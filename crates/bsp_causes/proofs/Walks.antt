@@ -20,10 +20,6 @@ steps_ascend (p ∷ later) h (suc i) (suc j) l k = steps_ascend later h.1 i j (o
 pub by_superstep : (places : List Place) → AreInOrder places → AreBySuperstep places
 by_superstep places h = record { each = steps_ascend places h }
 
--- before the first superstep nothing is passed over
-pub begins_first : (places : List Place) → BeginsAt places 0 0
-begins_first places = record { within = omega arith; before = λ i l. absurd (omega arith); behind = λ i l k. omega arith }
-
 tail_begins : (p : Place) (later : List Place) (s k : ℕ) → BeginsAt (p ∷ later) s (suc k) → BeginsAt later s k
 tail_begins p later s k h = record {
   within = omega (arith, h.within);

@@ -45,31 +45,3 @@ aligned_apart {X = X} to d n xs ys alike =
           (sym (parted q n xs) ∙ e ∙ parted q n ys),
       λ both. parted q n xs ∙ (λ i. both.0 i ++ both.1 i) ∙ sym (parted q n ys),
     )
-
-last_of : {X : Type 0} (to : X → ℕ) (xs : List X) (i : ℕ) (x : X) → i < length xs → x ≡ get_or xs i x → map to (take (i + 1) xs) ≡ map to (take i xs) ++ to x ∷ []
-last_of to xs i x l e = ap (map to) (take_more xs i x l ∙ ap (λ y. take i xs ++ y ∷ []) (sym e)) ∙ map-append to (take i xs) (x ∷ [])
-
--- one request more in both lists
-pub aligned_more : {X : Type 0} (to : X → ℕ) (xs ys : List X) (i : ℕ) (x y : X) → i < length xs → i < length ys → x ≡ get_or xs i x → y ≡ get_or ys i y → to x ≡ to y
-    → map to (take i xs) ≡ map to (take i ys) → map to (take (i + 1) xs) ≡ map to (take (i + 1) ys)
-aligned_more to xs ys i x y l m ex ey alike h = last_of to xs i x l ex ∙ (λ j. h j ++ alike j ∷ []) ∙ sym (last_of to ys i y m ey)
-
-pub same_more : {X : Type 0} (to : X → ℕ) (d : ℕ) (xs ys : List X) (i : ℕ) (x y : X) → i < length xs → i < length ys → x ≡ get_or xs i x → y ≡ get_or ys i y → to x ≡ to y
-    → map to (take i xs) ≡ map to (take i ys)
-    → (filter (λ r. to r == d) (take (i + 1) xs) ≡ filter (λ r. to r == d) (take (i + 1) ys)) ↔ (filter (λ r. to r == d) (take i xs) ≡ filter (λ r. to r == d) (take i ys)) × (d ≡ to x → x ≡ y)
-same_more {X = X} to d xs ys i x y l m ex ey alike h =
-    let q : X → Bool = λ r. to r == d in
-    elim (cases_eq (to x) d) [
-      | inl here ↦
-          let fx = filter_more_yes q xs i x l ex (eq-eqb (to x) d here) in
-          let fy = filter_more_yes q ys i y m ey (eq-eqb (to y) d (sym alike ∙ here)) in (
-            λ e.
-                let parts = append_apart (filter q (take i xs)) (filter q (take i ys)) (x ∷ []) (y ∷ []) (aligned_count to d (take i xs) (take i ys) h) (sym fx ∙ e ∙ fy) in
-                (parts.0, λ _. let last : x ∷ [] ≡ y ∷ [] = parts.1 in cc),
-            λ both. fx ∙ (λ j. both.0 j ++ both.1 (sym here) j ∷ []) ∙ sym fy,
-          )
-      | inr other ↦
-          let fx = filter_more_no q xs i x l ex (ne_eqb (to x) d other) in
-          let fy = filter_more_no q ys i y m ey (ne_eqb (to y) d (λ e. other (alike ∙ e))) in
-          (λ e. (sym fx ∙ e ∙ fy, λ k. absurd (other (sym k))), λ both. fx ∙ both.0 ∙ sym fy)
-    ]

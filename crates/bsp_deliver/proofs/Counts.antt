@@ -204,20 +204,3 @@ small_sends os p o h l e short =
       known_target = omega (arith, h.few, w, length-sizes_of os);
       few_words = omega (arith, m.tag, m.words);
     }
-
-pub small_transfers : (os : List OutcomeParts) (p : ℕ) (o : OutcomeParts) → AreDeliverable os → p < length os → o ≡ get_or os p o → All IsShortSend o.sends → All IsSmall (transfers_of p o)
-small_transfers os p o h l e short =
-    All-append IsSmall (map (put_transfer p) o.puts ++ map (get_transfer p) o.gets) (map (send_transfer p) o.sends)
-    (All-append IsSmall (map (put_transfer p) o.puts) (map (get_transfer p) o.gets) (All-map IsSmall (put_transfer p) o.puts (small_puts os p o h l e)) (All-map IsSmall (get_transfer p) o.gets (small_gets os p o h l e)))
-    (All-map IsSmall (send_transfer p) o.sends (small_sends os p o h l e short))
-
-pub length-transfers_of : (p : ℕ) (o : OutcomeParts) → length (transfers_of p o) ≡ length o.puts + length o.gets + length o.sends
-length-transfers_of p o =
-    omega (
-      arith,
-      length-append (map (put_transfer p) o.puts ++ map (get_transfer p) o.gets) (map (send_transfer p) o.sends),
-      length-append (map (put_transfer p) o.puts) (map (get_transfer p) o.gets),
-      length-map o.puts (put_transfer p),
-      length-map o.gets (get_transfer p),
-      length-map o.sends (send_transfer p),
-    )

@@ -22,35 +22,12 @@ and_right : (a b : Bool) → (a && b) ≡ false → a ≡ true → b ≡ false
 and_right true b none one = none
 and_right false b none one = absurd (false≢true one)
 
-and_left : (a b : Bool) → (a && b) ≡ false → b ≡ true → a ≡ false
-and_left true b none one = sym one ∙ none
-and_left false b none one = refl
-
-sync_at : (os : List OutcomeParts) (i : ℕ) → i < length os → (outcome_of os i).ended ≡ Sync → some_sync os ≡ true
-sync_at os i l e = list_any_at (λ (o : OutcomeParts). is_sync o.ended) os i no_outcome l (ap is_sync e)
-
-halt_at : (os : List OutcomeParts) (i : ℕ) → i < length os → (outcome_of os i).ended ≡ Halt → some_halt os ≡ true
-halt_at os i l e = list_any_at (λ (o : OutcomeParts). not (is_sync o.ended)) os i no_outcome l (ap (λ (x : Ended). not (is_sync x)) e)
-
--- two processes that did not end alike
-pub mixed : (os : List OutcomeParts) (i j : ℕ) (e f : Ended) → i < length os → j < length os → (outcome_of os i).ended ≡ e → (outcome_of os j).ended ≡ f → (e ≡ f → ⊥)
-    → (some_sync os && some_halt os) ≡ true
-mixed os i j Sync Sync l m a b other = absurd (other refl)
-mixed os i j Sync Halt l m a b other = ap (λ (s : Bool). s && some_halt os) (sync_at os i l a) ∙ halt_at os j m b
-mixed os i j Halt Sync l m a b other = ap (λ (s : Bool). s && some_halt os) (sync_at os j m b) ∙ halt_at os i l a
-mixed os i j Halt Halt l m a b other = absurd (other refl)
-
 -- processes that all ended alike
 pub alike : (os : List OutcomeParts) (e : Ended) → All (λ (o : OutcomeParts). o.ended ≡ e) os → (some_sync os && some_halt os) ≡ false
 alike os Sync all =
     ap (λ (h : Bool). some_sync os && h) (list_any_none (λ (o : OutcomeParts). not (is_sync o.ended)) os (λ k d l. ap (λ (x : Ended). not (is_sync x)) (all k d l)))
     ∙ and-false (some_sync os)
 alike os Halt all = ap (λ (s : Bool). s && some_halt os) (list_any_none (λ (o : OutcomeParts). is_sync o.ended) os (λ k d l. ap is_sync (all k d l)))
-
--- then the first one tells how
-pub first_tells : (os : List OutcomeParts) (e : Ended) → 1 ≤ length os → (outcome_of os 0).ended ≡ e → (some_sync os && some_halt os) ≡ false → is_sync e ≡ some_sync os
-first_tells os Sync some is same = sym (sync_at os 0 (omega arith) is)
-first_tells os Halt some is same = sym (and_left (some_sync os) (some_halt os) same (halt_at os 0 (omega arith) is))
 
 pub none_halts : (os : List OutcomeParts) → (some_sync os && some_halt os) ≡ false → some_sync os ≡ true → some_halt os ≡ false
 none_halts os same syncs = and_right (some_sync os) (some_halt os) same syncs

@@ -12,11 +12,6 @@ length-layered items lay lays base None = refl
 length-layered items lay lays base (Some apart) =
     ap length (lays base apart.processes.items apart.items) ∙ length-replaced (items base) apart.processes.items (items apart.items)
 
--- new items of some processes of the others, in ascending order
-pub lie_apart : {X : Type 0} (base now new : List X) (ps : List ℕ) → length base ≡ length now → All (λ p. p < length now) ps → IsAscending ps → length new ≡ length ps → AreApart base ps new
-lie_apart base now new ps as_many known ascending count =
-    record { known = subst (λ n. All (λ p. p < n) ps) (sym as_many) known; ascending = ascending; count = count }
-
 -- the item of a process that lies apart
 pub item_apart : {X : Type 0} (base items : List X) (ps : List ℕ) (place pid : ℕ) (none : X) → AreApart base ps items → place < length ps → get_or ps place 0 ≡ pid
     → get_or items place none ≡ get_or (replaced base ps items) pid none

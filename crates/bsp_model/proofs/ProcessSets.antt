@@ -53,19 +53,6 @@ range_within f a (suc n) k inside =
     let later : P rest = λ j l. let w = range_within f (a + 1) n j l in (omega (arith, w.0), omega (arith, w.1)) in
     cond_cases (f a) (a ∷ rest) rest P (first_later a (a + suc n) rest (omega arith) later) later k inside
 
--- they ascend
-ascending_more : (a : ℕ) (rest : List ℕ) → ((k : ℕ) → k < length rest → a < get_or rest k 0) → IsAscending rest → IsAscending (a ∷ rest)
-ascending_more a rest above order j zero l m = absurd (omega (arith, l))
-ascending_more a rest above order zero (suc k) l m = above k (omega (arith, m))
-ascending_more a rest above order (suc j) (suc k) l m = order j k (omega (arith, l)) (omega (arith, m))
-
-range_ascending : (f : ℕ → Bool) (a n : ℕ) → IsAscending (filter f (range_with_len a n))
-range_ascending f a zero j k l m = absurd (omega (arith, m))
-range_ascending f a (suc n) j k l m =
-    let rest = filter f (range_with_len (a + 1) n) in
-    let order : IsAscending rest = range_ascending f (a + 1) n in
-    cond_cases (f a) (a ∷ rest) rest IsAscending (ascending_more a rest (λ i inside. let w = range_within f (a + 1) n i inside in omega (arith, w.0)) order) order j k l m
-
 -- one of them that passes is among them
 contains_later : (xs : List ℕ) (x y : ℕ) → Contains xs y → Contains (x ∷ xs) y
 contains_later xs x y (k, l, e) = (suc k, omega (arith, l), e)
@@ -86,9 +73,6 @@ range_contains f a (suc n) p l m t =
 -- what is in no set is not a process of it
 pub member_within : (s : List Bool) (p : ℕ) → get_or s p false ≡ true → p < length s
 member_within s p member = elim (cases_lt p (length s)) [ inl l ↦ l | inr l ↦ absurd (false≢true (sym (get_or_past s p false l) ∙ member)) ]
-
-pub processes_ascend : (s : List Bool) → IsAscending (processes_in s)
-processes_ascend s = range_ascending (λ p. get_or s p false) 0 (length s)
 
 pub processes_known : (s : List Bool) → All (λ p. p < length s) (processes_in s)
 processes_known s = All-from_get_or (λ p. p < length s) (processes_in s) 0 (λ k l. let w = range_within (λ p. get_or s p false) 0 (length s) k l in omega (arith, w.1))
@@ -143,10 +127,6 @@ processes_from_head s from q head =
     let here : get_or (filter f (range_with_len from (length s - from))) 0 0 ≡ q = ap (λ (xs : List ℕ). get_or xs 0 0) whole in
     let left : from + (length s - from) - (q + 1) ≡ length s - (q + 1) = omega (arith, bounds.0, bounds.1, here) in
     whole ∙ ap (λ n. q ∷ filter f (range_with_len (q + 1) n)) left
-
-pub empty_from_head : {X : Type 0} (xs : List X) → slice_get xs 0 ≡ None → xs ≡ []
-empty_from_head [] head = refl
-empty_from_head (x ∷ xs) head = cc
 
 -- No process is left where there is no first.
 pub no_first : (xs : List ℕ) (b : Bool) → is_some (slice_get xs 0) ≡ not b → IsTrue b ↔ (xs ≡ [])

@@ -89,11 +89,6 @@ front-more {X = X} items front before new ps xs k e known ascending count is som
       below = λ j above below. omega (arith, more, final, ascending (e - 1) j (omega (arith, some, above)) below);
     }
 
--- no place is left
-pub whole_front : {X : Type 0} (items front : List X) (ps : List ℕ) (xs : List X) (k : ℕ) → length ps ≤ k → IsFront items ps xs k front → front ++ slice_range items (length front) (length items) ≡ replaced items ps xs
-whole_front items front ps xs k past is =
-    ap (λ rest. front ++ rest) (take_rest items (length front)) ∙ ap (λ qs. replaced (front ++ drop (length front) items) qs (drop k xs)) (sym (drop_all k ps past)) ∙ is.rest
-
 -- what is made of each item
 pub map-replaced : {X Y : Type 0} (f : X → Y) (items : List X) (ps : List ℕ) (xs : List X) → map f (replaced items ps xs) ≡ replaced (map f items) ps (map f xs)
 map-replaced f items [] xs = refl

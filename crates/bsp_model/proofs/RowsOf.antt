@@ -68,36 +68,3 @@ rows_of-push items row ends are =
 
 pub AreEnds-push : (ends : List ℕ) (before count : ℕ) → AreEnds 0 ends before → AreEnds 0 (ends ++ (before + count) ∷ []) (before + count)
 AreEnds-push ends before count are = AreEnds-append 0 ends (count ∷ []) before count are (omega arith, refl)
-
--- the same rows lie in the same lists
-
--- the items of all rows
-joined : {X : Type 0} → List (List X) → List X
-joined [] = []
-joined (row ∷ rows) = row ++ joined rows
-
-joined-rows_of : {X : Type 0} (start : ℕ) (items : List X) (ends : List ℕ) → AreEnds start ends (length items) → joined (rows_of start items ends) ≡ drop start items
-unfolding joined
-joined-rows_of start items [] are = sym (drop_all start items (omega (arith, are)))
-joined-rows_of start items (end ∷ ends) are =
-    let rest : drop end items ≡ drop (end - start) (drop start items) =
-    ap (λ (k : ℕ). drop k items) (let same : end ≡ start + (end - start) = omega (arith, are.0) in same) ∙ sym (drop-drop (end - start) start items) in
-    ap (λ xs. slice_range items start end ++ xs) (joined-rows_of end items ends are.1 ∙ rest) ∙ take-append-drop (end - start) (drop start items)
-
--- where rows of these lengths end
-ends_of : {X : Type 0} → ℕ → List (List X) → List ℕ
-ends_of start [] = []
-ends_of start (row ∷ rows) = (start + length row) ∷ ends_of (start + length row) rows
-
-ends_of-rows_of : {X : Type 0} (start : ℕ) (items : List X) (ends : List ℕ) → AreEnds start ends (length items) → ends_of start (rows_of start items ends) ≡ ends
-unfolding ends_of
-ends_of-rows_of start items [] are = refl
-ends_of-rows_of start items (end ∷ ends) are =
-    let long : start + length (slice_range items start end) ≡ end = omega (arith, are.0, length-between items start end (start-within end ends _ are.1)) in
-    ap (λ (k : ℕ). k ∷ ends_of k (rows_of end items ends)) long ∙ ap (λ (es : List ℕ). end ∷ es) (ends_of-rows_of end items ends are.1)
-
-pub same_rows : {X : Type 0} (items others : List X) (ends other_ends : List ℕ) → AreEnds 0 ends (length items) → AreEnds 0 other_ends (length others) → rows_of 0 items ends ≡ rows_of 0 others other_ends → (ends ≡ other_ends) × (items ≡ others)
-same_rows items others ends other_ends are other e = (
-  sym (ends_of-rows_of 0 items ends are) ∙ ap (ends_of 0) e ∙ ends_of-rows_of 0 others other_ends other,
-  sym (joined-rows_of 0 items ends are) ∙ ap joined e ∙ joined-rows_of 0 others other_ends other,
-)

@@ -55,11 +55,6 @@ kept_some (r ∷ []) [] memory some = absurd (omega arith)
 kept_some (r ∷ []) (word ∷ values) memory some = refl
 kept_some (r ∷ next ∷ later) values memory some = refl
 
-pub kept_unless_one : (ranges : List Range) (values memory : List ℕ) → length ranges ≢ 1 → words_beside ranges values memory ≡ values
-kept_unless_one [] values memory other = refl
-kept_unless_one (r ∷ []) values memory other = absurd (other refl)
-kept_unless_one (r ∷ next ∷ later) values memory other = refl
-
 -- The stores are one range, whose words stand in a memory.
 pub record StandThere (stores : List Store) (r : Range) (memory : List ℕ) : Type 0 where
   pub some : 0 < r.len
@@ -89,13 +84,6 @@ pub beside : (stores : List Store) (r : Range) (ranges : List Range) (values mem
 beside stores r ranges values memory one =
     let Beside : List Range → List ℕ → Type 0 = λ rs vs. stores_of rs (words_beside rs vs memory) ≡ stores → AreRanges rs (words_beside rs vs memory) → StandThere stores r memory in
     subst (λ rs. Beside rs values) (sym one.0) (subst (λ vs. Beside (r ∷ []) vs) (sym one.1) (stand_there stores r memory))
-
--- a range of a memory has all its words
-pub AreRanges-one : (r : Range) (memory : List ℕ) → 0 < r.len → r.start + r.len ≤ length memory → AreRanges (r ∷ []) (take r.len (drop r.start memory))
-AreRanges-one r memory some inside =
-    let all = take r.len (drop r.start memory) in
-    let count : length all ≡ r.len = omega (arith, length-take r.len (drop r.start memory), length-drop r.start memory) in
-    (some, omega (arith, count), tt, omega (arith, count, length-drop r.len all))
 
 -- a piece of a memory is one of the words of a range there
 pub piece_of_range : (memory piece : List ℕ) (start len from : ℕ) → piece ≡ take (length piece) (drop (start + from) memory) → from ≤ len → length piece ≤ len - from → piece ≡ take (length piece) (drop from (take len (drop start memory)))

@@ -45,7 +45,6 @@ pub use local_memory::LocalMemory;
 pub use memories::Memories;
 pub use memory::Memory;
 pub use memory_ref::MemoryRef;
-pub use places::{are_among, are_few, place_among};
 pub use process_numbers::numbers;
 pub use process_set::{Members, ProcessSet};
 pub use range::Range;

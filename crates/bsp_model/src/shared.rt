@@ -61,14 +61,6 @@ impl<T: Drop> TryCopy for Shared<T> {
     }
 }
 
-impl<T: Same> Same for Shared<T> {
-    fn same(&self, other: &Shared<T>) -> bool {
-        let one: &T = &self.value;
-        let other: &T = &other.value;
-        one.same(other)
-    }
-}
-
 /// A list of values that stays as it is. Its copies share the values, so that a copy takes no memory.
 pub struct SharedSeq<T> {
     /// None where there is no value.

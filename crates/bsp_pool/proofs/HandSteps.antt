@@ -17,9 +17,6 @@ use Rattle.atomic_table.specs.Seated.{TableId}
 use Rattle.bsp_pool.specs.Inside.Hands.{Tells, IsHand, IsReady, IsSplit}
 use Rattle.bsp_pool.proofs.ClaimSteps.{occurrences-append, stands}
 
-pub tells_nothing : (end : ℕ) → Tells end [] [] false false
-tells_nothing end = record { once = λ x. omega arith; whole = λ none x lt. refl; ended = λ e. absurd (cc) }
-
 smaller : (x n : ℕ) → x < n → occurrences x (n ∷ []) ≡ 0
 smaller x n lt = grind (arith, nat_tests)
 
@@ -184,10 +181,6 @@ split_more deck before after n m h is more few =
 -- the front of a list that is as long as its front
 pub front_all : {X : Type 0} (P : X → Type 0) (n : ℕ) (xs ys : List X) → n ≤ length xs → All P xs → All P (take n (xs ++ ys))
 front_all P n xs ys within all = subst (All P) (sym (take-append-le n xs ys within)) (All-take P n xs all)
-
--- at the end no number stands twice
-pub gathered_once : {T : Type 0} (end : ℕ) (drawn : List ℕ) (ss : List (Share T)) (g p : Bool) → Tells end drawn (numbers_of ss) g p → IsDistinct drawn → IsDistinct (numbers_of ss)
-gathered_once end drawn ss g p h distinct x = let o = h.once x in let d = distinct x in omega arith
 
 -- and where none was given up each is there
 pub gathered_each : {T : Type 0} (end count : ℕ) (drawn : List ℕ) (ss : List (Share T)) → Tells end drawn (numbers_of ss) (list_any (λ s. s.gave_up) ss) (list_any (λ s. s.past_end) ss)

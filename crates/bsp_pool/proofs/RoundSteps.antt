@@ -15,11 +15,6 @@ use Rattle.bsp_pool.specs.Machine.{Machine, starting, with_round, inputs_of, tur
 pub some-inj : {X : Type 0} {x y : X} → Some x ≡ Some y → x ≡ y
 some-inj e = cc
 
-get-set_same : {X : Type 0} (xs : List X) (n : ℕ) (y : X) → n < length xs → slice_get (slice_set xs n y) n ≡ Some y
-get-set_same [] n y lt = absurd (omega arith)
-get-set_same (x ∷ xs) zero y lt = refl
-get-set_same (x ∷ xs) (suc n) y lt = get-set_same xs n y (omega arith)
-
 get-set_other : {X : Type 0} (xs : List X) (n k : ℕ) (y : X) → k ≢ n → slice_get (slice_set xs n y) k ≡ slice_get xs k
 get-set_other [] n k y ne = refl
 get-set_other (x ∷ xs) zero zero y ne = absurd (ne refl)

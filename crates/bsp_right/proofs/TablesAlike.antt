@@ -23,15 +23,6 @@ alike_slot n a = map (λ p. a) (range_with_len 0 n)
 abbrev pub alike_slots : ℕ → List Area → List (List Area)
 alike_slots n areas = map (alike_slot n) areas
 
--- Pushes that all make alike leave such slots.
-pub slots_of-alike : (n : ℕ) (pushed : List Area) → slots_of n pushed ≡ alike_slots n pushed
-slots_of-alike n pushed =
-    let count = length pushed in
-    sym (ap (alike_slots n) (fill_by_all (λ k. get_or pushed k no_area) pushed count no_area refl (λ k l. refl)) ∙ map_range-agree (alike_slot n) (λ k. get_or pushed k no_area) (λ k. alike_slot n (get_or pushed k no_area)) count 0 (λ k _ _. refl))
-
-pub alike_slots-append : (n : ℕ) (first second : List Area) → alike_slots n (first ++ second) ≡ alike_slots n first ++ alike_slots n second
-alike_slots-append n first second = map-append (alike_slot n) first second
-
 last_of-push : {X : Type 0} (test : X → Bool) (xs : List X) (x : X) → last_of test (xs ++ x ∷ []) ≡ cond (test x) (Some x) (last_of test xs)
 last_of-push test [] x = elim (test x) as (λ b. later (cond b (Some x) None) None ≡ cond b (Some x) None) [ true ↦ refl | false ↦ refl ]
 last_of-push test (y ∷ ys) x =
@@ -73,25 +64,3 @@ target_area-alike n own pid start areas l h v is table =
     ∙ ap (λ m. area_at slots (newest_below slots own start [] m) pid) count
     ∙ found_below n own pid start areas l h (length areas) (omega arith)
     ∙ ap (last_of (λ (a : Area). a.start == start)) (take_all (length areas) areas (omega arith))
-
--- the areas that are left where all pop these slots
-abbrev pub areas_left : List Area → List ℕ → List Area
-areas_left areas popped = map (λ slot. get_or areas slot no_area) (filter (λ slot. not (is_popped (popped ∷ []) slot)) (range_with_len 0 (length areas)))
-
-left_from : (n : ℕ) (areas : List Area) (keep : ℕ → Bool) (count k : ℕ) → k + count ≤ length areas
-    → map (λ slot. get_or (alike_slots n areas) slot []) (filter keep (range_with_len k count)) ≡ alike_slots n (map (λ slot. get_or areas slot no_area) (filter keep (range_with_len k count)))
-left_from n areas keep zero k h = refl
-left_from n areas keep (suc count) k h =
-    let slot : get_or (alike_slots n areas) k [] ≡ alike_slot n (get_or areas k no_area) = get_or-map (alike_slot n) areas k no_area [] (omega arith) in
-    let rest = filter keep (range_with_len (k + 1) count) in
-    elim (keep k) as (λ b. map (λ s. get_or (alike_slots n areas) s []) (cond b (k ∷ rest) rest) ≡ alike_slots n (map (λ s. get_or areas s no_area) (cond b (k ∷ rest) rest))) [
-      | true ↦ λ i. slot i ∷ left_from n areas keep count (k + 1) (omega arith) i
-      | false ↦ left_from n areas keep count (k + 1) (omega arith)
-    ]
-
--- Pops that all make alike leave such slots.
-pub slots_left-alike : (n : ℕ) (areas : List Area) (popped : List ℕ) → slots_left (alike_slots n areas) popped ≡ alike_slots n (areas_left areas popped)
-slots_left-alike n areas popped =
-    let keep : ℕ → Bool = λ slot. not (is_popped (popped ∷ []) slot) in
-    ap (λ count. map (λ slot. get_or (alike_slots n areas) slot []) (filter keep (range_with_len 0 count))) (length-map areas (alike_slot n))
-    ∙ left_from n areas keep (length areas) 0 (omega arith)

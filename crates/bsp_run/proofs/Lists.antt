@@ -20,20 +20,11 @@ map_same (x ∷ xs) = ap (λ ys. x ∷ ys) (map_same xs)
 pub each_below_more : {X : Type 0} (f : ℕ → X) (n : ℕ) → each_below (n + 1) f ≡ each_below n f ++ f n ∷ []
 each_below_more f n = map-range_with_len_more f 0 n n (omega arith)
 
-pub range_more : (n : ℕ) → range_with_len 0 (n + 1) ≡ range_with_len 0 n ++ n ∷ []
-range_more n =
-    sym (map_same (range_with_len 0 (n + 1))) ∙ map-range_with_len_more (λ k. k) 0 n n (omega arith) ∙ ap (λ ks. ks ++ n ∷ []) (map_same (range_with_len 0 n))
-
 -- the numbers below n are below n
 pub range_below : (n : ℕ) → All (λ k. k < n) (range_with_len 0 n)
 range_below n = λ k d l.
     let here : k < n = omega (arith, length-range_with_len 0 n) in
     omega (arith, get_or-range_with_len 0 n k d here)
-
-pub range_ascending : (n : ℕ) → IsAscending (range_with_len 0 n)
-range_ascending n = λ j k l lk.
-    let here : k < n = omega (arith, length-range_with_len 0 n) in
-    omega (arith, l, get_or-range_with_len 0 n k 0 here, get_or-range_with_len 0 n j 0 (omega arith))
 
 -- functions that agree below n make the same list
 pub each_below-agree : {X : Type 0} (n : ℕ) (f g : ℕ → X) → ((k : ℕ) → k < n → f k ≡ g k) → each_below n f ≡ each_below n g

@@ -209,10 +209,6 @@ pub next_table-is : (r : Run) (table : List (List Area)) → table ≡ (next_sta
 unfolding next_state
 next_table-is r table e = e
 
-pub tag-next : (r : Run) (tag : ℕ) → tag ≡ next_tag_size r.state.tag_size r.outcomes → tag ≡ (next_state r.state r.outcomes).tag_size
-unfolding next_state
-tag-next r tag e = e
-
 pub next_tag-is : (r : Run) (tag : ℕ) → tag ≡ (next_state r.state r.outcomes).tag_size → tag ≡ next_tag_size r.state.tag_size r.outcomes
 unfolding next_state
 next_tag-is r tag e = e

@@ -116,11 +116,6 @@ shown_if Open x y h = refl
 shown_if Turned x y h = refl
 shown_if (Ended status) x y h = cc
 
-open_goes_on : (p : Phase) → is_open p ≡ true → is_ended p ≡ false
-open_goes_on Open h = refl
-open_goes_on Turned h = cc
-open_goes_on (Ended status) h = cc
-
 -- a run whose turns are taken shows their outcomes
 pub outcomes_shown-turned : (r : Run) → r.phase ≡ Turned → (superstep_shown r).outcomes ≡ r.outcomes
 outcomes_shown-turned r h = ap (λ (x : Superstep). x.outcomes) (shown_if r.phase (superstep_at r.past (length r.past - 1)) (open_superstep r) (ap is_ended h))

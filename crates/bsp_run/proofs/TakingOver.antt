@@ -33,10 +33,6 @@ turned : (r : Run) (os : List OutcomeParts) → end_of (length r.past) r.state.t
 unfolding after_turns
 turned r os e = ap phase_after e
 
-parts-turned : (r : Run) (os : List OutcomeParts) → after_turns r os ≡ record r { outcomes = os; phase = phase_after (end_of (length r.past) r.state.table os) }
-unfolding after_turns
-parts-turned r os = refl
-
 -- the run after the superstep keeps what a run keeps
 pub taken_is_run : (r : Run) (os : List OutcomeParts) → IsRun r → r.phase ≡ Open → AreOutcomesOf (open_views r) os → end_of (length r.past) r.state.table os ≡ None → IsRun (after_delivery (after_turns r os))
 taken_is_run r os h before turns delivers = next_is_run (after_turns r os) (turned_is_run r os h before turns) (turned r os delivers)

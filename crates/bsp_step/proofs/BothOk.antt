@@ -7,8 +7,3 @@ use Rattle.std.specs.Result.{result_and}
 pub both_ok : {T U E P Q : Type 0} (a : Result T E) (b : Result U E) (y : U) → Ok y ≡ result_and a b → OnOk a P → OnOk b Q → P × Q
 both_ok {Q = Q} (Ok x) b y both first second = (first, subst (λ (r : Result _ _). OnOk r Q) (sym both) second)
 both_ok (Err e) b y both first second = absurd (cc)
-
--- what the second promises holds of both together
-pub on_second_ok : {T U E : Type 0} (P : Type 0) (a : Result T E) (b r : Result U E) → r ≡ result_and a b → OnOk b P → OnOk r P
-on_second_ok P (Ok x) b r is second = subst (λ (s : Result _ _). OnOk s P) (sym is) second
-on_second_ok P (Err e) b r is second = subst (λ (s : Result _ _). OnOk s P) (sym is) tt

@@ -209,14 +209,6 @@ pub has_there : (lists : Lists) (len n : ℕ) (m memory : List ℕ) (o outcome :
 has_there lists len n m memory o outcome place is same has =
     subst (λ (k : ℕ). HasLists lists k memory outcome) place (subst (λ (ws : List ℕ). HasLists lists len ws outcome) is (subst (HasLists lists len m) same has))
 
-pub lawful-same : (ends : List TurnEnd) (memories : List (List ℕ)) (lists lists' : Lists) → AreOutcomes ends memories lists → ((k : ℕ) → k < length ends → AreSameLists lists k lists' k) → AreOutcomes ends memories lists'
-lawful-same ends memories lists lists' are same =
-    record {
-      count = are.count;
-      beside = λ k below. same_beside lists.stores lists'.stores k k (get_or memories k []) (get_or memories k []) (same k below).stores refl (are.beside k below);
-      lawful = λ k below. subst IsOutcome (sym (same_outcome (get_or ends k no_end) (get_or ends k no_end) (get_or memories k []) (get_or memories k []) lists lists' k k refl refl (same k below))) (are.lawful k below);
-    }
-
 -- a range of others
 
 -- an item behind those in front

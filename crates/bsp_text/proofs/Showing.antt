@@ -82,12 +82,3 @@ pub words_left : (ranges : List Range) (i from count : ℕ) (r : Range) → i < 
 words_left ranges i from count r within is so_far =
     let here : words_in (drop i ranges) ≡ r.len + words_in (drop (i + 1) ranges) = ap words_in (drop_more ranges i r within) ∙ ap (λ (q : Range). q.len + words_in (drop (i + 1) ranges)) (sym is) in
     omega (arith, here, so_far)
-
--- the words that are appended next
-pub words_grow : (words part : List ℕ) (from at count : ℕ) (text old new : List ℕ) → from ≤ at → part ≡ take count (drop at words) → old ≡ text ++ fields (slice_range words from at) → new ≡ old ++ fields part
-    → new ≡ text ++ fields (slice_range words from (at + count))
-words_grow words part from at count text old new order is so_far more =
-    let there : from + (at - from) ≡ at = omega arith in
-    let on : at - from + count ≡ at + count - from = omega arith in
-    fields_grow (drop from words) part (at - from) count text old new (is ∙ ap (λ (n : ℕ). take count (drop n words)) (sym there) ∙ ap (take count) (sym (drop-drop (at - from) from words))) so_far more
-    ∙ ap (λ (n : ℕ). text ++ fields (take n (drop from words))) on

@@ -20,8 +20,3 @@ pub record CanOpen (args : List (List ℕ)) (s : State) : Type 0 where
   pub queues : All IsQueue s.queues
   pub table : IsTableFor (length s.memories) s.table
   pub small_tag : s.tag_size ≤ most_tag_words
-
--- the view of these parts
-abbrev pub view_with : ℕ → ℕ → ℕ → List ℕ → (List ℕ × List Message) → List (List Area) → ℕ → ViewParts
-view_with nprocs pid step args cell table tag_size =
-    record { nprocs = nprocs; pid = pid; step = step; args = args; memory = cell.0; table = table; tag_size = tag_size; queue = cell.1 }

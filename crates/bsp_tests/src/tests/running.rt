@@ -5,7 +5,7 @@ ghost use Rattle.std.specs.Prelude.{◌<◌, ◌≤◌};
 use super::known::{COUNT_OF_KNOWN, End, Known, TOLD_AT, known_run};
 use super::sittings::{SITTINGS, SUMS_OF_ONES_AT};
 use crate::hello::Hello;
-use bsp_gate::{Gate, Open};
+use bsp_gate::{Gate, Open, Timed};
 use bsp_incr::{Reply, Session};
 use bsp_model::{Input, TryCopy};
 use bsp_right::run_computing;
@@ -158,10 +158,12 @@ fn each_call_runs_each_program(rt: HostRuntime) {
 #[test]
 fn any_number_of_workers_gives_the_sums(rt: HostRuntime) {
     let known = &SITTINGS[SUMS_OF_ONES_AT].known;
+    let timed = Timed::new(&rt);
     for workers in 1..17 {
         for way in [Way::Wide, Way::UnrecordedWide] {
             let found = is_run(&rt, rt.alloc(), way, known, workers, &Open);
-            assert!(rt; found == Ok(true), "{workers} workers");
+            let timed = is_run(&rt, rt.alloc(), way, known, workers, &timed);
+            assert!(rt; found == Ok(true) && timed == Ok(true), "{workers} workers");
         }
     }
 }
