@@ -15,19 +15,21 @@ use bsp_run::History;
 use bsp_step::Outcomes;
 use std::alloc::Global;
 
-/// What a superstep of an update cost.
+/// The cost of a superstep of an update.
 #[derive(Clone, Copy)]
 pub struct StepCost {
+    /// The number of the superstep, from 0.
     pub step: u64,
     /// The largest work of its turns that were taken again; the h-relation of the requests whose deliveries were made again; and their cost.
     pub row: CostRow,
 }
 
-/// What an update cost.
+/// The cost of an update.
 #[derive(Drop)]
 pub struct UpdateCost {
     /// The supersteps in which turns were taken or deliveries made again, in order.
     pub rows: Seq<StepCost>,
+    /// The sum of the costs.
     pub total: u64,
 }
 

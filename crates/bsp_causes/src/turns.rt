@@ -13,7 +13,7 @@ use bsp_run::{History, ViewsRef};
 use bsp_step::{Program, View};
 use std::alloc::Global;
 
-/// Why a turn was taken again: the parts of its view that are others than in the run before.
+/// Why a turn was taken again: the parts of its view that differ from those of the run before.
 #[derive(Drop)]
 pub struct TurnCauses {
     /// The run before has no such turn. Then nothing else is named.
@@ -22,7 +22,7 @@ pub struct TurnCauses {
     pub queue: bool,
     pub table: bool,
     pub tag_size: bool,
-    /// The addresses, ascending, at which the program looks, and whose words are others.
+    /// The addresses, ascending, at which the program looks, and whose words differ.
     pub words: Seq<u64>,
 }
 
@@ -39,7 +39,7 @@ fn is_other_word<P: Program>(program: &P, view: &View<'_>, address: u64, old: u6
     old != new && program.looks(view, address)
 }
 
-/// Adds the addresses at which the program looks, and whose words are others, of pieces of two memories. The pieces begin at the address `first`.
+/// Adds the addresses at which the program looks, and whose words differ, of pieces of two memories. The pieces begin at the address `first`.
 fn add_other_words_from<P: Program>(
     words: &mut Seq<u64>,
     program: &P,

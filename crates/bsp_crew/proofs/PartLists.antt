@@ -5,7 +5,7 @@ use Rattle.std.proofs.Math.Seq.{take-add}
 use Rattle.std.proofs.lemmas.List.{get_or-drop, get_or-take, length-drop, length-take, map-append}
 use Rattle.bsp_step.specs.ViewParts.{ViewParts}
 use Rattle.bsp_step.specs.OutcomeParts.{OutcomeParts}
-use Rattle.bsp_deliver.specs.Condition.{IsAscending}
+use Rattle.bsp_model.specs.Replaced.{IsAscending}
 use Rattle.bsp_crew.specs.declared.sheet.Task.{Task}
 use Rattle.bsp_crew.specs.declared.sheet.Task.TheVariants.{Turns, Deliveries}
 use Rattle.bsp_crew.specs.Parts.{CanDeliver, IsPart}

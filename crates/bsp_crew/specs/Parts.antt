@@ -3,7 +3,8 @@ use Rattle.std.specs.Prelude.{◌≡◌, ◌<◌, ℕ, List, All, length, map}
 use Rattle.bsp_model.specs.declared.input.Input.{Input}
 use Rattle.bsp_step.specs.ViewParts.{ViewParts}
 use Rattle.bsp_step.specs.OutcomeParts.{OutcomeParts}
-use Rattle.bsp_deliver.specs.Condition.{AreDeliverable, IsAscending}
+use Rattle.bsp_deliver.specs.Condition.{AreDeliverable}
+use Rattle.bsp_model.specs.Replaced.{IsAscending}
 use Rattle.bsp_run.specs.Law.{views_in}
 use Rattle.bsp_crew.specs.declared.sheet.Task.{Task}
 use Rattle.bsp_crew.specs.declared.sheet.Task.TheVariants.{Turns, Deliveries}

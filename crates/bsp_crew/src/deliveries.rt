@@ -1,7 +1,8 @@
 //! The deliveries of a superstep, by the calling thread or by a crew beside it.
 
 ghost use Rattle.std.specs.Prelude.{◌≡◌, ◌<◌, All, IfOk, IfSome, length, map};
-ghost use Rattle.bsp_deliver.specs.Condition.{AreDeliverable, IsAscending};
+ghost use Rattle.bsp_deliver.specs.Condition.{AreDeliverable};
+ghost use Rattle.bsp_model.specs.Replaced.{IsAscending};
 ghost use Rattle.bsp_run.specs.Shares.{deliveries_to};
 ghost use Rattle.bsp_crew.specs.Parts.{CanDeliver};
 

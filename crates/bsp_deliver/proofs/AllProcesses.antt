@@ -2,7 +2,7 @@
 use Rattle.std.proofs.Common.{◌<◌, ℕ, arith, All}
 use Rattle.std.specs.List.{range_with_len}
 use Rattle.std.proofs.lemmas.List.FromFn.{get_or-range_with_len, length-range_with_len}
-use Rattle.bsp_deliver.specs.Condition.{IsAscending}
+use Rattle.bsp_model.specs.Replaced.{IsAscending}
 use Rattle.bsp_deliver.specs.Inside.Gathering.{ArePlaces}
 
 pub all_known : (n : ℕ) → All (λ d. d < n) (range_with_len 0 n)

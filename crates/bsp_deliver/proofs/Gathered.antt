@@ -14,7 +14,8 @@ use Rattle.bsp_step.specs.OutcomeParts.{OutcomeParts, outcome_of, no_outcome}
 use Rattle.bsp_deliver.specs.Requests.{requests_from, all_puts, all_sends, words_read}
 use Rattle.bsp_deliver.specs.Delivery.{get_write, put_write, message_of, delivery_parts, next_memory, next_queue}
 use Rattle.bsp_deliver.specs.Inside.Gathering.{overlay, changed_at, put_into, put_at, ArePlaces}
-use Rattle.bsp_deliver.specs.Condition.{sizes_of, IsPutInside, AreDeliverable, IsAscending}
+use Rattle.bsp_deliver.specs.Condition.{sizes_of, IsPutInside, AreDeliverable}
+use Rattle.bsp_model.specs.Replaced.{IsAscending}
 use Rattle.bsp_deliver.proofs.CellsOf.{row_at-push}
 use Rattle.bsp_deliver.proofs.Writes.{overlay-none, overlay-overlay, length-overlay, memory_written-overlay, overlay-next_memory}
 use Rattle.bsp_deliver.proofs.Senders.{requests_of-more, all_requests, puts_inside, sizes-outcome_of, length-sizes_of}

@@ -10,7 +10,8 @@ use Rattle.bsp_model.proofs.Replaced.{map-all_places}
 use Rattle.bsp_step.specs.OutcomeParts.{OutcomeParts, no_outcome}
 use Rattle.bsp_deliver.specs.Requests.{requests_from, all_puts}
 use Rattle.bsp_deliver.specs.Delivery.{get_write, delivery_parts, next_memory}
-use Rattle.bsp_deliver.specs.Condition.{sizes_of, AreRequestsInside, AreDeliverable, IsAscending}
+use Rattle.bsp_deliver.specs.Condition.{sizes_of, AreRequestsInside, AreDeliverable}
+use Rattle.bsp_model.specs.Replaced.{IsAscending}
 use Rattle.bsp_deliver.specs.Inside.Gathering.{overlay, put_at, ArePlaces}
 use Rattle.bsp_deliver.proofs.AllProcesses.{all_known, all_ascending, at_own_place}
 use Rattle.bsp_deliver.proofs.Gathered.{memories_gathered, all_unread}

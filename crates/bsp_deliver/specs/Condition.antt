@@ -1,4 +1,4 @@
--- What the end of a superstep asks of the outcomes, and of a list of processes.
+-- What the end of a superstep asks of the outcomes.
 use Rattle.std.specs.Prelude.{ℕ, ◌+◌, ◌<◌, ◌≤◌, All, List, map, length, slice_index}
 use Rattle.bsp_model.specs.Limits.{most_memory_words, most_processes}
 use Rattle.bsp_model.specs.declared.request.Put.{Put}
@@ -31,7 +31,3 @@ pub record AreDeliverable (os : List OutcomeParts) : Type 0 where
   pub few : length os ≤ most_processes
   pub short : All (λ o. length o.memory ≤ most_memory_words) os
   pub inside : All (AreRequestsInside (sizes_of os)) os
-
--- Each process is less than those behind it.
-abbrev pub IsAscending : List ℕ → Type 0
-IsAscending ps = (j k : ℕ) → j < k → k < length ps → slice_index ps j < slice_index ps k

@@ -1,4 +1,4 @@
-//! Deliveries in the memories that the turns left, where nobody needs these any more.
+//! Deliveries in the memories that the turns left, where no record keeps them.
 
 ghost use Rattle.std.specs.Prelude.{◌≡◌, ◌<◌, ◌++◌, ◌∷◌, [], All, OnOk, fold, length, map};
 ghost use Rattle.std.specs.List.{range_with_len};

@@ -4,7 +4,8 @@ ghost use Rattle.std.specs.Prelude.{◌≡◌, ◌+◌, ◌<◌, ◌≤◌, ◌+
 ghost use Rattle.bsp_deliver.specs.Requests.{all_puts, each_below, words_read};
 ghost use Rattle.bsp_deliver.specs.Delivery.{get_write, written, delivery_parts, next_memory};
 ghost use Rattle.bsp_deliver.specs.Inside.Gathering.{overlay, put_at, ArePlaces, AreTargets};
-ghost use Rattle.bsp_deliver.specs.Condition.{AreDeliverable, AreRequestsInside, IsAscending, IsGetInside, sizes_of};
+ghost use Rattle.bsp_deliver.specs.Condition.{AreDeliverable, AreRequestsInside, IsGetInside, sizes_of};
+ghost use Rattle.bsp_model.specs.Replaced.{IsAscending};
 
 use bsp_model::limits::{MOST_MEMORY_WORDS, MOST_PROCESSES};
 use bsp_model::{Get, Memories, Memory, OutOfMemory, ProcessSet, PutsRef};

@@ -55,7 +55,7 @@ pub(crate) fn are_same_to<R: Addressed>(
     i == old_count && j == new_count
 }
 
-/// Whether one sender puts the same to `d`.
+/// Whether one sender's puts to process `d` are equal lists.
 #[inline(always)]
 pub fn are_same_puts(old: &OutcomeRef<'_>, new: &OutcomeRef<'_>, d: u64) -> bool
     ensures { IsTrue result ↔ (filter (λ p. p.target == d) old.now.puts ≡ filter (λ p. p.target == d) new.now.puts) }
@@ -63,7 +63,7 @@ pub fn are_same_puts(old: &OutcomeRef<'_>, new: &OutcomeRef<'_>, d: u64) -> bool
     are_same_to(&old.puts, &new.puts, 0, d)
 }
 
-/// Whether one sender sends the same to `d`.
+/// Whether one sender's messages to process `d` are equal lists.
 #[inline(always)]
 pub fn are_same_sends(old: &OutcomeRef<'_>, new: &OutcomeRef<'_>, d: u64) -> bool
     ensures { IsTrue result ↔ (filter (λ m. m.target == d) old.now.sends ≡ filter (λ m. m.target == d) new.now.sends) }

@@ -91,8 +91,8 @@ fn mark_readers(marks: &mut ProcessSet, old: &Outcomes, new: &Outcomes, changed:
     }
 }
 
-/// The processes to which a delivery depends on something else than before: whose memory after computing, gets or words that they read are
-/// others, or to whom other puts or messages are brought.
+/// The processes to which a delivery depends on something else than before: on another memory after computing, on other gets or words that they read,
+/// or on other puts or messages to them.
 ///
 /// In `changed` is each process whose outcome may be another one than before. Only these are looked at, and where somebody gets words, the gets
 /// of the other processes too. It takes no memory.

@@ -36,14 +36,14 @@ pub enum Unread {
     NothingToUndo,
 }
 
-pub fn is_space(byte: u8) -> bool
+fn is_space(byte: u8) -> bool
     ensures { result ≡ is_space byte }
 {
     byte == b' ' || byte == b'\t' || byte == b'\r'
 }
 
 /// Whether nothing but spaces stands on the line, or a comment alone.
-pub fn is_blank(line: &[u8]) -> bool
+fn is_blank(line: &[u8]) -> bool
     ensures { result ≡ is_blank line.now }
 {
     for byte in line {

@@ -153,7 +153,7 @@ fn push_place(text: &mut Vec<u8>, word: &str, step: u64, place: &Place) -> Resul
     push_field(text, place.pid)
 }
 
-pub fn push_places(text: &mut Vec<u8>, word: &str, places: &[Place]) -> Result<(), OutOfMemory>
+fn push_places(text: &mut Vec<u8>, word: &str, places: &[Place]) -> Result<(), OutOfMemory>
     ensures { OnOk result (text.new.items ≡ text.old.items ++ place_lines word.now places.now) }
 {
     let Some(first) = places.first() else {

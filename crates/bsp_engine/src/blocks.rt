@@ -69,7 +69,7 @@ fn compared_result<'a>(
     }
 }
 
-pub fn push_report(text: &mut Vec<u8>, replies: &[Reply], detail: Detail) -> Result<(), OutOfMemory>
+fn push_report(text: &mut Vec<u8>, replies: &[Reply], detail: Detail) -> Result<(), OutOfMemory>
     ensures { OnOk result (text.new.items ≡ text.old.items ++ text_of detail (map alone replies.now)) }
 {
     let mut before = None;

@@ -12,9 +12,16 @@ use toml::Table;
 /// A catalogue of programs: the keys of its own that a document has beside `limit`, `g`, `l`, `memory`, `args` and `batches`, and which program
 /// they say. The type is the catalogue; it has no values.
 ///
-/// The methods are asked in the order of the faults: a document that lacks a required key is J2, whatever else it has; then one with a value of
-/// another shape is J3; then one with a key that is neither the catalogue's nor a common one is J4; then one whose keys say no program is J5;
-/// then an input with which no run may start is J6; then a negative number is J7. A program is made where there is no fault.
+/// The methods are asked in the order of the faults, of which a document has the first:
+///
+/// - J2: a required key is missing;
+/// - J3: a value has the wrong shape;
+/// - J4: a key is neither the catalogue's nor a common one;
+/// - J5: the keys say no program;
+/// - J6: no run may start with the input;
+/// - J7: a number is negative.
+///
+/// A program is made where there is no fault.
 pub trait Catalogue {
     ghost use Rattle.std.specs.Prelude.{true, is_some, Some};
     ghost use Rattle.toml.specs.View.{table_view};

@@ -47,7 +47,7 @@ fn memory_at(memories: Option<&Memories>, pid: usize) -> Option<MemoryRef<'_>>
     Some(memories.get(pid))
 }
 
-pub fn push_other_memories(
+fn push_other_memories(
     text: &mut Vec<u8>,
     olds: Option<&Memories>,
     news: &Memories,
@@ -118,7 +118,7 @@ fn push_other_cost(
     }
 }
 
-pub fn push_other_costs(
+fn push_other_costs(
     text: &mut Vec<u8>,
     olds: &[CostRow],
     news: &[CostRow],

@@ -66,7 +66,7 @@ pub fn attendant_of<C: Catalogue, R: Threads + Sync, G: Gate>(
 }
 
 /// Writes the answer to a line, which has no LF: the text for which it asks, or the block with the next number.
-pub fn respond<P: Program + Drop, R: Threads + Sync, G: Gate>(
+fn respond<P: Program + Drop, R: Threads + Sync, G: Gate>(
     workers: &Workers<'_, R, G>,
     attendant: &mut Attendant<P>,
     line: &[u8],

@@ -88,7 +88,7 @@ pub fn read_job<C: Catalogue>(alloc: Global, bytes: &[u8]) -> Result<Job<C::Prog
     job_in::<C>(alloc, &table)
 }
 
-/// The same, and the text of the keys that are the catalogue's own.
+/// The job of a document, and the text of the keys that are the catalogue's own; or the first of J1 to J7 that the document has.
 pub fn read_job_and_keys<C: Catalogue>(
     alloc: Global,
     bytes: &[u8],

@@ -1,4 +1,4 @@
-//! Sessions that stay open, with what takes their batches back.
+//! Open sessions, with the batches that take their batches back.
 
 ghost use Rattle.std.specs.Prelude.{◌≡◌, IfOk, OnOk, None, unwrap_or};
 ghost use Rattle.bsp_model.specs.Input.{input_fault};
@@ -24,7 +24,7 @@ use std::thread::Threads;
 pub struct Live<P: Program> {
     pub(crate) session: Session<P>,
     pub(crate) detail: Detail,
-    /// The batches that take the accepted ones back that still stand, the newest first.
+    /// For each accepted batch that still stands the batch that takes it back, the newest first.
     pub(crate) undos: VecDeque<Batch>,
 }
 

@@ -10,7 +10,9 @@ use std::alloc::Global;
 /// A process in a superstep.
 #[derive(Clone, Copy, PartialEq, Eq)]
 pub struct Place {
+    /// The number of the superstep, from 0.
     pub step: u64,
+    /// The number of the process, from 0.
     pub pid: u64,
 }
 

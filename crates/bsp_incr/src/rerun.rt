@@ -34,8 +34,8 @@ use std::thread::Threads;
 pub use under_way::UnderWay;
 pub use workers::Workers;
 
-/// The run of a program on a lawful input, made against the run before, if there was one, of the same program and as many processes: a turn is
-/// taken only where the recorded one does not serve, and a delivery is made only where it depends on something else.
+/// The run of a program on a lawful input, made against the run before, if there was one. Both runs are of one program and of as many processes.
+/// A turn is taken only where the recorded turn does not serve. A delivery is made only where it depends on something else than in the run before.
 pub fn rerun<P: Program, G: Gate, R: Threads + Sync>(
     workers: Workers<'_, R, G>,
     program: &P,

@@ -67,7 +67,7 @@ impl<P: Program + Drop> Session<P> {
         Ok(Session::open_lawful(rt, alloc, program, input, workers, gate)?)
     }
 
-    /// The same, where the input is lawful. Or `OutOfMemory`.
+    /// A session on an input that is known to be lawful, opened as by `open`. Or `OutOfMemory`.
     pub fn open_lawful<R: Threads + Sync, G: Gate>(
         rt: &R,
         alloc: Global,

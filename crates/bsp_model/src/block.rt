@@ -20,6 +20,7 @@ pub trait Block: Sized {
     ghost kept: { (row : Self.Head × (List ℕ)) → IsKept row → row_of (of row) ≡ row };
 }
 
+/// The head of a put: its target, and the address of its first word there.
 #[derive(Clone, Copy)]
 pub struct PutHead {
     pub target: u64,

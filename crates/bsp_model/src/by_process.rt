@@ -26,7 +26,7 @@ pub trait ByProcess: Sized {
     fn room_like(&self, alloc: Global) -> Result<Self, OutOfMemory>
         ensures { IfOk result (λ room. items room ≡ []) };
 
-    /// Adds what others have from `from` on, and before `to`. Full pages of memories are shared. After `OutOfMemory` nothing has changed.
+    /// Adds the items of `more` from `from` on, and before `to`. Full pages of memories are shared. After `OutOfMemory` nothing has changed.
     fn append_range(&mut self, more: &Self, from: usize, to: usize) -> Result<(), OutOfMemory>
         requires order { from ≤ to }
         requires inside { to ≤ length (items more.now) }
@@ -34,8 +34,8 @@ pub trait ByProcess: Sized {
         ensures err { OnErr result (items self.new ≡ items self.old) };
 }
 
-/// Adds to `all`, where nothing is yet, what all processes have, but for what is new of some, which are in ascending order. What is new of consecutive
-/// processes is copied in one piece, and so is what lies between. After `OutOfMemory` some of it is added.
+/// Adds to `all`, which is empty, the items of all processes, with new items of some, which are in ascending order. Items of consecutive processes are
+/// copied in one piece. After `OutOfMemory` some of them are added.
 pub fn add_replaced<T: ByProcess>(
     all: &mut T,
     old: &T,
@@ -58,7 +58,7 @@ pub fn add_replaced<T: ByProcess>(
     all.append_range(old, all.count(), old.count())
 }
 
-/// What all processes have, but for what is new of some, which are in ascending order.
+/// The items of all processes, with new items of some, which are in ascending order.
 pub fn with_replaced<T: ByProcess + Drop>(
     alloc: Global,
     old: &T,

@@ -10,14 +10,14 @@ use crate::{OutOfMemory, Shared, TryCopy};
 use std::alloc::Global;
 use std::marker::Model;
 
-/// The few processes that have something else, in ascending order, and what they have.
+/// The few processes whose items lie apart, in ascending order, and their items.
 #[derive(Drop)]
 pub struct Apart<T: ByProcess> {
     pub processes: Vec<usize>,
     pub items: T,
 }
 
-/// What several processes have, by process: a list of all, and what lies apart of it, each of which copies share.
+/// An item for each of several processes: a list of all, and a list of the few whose items lie apart. Copies share both lists.
 pub struct Layered<T: ByProcess> {
     base: Shared<T>,
     apart: Option<Shared<Apart<T>>>,
@@ -74,7 +74,7 @@ impl<T: ByProcess + Drop> Layered<T> {
         }
     }
 
-    /// The list in which what a process has stands, and its place there.
+    /// The list in which the item of a process stands, and its place there.
     #[inline(always)]
     pub fn find(&self, pid: usize) -> (&T, usize)
         requires { pid < length (T.items self.now) }
@@ -110,7 +110,7 @@ impl<T: ByProcess + Drop> Layered<T> {
         )
     }
 
-    /// The same, but for what is new of these processes, which are in ascending order. That of few lies apart.
+    /// These items, but for new ones of these processes, which are in ascending order. Where they are few, the new items lie apart. Or `OutOfMemory`.
     pub fn replaced(
         &self,
         alloc: Global,
@@ -138,7 +138,7 @@ impl<T: ByProcess + Drop> Layered<T> {
         })
     }
 
-    /// What all have, where no copy shares it and nothing lies apart. Else nothing has changed.
+    /// The items of all, where no copy shares them and none lies apart. Else nothing has changed.
     pub fn try_unwrap(self) -> Result<T, Layered<T>>
         ensures all { IfOk result (λ all. all ≡ self) }
         ensures shared { IfErr result (λ l. l ≡ self) }

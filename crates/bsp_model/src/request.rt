@@ -57,6 +57,12 @@ impl TryCopy for Put {
     }
 }
 
+impl Same for Put {
+    fn same(&self, other: &Put) -> bool {
+        self.target == other.target && self.start == other.start && self.words.same(&other.words)
+    }
+}
+
 impl TryCopy for Get {
     fn copy(&self) -> Result<Get, OutOfMemory> {
         Ok(*self)
@@ -79,5 +85,11 @@ impl TryCopy for Send {
             tag: self.tag.copy()?,
             words: self.words.copy()?,
         })
+    }
+}
+
+impl Same for Send {
+    fn same(&self, other: &Send) -> bool {
+        self.target == other.target && self.tag.same(&other.tag) && self.words.same(&other.words)
     }
 }

@@ -44,7 +44,7 @@ pub(crate) fn start_of(ends: &[usize], number: usize) -> usize
 }
 
 #[inline(always)]
-pub(crate) fn bounds_of(ends: &[usize], count: usize, from: usize, to: usize) -> (usize, usize)
+fn bounds_of(ends: &[usize], count: usize, from: usize, to: usize) -> (usize, usize)
     requires ends { AreEnds 0 ends.now count }
     requires order { from ≤ to }
     requires rows { to ≤ length ends.now }
@@ -71,7 +71,7 @@ pub(crate) fn row_behind(ends: &[usize], from: usize, place: usize) -> usize
     ends.len()
 }
 
-pub(crate) fn add_ends(ends: &mut Vec<usize>, before: usize, start: usize, more: &[usize])
+fn add_ends(ends: &mut Vec<usize>, before: usize, start: usize, more: &[usize])
     requires room { vec_len ends.old + length more.now ≤ vec_capacity ends.old }
     requires behind { EachIndex more.now (λ k. start ≤ slice_index more.now k) }
     requires fits { EachIndex more.now (λ k. before + (slice_index more.now k - start) < 2 ^ 64) }

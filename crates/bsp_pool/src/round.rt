@@ -13,7 +13,7 @@ use std::alloc::Global;
 use std::marker::Model;
 use std::mem;
 
-/// What a worker is at.
+/// The state of a worker in a round.
 #[derive(Clone, Copy)]
 pub(crate) enum Worker {
     Ready,

@@ -9,7 +9,7 @@ use crate::OutOfMemory;
 use crate::work::Work;
 use std::alloc::Global;
 
-/// What is missing beside the outputs that are kept.
+/// The outputs that no worker handed over, and room for all outputs.
 #[derive(Drop)]
 pub(crate) struct Missing<T> {
     /// The output of each number for which none is kept.

@@ -16,8 +16,8 @@ impl Computes for Broadcast {
     fn law(_input: &Input) {}
 }
 
-/// The run of prefix sums halts, and every process ends with the sum of the words 0 of the processes up to itself, modulo 2^64, as its word 0, and
-/// has printed it once. With k the least number such that 2^k is not below P, the total cost is `k * (g + l + 1) + l`.
+/// The run of prefix sums halts. Every process ends with the sum of the words 0 of the processes up to itself, modulo 2^64, as its word 0. It has
+/// printed it once. With k the least number such that 2^k is not below P, the total cost is `k * (g + l + 1) + l`.
 impl Computes for Prefix {
     ghost use Rattle.bsp_right.specs.Summed.{Sums};
 
@@ -44,8 +44,8 @@ fn first_word(memory: &Memory) -> u64
     memory.load(0).unwrap_or(0)
 }
 
-/// Where all processes name one number b of rows and their memories have room, the run of a product halts, and every process ends with its b words
-/// of the product of the whole matrix and the whole vector, modulo 2^64, and has printed them as one line. The total cost is
+/// Where all processes name one number b of rows and their memories have room, the run of a product halts. Every process ends with its b words of the
+/// product of the whole matrix and the whole vector, modulo 2^64. It has printed them as one line. The total cost is
 /// `P * b * b + (P - 1) * (b + 1) * g + 2 * l`.
 impl Computes for MatVec {
     ghost use Rattle.bsp_right.specs.Multiplied.{Multiplies};
@@ -55,9 +55,8 @@ impl Computes for MatVec {
     fn law(_input: &Input) {}
 }
 
-/// Where the processes are the elements of one linked list, wherever in the list each of them stands, the run of list ranking halts, and every
-/// process ends with the number of its successors as its word 1, and has printed it once. With k the least number such that 2^k is not below P, the
-/// total cost is `(2^(k + 1) - 2) * g + (k + 1) * l + k`.
+/// Where the processes are the elements of one linked list, in any order, the run of list ranking halts. Every process ends with the number of its
+/// successors as its word 1. It has printed it once. With k the least number such that 2^k is not below P, the total cost is `(2^(k + 1) - 2) * g + (k + 1) * l + k`.
 impl Computes for Rank {
     ghost use Rattle.bsp_right.specs.Ranked.{Ranks};
 

@@ -198,7 +198,7 @@ impl History {
         }
     }
 
-    /// The same, as they are kept.
+    /// The views of a superstep, to be shared; at `Limit` also of the superstep after the last.
     pub(crate) fn kept_views(&self, step: u64) -> Option<&Shared<Views>>
         ensures { option_map (λ v. v.now) result ≡ slice_get (map (λ s. s.views) (supersteps_opened self.now)) step }
     {

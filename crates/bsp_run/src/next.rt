@@ -20,7 +20,7 @@ impl Tape {
         self.views.next_setting(&self.outcomes)
     }
 
-    /// The same, where the table and the tag size are those of this view.
+    /// What all processes see alike in the next superstep, where the table and the tag size are those of this view.
     pub fn next_setting_like(&self, view: &View<'_>) -> Result<Setting, OutOfMemory>
         requires turned { self.now.phase ≡ Phase.Turned }
         requires table { view.now.table ≡ (next_state self.now.state self.now.outcomes).table }

@@ -71,7 +71,8 @@ impl Tape {
         Tape::open_with(alloc, input, views)
     }
 
-    /// The same, where the arguments are given, and views of superstep 0 that are those of this run but for some processes, in ascending order.
+    /// A run of a lawful input whose superstep 0 is open, with these arguments. Its views are those of `like` but for some processes, which are in
+    /// ascending order. Or `OutOfMemory`.
     pub fn open_like(
         alloc: Global,
         input: &Input,
@@ -96,7 +97,7 @@ impl Tape {
         Tape::open_with(alloc, input, views)
     }
 
-    /// The same, where the views of superstep 0 are given.
+    /// A run of a lawful input whose superstep 0 is open, with these views. Or `OutOfMemory`.
     fn open_with(alloc: Global, input: &Input, views: Views) -> Result<Tape, OutOfMemory>
         requires lawful { input_fault input.now ≡ None }
         requires views { views ≡ open_views (start input.now) }

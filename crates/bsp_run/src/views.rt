@@ -20,7 +20,7 @@ use bsp_step::{Outcomes, View};
 use std::alloc::Global;
 use std::marker::Model;
 
-/// What the processes see in a superstep, by process. The memories lie in flat lists; what all see alike is kept once.
+/// The views of the processes in a superstep, by process. The memories lie in flat lists. The parts that all processes see alike are kept once.
 #[derive(Drop)]
 pub struct Views {
     setting: Setting,

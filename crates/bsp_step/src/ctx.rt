@@ -50,7 +50,7 @@ impl<'v> Ctx<'v> {
         Ctx::open_reusing(alloc, view, Outcome::new(alloc)?)
     }
 
-    /// The same, in the lists of an outcome that is no longer needed. Nothing of what stood in them is left.
+    /// The context in which the turn of a view begins, in the lists of an outcome that is no longer needed, of which nothing is left. Or `OutOfMemory`.
     #[inline(always)]
     pub fn open_reusing(
         alloc: Global,

@@ -60,7 +60,7 @@ impl OutcomeRows {
         reserved.and(Ok(rows))
     }
 
-    /// The same, with room in the lists that most turns fill.
+    /// No outcomes, with room for so many, and for the lists that most turns fill. Or `OutOfMemory`.
     pub(crate) fn with_room(alloc: Global, count: usize) -> Result<OutcomeRows, OutOfMemory>
         ensures { IfOk result (λ o. o ≡ []) }
     {

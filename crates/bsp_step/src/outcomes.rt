@@ -17,7 +17,7 @@ use bsp_table::{Area, Registers};
 use std::alloc::Global;
 use std::marker::Model;
 
-/// What the turns of several processes leave, by process. It stays as it is; its copies share it, so that a copy takes no memory.
+/// The outcomes of the turns of several processes, by process. They stay as they are. Copies share them, and take no memory.
 #[derive(Drop)]
 pub struct Outcomes {
     /// None where there is no process.

@@ -52,7 +52,8 @@ pub fn turn<P: Program>(alloc: Global, program: &P, view: &View<'_>) -> Result<O
     turn_reusing(alloc, program, view, Outcome::new(alloc)?)
 }
 
-/// The same, in lists of an outcome that is no longer needed. Whatever outcome is handed in, the turn is the same.
+/// The turn of a program at a view, as `turn` takes it, in the lists of an outcome that is no longer needed. The turn does not depend on that outcome.
+/// Or `OutOfMemory`.
 #[inline(always)]
 pub fn turn_reusing<P: Program>(
     alloc: Global,

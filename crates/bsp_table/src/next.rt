@@ -169,8 +169,10 @@ impl Table {
         })
     }
 
-    /// The same, where the superstep's end may have a fault.
-    /// Errors: the first of S3 `PopMismatch`, S4 `PushMismatch` and S5 `TooManySlots` that holds, before any memory is taken; then `OutOfMemory`.
+    /// The table after a superstep whose end may have a fault: `fault` and `next` in one call.
+    ///
+    /// # Errors
+    /// The first of S3 `PopMismatch`, S4 `PushMismatch` and S5 `TooManySlots` that holds, before any memory is taken; then `OutOfMemory`.
     pub fn synced<R: Registers>(&self, all: &R) -> Result<Table, TableFault>
         requires some { 1 ≤ length (R.pops all.now) }
         requires few { length (R.pops all.now) ≤ MOST_PROCESSES }

@@ -55,7 +55,7 @@ impl Table {
         self.find_under(pid, start, &[])
     }
 
-    /// The same, where the slots in `popped` do not count. It takes no memory.
+    /// The newest slot whose area for process `pid` starts at `start`, where the slots in `popped` do not count. It takes no memory.
     pub fn find_under(&self, pid: u64, start: u64, popped: &[usize]) -> Option<usize>
         ensures { result ≡ newest_under self.now pid start popped.now }
     {

@@ -1,8 +1,15 @@
-//! What others send to a process, kept apart from the outcomes that it comes from.
+//! The inbox of a process: the requests that are addressed to it, kept apart from the outcomes that they come from.
 
-ghost use Rattle.std.specs.Prelude.{◌≡◌, IsTrue, ◌↔◌};
+ghost use Rattle.std.specs.Prelude.{◌≡◌, ◌<◌, ◌≤◌, ◌++◌, ◌==◌, length, map, filter, slice_get, IfOk, OnOk, Some};
+ghost use Rattle.bsp_step.specs.ViewParts.{IsQueue};
+ghost use Rattle.bsp_deliver.specs.Requests.{all_puts, all_sends};
+ghost use Rattle.bsp_deliver.specs.Delivery.{delivery_parts, message_of};
+ghost use Rattle.bsp_whole.specs.Inbox.{inbox_of};
 
-use bsp_model::{Put, Same, Send, Seq};
+use bsp_model::limits::MOST_PROCESSES;
+use bsp_model::{OutOfMemory, Put, PutsRef, Same, Send, SendsRef, Seq, Words, are_same};
+use bsp_step::Outcomes;
+use std::alloc::Global;
 use std::marker::Model;
 
 /// The puts and the messages to one process, each with its sender, by sender, then by issue.
@@ -24,25 +31,101 @@ impl Model for Inbox {
     ghost invariant = { FitsInQueue };
 }
 
-fn are_same_requests<R: Same>(requests: &[(u64, R)], others: &[(u64, R)]) -> bool
-    ensures { IsTrue result ↔ (requests.now ≡ others.now) }
-{
-    if requests.len() != others.len() {
-        return false;
-    }
-    for i in 0..requests.len() {
-        let (sender, request) = &requests[i];
-        let (other_sender, other) = &others[i];
-        if sender != other_sender || !request.same(other) {
-            return false;
-        }
-    }
-    true
-}
-
 impl Same for Inbox {
     fn same(&self, other: &Inbox) -> bool {
-        are_same_requests(self.puts.as_slice(), other.puts.as_slice())
-            && are_same_requests(self.sends.as_slice(), other.sends.as_slice())
+        are_same(self.puts.as_slice(), other.puts.as_slice())
+            && are_same(self.sends.as_slice(), other.sends.as_slice())
     }
+}
+
+fn copied_put(alloc: Global, puts: &PutsRef<'_>, place: usize) -> Result<Put, OutOfMemory>
+    requires { place < length puts.now }
+    ensures { IfOk result (λ put. slice_get puts.now place ≡ Some put) }
+{
+    let put = puts.at(place);
+    Ok(Put {
+        target: put.target,
+        start: put.start,
+        words: Words::from_slice(alloc, put.words)?,
+    })
+}
+
+fn copied_send(alloc: Global, sends: &SendsRef<'_>, place: usize) -> Result<Send, OutOfMemory>
+    requires { place < length sends.now }
+    ensures { IfOk result (λ send. slice_get sends.now place ≡ Some send) }
+{
+    let send = sends.at(place);
+    Ok(Send {
+        target: send.target,
+        tag: Words::from_slice(alloc, send.tag)?,
+        words: Words::from_slice(alloc, send.words)?,
+    })
+}
+
+/// Adds one sender's puts to `d`, in issue order.
+fn add_puts(
+    list: &mut Seq<(u64, Put)>,
+    sender: u64,
+    d: u64,
+    puts: &PutsRef<'_>,
+) -> Result<(), OutOfMemory>
+    ensures { OnOk result (list.new ≡ list.old ++ map (λ p. (sender, p)) (filter (λ p. p.target == d) puts.now)) }
+{
+    for place in 0..puts.len() {
+        if puts.at(place).target == d {
+            list.push((sender, copied_put(list.allocator(), puts, place)?))?;
+        }
+    }
+    Ok(())
+}
+
+/// Adds one sender's messages to `d`, in issue order.
+fn add_sends(
+    list: &mut Seq<(u64, Send)>,
+    sender: u64,
+    d: u64,
+    sends: &SendsRef<'_>,
+) -> Result<(), OutOfMemory>
+    ensures { OnOk result (list.new ≡ list.old ++ map (λ m. (sender, m)) (filter (λ m. m.target == d) sends.now)) }
+{
+    for place in 0..sends.len() {
+        if sends.at(place).target == d {
+            list.push((sender, copied_send(list.allocator(), sends, place)?))?;
+        }
+    }
+    Ok(())
+}
+
+fn puts_to(alloc: Global, d: u64, outcomes: &Outcomes) -> Result<Seq<(u64, Put)>, OutOfMemory>
+    ensures { IfOk result (λ puts. puts ≡ filter (λ p. p.1.target == d) (all_puts outcomes.now)) }
+{
+    let mut puts = Seq::new(alloc);
+    for sender in 0..outcomes.len() {
+        let outcome = outcomes.get(sender);
+        add_puts(&mut puts, sender as u64, d, &outcome.puts)?;
+    }
+    Ok(puts)
+}
+
+fn sends_to(alloc: Global, d: u64, outcomes: &Outcomes) -> Result<Seq<(u64, Send)>, OutOfMemory>
+    requires { length outcomes.now ≤ MOST_PROCESSES }
+    ensures sends { IfOk result (λ sends. sends ≡ filter (λ m. m.1.target == d) (all_sends outcomes.now)) }
+    ensures limits { IfOk result (λ sends. IsQueue (map (λ m. message_of m.1) sends)) }
+{
+    let mut sends = Seq::new(alloc);
+    for sender in 0..outcomes.len() {
+        let outcome = outcomes.get(sender);
+        add_sends(&mut sends, sender as u64, d, &outcome.sends)?;
+    }
+    Ok(sends)
+}
+
+/// The inbox of process `d`: copies of all puts and messages to it, each with its sender, by sender, then by issue. There are at most `MOST_PROCESSES` outcomes.
+pub fn inbox(alloc: Global, d: usize, outcomes: &Outcomes) -> Result<Inbox, OutOfMemory>
+    requires { length outcomes.now ≤ MOST_PROCESSES }
+    ensures { IfOk result (λ inbox. inbox ≡ inbox_of (delivery_parts outcomes.now d)) }
+{
+    let puts = puts_to(alloc, d as u64, outcomes)?;
+    let sends = sends_to(alloc, d as u64, outcomes)?;
+    Ok(Inbox { puts, sends })
 }

@@ -1,16 +1,14 @@
 //! Whole deliveries, runs and sessions, in one call each.
 #![tactic(auto)]
 
-mod addressed;
 mod delivery;
 mod inboxes;
 mod parcels;
 mod runs;
 mod sessions;
 
-pub use addressed::inbox;
 pub use delivery::{deliver, deliver_inbox};
-pub use inboxes::Inbox;
+pub use inboxes::{Inbox, inbox};
 pub use parcels::{answers_same, parcel_same};
 pub use runs::{run_plain, run_result, run_result_wide, run_wide};
 pub use sessions::{scratch_run, session_run};

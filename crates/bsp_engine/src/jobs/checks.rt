@@ -82,7 +82,7 @@ pub fn check_keys<C: Catalogue>(table: &Table) -> Result<(), Wrong<'_>>
     }
 }
 
-pub struct Short<const MOST: usize>;
+struct Short<const MOST: usize>;
 
 impl<const MOST: usize> Shape for Short<MOST> {
     ghost use Rattle.bsp_engine.specs.Sizes.{is_short};

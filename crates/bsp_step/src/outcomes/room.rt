@@ -29,7 +29,7 @@ impl Outcomes {
         }
     }
 
-    /// The same, where these outcomes are no longer needed: their own lists, unless copies share them.
+    /// No outcomes, in the lists of these, which are no longer needed, unless copies share the lists. Or `OutOfMemory`.
     pub fn into_room(self, alloc: Global, count: usize) -> Result<OutcomeRows, OutOfMemory>
         ensures { IfOk result (λ o. o ≡ []) }
     {

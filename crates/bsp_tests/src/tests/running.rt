@@ -10,7 +10,7 @@ use bsp_incr::{Reply, Session};
 use bsp_model::{Input, TryCopy};
 use bsp_right::run_computing;
 use bsp_run::{History, RunError, RunResult};
-use bsp_whole::{run_plain, run_result, run_result_wide, run_wide, session_run};
+use bsp_whole::{run_plain, run_result, run_result_wide, run_wide, scratch_run, session_run};
 use std::alloc::Global;
 use std::process::Abort;
 use std::thread::Threads;
@@ -26,6 +26,8 @@ pub enum Way {
     UnrecordedWide,
     Opened,
     Replied,
+    /// The replies by runs from scratch.
+    RepliedAfresh,
 }
 
 fn is_recorded(run: Result<History, RunError>, end: &End) -> Result<bool, RunError> {
@@ -60,24 +62,17 @@ fn is_opened<R: Threads + Sync, G: Gate>(
     Ok(is_right)
 }
 
-fn is_replied<R: Threads + Sync, G: Gate>(
-    rt: &R,
-    alloc: Global,
-    known: &Known,
-    input: Input,
-    workers: usize,
-    gate: &G,
-) -> Result<bool, RunError>
-    requires { (0 < workers) × (workers ≤ 16) }
-{
-    let replies = session_run(rt, alloc, known.program, input, &[], workers, gate)?;
+/// Whether the one reply has the result, and an update where one is told.
+fn is_reply(
+    replies: Result<Vec<Reply>, RunError>,
+    end: &End,
+    is_update_told: bool,
+) -> Result<bool, RunError> {
+    let replies = replies?;
     let is_right = match replies.as_slice() {
-        [
-            Reply::Done {
-                result,
-                update: Some(_),
-            },
-        ] => { result.total == known.end.total }
+        [Reply::Done { result, update }] => {
+            result.total == end.total && update.is_some() == is_update_told
+        }
         _ => false,
     };
     drop(replies);
@@ -110,7 +105,14 @@ fn is_run_on<R: Threads + Sync, G: Gate>(
             is_given(given, &known.end)
         }
         Way::Opened => is_opened(rt, alloc, known, input.copy()?, workers, gate),
-        Way::Replied => is_replied(rt, alloc, known, input.copy()?, workers, gate),
+        Way::Replied => {
+            let replies = session_run(rt, alloc, program, input.copy()?, &[], workers, gate);
+            is_reply(replies, &known.end, true)
+        }
+        Way::RepliedAfresh => {
+            let replies = scratch_run(alloc, &program, input.copy()?, &[]);
+            is_reply(replies, &known.end, false)
+        }
     }
 }
 
@@ -131,7 +133,7 @@ pub fn is_run<R: Threads + Sync, G: Gate>(
     found
 }
 
-static WAYS: [Way; 7] = [
+static WAYS: [Way; 8] = [
     Way::Plain,
     Way::Computing,
     Way::Wide,
@@ -139,6 +141,7 @@ static WAYS: [Way; 7] = [
     Way::UnrecordedWide,
     Way::Opened,
     Way::Replied,
+    Way::RepliedAfresh,
 ];
 
 fn find_all<R: Threads + Sync + Abort>(rt: &R, alloc: Global, known: &Known) {

@@ -2,7 +2,7 @@ use Rattle.std.proofs.Common.{◌<◌, ℕ, List, All, length, sym, subst}
 use Rattle.std.proofs.lemmas.Result.{on_ok_weaker}
 use Rattle.bsp_model.specs.declared.request.Message.{Message}
 use Rattle.bsp_deliver.specs.Delivery.{delivery_parts, next_memory, next_queue}
-use Rattle.bsp_deliver.specs.Condition.{IsAscending}
+use Rattle.bsp_model.specs.Replaced.{IsAscending}
 use Rattle.bsp_deliver.proofs.AllProcesses.{all_known, all_ascending}
 use Rattle.bsp_deliver.proofs.CellsOf.{cells_of-maps}
 use Rattle.bsp_deliver.proofs.moving.deliver_moving.Goals as goal

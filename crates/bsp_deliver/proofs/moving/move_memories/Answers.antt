@@ -2,7 +2,7 @@ use Rattle.std.proofs.Common.{◌≡◌, ◌<◌, List, All, length, map, sym, a
 use Rattle.std.proofs.lemmas.List.FromFn.{length-range_with_len}
 use Rattle.std.proofs.lemmas.Result.{on_ok_weaker}
 use Rattle.bsp_step.specs.OutcomeParts.{OutcomeParts}
-use Rattle.bsp_deliver.specs.Condition.{IsAscending}
+use Rattle.bsp_model.specs.Replaced.{IsAscending}
 use Rattle.bsp_deliver.specs.Delivery.{delivery_parts, next_memory}
 use Rattle.bsp_deliver.proofs.AllProcesses.{all_known, all_ascending}
 use Rattle.bsp_deliver.proofs.BothOk.{on_first_ok}

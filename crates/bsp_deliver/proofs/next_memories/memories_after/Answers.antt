@@ -6,7 +6,7 @@ use Rattle.std.proofs.lemmas.Result.{on_ok_weaker}
 use Rattle.bsp_model.proofs.Replaced.{all_places}
 use Rattle.bsp_step.specs.OutcomeParts.{OutcomeParts}
 use Rattle.bsp_deliver.specs.Requests.{all_puts}
-use Rattle.bsp_deliver.specs.Condition.{IsAscending}
+use Rattle.bsp_model.specs.Replaced.{IsAscending}
 use Rattle.bsp_deliver.specs.Delivery.{get_write, delivery_parts}
 use Rattle.bsp_deliver.specs.Inside.Gathering.{overlay, put_at, ArePlaces}
 use Rattle.bsp_deliver.proofs.AllProcesses.{at_own_place}

@@ -8,7 +8,7 @@ use Rattle.bsp_deliver.specs.Delivery.{message_of}
 use Rattle.bsp_deliver.proofs.Senders.{outcome_at, map_twice}
 use Rattle.bsp_whole.proofs.AddressedRequests.{addressed_more}
 use Rattle.bsp_whole.proofs.Queues.{IsQueueOf, no_senders, sender_more, queue_of_few}
-use Rattle.bsp_whole.proofs.addressed.sends_to.Goals as goal
+use Rattle.bsp_whole.proofs.inboxes.sends_to.Goals as goal
 
 abbrev messages_of : List (ℕ × Send) → List Message
 messages_of ms = map (λ (m : ℕ × Send). message_of m.1) ms

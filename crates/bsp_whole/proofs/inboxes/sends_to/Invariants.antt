@@ -2,7 +2,7 @@ use Rattle.std.proofs.Common.{◌≡◌, ◌==◌, take, filter, map}
 use Rattle.bsp_deliver.specs.Requests.{all_sends}
 use Rattle.bsp_deliver.specs.Delivery.{message_of}
 use Rattle.bsp_whole.proofs.Queues.{IsQueueOf}
-use Rattle.bsp_whole.proofs.addressed.sends_to.Given as goal
+use Rattle.bsp_whole.proofs.inboxes.sends_to.Given as goal
 
 -- the messages to d of the senders so far
 abbrev pub invariant-loop-sender : goal.invariant-loop-sender

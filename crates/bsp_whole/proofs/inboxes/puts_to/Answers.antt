@@ -4,7 +4,7 @@ use Rattle.bsp_step.specs.OutcomeParts.{OutcomeParts, outcome_of}
 use Rattle.bsp_deliver.specs.Requests.{all_puts}
 use Rattle.bsp_deliver.proofs.Senders.{outcome_at}
 use Rattle.bsp_whole.proofs.AddressedRequests.{addressed_more}
-use Rattle.bsp_whole.proofs.addressed.puts_to.Goals as goal
+use Rattle.bsp_whole.proofs.inboxes.puts_to.Goals as goal
 
 pub loop-sender-init : goal.loop-sender-init
 unfolding all_puts

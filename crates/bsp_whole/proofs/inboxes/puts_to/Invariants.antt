@@ -1,6 +1,6 @@
 use Rattle.std.proofs.Common.{◌≡◌, ◌==◌, take, filter}
 use Rattle.bsp_deliver.specs.Requests.{all_puts}
-use Rattle.bsp_whole.proofs.addressed.puts_to.Given as goal
+use Rattle.bsp_whole.proofs.inboxes.puts_to.Given as goal
 
 -- the puts to d of the senders so far
 abbrev pub invariant-loop-sender : goal.invariant-loop-sender

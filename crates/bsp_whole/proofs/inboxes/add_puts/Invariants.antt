@@ -1,5 +1,5 @@
 use Rattle.std.proofs.Common.{◌≡◌, ◌++◌, ◌==◌, map, filter, take}
-use Rattle.bsp_whole.proofs.addressed.add_puts.Given as goal
+use Rattle.bsp_whole.proofs.inboxes.add_puts.Given as goal
 
 -- the puts to d so far were added
 abbrev pub invariant-loop-place : goal.invariant-loop-place
