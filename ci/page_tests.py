@@ -63,17 +63,17 @@ class Pages(unittest.TestCase):
                 self.assertEqual(len(self.lines_of(long_sentences, form.format(long))), 1)
 
     def test_a_sentence_goes_over_lines(self):
-        text = f"Short. {words(30)}\n{words(11)}. Short."
-        self.assertEqual(self.lines_of(long_sentences, text), [f"docs/page.md:1: a sentence of 41 words: {words(30)[:60]}"])
+        text = f"Short. {words(20)}\n{words(6)}. Short."
+        self.assertEqual(self.lines_of(long_sentences, text), [f"docs/page.md:1: a sentence of 26 words: {words(20)[:60]}"])
 
     def test_sentences_items_and_cells_are_counted_by_themselves(self):
-        part = words(25)
-        for text in (f"{part}. {part}! {part}? {part}", f"- {part}\n- {part}\n  {words(15)}", f"| {part} | {part} |", f"{part}\n\n{part}", f"# {part}\n{part}"):
+        part = words(15)
+        for text in (f"{part}. {part}! {part}? {part}", f"- {part}\n- {part}\n  {words(10)}", f"| {part} | {part} |", f"{part}\n\n{part}", f"# {part}\n{part}"):
             with self.subTest(text=text):
                 self.assertEqual(self.lines_of(long_sentences, text), [])
 
     def test_code_and_links_are_a_word_each(self):
-        code = " ".join(["`let it = be;`", "[a link of words](docs/page.md)", "w + h·g - l"] * 8)
+        code = " ".join(["`let it = be;`", "[a link of words](docs/page.md)", "w + h·g - l"] * 5)
         self.assertEqual(self.lines_of(long_sentences, code), [])
         self.assertEqual(len(self.lines_of(long_sentences, f"{code} a")), 1)
 

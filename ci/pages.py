@@ -5,7 +5,7 @@ import os
 import re
 import subprocess
 
-MOST_WORDS = 40
+MOST_WORDS = 25
 FENCE = "```"
 BULLET = re.compile(r"\s*(?:[-*]|\d+\.)\s+")
 LINK = re.compile(r"!?\[[^\]]*\]\(([^)\s]+)\)")
