@@ -7,6 +7,7 @@ use Rattle.bsp_incr.proofs.Gathering.{filter_from}
 use Rattle.bsp_causes.specs.TurnCauses.{is_other_word}
 use Rattle.bsp_causes.specs.Inside.Words.{other_words_from}
 use Rattle.bsp_causes.proofs.Filtered.{filter_range-append, passes_more, fails_more, none_passes}
+use Rattle.bsp_incr.proofs.Serving.{length_page}
 
 -- one word of a piece
 abbrev pub is_other_at : (ℕ → Bool) → ℕ → List ℕ → List ℕ → ℕ → Bool
@@ -45,13 +46,6 @@ same_more looks first i word old new xs ys is_other e h fails so_far =
 -- a word of the page that an address is in
 word_of_page : (m rest : List ℕ) (a i : ℕ) → rest ≡ rest_of_page m a → i < 64 - a % 64 → get_or rest i 0 ≡ get_or m (a + i) 0
 word_of_page m rest a i e l = ap (λ (ws : List ℕ). get_or ws i 0) e ∙ get_or-take (64 - a % 64) (drop a m) i 0 l ∙ get_or-drop a m i 0
-
-length_page : (m rest : List ℕ) (a : ℕ) → rest ≡ rest_of_page m a → length rest ≡ min (64 - a % 64) (length m - a)
-length_page m rest a e = ap length e ∙ length-take (64 - a % 64) (drop a m) ∙ ap (λ (k : ℕ). min (64 - a % 64) k) (length-drop a m)
-
--- at least one word, where the address is inside the memory, and none past its end
-pub inside_page : (m rest : List ℕ) (a : ℕ) → rest ≡ rest_of_page m a → a < length m → (0 < length rest) × (a + length rest ≤ length m)
-inside_page m rest a e l = let long = length_page m rest a e in (omega arith, omega arith)
 
 other_there : (looks : ℕ → Bool) (old new before after : List ℕ) (a k : ℕ) → before ≡ rest_of_page old a → after ≡ rest_of_page new a → a ≤ k → k < a + length before
     → is_other_at looks a before after k ≡ is_other_word looks old new k

@@ -5,7 +5,7 @@ use Rattle.std.proofs.lemmas.Bool.Decides.{Decides-eqb, Decides-and, Decides-lik
 use Rattle.bsp_model.specs.declared.request.Put.{Put}
 use Rattle.bsp_model.specs.declared.request.Get.{Get}
 use Rattle.bsp_model.specs.declared.request.Send.{Send}
-use Rattle.bsp_deliver.specs.Inside.SameDelivery.{same_words}
+use Rattle.bsp_model.specs.Same.{same_words}
 use Rattle.bsp_deliver.proofs.SameDelivery.{Decides-words}
 use Rattle.bsp_causes.specs.Same.{same_get, same_put, same_send}
 

@@ -1,7 +1,8 @@
 -- Why a delivery was made again (this profile).
 use Rattle.std.specs.Prelude.{◌≡◌, ℕ, Bool, true, false, ◌==◌, ◌&&◌, not, nat_lt, List, [], filter, length, if◌then◌else◌}
 use Rattle.std.specs.Cmp.Lexicographic.{pointwise}
-use Rattle.std.specs.List.{list_any, range_with_len}
+use Rattle.std.specs.List.{list_any}
+use Rattle.bsp_model.specs.ProcessSet.{processes_where}
 use Rattle.bsp_model.specs.declared.request.Get.{Get}
 use Rattle.bsp_step.specs.OutcomeParts.{OutcomeParts, outcome_of}
 use Rattle.bsp_deliver.specs.Requests.{words_read}
@@ -9,7 +10,8 @@ use Rattle.bsp_run.specs.declared.superstep.Superstep.{Superstep}
 use Rattle.bsp_run.specs.Supersteps.{superstep_at}
 use Rattle.bsp_incr.specs.declared.reply.Place.{Place}
 use Rattle.bsp_incr.specs.Exact.{HasDelivery}
-use Rattle.bsp_causes.specs.Same.{same_words, same_get, same_put, same_send}
+use Rattle.bsp_causes.specs.Same.{same_get, same_put, same_send}
+use Rattle.bsp_model.specs.Same.{same_words}
 use Rattle.bsp_causes.specs.declared.deliveries.DeliveryCauses.{DeliveryCauses}
 
 -- the run before has such a delivery
@@ -20,10 +22,6 @@ has_delivery ss place = nat_lt place.pid (length (superstep_at ss place.step).ou
 abbrev pub HaveAsMany : List Superstep → List Superstep → Place → Type 0
 HaveAsMany olds news place =
     HasDelivery olds place → length (superstep_at olds place.step).outcomes ≡ length (superstep_at news place.step).outcomes
-
--- the processes, ascending, at which the test holds, of so many
-abbrev pub processes_where : ℕ → (ℕ → Bool) → List ℕ
-processes_where count test = filter test (range_with_len 0 count)
 
 -- the get reads other words of this owner
 abbrev pub reads_others : List OutcomeParts → List OutcomeParts → ℕ → Get → Bool

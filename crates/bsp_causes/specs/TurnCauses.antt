@@ -7,7 +7,8 @@ use Rattle.bsp_run.specs.declared.superstep.Superstep.{Superstep}
 use Rattle.bsp_run.specs.Supersteps.{superstep_at}
 use Rattle.bsp_incr.specs.declared.reply.Place.{Place}
 use Rattle.bsp_incr.specs.Exact.{view_there}
-use Rattle.bsp_causes.specs.Same.{same_words, same_table, same_message}
+use Rattle.bsp_table.specs.Same.{same_table}
+use Rattle.bsp_model.specs.Same.{same_words, same_message}
 use Rattle.bsp_causes.specs.declared.turns.TurnCauses.{TurnCauses}
 
 -- the run before has such a turn

@@ -8,7 +8,8 @@ ghost use Rattle.bsp_deliver.specs.Readable.{IsReadable};
 ghost use Rattle.bsp_run.specs.Supersteps.{superstep_at};
 ghost use Rattle.bsp_incr.specs.Exact.{HasDelivery, delivered_before};
 ghost use Rattle.bsp_incr.specs.Inside.Before.{outcomes_if_any};
-ghost use Rattle.bsp_causes.specs.DeliveryCauses.{HaveAsMany, processes_where, reads_others, parcel_causes, delivery_causes};
+ghost use Rattle.bsp_causes.specs.DeliveryCauses.{HaveAsMany, reads_others, parcel_causes, delivery_causes};
+ghost use Rattle.bsp_model.specs.ProcessSet.{processes_where};
 ghost use Rattle.bsp_causes.specs.Inside.Parts.{AreComparedAt, is_other};
 
 use bsp_deliver::{are_same_puts, are_same_sends, get_reads_same_words};

@@ -4,11 +4,6 @@ use Rattle.std.specs.Prelude.{OnOk}
 use Rattle.std.specs.Result.{result_and}
 use Rattle.std.proofs.lemmas.Result.{on_ok_weaker}
 
--- what each promises holds of both, where both together answer a value
-pub both_ok : {T U E P Q : Type 0} (a : Result T E) (b : Result U E) (y : U) → Ok y ≡ result_and a b → OnOk a P → OnOk b Q → P × Q
-both_ok {Q = Q} (Ok x) b y both first second = (first, subst (λ (r : Result _ _). OnOk r Q) (sym both) second)
-both_ok (Err e) b y both first second = absurd (cc)
-
 -- what the first promises holds of both together
 pub on_first_ok : {T U E : Type 0} (P : Type 0) (a : Result T E) (b r : Result U E) → r ≡ result_and a b → OnOk a P → OnOk r P
 on_first_ok P (Ok x) b (Ok y) both first = first

@@ -8,7 +8,8 @@ use Rattle.bsp_model.specs.declared.request.Put.{Put}
 use Rattle.bsp_model.specs.declared.request.Get.{Get}
 use Rattle.bsp_model.specs.declared.request.Send.{Send}
 use Rattle.bsp_deliver.specs.Delivery.{DeliveryParts}
-use Rattle.bsp_deliver.specs.Inside.SameDelivery.{same_words, same_put, same_send, same_get, same_delivery}
+use Rattle.bsp_deliver.specs.Inside.SameDelivery.{same_put, same_send, same_get, same_delivery}
+use Rattle.bsp_model.specs.Same.{same_words}
 
 pub Decides-pointwise : {X : Type 0} {E : X → X → Bool} → ((a b : X) → Decides (E a b) (a ≡ b)) → (xs ys : List X) → Decides (pointwise E xs ys) (xs ≡ ys)
 Decides-pointwise {E = E} each xs ys = slice_eq-Decides each xs ys (pointwise E xs ys) refl

@@ -16,10 +16,6 @@ pub and_told : {X Y E : Type 0} (r : Result X E) (y : Y) (s : Result Y E) (A B :
 and_told (Ok x) y s A B is so a = let P : Result _ _ → Type 0 = λ t. OnOk t B in subst P (sym is) (so a)
 and_told (Err e) y s A B is so a = let P : Result _ _ → Type 0 = λ t. OnOk t B in subst P (sym is) tt
 
-pub and_given : {X Y E A : Type 0} (r : Result X E) (y : Y) (s : Result Y E) (Q : Y → Type 0) → s ≡ result_and r (Ok y) → (A → Q y) → OnOk r A → IfOk s Q
-and_given (Ok x) y s Q is so a = let P : Result _ _ → Type 0 = λ t. IfOk t Q in subst P (sym is) (so a)
-and_given (Err e) y s Q is so a = let P : Result _ _ → Type 0 = λ t. IfOk t Q in subst P (sym is) tt
-
 -- it is no other answer
 pub and_ok : {X Y E : Type 0} (r : Result X E) (y z : Y) (s : Result Y E) (A B : Type 0) → s ≡ result_and r (Ok y) → OnOk r A → (A → y ≡ z → B) → s ≡ Ok z → B
 and_ok (Ok x) y z s A B is h so same = let e : Ok y ≡ Ok z = sym is ∙ same in so h (cc)

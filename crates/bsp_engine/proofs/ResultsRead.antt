@@ -7,7 +7,8 @@ use Rattle.std.proofs.lemmas.Fmt.{decimal_injective}
 use Rattle.std.proofs.lemmas.Slice.Zip.{AllZip-long}
 use Rattle.bsp_model.specs.declared.cost.CostRow.{CostRow}
 use Rattle.bsp_run.specs.declared.result.RunResult.{RunResult}
-use Rattle.bsp_engine.specs.Changes.{Changes, changes_lines, changes_of, count_line, other_lines, other_number, others, piece_if, same_lines, same_row, same_words}
+use Rattle.bsp_engine.specs.Changes.{Changes, changes_lines, changes_of, count_line, other_lines, other_number, others, piece_if, same_lines, same_row}
+use Rattle.bsp_model.specs.Same.{same_words}
 use Rattle.bsp_text.specs.Lines.{fields, line, numbered}
 use Rattle.bsp_engine.specs.Text.{cost_line, memory_line, print_lines, result_lines, status_lines, update_lines}
 use Rattle.bsp_engine.specs.Whole.{IsCounted, TextsTellTheRest, count_with, items_with, numbers_of}

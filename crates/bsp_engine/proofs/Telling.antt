@@ -5,7 +5,8 @@ use Rattle.bsp_run.specs.declared.result.RunResult.{RunResult}
 use Rattle.bsp_run.specs.Run.{Run}
 use Rattle.bsp_run.specs.Result.{costs_of, lines_of, memories_of, result_of, status_of, total_of}
 use Rattle.bsp_engine.specs.Inside.Touched.{cost_changes}
-use Rattle.bsp_engine.specs.Changes.{changes_lines, changes_of, other_lines, others, piece_if, same_lines, same_row, same_words}
+use Rattle.bsp_engine.specs.Changes.{changes_lines, changes_of, other_lines, others, piece_if, same_lines, same_row}
+use Rattle.bsp_model.specs.Same.{same_words}
 use Rattle.bsp_text.specs.Lines.{line, numbered}
 use Rattle.bsp_engine.specs.Text.{cost_line, memory_line, print_lines, result_lines, status_lines}
 use Rattle.bsp_engine.proofs.Changed.{all_told}

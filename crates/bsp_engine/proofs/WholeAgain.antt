@@ -5,7 +5,8 @@ use Rattle.std.proofs.lemmas.Bool.Decides.{Decides-eqb, Decides-and, Decides-lik
 use Rattle.bsp_model.specs.declared.cost.CostRow.{CostRow}
 use Rattle.bsp_run.specs.declared.result.RunResult.{RunResult}
 use Rattle.bsp_deliver.proofs.SameDelivery.{Decides-pointwise, Decides-words}
-use Rattle.bsp_engine.specs.Changes.{changes_of, changes_lines, count_line, other_lines, other_number, others, piece_if, same_lines, same_row, same_words}
+use Rattle.bsp_engine.specs.Changes.{changes_of, changes_lines, count_line, other_lines, other_number, others, piece_if, same_lines, same_row}
+use Rattle.bsp_model.specs.Same.{same_words}
 use Rattle.bsp_text.specs.Lines.{line, numbered}
 use Rattle.bsp_engine.specs.Text.{cost_line, memory_line, status_lines}
 use Rattle.bsp_engine.specs.Whole.{ChangesTellTheRest, count_with, first_of, items_with, numbers_of, pieces, told_lines, told_of, whole_of}

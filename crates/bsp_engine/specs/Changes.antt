@@ -1,6 +1,7 @@
 -- What of a result is another than in the result before, as `--changes` tells it (this profile).
 use Rattle.std.specs.Prelude.{ℕ, Bool, ◌==◌, ◌&&◌, nat_eq, List, [], ◌∷◌, ◌++◌, drop, length, slice_get, codes, Option, None, Some, if◌then◌else◌}
 use Rattle.std.specs.Cmp.Lexicographic.{pointwise}
+use Rattle.bsp_model.specs.Same.{same_words}
 use Rattle.bsp_model.specs.declared.cost.CostRow.{CostRow}
 use Rattle.bsp_run.specs.declared.result.RunResult.{RunResult}
 use Rattle.bsp_run.specs.declared.result.Status.{Status}
@@ -16,9 +17,6 @@ other same (Some old) new = if same old new then None else Some new
 abbrev pub others : {A : Type 0} → (A → A → Bool) → List A → List A → List (Option A)
 others same olds [] = []
 others same olds (new ∷ news) = other same (slice_get olds 0) new ∷ others same (drop 1 olds) news
-
-abbrev pub same_words : List ℕ → List ℕ → Bool
-same_words = pointwise nat_eq
 
 abbrev pub same_lines : List (List ℕ) → List (List ℕ) → Bool
 same_lines = pointwise same_words

@@ -1,7 +1,8 @@
 //! The text of a result: all of it, or its changes against the result before.
 
 ghost use Rattle.std.specs.Prelude.{◌≡◌, ◌++◌, [], Some, false, OnOk, IfOk, option_map, slice_get, unwrap_or};
-ghost use Rattle.bsp_engine.specs.Changes.{changes_lines, changes_of, other, other_lines, others, piece_if, same_lines, same_row, same_words};
+ghost use Rattle.bsp_engine.specs.Changes.{changes_lines, changes_of, other, other_lines, others, piece_if, same_lines, same_row};
+ghost use Rattle.bsp_model.specs.Same.{same_words};
 ghost use Rattle.bsp_engine.specs.Inside.Touched.{cost_changes};
 ghost use Rattle.bsp_text.specs.Lines.{numbered};
 ghost use Rattle.bsp_engine.specs.Text.{cost_line, memory_line, result_lines};

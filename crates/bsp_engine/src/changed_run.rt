@@ -2,7 +2,8 @@
 
 ghost use Rattle.std.specs.Prelude.{◌≡◌, ◌++◌, false, length, IfOk, OnOk, slice_get, map, slice_set, true};
 ghost use Rattle.bsp_run.specs.Result.{lines_of, memories_of, result_of};
-ghost use Rattle.bsp_engine.specs.Changes.{changes_lines, changes_of, other_lines, others, piece_if, same_lines, same_words};
+ghost use Rattle.bsp_engine.specs.Changes.{changes_lines, changes_of, other_lines, others, piece_if, same_lines};
+ghost use Rattle.bsp_model.specs.Same.{same_words};
 ghost use Rattle.bsp_text.specs.Lines.{numbered};
 ghost use Rattle.bsp_engine.specs.Text.{memory_line};
 ghost use Rattle.bsp_engine.specs.Inside.Touched.{AreSameUnflagged, IsUpdateBetween, flags_of, piece_there, flagged};

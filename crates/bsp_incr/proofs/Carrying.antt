@@ -9,7 +9,8 @@ use Rattle.bsp_run.specs.State.{cell_of}
 use Rattle.bsp_run.specs.Condition.{no_view, deliveries_of}
 use Rattle.bsp_run.specs.Shares.{deliveries_to}
 use Rattle.bsp_run.proofs.Shares.{deliveries_to-all}
-use Rattle.bsp_incr.specs.Inside.Changes.{is_touched, processes_where}
+use Rattle.bsp_incr.specs.Inside.Changes.{is_touched}
+use Rattle.bsp_model.specs.ProcessSet.{processes_where}
 use Rattle.bsp_incr.specs.Inside.Marks.{AreDelivered}
 use Rattle.bsp_model.specs.Replaced.{replaced}
 use Rattle.bsp_incr.proofs.Gathering.{all_where}

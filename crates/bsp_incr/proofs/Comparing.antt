@@ -4,9 +4,9 @@ use Rattle.std.specs.Bool.{Decides}
 use Rattle.std.proofs.lemmas.Bool.Decides.{Decides-eqb, Decides-and, Decides-like}
 use Rattle.bsp_model.specs.declared.request.Message.{Message}
 use Rattle.bsp_table.specs.declared.area.Area.{Area}
-use Rattle.bsp_deliver.specs.Inside.SameDelivery.{same_words}
 use Rattle.bsp_deliver.proofs.SameDelivery.{Decides-pointwise, Decides-words}
-use Rattle.bsp_incr.specs.Inside.Comparing.{same_area, same_table, same_message}
+use Rattle.bsp_table.specs.Same.{same_area, same_table}
+use Rattle.bsp_model.specs.Same.{same_message, same_words}
 
 pub Decides-area : (a b : Area) → Decides (same_area a b) (a ≡ b)
 Decides-area a b =

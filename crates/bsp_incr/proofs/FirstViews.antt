@@ -15,7 +15,7 @@ use Rattle.bsp_run.specs.Inside.Record.{IsRecord}
 use Rattle.bsp_run.proofs.Records.{state_at-first}
 use Rattle.bsp_incr.specs.Inside.Before.{first_views_before, first_view_before, IsBefore}
 use Rattle.bsp_incr.specs.Inside.Marks.{AreFirstMarked}
-use Rattle.bsp_incr.specs.Inside.Changes.{processes_where}
+use Rattle.bsp_model.specs.ProcessSet.{processes_where}
 use Rattle.bsp_model.specs.Replaced.{replaced}
 use Rattle.bsp_incr.proofs.Patching.{patched, patched_is}
 use Rattle.bsp_incr.proofs.RunBefore.{record_of_law}

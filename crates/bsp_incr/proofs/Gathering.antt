@@ -6,7 +6,7 @@ use Rattle.std.proofs.lemmas.List.FromFn.{get_or-map-range_with_len, get_or-rang
 use Rattle.std.proofs.lemmas.List.Kept.{AllPairs-filter}
 use Rattle.bsp_model.specs.Replaced.{IsAscending}
 use Rattle.bsp_deliver.specs.Requests.{each_below}
-use Rattle.bsp_incr.specs.Inside.Changes.{processes_where}
+use Rattle.bsp_model.specs.ProcessSet.{processes_where}
 
 pub filter_from : (f g : ℕ → Bool) (a n : ℕ) → ((k : ℕ) → a < k + 1 → k < a + n → f k ≡ g k) → filter f (range_with_len a n) ≡ filter g (range_with_len a n)
 filter_from f g a zero same = refl

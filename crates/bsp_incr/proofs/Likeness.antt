@@ -6,7 +6,7 @@ use Rattle.bsp_step.specs.OutcomeParts.{OutcomeParts, outcome_of}
 use Rattle.bsp_deliver.specs.Requests.{each_below, requests_from, all_puts, all_gets, all_sends}
 use Rattle.bsp_deliver.specs.Cost.{Transfer, transfers, put_transfer, get_transfer, send_transfer, count_sent, count_received, largest, h_relation}
 use Rattle.bsp_run.specs.Result.{largest_work}
-use Rattle.bsp_run.proofs.Lists.{map_twice}
+use Rattle.bsp_deliver.proofs.Senders.{map_twice}
 use Rattle.bsp_incr.specs.Inside.Alike.{AllCostAlike, CostsAlike}
 
 -- What holds of no turns, and of one turn more of each side where these two are alike, holds of all that are alike one by one.

@@ -6,11 +6,10 @@ use Rattle.std.proofs.lemmas.List.{get_or_default, get_or-replicate, length-repl
 use Rattle.std.proofs.lemmas.List.Elements.{filter_passes}
 use Rattle.std.proofs.lemmas.List.FromFn.{fill_by_all}
 use Rattle.std.proofs.Math.ListN.{length-set}
-use Rattle.bsp_model.specs.ProcessSet.{processes_in}
+use Rattle.bsp_model.specs.ProcessSet.{processes_in, processes_where}
 use Rattle.bsp_model.proofs.Replaced.{length-replaced}
 use Rattle.bsp_model.proofs.ProcessSets.{processes_are, processes_known}
 use Rattle.bsp_deliver.specs.Requests.{each_below}
-use Rattle.bsp_incr.specs.Inside.Changes.{processes_where}
 use Rattle.bsp_incr.proofs.Patching.{patched, patched_at}
 
 -- the set with these members too

@@ -9,7 +9,7 @@ use Rattle.std.proofs.lemmas.List.FromFn.{fill_by_all}
 use Rattle.bsp_deliver.specs.Requests.{each_below}
 use Rattle.bsp_model.specs.Replaced.{replaced}
 use Rattle.bsp_model.proofs.Replaced.{length-replaced}
-use Rattle.bsp_incr.specs.Inside.Changes.{processes_where}
+use Rattle.bsp_model.specs.ProcessSet.{processes_where}
 
 -- the items, with what f gives at these places
 abbrev pub patched : {X : Type 0} → (ℕ → X) → List X → List ℕ → List X

@@ -7,7 +7,8 @@ use Rattle.std.proofs.lemmas.Bool.{cases_lt}
 use Rattle.bsp_run.specs.declared.superstep.Superstep.{Superstep}
 use Rattle.bsp_run.specs.Supersteps.{superstep_at}
 use Rattle.bsp_incr.specs.declared.reply.Place.{Place}
-use Rattle.bsp_incr.specs.Inside.Changes.{gathered, processes_where, places_of}
+use Rattle.bsp_incr.specs.Inside.Changes.{gathered, places_of}
+use Rattle.bsp_model.specs.ProcessSet.{processes_where}
 use Rattle.bsp_incr.specs.Exact.{comes_before, AreInOrder}
 
 pub none_in_nil : {X : Type 0} (x : X) → Contains [] x → ⊥

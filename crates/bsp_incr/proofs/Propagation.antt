@@ -21,15 +21,12 @@ use Rattle.bsp_deliver.specs.Inside.SameDelivery.{same_delivery}
 use Rattle.bsp_incr.specs.Inside.Changes.{is_touched}
 use Rattle.bsp_incr.specs.Inside.Marks.{AreAlikeButForTable, HaveOneTable}
 use Rattle.bsp_deliver.proofs.SameDelivery.{Decides-delivery}
+use Rattle.bsp_model.proofs.Inputs.{not_false}
 
 -- A delivery has to be made where the run before has none to the process, or one that depends on something else.
 pub Decides-untouched : (old new : List OutcomeParts) (d : ℕ) → Decides (nat_lt d (length old) && same_delivery (delivery_parts old d) (delivery_parts new d)) ((d < length old) × (delivery_parts old d ≡ delivery_parts new d))
 Decides-untouched old new d =
     Decides-and (nat_lt d (length old)) (same_delivery (delivery_parts old d) (delivery_parts new d)) (Decides-ltb d (length old)) (Decides-delivery (delivery_parts old d) (delivery_parts new d))
-
-pub not_false : (b : Bool) → not b ≡ false → b ≡ true
-not_false true h = refl
-not_false false h = cc
 
 pub untouched_is : (old new : List OutcomeParts) (d : ℕ) → is_touched old new d ≡ false → (d < length old) × (delivery_parts old d ≡ delivery_parts new d)
 untouched_is old new d h =

@@ -12,15 +12,15 @@ use Rattle.bsp_run.specs.Condition.{no_view}
 use Rattle.bsp_run.specs.Shares.{turns_of}
 use Rattle.bsp_run.proofs.Shares.{turns_of-all}
 use Rattle.bsp_incr.specs.Inside.Reuse.{needs_turn, serves}
-use Rattle.bsp_incr.specs.Inside.Changes.{differs, processes_where}
+use Rattle.bsp_incr.specs.Inside.Changes.{differs}
 use Rattle.bsp_incr.specs.Inside.Marks.{ViewsDifferAtMost}
-use Rattle.bsp_model.specs.ProcessSet.{processes_in}
+use Rattle.bsp_model.specs.ProcessSet.{processes_in, processes_where}
 use Rattle.bsp_deliver.specs.Requests.{each_below}
 use Rattle.bsp_model.specs.Replaced.{replaced}
 use Rattle.bsp_incr.proofs.Gathering.{all_where, filter_from, filter_twice, processes_where-each_below}
 use Rattle.bsp_incr.proofs.Patching.{patched, patched_is}
 use Rattle.bsp_incr.proofs.Serving.{serves-itself}
-use Rattle.bsp_incr.proofs.Propagation.{not_false}
+use Rattle.bsp_model.proofs.Inputs.{not_false}
 
 -- where the run before has no view of the process
 pub differs-none : (looks : ViewParts → ℕ → Bool) (old new : List ViewParts) (p : ℕ) → length old ≤ p → differs looks old new p ≡ true

@@ -21,6 +21,7 @@ use Rattle.bsp_model.proofs.MadeAgain.{length-made_again, made_again-append}
 use Rattle.bsp_incr.specs.Inside.Reuse.{serves}
 use Rattle.bsp_incr.specs.Reused.{reused}
 use Rattle.bsp_incr.proofs.Serving.{Decides-serves}
+use Rattle.bsp_step.proofs.Performing.{perform-length}
 
 made_again-push : (m : List ℕ) (stores : List Store) (s : Store) → made_again m (stores ++ s ∷ []) ≡ slice_set (made_again m stores) s.addr s.value
 made_again-push m stores s = made_again-append m stores (s ∷ [])
@@ -64,27 +65,6 @@ perform-over m c a e =
     ap (λ r. performed c.fault r (over m c) (done (over m c) a)) (refusal-over m c a e)
     ∙ ap (λ d. performed c.fault (refusal c a) (over m c) d) (done-over m c a)
     ∙ performed-over m c.fault (refusal c a) c (done c a)
-
-done-length : (c : Context) (a : Act) → length (done c a).memory ≡ length c.memory
-done-length c (store a v) = length-set c.memory a v
-done-length c (charge n) = refl
-done-length c (put pid words area offset) = refl
-done-length c (get pid area offset into len) = refl
-done-length c (send pid tag words) = refl
-done-length c (move_into room) = refl
-done-length c (push_reg start len) = refl
-done-length c (pop_reg start) = refl
-done-length c (set_tagsize size) = refl
-done-length c (print words) = refl
-
-performed-length : (f r : Option Fault) (c d : Context) → length d.memory ≡ length c.memory → length (performed f r c d).memory ≡ length c.memory
-performed-length (Some f) r c d e = refl
-performed-length None (Some f) c d e = refl
-performed-length None None c d e = e
-
--- no act changes the memory's length
-pub perform-length : (c : Context) (a : Act) → length (perform c a).memory ≡ length c.memory
-perform-length c a = performed-length c.fault (refusal c a) c (done c a) (done-length c a)
 
 perform_all-over : (m : List ℕ) (c : Context) (acts : List Act) → length c.memory ≡ length m → perform_all (over m c) acts ≡ over m (perform_all c acts)
 perform_all-over m c [] e = refl

@@ -26,7 +26,7 @@ use Rattle.bsp_run.proofs.Laws.{superstep_at-past_end, taken-opened, taken_outco
 use Rattle.bsp_incr.specs.Inside.Marks.{HaveOneTable, AreDelivered, AreArgsMarked}
 use Rattle.bsp_incr.specs.Exact.{delivered_before, supersteps_before}
 use Rattle.bsp_incr.specs.Inside.Before.{views_before, outcomes_before, delivered_outcomes, views_after, first_view_before, IsBefore, IsBeforeEdits, HasSameArgs, HasSameMemory}
-use Rattle.bsp_incr.specs.Inside.Changes.{processes_where}
+use Rattle.bsp_model.specs.ProcessSet.{processes_where}
 use Rattle.bsp_incr.specs.declared.edit.Edit.{Edit}
 use Rattle.bsp_incr.proofs.Lawful.{edited_count}
 use Rattle.bsp_incr.proofs.Patching.{patched, patched_is}

@@ -12,8 +12,8 @@ use Rattle.std.proofs.lemmas.Option.{slice_get-get_or}
 use Rattle.bsp_model.specs.Memory.{rest_of_page}
 use Rattle.bsp_step.specs.ViewParts.{ViewParts}
 use Rattle.bsp_step.specs.Footprint.{AreAlike, AreAlikeButForWords}
-use Rattle.bsp_deliver.specs.Inside.SameDelivery.{same_words}
-use Rattle.bsp_incr.specs.Inside.Comparing.{same_table, same_message}
+use Rattle.bsp_table.specs.Same.{same_table}
+use Rattle.bsp_model.specs.Same.{same_message, same_words}
 use Rattle.bsp_incr.specs.Inside.Reuse.{same_but_for_words, same_where_looked_at, serves}
 use Rattle.bsp_deliver.proofs.SameDelivery.{Decides-words, Decides-pointwise}
 use Rattle.bsp_incr.proofs.Comparing.{Decides-table, Decides-message}
@@ -80,7 +80,7 @@ serves-itself looks v =
 
 -- pages of the memories, from an address on
 
-length_page : (m rest : List ℕ) (a : ℕ) → rest ≡ rest_of_page m a → length rest ≡ min (64 - a % 64) (length m - a)
+pub length_page : (m rest : List ℕ) (a : ℕ) → rest ≡ rest_of_page m a → length rest ≡ min (64 - a % 64) (length m - a)
 length_page m rest a e = ap length e ∙ length-take (64 - a % 64) (drop a m) ∙ ap (λ (k : ℕ). min (64 - a % 64) k) (length-drop a m)
 
 word_of_page : (m rest : List ℕ) (a i : ℕ) → rest ≡ rest_of_page m a → i < length rest → get_or rest i 0 ≡ get_or m (a + i) 0
@@ -89,7 +89,7 @@ word_of_page m rest a i e l =
     ap (λ (ws : List ℕ). get_or ws i 0) e ∙ get_or-take (64 - a % 64) (drop a m) i 0 (omega arith) ∙ get_or-drop a m i 0
 
 -- at least one word, where the address is inside the memory, and none past its end
-inside_page : (m rest : List ℕ) (a : ℕ) → rest ≡ rest_of_page m a → a < length m → (0 < length rest) × (a + length rest ≤ length m)
+pub inside_page : (m rest : List ℕ) (a : ℕ) → rest ≡ rest_of_page m a → a < length m → (0 < length rest) × (a + length rest ≤ length m)
 inside_page m rest a e l = let long = length_page m rest a e in (omega arith, omega arith)
 
 same_length_page : (m n before after : List ℕ) (a : ℕ) → before ≡ rest_of_page m a → after ≡ rest_of_page n a → length m ≡ length n → length before ≡ length after

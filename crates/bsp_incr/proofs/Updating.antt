@@ -10,7 +10,8 @@ use Rattle.bsp_run.specs.Supersteps.{supersteps_of, superstep_at}
 use Rattle.bsp_run.proofs.Records.{superstep, supersteps-open, supersteps-turned, supersteps-delivered, past-delivered, past-turned}
 use Rattle.bsp_incr.specs.declared.reply.Place.{Place}
 use Rattle.bsp_incr.specs.declared.reply.Update.{Update}
-use Rattle.bsp_incr.specs.Inside.Changes.{places_of, processes_where, gathered, turns_in, turn_test, differ, differ_in, deliveries_in, delivery_test, touched, touched_in, update_of}
+use Rattle.bsp_incr.specs.Inside.Changes.{places_of, gathered, turns_in, turn_test, differ, differ_in, deliveries_in, delivery_test, touched, touched_in, update_of}
+use Rattle.bsp_model.specs.ProcessSet.{processes_where}
 use Rattle.bsp_incr.specs.Exact.{supersteps_before, delivered_before}
 use Rattle.bsp_incr.specs.Inside.Before.{views_before, delivered_outcomes}
 

@@ -1,5 +1,4 @@
 pub mod Formers
-pub mod Comparing
 pub mod Reuse
 pub mod Changes
 pub mod Before

@@ -16,7 +16,7 @@ use Rattle.bsp_step.specs.OutcomeParts.{OutcomeParts, outcome_of}
 use Rattle.bsp_deliver.specs.Requests.{words_read}
 use Rattle.bsp_deliver.specs.Condition.{AreDeliverable}
 use Rattle.bsp_deliver.specs.Inside.Comparison.{KeepsOwn, ReadsSame}
-use Rattle.bsp_deliver.specs.Inside.SameDelivery.{same_words}
+use Rattle.bsp_model.specs.Same.{same_words}
 use Rattle.bsp_deliver.proofs.SameDelivery.{Decides-pointwise, Decides-words}
 use Rattle.bsp_deliver.proofs.SameParts.{IsSame, same_parts, readable_of}
 use Rattle.bsp_run.specs.declared.superstep.Superstep.{Superstep}
@@ -27,7 +27,7 @@ use Rattle.bsp_run.proofs.OneRun.{front}
 use Rattle.bsp_run.proofs.ViewsWithin.{deliverable_in_run}
 use Rattle.bsp_incr.specs.declared.reply.Place.{Place}
 use Rattle.bsp_incr.specs.Exact.{HasDelivery, IsKept}
-use Rattle.bsp_incr.specs.Inside.Changes.{processes_where}
+use Rattle.bsp_model.specs.ProcessSet.{processes_where}
 use Rattle.bsp_causes.specs.declared.deliveries.DeliveryCauses.{DeliveryCauses}
 use Rattle.bsp_causes.specs.Same.{same_put, same_send}
 use Rattle.bsp_causes.specs.DeliveryCauses.{reads_others, owners_read, puts_others, sends_others, has_same_gets, parcel_causes, delivery_causes}
@@ -37,7 +37,8 @@ use Rattle.bsp_causes.proofs.Sameness.{Decides-get, Decides-put, Decides-send}
 use Rattle.bsp_causes.proofs.Shapes.{step_there}
 use Rattle.bsp_laws.specs.Causes.{no_delivery_causes}
 use Rattle.bsp_laws.proofs.Reaching.{map_all}
-use Rattle.bsp_laws.proofs.TurnCaused.{not_false, yes_is_no}
+use Rattle.bsp_laws.proofs.TurnCaused.{yes_is_no}
+use Rattle.bsp_model.proofs.Inputs.{not_false}
 
 -- two supersteps that ended by delivery, of as many processes
 pub record AreDelivered (os us : List OutcomeParts) : Type 0 where

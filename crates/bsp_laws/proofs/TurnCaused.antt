@@ -13,7 +13,6 @@ use Rattle.bsp_step.specs.Turn.{turn_of}
 use Rattle.bsp_step.specs.ViewParts.{ViewParts, IsView}
 use Rattle.bsp_step.specs.OutcomeParts.{OutcomeParts, outcome_of}
 use Rattle.bsp_step.specs.Footprint.{AreAlike, AreAlikeButForWords}
-use Rattle.bsp_deliver.specs.Inside.SameDelivery.{same_words}
 use Rattle.bsp_deliver.proofs.SameDelivery.{Decides-pointwise, Decides-words}
 use Rattle.bsp_run.specs.declared.superstep.Superstep.{Superstep}
 use Rattle.bsp_run.specs.Run.{Run}
@@ -28,7 +27,8 @@ use Rattle.bsp_incr.specs.declared.edit.Edit.{Edit}
 use Rattle.bsp_incr.specs.declared.reply.Place.{Place}
 use Rattle.bsp_incr.specs.Edits.{refusal_of, edited}
 use Rattle.bsp_incr.specs.Exact.{HasTurn, IsServed, view_there}
-use Rattle.bsp_incr.specs.Inside.Comparing.{same_table, same_message}
+use Rattle.bsp_table.specs.Same.{same_table}
+use Rattle.bsp_model.specs.Same.{same_message, same_words}
 use Rattle.bsp_incr.specs.Inside.Reuse.{same_but_for_words, same_where_looked_at, serves}
 use Rattle.bsp_incr.proofs.Comparing.{Decides-table, Decides-message}
 use Rattle.bsp_incr.proofs.Serving.{Decides-but_for_words, Decides-where_looked_at, Decides-serves}
@@ -40,10 +40,7 @@ use Rattle.bsp_causes.specs.TurnCauses.{is_other_word, view_causes, turn_causes}
 use Rattle.bsp_causes.proofs.Cases.{turn_there, turn_not_there}
 use Rattle.bsp_causes.proofs.Filtered.{none_passes, fail_where_none}
 use Rattle.bsp_laws.specs.Causes.{no_turn_causes}
-
-pub not_false : (b : Bool) → not b ≡ false → b ≡ true
-not_false true h = refl
-not_false false h = cc
+use Rattle.bsp_model.proofs.Inputs.{not_false}
 
 pub yes_is_no : (b : Bool) → b ≡ true → not b ≡ false
 yes_is_no true h = refl

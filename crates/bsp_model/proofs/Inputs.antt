@@ -13,7 +13,7 @@ chosen : {X : Type 0} (b : Bool) (x : X) (rest : Option X) → cond b (Some x) r
 chosen true x rest h = cc
 chosen false x rest h = (refl, h)
 
-not_false : (b : Bool) → not b ≡ false → b ≡ true
+pub not_false : (b : Bool) → not b ≡ false → b ≡ true
 not_false true h = refl
 not_false false h = cc
 

@@ -6,6 +6,7 @@ pub mod Memory
 pub mod ProcessSet
 pub mod PutsTo
 pub mod Replaced
+pub mod Same
 pub mod StoredRanges
 pub mod Stores
 pub mod Inside

@@ -5,10 +5,6 @@ use Rattle.std.proofs.lemmas.List.FromFn.{map-range_with_len_more, length-range_
 use Rattle.bsp_deliver.specs.Requests.{each_below}
 use Rattle.bsp_model.specs.Replaced.{IsAscending}
 
-pub map_twice : {X Y Z : Type 0} (f : Y → Z) (g : X → Y) (xs : List X) → map (λ x. f (g x)) xs ≡ map f (map g xs)
-map_twice f g [] = refl
-map_twice f g (x ∷ xs) = ap (λ ys. f (g x) ∷ ys) (map_twice f g xs)
-
 pub map_agree : {X Y : Type 0} (f g : X → Y) → ((x : X) → f x ≡ g x) → (xs : List X) → map f xs ≡ map g xs
 map_agree f g h [] = refl
 map_agree f g h (x ∷ xs) = ap (λ y. y ∷ map f xs) (h x) ∙ ap (λ ys. g x ∷ ys) (map_agree f g h xs)

@@ -18,7 +18,8 @@ use Rattle.bsp_run.specs.State.{State, cell_of, first_cell, first_state, no_mess
 use Rattle.bsp_run.specs.Run.{start, open_views}
 use Rattle.bsp_run.specs.Inside.Opening.{CanOpen, state_of}
 use Rattle.bsp_run.specs.Condition.{IsState, IsRun}
-use Rattle.bsp_run.proofs.Lists.{map_twice, map_agree, map_same}
+use Rattle.bsp_run.proofs.Lists.{map_agree, map_same}
+use Rattle.bsp_deliver.proofs.Senders.{map_twice}
 
 -- the first cells of all processes, by number
 pub first_cells : (seen mems : List (List ℕ)) (ps : List ℕ) (cells : List (List ℕ × List Message)) → seen ≡ mems → ps ≡ range_with_len 0 (length mems) → cells ≡ map (first_cell seen) ps → cells ≡ map (λ m. (m, no_messages m)) mems

@@ -29,7 +29,7 @@ use Rattle.bsp_run.specs.Run.{Run, open_views, after_turns, after_delivery, phas
 use Rattle.bsp_run.specs.Inside.Opening.{CanOpen, state_of}
 use Rattle.bsp_run.specs.Condition.{deliveries_of, IsState, IsRun, IsInPhase, IsTurned, IsOpen, AreOutcomesOf}
 use Rattle.bsp_run.specs.Inside.Condition.{CanSync, IsNextTable}
-use Rattle.bsp_run.proofs.Lists.{map_twice}
+use Rattle.bsp_deliver.proofs.Senders.{map_twice}
 use Rattle.bsp_run.proofs.Opens.{can_open}
 use Rattle.bsp_run.proofs.Conditions.{count_of_outcomes, sizes, sizes-same, outcome_at, AreDeliverable-from_turns, pops_are_slots, pushes_are_inside, pushes_within}
 use Rattle.bsp_run.proofs.Deliveries.{All-each_below, length-next_memory, queue_within, tag_within, sizes-next}

@@ -33,7 +33,7 @@ perform_all-stores_past c start (word ∷ words) none past some =
     ap (λ (d : Context). perform_all d (stores (start + 1) words)) (perform-store_past c start word none past)
     ∙ (perform_all-kept (record c { fault = Some BadLocal }) (stores (start + 1) words) BadLocal refl)
 
-stores-append : (start : ℕ) (xs ys : List ℕ) → stores start (xs ++ ys) ≡ stores start xs ++ stores (start + length xs) ys
+pub stores-append : (start : ℕ) (xs ys : List ℕ) → stores start (xs ++ ys) ≡ stores start xs ++ stores (start + length xs) ys
 stores-append start [] ys = ap (λ k. stores k ys) (sym (add-zero start))
 stores-append start (x ∷ xs) ys =
     let next : start + 1 + length xs ≡ start + length (x ∷ xs) = omega arith in

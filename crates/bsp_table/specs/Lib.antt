@@ -1,3 +1,4 @@
 pub mod Table
 pub mod NextTable
+pub mod Same
 pub mod TableFault

@@ -9,7 +9,7 @@ use Rattle.std.proofs.lemmas.List.Sums.{sum_by-append}
 use Rattle.std.proofs.Math.Seq.{take-add, drop-append_seam}
 use Rattle.bsp_step.specs.Act.{store}
 use Rattle.bsp_step.specs.Blocks.{stores, stored}
-use Rattle.bsp_step.proofs.Storing.{stored-is, length-stored}
+use Rattle.bsp_step.proofs.Storing.{stored-is, length-stored, stores-append}
 use Rattle.heat.specs.Heat.{next_cell_at, next_cells, own_cells}
 use Rattle.heat.specs.Cells.{length_of_next_cells}
 
@@ -27,12 +27,6 @@ cells_from-append m a (suc n) k =
     let more : suc n + k ≡ suc (n + k) = omega arith in
     let next : a + 1 + n ≡ a + suc n = omega arith in
     ap (cells_from m a) more ∙ ap (λ cells. next_cell_at m a ∷ cells) (cells_from-append m (a + 1) n k ∙ ap (λ b. cells_from m (a + 1) n ++ cells_from m b k) next)
-
-pub stores-append : (start : ℕ) (xs ys : List ℕ) → stores start (xs ++ ys) ≡ stores start xs ++ stores (start + length xs) ys
-stores-append start [] ys = ap (λ k. stores k ys) (sym (add-zero start))
-stores-append start (x ∷ xs) ys =
-    let next : start + 1 + length xs ≡ start + length (x ∷ xs) = omega arith in
-    ap (λ acts. store start x ∷ acts) (stores-append (start + 1) xs ys ∙ ap (λ k. stores (start + 1) xs ++ stores k ys) next)
 
 pub stored-append : (memory : List ℕ) (start : ℕ) (xs ys : List ℕ) → stored memory start (xs ++ ys) ≡ stored (stored memory start xs) (start + length xs) ys
 stored-append memory start [] ys = ap (λ k. stored memory k ys) (sym (add-zero start))

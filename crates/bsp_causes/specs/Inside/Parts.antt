@@ -4,7 +4,7 @@ use Rattle.std.specs.Cmp.Lexicographic.{pointwise}
 use Rattle.std.specs.List.{list_any}
 use Rattle.bsp_step.specs.OutcomeParts.{OutcomeParts, outcome_of}
 use Rattle.bsp_deliver.specs.Condition.{AreDeliverable}
-use Rattle.bsp_causes.specs.Same.{same_words}
+use Rattle.bsp_model.specs.Same.{same_words}
 use Rattle.bsp_causes.specs.Same.{same_get}
 use Rattle.bsp_causes.specs.DeliveryCauses.{reads_others, puts_others, sends_others}
 use Rattle.bsp_causes.specs.declared.deliveries.DeliveryCauses.{DeliveryCauses}

@@ -1,13 +1,11 @@
 -- When two deliveries depend on the same, as tests.
-use Rattle.std.specs.Prelude.{ℕ, Bool, List, ◌==◌, ◌&&◌, nat_eq}
+use Rattle.std.specs.Prelude.{ℕ, Bool, List, ◌==◌, ◌&&◌}
 use Rattle.std.specs.Cmp.Lexicographic.{pointwise}
+use Rattle.bsp_model.specs.Same.{same_words}
 use Rattle.bsp_model.specs.declared.request.Put.{Put}
 use Rattle.bsp_model.specs.declared.request.Get.{Get}
 use Rattle.bsp_model.specs.declared.request.Send.{Send}
 use Rattle.bsp_deliver.specs.Delivery.{DeliveryParts}
-
-abbrev pub same_words : List ℕ → List ℕ → Bool
-same_words = pointwise nat_eq
 
 abbrev pub same_put : ℕ × Put → ℕ × Put → Bool
 same_put p q = (p.0 == q.0) && (p.1.target == q.1.target) && (p.1.start == q.1.start) && same_words p.1.words q.1.words

@@ -1,6 +1,6 @@
 -- What a run needs anew, against the record of another run, as lists that are computed.
-use Rattle.std.specs.Prelude.{ℕ, ◌+◌, Bool, List, [], ◌∷◌, ◌++◌, Option, ◌&&◌, not, nat_lt, filter, map, length, slice_get, slice_index_or}
-use Rattle.std.specs.List.{range_with_len}
+use Rattle.std.specs.Prelude.{ℕ, ◌+◌, Bool, List, [], ◌∷◌, ◌++◌, Option, ◌&&◌, not, nat_lt, map, length, slice_get, slice_index_or}
+use Rattle.bsp_model.specs.ProcessSet.{processes_where}
 use Rattle.bsp_step.specs.ViewParts.{ViewParts}
 use Rattle.bsp_step.specs.OutcomeParts.{OutcomeParts}
 use Rattle.bsp_deliver.specs.Delivery.{delivery_parts}
@@ -13,10 +13,6 @@ use Rattle.bsp_incr.specs.declared.reply.Update.{Update}
 use Rattle.bsp_deliver.specs.Inside.SameDelivery.{same_delivery}
 use Rattle.bsp_incr.specs.Exact.{supersteps_before, delivered_before}
 use Rattle.bsp_incr.specs.Inside.Reuse.{needs_turn}
-
--- the processes at which the test holds, of so many
-abbrev pub processes_where : ℕ → (ℕ → Bool) → List ℕ
-processes_where count test = filter test (range_with_len 0 count)
 
 -- the places of these processes in a superstep
 abbrev pub places_of : ℕ → List ℕ → List Place

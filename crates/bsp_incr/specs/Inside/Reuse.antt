@@ -3,8 +3,8 @@ use Rattle.std.specs.Prelude.{ℕ, Bool, true, List, Option, None, Some, ◌==�
 use Rattle.std.specs.List.{list_all, range_with_len}
 use Rattle.std.specs.Cmp.Lexicographic.{pointwise}
 use Rattle.bsp_step.specs.ViewParts.{ViewParts}
-use Rattle.bsp_deliver.specs.Inside.SameDelivery.{same_words}
-use Rattle.bsp_incr.specs.Inside.Comparing.{same_table, same_message}
+use Rattle.bsp_table.specs.Same.{same_table}
+use Rattle.bsp_model.specs.Same.{same_message, same_words}
 
 -- views that are the same but for the words of their memories
 abbrev pub same_but_for_words : ViewParts → ViewParts → Bool

@@ -1,7 +1,7 @@
 //! How a superstep of a run that is made again ends: its deliveries, and the opening of the next.
 
 ghost use Rattle.std.specs.Prelude.{◌≡◌, ◌≤◌, ◌<◌, ◌++◌, IfOk, IfSome, OnOk, length, map, true};
-ghost use Rattle.bsp_model.specs.ProcessSet.{processes_in, union};
+ghost use Rattle.bsp_model.specs.ProcessSet.{processes_in, union, processes_where};
 ghost use Rattle.bsp_deliver.specs.Requests.{each_below};
 ghost use Rattle.bsp_run.specs.Run.{after_delivery, open_views};
 ghost use Rattle.bsp_run.specs.Law.{views_in};
@@ -12,7 +12,7 @@ ghost use Rattle.bsp_run.specs.Shares.{deliveries_to};
 ghost use Rattle.bsp_run.specs.Result.{cost_of_delivery, IsSmall};
 ghost use Rattle.bsp_incr.specs.Inside.Alike.{AllCostAlike};
 ghost use Rattle.bsp_incr.specs.Inside.Before.{views_after};
-ghost use Rattle.bsp_incr.specs.Inside.Changes.{touched_in, is_touched, places_of, processes_where};
+ghost use Rattle.bsp_incr.specs.Inside.Changes.{touched_in, is_touched, places_of};
 ghost use Rattle.bsp_incr.specs.Inside.Marks.{OutcomesDifferAtMost};
 ghost use Rattle.bsp_incr.specs.Inside.Given.{delivered_beside};
 ghost use Rattle.bsp_incr.specs.Inside.Known.{IsKnown, KnowsNextTable};

@@ -1,12 +1,12 @@
 //! The turns of a superstep, of which those that serve from the run before are not taken again.
 
 ghost use Rattle.std.specs.Prelude.{◌≡◌, ◌<◌, ◌++◌, [], All, IfNone, IfOk, IfSome, OnOk, filter, map, length, slice_index_or, true, false};
-ghost use Rattle.bsp_model.specs.ProcessSet.{processes_in};
+ghost use Rattle.bsp_model.specs.ProcessSet.{processes_in, processes_where};
 ghost use Rattle.bsp_deliver.specs.Requests.{each_below};
 ghost use Rattle.bsp_run.specs.Law.{views_in};
 ghost use Rattle.bsp_crew.specs.Parts.{AreOfRun};
 ghost use Rattle.bsp_run.specs.Shares.{turns_of};
-ghost use Rattle.bsp_incr.specs.Inside.Changes.{differ_in, processes_where};
+ghost use Rattle.bsp_incr.specs.Inside.Changes.{differ_in};
 ghost use Rattle.bsp_run.specs.TurnBy.{turn_by};
 ghost use Rattle.bsp_incr.specs.Inside.Known.{AreDoubtful};
 ghost use Rattle.bsp_incr.specs.Inside.Marks.{ViewsDifferAtMost};

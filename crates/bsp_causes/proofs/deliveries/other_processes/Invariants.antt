@@ -1,5 +1,5 @@
 use Rattle.std.proofs.Common.{◌≡◌}
-use Rattle.bsp_incr.specs.Inside.Changes.{processes_where}
+use Rattle.bsp_model.specs.ProcessSet.{processes_where}
 use Rattle.bsp_causes.specs.Inside.Parts.{is_other}
 use Rattle.bsp_causes.proofs.deliveries.other_processes.Given as goal
 

@@ -1,7 +1,7 @@
 use Rattle.std.proofs.Common.{◌≡◌, ◌∙◌, false, not, cond, [], ap, sym}
 use Rattle.std.specs.Cmp.Lexicographic.{pointwise}
 use Rattle.bsp_step.specs.OutcomeParts.{OutcomeParts, outcome_of}
-use Rattle.bsp_deliver.specs.Inside.SameDelivery.{same_words}
+use Rattle.bsp_model.specs.Same.{same_words}
 use Rattle.bsp_deliver.proofs.SameDelivery.{Decides-pointwise, Decides-words}
 use Rattle.bsp_causes.specs.DeliveryCauses.{has_same_gets, owners_read}
 use Rattle.bsp_causes.specs.Same.{same_get}

@@ -4,7 +4,7 @@ use Rattle.std.proofs.lemmas.Bool.Decides.{same_from_decides}
 use Rattle.std.proofs.lemmas.List.Folds.{list_any_at, list_any_more}
 use Rattle.bsp_model.specs.declared.request.Get.{Get}
 use Rattle.bsp_deliver.specs.Requests.{words_read}
-use Rattle.bsp_deliver.specs.Inside.SameDelivery.{same_words}
+use Rattle.bsp_model.specs.Same.{same_words}
 use Rattle.bsp_deliver.proofs.SameDelivery.{Decides-words}
 use Rattle.bsp_causes.specs.DeliveryCauses.{reads_others}
 use Rattle.bsp_causes.proofs.deliveries.reads_others.Goals as goal

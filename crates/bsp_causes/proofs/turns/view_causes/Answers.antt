@@ -1,9 +1,9 @@
 use Rattle.std.proofs.Common.{◌≡◌, ◌==◌, ◌++◌, false, not, ap, ◌∙◌}
 use Rattle.std.specs.Cmp.Lexicographic.{pointwise}
 use Rattle.bsp_step.specs.ViewParts.{ViewParts}
-use Rattle.bsp_deliver.specs.Inside.SameDelivery.{same_words}
 use Rattle.bsp_deliver.proofs.SameDelivery.{Decides-pointwise, Decides-words}
-use Rattle.bsp_incr.specs.Inside.Comparing.{same_table, same_message}
+use Rattle.bsp_table.specs.Same.{same_table}
+use Rattle.bsp_model.specs.Same.{same_message, same_words}
 use Rattle.bsp_incr.proofs.Comparing.{Decides-table, Decides-message}
 use Rattle.bsp_causes.specs.TurnCauses.{other_words}
 use Rattle.bsp_causes.proofs.Handing.{and_given}

@@ -1,6 +1,7 @@
 use Rattle.std.proofs.Common.{◌<◌, ◌∙◌, ◌++◌, ℕ, List, [], Option, ap, length, option_map, unwrap_or, arith}
 use Rattle.std.proofs.lemmas.List.{get_or_default}
-use Rattle.bsp_engine.specs.Changes.{other, piece_if, same_words}
+use Rattle.bsp_engine.specs.Changes.{other, piece_if}
+use Rattle.bsp_model.specs.Same.{same_words}
 use Rattle.bsp_engine.specs.Text.{memory_line}
 use Rattle.bsp_engine.proofs.Changed.{others_told}
 use Rattle.bsp_engine.proofs.change_lines.push_other_memories.Goals as goal

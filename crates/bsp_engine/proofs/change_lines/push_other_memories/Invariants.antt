@@ -1,6 +1,7 @@
 use Rattle.std.proofs.Common.{◌≡◌, ◌++◌, [], option_map, take, unwrap_or}
 use Rattle.bsp_text.specs.Lines.{numbered}
-use Rattle.bsp_engine.specs.Changes.{others, piece_if, same_words}
+use Rattle.bsp_engine.specs.Changes.{others, piece_if}
+use Rattle.bsp_model.specs.Same.{same_words}
 use Rattle.bsp_engine.specs.Text.{memory_line}
 use Rattle.bsp_engine.proofs.change_lines.push_other_memories.Given as goal
 

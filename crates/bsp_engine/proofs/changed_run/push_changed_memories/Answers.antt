@@ -1,6 +1,6 @@
 use Rattle.std.proofs.Common.{◌<◌, length, arith}
 use Rattle.bsp_run.specs.Result.{memories_of}
-use Rattle.bsp_engine.specs.Changes.{same_words}
+use Rattle.bsp_model.specs.Same.{same_words}
 use Rattle.bsp_engine.specs.Text.{memory_line}
 use Rattle.bsp_engine.proofs.Changed.{tell_more}
 use Rattle.bsp_engine.proofs.changed_run.push_changed_memories.Goals as goal

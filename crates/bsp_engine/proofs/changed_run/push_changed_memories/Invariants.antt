@@ -1,6 +1,7 @@
 use Rattle.std.proofs.Common.{◌≡◌, ◌++◌, take}
 use Rattle.bsp_run.specs.Result.{memories_of}
-use Rattle.bsp_engine.specs.Changes.{others, piece_if, same_words}
+use Rattle.bsp_engine.specs.Changes.{others, piece_if}
+use Rattle.bsp_model.specs.Same.{same_words}
 use Rattle.bsp_text.specs.Lines.{numbered}
 use Rattle.bsp_engine.specs.Text.{memory_line}
 use Rattle.bsp_engine.proofs.changed_run.push_changed_memories.Given as goal

@@ -1,5 +1,5 @@
 use Rattle.bsp_run.specs.Result.{memories_of}
-use Rattle.bsp_engine.specs.Changes.{same_words}
+use Rattle.bsp_model.specs.Same.{same_words}
 use Rattle.bsp_engine.specs.Text.{memory_line}
 use Rattle.bsp_deliver.proofs.SameDelivery.{Decides-words}
 use Rattle.bsp_engine.proofs.Changed.{untold}

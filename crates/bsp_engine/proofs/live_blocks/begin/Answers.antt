@@ -4,7 +4,8 @@ use Rattle.bsp_engine.specs.Blocks.{text_of}
 use Rattle.bsp_engine.specs.Live.{LiveParts, after_batches, opened}
 use Rattle.bsp_engine.specs.Inside.Replies.{job_told}
 use Rattle.bsp_engine.proofs.Beginning.{begun_text}
-use Rattle.bsp_engine.proofs.Handing.{and_given, and_told}
+use Rattle.bsp_engine.proofs.Handing.{and_told}
+use Rattle.bsp_causes.proofs.Handing.{and_given}
 use Rattle.bsp_engine.proofs.live_blocks.begin.Goals as goal
 
 pub returns-in-Ok-clause-live : goal.returns-in-Ok-clause-live

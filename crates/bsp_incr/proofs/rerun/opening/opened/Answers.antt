@@ -1,13 +1,12 @@
 use Rattle.std.proofs.Common.{◌≡◌, ◌∙◌, Bor, Some, ℕ, Bool, List, Option, [], ap, sym, subst, length, map, get_or, false, refl}
 use Rattle.std.specs.Prelude.{option_map}
 use Rattle.bsp_model.specs.declared.input.Input.{Input}
-use Rattle.bsp_model.specs.ProcessSet.{processes_in}
+use Rattle.bsp_model.specs.ProcessSet.{processes_in, processes_where}
 use Rattle.bsp_model.specs.Replaced.{replaced, IsAscending}
 use Rattle.bsp_step.specs.ViewParts.{ViewParts}
 use Rattle.bsp_run.specs.Run.{Run}
 use Rattle.bsp_run.specs.Supersteps.{supersteps_opened}
 use Rattle.bsp_run.specs.State.{cell_of, first_cell}
-use Rattle.bsp_incr.specs.Inside.Changes.{processes_where}
 use Rattle.bsp_run.specs.TurnBy.{turn_by}
 use Rattle.bsp_incr.specs.Inside.Given.{Making}
 use Rattle.bsp_incr.specs.Inside.Before.{IsBefore}
