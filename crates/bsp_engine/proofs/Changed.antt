@@ -72,8 +72,3 @@ tell_more piece same olds news k first text next l h t =
       | inl w ↦ others_told piece same first text next olds news k w.0 l (sym w.3) h (t ∙ ap (λ o. text ++ piece_of piece same k (slice_get olds k) o) w.2)
       | inr w ↦ absurd (omega (arith, w.0, l))
     ]
-
--- all of them
-pub told_whole : {A : Type 0} (piece : ℕ → A → List ℕ) (same : A → A → Bool) (olds news : List A) (k : ℕ) (first text : List ℕ) → k ≡ length news
-    → text ≡ first ++ numbered (piece_if piece) 0 (others same olds (take k news)) → text ≡ first ++ numbered (piece_if piece) 0 (others same olds news)
-told_whole piece same olds news k first text is h = h ∙ ap (λ xs. first ++ numbered (piece_if piece) 0 (others same olds xs)) (take_all k news (omega arith))

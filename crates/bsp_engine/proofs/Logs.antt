@@ -63,9 +63,6 @@ only_append (said b ∷ fs) es h p = only_append fs es h p
 pub says_nothing : (a : Option (List Event)) → Says a a []
 says_nothing a = record { events = []; goes = goes_none a; only = tt; is = refl }
 
-pub says_kept : (a b : Option (List Event)) → Goes a b [] → Says a b []
-says_kept a b g = record { events = []; goes = g; only = tt; is = refl }
-
 pub says_one : (a b : Option (List Event)) (text : List ℕ) → Goes a b (said text ∷ []) → Says a b text
 says_one a b text g = record { events = said text ∷ []; goes = g; only = tt; is = refl }
 

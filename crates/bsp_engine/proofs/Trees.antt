@@ -25,15 +25,6 @@ list_of-items_of (d ∷ ds) = ap (λ l. d ∷ l) (list_of-items_of ds)
 pub list_of-items_view : (vs : List Value) → list_of (items_view vs) ≡ map view vs
 list_of-items_view vs = list_of-items_of (map view vs)
 
--- a test of all values of an array is one of its elements
-pub all_viewed : (test : Data → Bool) (vs : List Value) (ds : List Data) → map view vs ≡ ds → list_all (λ v. test (view v)) vs ≡ list_all test ds
-all_viewed test vs ds e = sym (list_all-map test view vs) ∙ ap (list_all test) e
-
--- so is a test of some value
-pub any_viewed : (test : Data → Bool) (vs : List Value) (ds : List Data) → map view vs ≡ ds → list_any (λ v. test (view v)) vs ≡ list_any test ds
-any_viewed test [] ds e = ap (list_any test) e
-any_viewed test (v ∷ vs) ds e = ap (λ b. test (view v) || b) (any_viewed test vs (map view vs) refl) ∙ ap (list_any test) e
-
 pub map_viewed : {A : Type 0} (f : Data → A) (vs : List Value) → map (λ v. f (view v)) vs ≡ map f (map view vs)
 map_viewed f [] = refl
 map_viewed f (v ∷ vs) = ap (λ l. f (view v) ∷ l) (map_viewed f vs)
@@ -42,10 +33,6 @@ map_viewed f (v ∷ vs) = ap (λ l. f (view v) ∷ l) (map_viewed f vs)
 pub no_words : (ds : List Data) → args_of None (map row_of ds) ≡ map (λ d. []) ds
 no_words [] = refl
 no_words (d ∷ ds) = ap (λ l. [] ∷ l) (no_words ds)
-
--- an array, where all its elements pass the test
-pub array_viewed : (test : Data → Bool) (d : Data) (is_array all : Bool) → is_array ≡ is_some (as_array d) → is_array ≡ true → all ≡ list_all test (elements d) → all ≡ is_array_of test d
-array_viewed test d is_array all e holds pass = pass ∙ ap (λ b. b && list_all test (elements d)) (sym holds ∙ e)
 
 drop_viewed : (vs : List Value) → map view (drop 1 vs) ≡ drop 1 (map view vs)
 drop_viewed [] = refl

@@ -81,9 +81,6 @@ none_read os us d after l h =
     let known : x.owner < length us = (readable_of us d after l k g m).known in
     reads_same os us x (not_any (reads_others os us x.owner) gets k g (none_there (length us) (λ q. list_any (reads_others os us q) gets) h x.owner known) m))
 
-no_get : Get
-no_get = record { owner = 0; start = 0; len = 0; into = 0 }
-
 read_none : (os us : List OutcomeParts) (d : ℕ) → ReadsSame os us d → owners_read os us (outcome_of us d).gets ≡ []
 read_none os us d h =
     let gets = (outcome_of us d).gets in

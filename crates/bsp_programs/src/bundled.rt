@@ -16,6 +16,9 @@ pub enum Bundled {
     Rank(Rank),
 }
 
+/// The names of the bundled programs, in words.
+pub const NAMES: &str = "broadcast, prefix, matvec and rank";
+
 impl Bundled {
     ghost use Rattle.bsp_programs.specs.Bundled.{program_named};
 

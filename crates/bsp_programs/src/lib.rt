@@ -9,7 +9,7 @@ mod prefix;
 mod rank;
 
 pub use broadcast::Broadcast;
-pub use bundled::Bundled;
+pub use bundled::{Bundled, NAMES};
 pub use matvec::MatVec;
 pub use prefix::Prefix;
 pub use rank::Rank;

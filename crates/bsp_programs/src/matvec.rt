@@ -9,11 +9,15 @@ mod layout;
 mod multiplying;
 mod receiving;
 
+use bsp_model::limits::MOST_LINE_WORDS;
 use bsp_model::{End, OutOfMemory};
 use bsp_step::{Ctx, Program, Stop, View, settle};
 use layout::{Layout, is_within};
 use receiving::receive_and_multiply;
 use std::alloc::Global;
+
+/// The most rows of a process: its words of the product are printed as one line.
+const MOST_ROWS: u64 = MOST_LINE_WORDS as u64;
 
 /// The processes multiply a square matrix by a vector, modulo 2^64, and each prints its words of the product.
 ///
@@ -39,7 +43,7 @@ impl Program for MatVec {
         let Some(&block) = view.args.first() else {
             return false;
         };
-        if block > 64 {
+        if block > MOST_ROWS {
             return false;
         }
         let layout = Layout {
@@ -67,7 +71,7 @@ fn run(alloc: Global, ctx: &mut Ctx<'_>) -> Result<End, Stop>
     let Some(block) = ctx.arg(0) else {
         return Ok(End::Abort(2));
     };
-    if block > 64 {
+    if block > MOST_ROWS {
         return Ok(End::Abort(2));
     }
     let layout = Layout {

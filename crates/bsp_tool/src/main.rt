@@ -2,7 +2,7 @@
 #![tactic(auto)]
 
 use bsp_engine::{ByName, Named, Tool, after_help, run_tool};
-use bsp_programs::Bundled;
+use bsp_programs::{Bundled, NAMES};
 use std::process::ExitCode;
 
 /// The bundled programs by their names.
@@ -16,7 +16,7 @@ impl ByName for BundledPrograms {
     ghost named = { program_named };
 
     fn names() -> &'static str {
-        "broadcast, prefix, matvec and rank"
+        NAMES
     }
 
     fn by_name(name: &str) -> Option<Bundled> {

@@ -10,6 +10,7 @@ ghost use Rattle.bsp_step.specs.Blocks.{stores, stored};
 use super::layout::Layout;
 use super::multiplying::multiply;
 use bsp_model::End;
+use bsp_model::limits::MOST_LINE_WORDS;
 use bsp_step::{Ctx, Stop};
 use std::alloc::Global;
 
@@ -22,7 +23,7 @@ pub(super) fn receive_and_multiply(
     ensures { let plan = matvec_receiving layout.nprocs layout.block ctx.old.memory ctx.old.left
         in Runs ctx.old plan.acts plan.ending ctx.new result }
 {
-    let mut words = [0; 64];
+    let mut words = [0; MOST_LINE_WORDS];
     let words = &mut words[..layout.block as usize];
     while ctx.get_tag().is_some() {
         let Some(sender) = sender_of_first(ctx, layout) else {

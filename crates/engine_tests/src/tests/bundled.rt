@@ -5,7 +5,7 @@ ghost use Rattle.std.specs.Prelude.{◌<◌, ◌≤◌};
 use super::failing::{sink, source};
 use bsp_engine::{ByName, Detail, EngineError, Named, Options, engine};
 use bsp_gate::Gate;
-use bsp_programs::Bundled;
+use bsp_programs::{Bundled, NAMES};
 use std::alloc::Global;
 use std::thread::Threads;
 
@@ -20,7 +20,7 @@ impl ByName for BundledPrograms {
     ghost named = { program_named };
 
     fn names() -> &'static str {
-        "broadcast, prefix, matvec and rank"
+        NAMES
     }
 
     fn by_name(name: &str) -> Option<Bundled> {
