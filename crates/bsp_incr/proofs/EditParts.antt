@@ -27,7 +27,7 @@ numbers_commute (m ∷ ls) zero a x (suc q) b y ne = refl
 numbers_commute (m ∷ ls) (suc p) a x zero b y ne = refl
 numbers_commute (m ∷ ls) (suc p) a x (suc q) b y ne = ap (λ (ms : List (List ℕ)). m ∷ ms) (numbers_commute ls p a x q b y (λ e. ne (ap suc e.0, e.1)))
 
-pub same_length : (ls : List (List ℕ)) (p a x q : ℕ) → length (get_or (with_number ls p a x) q []) ≡ length (get_or ls q [])
+same_length : (ls : List (List ℕ)) (p a x q : ℕ) → length (get_or (with_number ls p a x) q []) ≡ length (get_or ls q [])
 same_length [] p a x q = refl
 same_length (m ∷ ls) zero a x zero = length-set m a x
 same_length (m ∷ ls) zero a x (suc q) = refl

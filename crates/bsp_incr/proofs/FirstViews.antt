@@ -21,7 +21,7 @@ use Rattle.bsp_incr.proofs.Patching.{patched, patched_is}
 use Rattle.bsp_incr.proofs.RunBefore.{record_of_law}
 
 -- what each process sees first
-pub first_views : (input : Input) → open_views (start input) ≡ each_below (length input.mems) (view_of input.args 0 (first_state input))
+first_views : (input : Input) → open_views (start input) ≡ each_below (length input.mems) (view_of input.args 0 (first_state input))
 unfolding start views_of first_state
 first_views input = refl
 
@@ -30,7 +30,7 @@ unfolding start
 started turn input = ap (views_of input.args 0) (sym (state_at-first turn input))
 
 -- a run begins with the first views of its input
-pub first_views_of : (turn : ViewParts → OutcomeParts) (input : Input) (r : Run) → IsRecord turn input r → first_views_before r ≡ open_views (start input)
+first_views_of : (turn : ViewParts → OutcomeParts) (input : Input) (r : Run) → IsRecord turn input r → first_views_before r ≡ open_views (start input)
 first_views_of turn input r h = h.views 0 (omega arith) ∙ sym (started turn input)
 
 -- a process has no messages at first

@@ -1,6 +1,6 @@
 -- What a process printed stays where its turn is not taken again.
-use Rattle.std.proofs.Common.{◌≡◌, ◌≤◌, ◌<◌, ℕ, Bool, List, Some, None, length, arith, sym, ap, ◌∙◌, subst, inl, inr}
-use Rattle.std.proofs.lemmas.Bool.{cases_lt, false≢true}
+use Rattle.std.proofs.Common.{◌≡◌, ◌≤◌, ◌<◌, ℕ, Bool, true, List, Some, None, map, length, get_or, arith, sym, ap, ◌∙◌, subst, inl, inr}
+use Rattle.std.proofs.lemmas.Bool.{cases_lt}
 use Rattle.std.proofs.lemmas.List.{get_or_past}
 use Rattle.bsp_model.specs.declared.input.Input.{Input}
 use Rattle.bsp_model.specs.Input.{input_fault}
@@ -19,11 +19,14 @@ use Rattle.bsp_incr.specs.declared.reply.Place.{Place}
 use Rattle.bsp_incr.specs.declared.reply.Update.{Update}
 use Rattle.bsp_incr.specs.Exact.{HasTurn, IsServed}
 use Rattle.bsp_incr.specs.Reused.{outcome_there}
+use Rattle.bsp_incr.specs.Named.{with_members}
 use Rattle.bsp_incr.specs.Inside.Changes.{update_of}
 use Rattle.bsp_incr.specs.Inside.Before.{IsBefore}
-use Rattle.bsp_incr.specs.Inside.Stays.{LinesStayBut, AreProcessesMarked}
+use Rattle.bsp_incr.specs.Inside.Stays.{LinesStayBut}
 use Rattle.bsp_incr.proofs.Exactness.{served_at}
 use Rattle.bsp_incr.proofs.LawOfReuse.{law_reused}
+use Rattle.bsp_incr.proofs.Members.{out_of_members}
+use Rattle.bsp_incr.proofs.Unnamed.{has_place}
 
 -- a process that there is not left nothing
 nothing_there : (turn : ViewParts → OutcomeParts) (input : Input) (r : Run) (place : Place) → IsBspRun turn input r → place.step < length (supersteps_of r) → length input.mems ≤ place.pid → outcome_there (supersteps_of r) place ≡ no_outcome
@@ -54,8 +57,10 @@ lines_stay acts ending looks input old new update footprint lawful before law is
 }
 
 -- Where the processes of all places are marked at which a turn was taken again, the others print what they printed.
-pub unmarked_stay : (old new : Run) (places : List Place) (marks : List Bool) → LinesStayBut old new places → AreProcessesMarked places marks → LinesDifferAtMost old new marks
-unmarked_stay old new places marks stay marked = record {
+pub unmarked_stay : (old new : Run) (places : List Place) (none marks : List Bool) → LinesStayBut old new places → marks ≡ with_members none (map (λ (q : Place). q.pid) places) → LinesDifferAtMost old new marks
+unmarked_stay old new places none marks stay marked = record {
   same = λ s p l m clean.
-      stay.same record { step = s; pid = p } l m (λ here. false≢true (sym clean ∙ marked record { step = s; pid = p } here));
+      let q : Place = record { step = s; pid = p } in
+      let pids : List ℕ = map (λ (x : Place). x.pid) places in
+      stay.same q l m (λ here. (out_of_members none pids p (sym (ap (λ (set : List Bool). get_or set p true) marked) ∙ clean)).1 (has_place places q here));
 }

@@ -100,6 +100,11 @@ same_lengths i (e ∷ later) =
     let first = edit_lengths i e in
     (rest.0 ∙ first.0, rest.1 ∙ first.1)
 
+as_many : (xs ys : List (List ℕ)) → lengths xs ≡ lengths ys → length xs ≡ length ys
+as_many xs ys same = sym (length-map xs (λ (m : List ℕ). length m)) ∙ ap (λ (ns : List ℕ). length ns) same ∙ length-map ys (λ (m : List ℕ). length m)
+
 pub edited_count : (i : Input) (edits : List Edit) → length (edited i edits).mems ≡ length i.mems
-edited_count i edits =
-    sym (length-map (edited i edits).mems (λ (m : List ℕ). length m)) ∙ ap (λ (ns : List ℕ). length ns) (same_lengths i edits).0 ∙ length-map i.mems (λ (m : List ℕ). length m)
+edited_count i edits = as_many (edited i edits).mems i.mems (same_lengths i edits).0
+
+pub edited_count-args : (i : Input) (edits : List Edit) → length (edited i edits).args ≡ length i.args
+edited_count-args i edits = as_many (edited i edits).args i.args (same_lengths i edits).1

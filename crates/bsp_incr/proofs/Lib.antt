@@ -20,6 +20,7 @@ pub mod EditParts
 pub mod EditSequences
 pub mod TakingBack
 pub mod Marking
+pub mod Unnamed
 pub mod Likeness
 pub mod LawOfReuse
 pub mod Lasting

@@ -43,7 +43,7 @@ before_edits turn edits input r h =
     record { input_before = h.input_before; lawful = h.lawful; law = h.law; stands = sym (edited_count h.input_before edits) ∙ ap (λ (i : Input). length i.mems) (sym h.stands) }
 
 -- what a process saw first
-first_view : (turn : ViewParts → OutcomeParts) (input : Input) (k : Run) (p : ℕ) (h : IsBefore turn input (Some k)) → p < length input.mems → first_view_before k p ≡ view_of h.input_before.args 0 (state_at turn h.input_before 0) p
+pub first_view : (turn : ViewParts → OutcomeParts) (input : Input) (k : Run) (p : ℕ) (h : IsBefore turn input (Some k)) → p < length input.mems → first_view_before k p ≡ view_of h.input_before.args 0 (state_at turn h.input_before 0) p
 first_view turn input k p h l = ap (λ (vs : List ViewParts). get_or vs p no_view) ((record_of_law turn h.input_before k h.lawful h.law).views 0 (omega arith)) ∙ view-in turn h.input_before 0 p (omega (arith, l, h.stands))
 
 -- the arguments and the memory that it had

@@ -5,7 +5,6 @@ pub mod Before
 pub mod Marks
 pub mod UnderWay
 pub mod Replies
-pub mod Marking
 pub mod Alike
 pub mod Stays
 pub mod Known

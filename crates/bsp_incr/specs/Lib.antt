@@ -1,4 +1,5 @@
 pub mod Edits
+pub mod Named
 pub mod Exact
 pub mod Reused
 pub mod Undo

@@ -9,7 +9,6 @@ use bsp_model::Seq;
 pub use editing::{are_there, make_edits, refusal_of};
 pub use error::EditError;
 pub use former::restore;
-pub use undo::{arg_of, word_of};
 
 /// A change of one part of an input. No edit changes a length.
 #[derive(Clone, Copy, Debug, PartialEq, Eq)]

@@ -1,5 +1,5 @@
 -- What stays of the run before where no turn is taken again: what the private functions of this crate ask and promise.
-use Rattle.std.specs.Prelude.{◌≡◌, ◌<◌, Bool, true, List, Contains, length, slice_index_or}
+use Rattle.std.specs.Prelude.{◌≡◌, ◌<◌, List, Contains, length}
 use Rattle.bsp_run.specs.Run.{Run}
 use Rattle.bsp_run.specs.Supersteps.{supersteps_of}
 use Rattle.bsp_incr.specs.declared.reply.Place.{Place}
@@ -10,7 +10,3 @@ pub record LinesStayBut (old r : Run) (places : List Place) : Type 0 where
   pub same : (place : Place) → place.step < length (supersteps_of old) → place.step < length (supersteps_of r)
       → (Contains places place → ⊥)
       → (outcome_there (supersteps_of r) place).lines ≡ (outcome_there (supersteps_of old) place).lines
-
--- each process of these places is marked; one that has no mark is
-abbrev pub AreProcessesMarked : List Place → List Bool → Type 0
-AreProcessesMarked places marks = (place : Place) → Contains places place → slice_index_or marks place.pid true ≡ true

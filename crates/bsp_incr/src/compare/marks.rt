@@ -1,16 +1,14 @@
 //! Which processes have another memory or other arguments than in the run before.
 
-ghost use Rattle.std.specs.Prelude.{◌≡◌, ◌≤◌, None, Some, length};
-ghost use Rattle.bsp_incr.specs.Inside.Before.{IsBeforeEdits};
+ghost use Rattle.std.specs.Prelude.{◌≡◌, ◌≤◌, ◌<◌, ◌↔◌, [], IsTrue, None, Some, length, true, if◌then◌else◌, slice_index_or, slice_set};
+ghost use Rattle.bsp_incr.specs.Inside.Before.{IsBeforeEdits, first_view_before, first_views_before};
 ghost use Rattle.bsp_incr.specs.Inside.Marks.{AreArgsMarked, AreFirstMarked};
-ghost use Rattle.bsp_incr.specs.Inside.Marking.{word_before, word_now, arg_before, arg_now, word_place, arg_place};
-ghost use Rattle.bsp_incr.specs.Inside.Marking.{marked_if, marked_at, all_marked};
 
 use crate::Edit;
 use crate::compare::before::first_views_before;
-use crate::edit::{arg_of, word_of};
+use crate::named::{add_arg_processes, add_word_processes};
 use bsp_model::limits::MOST_PROCESSES;
-use bsp_model::{Input, ProcessSet};
+use bsp_model::{Input, ProcessSet, Same, are_same_words};
 use bsp_run::History;
 
 /// The processes that begin with something else than in the run before.
@@ -35,92 +33,55 @@ pub fn all_marks(input: &Input) -> Marks
     }
 }
 
-/// The word of a memory in the run before; 0 where there was none.
-fn word_before(old: &History, pid: u64, addr: u64) -> u64
-    ensures { result ≡ word_before old.now pid addr }
+/// Whether a process has the arguments of the run before.
+fn has_same_args(old: &History, input: &Input, process: usize) -> bool
+    requires seen { process < length (first_views_before old.now) }
+    requires known { process < length input.now.args }
+    ensures { IsTrue result
+        ↔ ((first_view_before old.now process).args ≡ slice_index_or input.now.args process []) }
 {
-    let views = first_views_before(old);
-    if pid >= views.len() as u64 {
-        return 0;
-    }
-    let view = views.get(pid as usize);
-    match view.memory.load(addr) {
-        Some(word) => word,
-        None => 0,
+    let view = first_views_before(old).get(process);
+    are_same_words(view.args, input.args.as_slice()[process].as_slice())
+}
+
+/// Whether a process has the memory of the run before.
+fn has_same_memory(old: &History, input: &Input, process: usize) -> bool
+    requires seen { process < length (first_views_before old.now) }
+    requires known { process < length input.now.mems }
+    ensures { IsTrue result
+        ↔ ((first_view_before old.now process).memory ≡ slice_index_or input.now.mems process []) }
+{
+    let view = first_views_before(old).get(process);
+    view.memory.same(&input.mems.as_slice()[process].as_ref())
+}
+
+fn mark_unless(is_same: bool, marks: &mut ProcessSet, process: usize)
+    requires { process < length marks.old }
+    ensures { marks.new ≡ (if is_same then marks.old else slice_set marks.old process true) }
+{
+    if !is_same {
+        marks.insert(process);
     }
 }
 
-/// An argument in the run before; 0 where there was none.
-fn arg_before(old: &History, pid: u64, index: u64) -> u64
-    ensures { result ≡ arg_before old.now pid index }
-{
-    let views = first_views_before(old);
-    if pid >= views.len() as u64 {
-        return 0;
-    }
-    let view = views.get(pid as usize);
-    view.args.get(index as usize).copied().unwrap_or(0)
-}
-
-/// Marks a process where the test holds.
-fn mark_if(marks: &mut ProcessSet, pid: u64, is_other: bool)
-    ensures { marks.new ≡ marked_if is_other marks.old pid }
-{
-    if is_other && (pid as usize) < marks.count() {
-        marks.insert(pid as usize);
-    }
-}
-
-/// Marks the process of an edit of an argument, if the argument is another than in the run before.
-fn mark_arg(marks: &mut ProcessSet, old: &History, input: &Input, edit: &Edit)
-    ensures { marks.new
-        ≡ marked_at (arg_before old.now) (arg_now input.now) marks.old (arg_place edit.now) }
-{
-    if let Edit::Arg { pid, index, .. } = *edit {
-        let is_other = arg_before(old, pid, index) != arg_of(input, pid, index);
-        mark_if(marks, pid, is_other);
-    }
-}
-
-/// Marks the process of an edit of a word, if the word is another than in the run before.
-fn mark_word(marks: &mut ProcessSet, old: &History, input: &Input, edit: &Edit)
-    ensures { marks.new
-        ≡ marked_at (word_before old.now) (word_now input.now) marks.old (word_place edit.now) }
-{
-    if let Edit::Word { pid, addr, .. } = *edit {
-        let is_other = word_before(old, pid, addr) != word_of(input, pid, addr);
-        mark_if(marks, pid, is_other);
-    }
-}
-
-fn mark_args(marks: &mut ProcessSet, old: &History, input: &Input, edits: &[Edit])
-    ensures { marks.new
-        ≡ all_marked arg_place (arg_before old.now) (arg_now input.now) marks.old edits.now }
-{
-    for edit in edits {
-        mark_arg(marks, old, input, edit);
-    }
-}
-
-fn mark_words(marks: &mut ProcessSet, old: &History, input: &Input, edits: &[Edit])
-    ensures { marks.new
-        ≡ all_marked word_place (word_before old.now) (word_now input.now) marks.old edits.now }
-{
-    for edit in edits {
-        mark_word(marks, old, input, edit);
-    }
-}
-
-/// The processes that a batch has left with other arguments or another memory. It looks at what the edits name, and at nothing else.
+/// The processes that a batch has left with other arguments or another memory. It looks at each process that the edits name, and at no other.
 pub fn marks_of_edits(old: &History, input: &Input, edits: &[Edit]) -> Marks
     requires few { length input.now.mems ≤ MOST_PROCESSES }
     requires before { (turn : _) × IsBeforeEdits turn edits.now input.now old.now }
     ensures args { AreArgsMarked (Some old.now) input.now result.args }
     ensures first { AreFirstMarked (Some old.now) input.now result.first }
 {
-    let mut args = ProcessSet::none(input.mems.len());
-    mark_args(&mut args, old, input, edits);
-    let mut first = args;
-    mark_words(&mut first, old, input, edits);
+    let empty = ProcessSet::none(input.mems.len());
+    let mut named = empty;
+    add_word_processes(&mut named, edits);
+    add_arg_processes(&mut named, edits);
+    let mut args = empty;
+    let mut first = empty;
+    for process in named.iter() {
+        let same_args = has_same_args(old, input, process);
+        let same_memory = has_same_memory(old, input, process);
+        mark_unless(same_args, &mut args, process);
+        mark_unless(same_args && same_memory, &mut first, process);
+    }
     Marks { args, first }
 }

@@ -10,7 +10,7 @@ use bsp_step::Program;
 use std::alloc::Global;
 
 /// The word of a memory; 0 where there is none.
-pub fn word_of(input: &Input, pid: u64, addr: u64) -> u64
+fn word_of(input: &Input, pid: u64, addr: u64) -> u64
     ensures { result ≡ slice_index (slice_index_or input.now.mems pid []) addr }
 {
     let Some(memory) = input.mems.as_slice().get(pid as usize) else {
@@ -23,7 +23,7 @@ pub fn word_of(input: &Input, pid: u64, addr: u64) -> u64
 }
 
 /// An argument; 0 where there is none.
-pub fn arg_of(input: &Input, pid: u64, index: u64) -> u64
+fn arg_of(input: &Input, pid: u64, index: u64) -> u64
     ensures { result ≡ slice_index (slice_index_or input.now.args pid []) index }
 {
     match input.args.as_slice().get(pid as usize) {

@@ -3,25 +3,13 @@
 ghost use Rattle.std.specs.Prelude.{◌≡◌, ◌≤◌, IfOk, option_map, true};
 ghost use Rattle.std.specs.Option.{ForSome};
 ghost use Rattle.bsp_run.specs.Condition.{is_ended};
-ghost use Rattle.bsp_incr.specs.Inside.Stays.{LinesStayBut, AreProcessesMarked};
+ghost use Rattle.bsp_incr.specs.Inside.Stays.{LinesStayBut};
 
 use crate::Place;
+use crate::named::add_place_processes;
 use bsp_model::limits::MOST_PROCESSES;
 use bsp_model::{OutOfMemory, ProcessSet};
 use bsp_run::{History, Tape};
-
-fn processes_of_places(nprocs: usize, places: &[Place]) -> ProcessSet
-    requires { nprocs ≤ MOST_PROCESSES }
-    ensures { AreProcessesMarked places.now result }
-{
-    let mut processes = ProcessSet::none(nprocs);
-    for place in places {
-        if place.pid < processes.count() as u64 {
-            processes.insert(place.pid as usize);
-        }
-    }
-    processes
-}
 
 /// The history of a run that has ended. It shares the lines of each process that are those of the run before, as those of a process are whose turns
 /// were not taken again.
@@ -39,6 +27,7 @@ pub fn finished(
     let Some(history) = old else {
         return tape.finish();
     };
-    let processes = processes_of_places(nprocs, executed);
+    let mut processes = ProcessSet::none(nprocs);
+    add_place_processes(&mut processes, executed);
     tape.finish_like(history, &processes)
 }

@@ -8,4 +8,4 @@ pub finish_like-requires-clause-marks : goal.finish_like-requires-clause-marks
 finish_like-requires-clause-marks c =
     let old : Run = c.in-Some.history.now in
     let there : option_map (λ (k : Bor Run). k.now) c.args.old ≡ Some old = ap (option_map (λ (k : Bor Run). k.now)) c.in-Some.is in
-    unmarked_stay old c.args.tape c.args.executed.now c.processes_of_places-processes.result (c.requires.executed old there) c.processes_of_places-processes.ensures
+    unmarked_stay old c.args.tape c.args.executed.now c.none-processes.result c.add_place_processes.new.processes (c.requires.executed old there) c.add_place_processes.ensures

@@ -4,10 +4,11 @@ use Rattle.std.proofs.lemmas.Bool.{eqb-true}
 use Rattle.std.proofs.lemmas.List.{length-replicate}
 use Rattle.std.proofs.Math.ListN.{length-set}
 use Rattle.bsp_model.proofs.ProcessSets.{member_within}
+use Rattle.bsp_incr.specs.Named.{with_members}
 use Rattle.bsp_incr.specs.Inside.Changes.{differs}
 use Rattle.bsp_model.specs.ProcessSet.{processes_where}
 use Rattle.bsp_incr.specs.Inside.Given.{Making}
-use Rattle.bsp_incr.proofs.Members.{are_members, first_has, later_have, member_if, members_where, with_members}
+use Rattle.bsp_incr.proofs.Members.{are_members, first_has, later_have, member_if, members_where}
 use Rattle.bsp_incr.proofs.Retaking.{all_needed, needed_among}
 use Rattle.bsp_incr.proofs.superstep.turns.needed_among.Goals as goal
 

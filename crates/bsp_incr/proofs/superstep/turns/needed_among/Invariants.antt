@@ -1,8 +1,8 @@
 use Rattle.std.proofs.Common.{◌≡◌, All, false, get_or, length, true}
 use Rattle.std.specs.Prelude.{filter}
 use Rattle.bsp_model.specs.ProcessSet.{processes_in}
+use Rattle.bsp_incr.specs.Named.{with_members}
 use Rattle.bsp_incr.specs.Inside.OpenSuperstep.{differs_now}
-use Rattle.bsp_incr.proofs.Members.{with_members}
 use Rattle.bsp_incr.proofs.superstep.turns.needed_among.Given as goal
 
 -- those that are in the set, and those that are left
