@@ -1,4 +1,4 @@
--- Causes where the run before has the place, and where it has not.
+-- Causes where the previous run has the place, and where it has not.
 use Rattle.std.proofs.Common.{◌≡◌, ◌≤◌, ◌<◌, ℕ, Bool, true, false, cond, List, length, arith, ap}
 use Rattle.std.specs.Prelude.{nat_lt}
 use Rattle.std.proofs.lemmas.Bool.Decides.{nat_tests}

@@ -14,11 +14,11 @@ use Rattle.bsp_causes.specs.Same.{same_get, same_put, same_send}
 use Rattle.bsp_model.specs.Same.{same_words}
 use Rattle.bsp_causes.specs.declared.deliveries.DeliveryCauses.{DeliveryCauses}
 
--- the run before has such a delivery
+-- the previous run has such a delivery
 abbrev pub has_delivery : List Superstep → Place → Bool
 has_delivery ss place = nat_lt place.pid (length (superstep_at ss place.step).outcomes)
 
--- Where the run before has a delivery at the place, its superstep there has as many processes as that of the new run.
+-- Where the previous run has a delivery at the place, its superstep there has as many processes as that of the new run.
 abbrev pub HaveAsMany : List Superstep → List Superstep → Place → Type 0
 HaveAsMany olds news place =
     HasDelivery olds place → length (superstep_at olds place.step).outcomes ≡ length (superstep_at news place.step).outcomes

@@ -11,7 +11,7 @@ use Rattle.bsp_table.specs.Same.{same_table}
 use Rattle.bsp_model.specs.Same.{same_words, same_message}
 use Rattle.bsp_causes.specs.declared.turns.TurnCauses.{TurnCauses}
 
--- the run before has such a turn
+-- the previous run has such a turn
 abbrev pub has_turn : List Superstep → Place → Bool
 has_turn ss place = nat_lt place.pid (length (superstep_at ss place.step).views)
 
@@ -39,7 +39,7 @@ view_causes looks old new =
 abbrev pub new_turn : TurnCauses
 new_turn = record { is_new = true; args = false; queue = false; table = false; tag_size = false; words = [] }
 
--- Why the turn at a place of the new run was taken, against the supersteps of the run before.
+-- Why the turn at a place of the new run was taken, against the supersteps of the previous run.
 unfoldable pub turn_causes : (ViewParts → ℕ → Bool) → List Superstep → List Superstep → Place → TurnCauses
 turn_causes looks olds news place =
     if has_turn olds place then view_causes looks (view_there olds place) (view_there news place) else new_turn

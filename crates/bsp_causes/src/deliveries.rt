@@ -19,10 +19,10 @@ use bsp_run::History;
 use bsp_step::{OutcomeRef, Outcomes};
 use std::alloc::Global;
 
-/// Why a delivery was made again: which of its parts differ from the run before.
+/// Why a delivery was made again: which of its parts differ from the previous run.
 #[derive(Drop)]
 pub struct DeliveryCauses {
-    /// The run before has no delivery at the place. Then nothing else is named.
+    /// The previous run has no delivery at the place. Then nothing else is named.
     pub is_new: bool,
     /// The process's own memory after computing is another.
     pub memory: bool,

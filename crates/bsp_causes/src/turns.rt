@@ -13,10 +13,10 @@ use bsp_run::{History, ViewsRef};
 use bsp_step::{Program, View};
 use std::alloc::Global;
 
-/// Why a turn was taken again: the parts of its view that differ from those of the run before.
+/// Why a turn was taken again: the parts of its view that differ from those of the previous run.
 #[derive(Drop)]
 pub struct TurnCauses {
-    /// The run before has no such turn. Then nothing else is named.
+    /// The previous run has no such turn. Then nothing else is named.
     pub is_new: bool,
     pub args: bool,
     pub queue: bool,

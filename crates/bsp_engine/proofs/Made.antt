@@ -50,7 +50,7 @@ module _ {P : Type 0} (acts : P → ViewParts → List Act) (ending : P → View
   abbrev advance_lines : LiveParts P → List Edit → List ℕ
   advance_lines v batch = reply_lines v.detail.places (last_result acts ending v) (live_reply acts ending looks v batch)
 
-  -- The text of an accepted batch, of which the lines of the run after it were told against the run before.
+  -- The text of an accepted batch, of which the lines of the run after it were told against the previous run.
   pub accepted_text : {E : Type 0} (program : P) (detail : Detail) (live shown : LiveParts P) (batch : List Edit) (update : Update) (before after old new : Run) (r : Result (Unit {0}) E) (t0 t1 : List ℕ) → live ≡ shown → detail ≡ live.detail → program ≡ live.program
       → AreRunsAround (turn_of (acts live.program) (ending live.program)) (looks live.program) live.input batch update before after → old ≡ before → new ≡ after
       → OnOk r (t1 ≡ t0 ++ reply_lines detail.places (result_if detail.changes old) (told_by detail (looks program) (Some old) new (Done (result_of new) (Some update))))

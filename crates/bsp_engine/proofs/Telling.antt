@@ -26,7 +26,7 @@ result_told (Ok u) run lines costs t0 t1 t2 t3 t4 t5 l k a b c d e =
     e ∙ ap (λ t. t ++ total) (four ∙ ap (λ t. t ++ priced) (three ∙ ap (λ t. t ++ printed) (two ∙ ap (λ t. t ++ memory) a))) ∙ simp append_assoc
 result_told (Err x) run lines costs t0 t1 t2 t3 t4 t5 l k a b c d e = tt
 
--- what of a run is another than in the run before
+-- what of a run is another than in the previous run
 pub changes_told : {E : Type 0} (r : Result (Unit {0}) E) (old new : Run) (olds news : List CostRow) (total : ℕ) (t0 t1 t2 t3 t4 : List ℕ) → olds ≡ costs_of old → news ≡ costs_of new → total ≡ total_of (costs_of new) → t1 ≡ t0 ++ status_lines (status_of new)
     → t2 ≡ t1 ++ numbered (piece_if memory_line) 0 (others same_words (memories_of old) (memories_of new)) → t3 ≡ t2 ++ numbered (piece_if other_lines) 0 (others same_lines (lines_of old) (lines_of new))
     → OnOk r (t4 ≡ t3 ++ cost_changes olds news total) → OnOk r (t4 ≡ t0 ++ changes_lines (changes_of (result_of old) (result_of new)))

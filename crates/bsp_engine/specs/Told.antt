@@ -30,7 +30,7 @@ abbrev pub more_of : Detail → (ViewParts → ℕ → Bool) → Option Run → 
 more_of detail looks old new (Done result update) = more_if detail looks old new update
 more_of detail looks old new (Refused refusal) = []
 
--- the reply that gives the new run, against the run before, if there was one
+-- the reply that gives the new run, against the previous run, if there was one
 abbrev pub told_by : Detail → (ViewParts → ℕ → Bool) → Option Run → Run → Reply → ToldReply
 told_by detail looks old new reply = record { reply = reply; more = more_of detail looks old new reply }
 

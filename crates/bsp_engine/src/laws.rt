@@ -15,8 +15,8 @@ pub fn changes_tell_the_rest()
     ensures texts { TextsTellTheRest }
 {}
 
-/// Let a run end as the run before did. Take a process of which no edit changed a word, which took no turn again, and to which nothing was delivered
-/// again. Its memory and its lines are those of the run before.
+/// Let a run end as the previous run did. Take a process of which no edit changed a word, which took no turn again, and to which nothing was delivered
+/// again. Its memory and its lines are those of the previous run.
 pub fn untouched_processes_stay()
     ensures { UntouchedProcessesStay }
 {}

@@ -12,9 +12,9 @@ use Rattle.bsp_incr.proofs.Members.{none_left, none_of, nothing_left}
 abbrev pub AreAlikeBut : (OutcomeParts → OutcomeParts → Type 0) → List OutcomeParts → List OutcomeParts → List ℕ → Type 0
 AreAlikeBut AreAlike os us left = (p : ℕ) → p < length us → (Contains left p → ⊥) → AreAlike (outcome_of os p) (outcome_of us p)
 
--- before any doubtful process is looked at
-pub alike_but_doubtful : (AreAlike : OutcomeParts → OutcomeParts → Type 0) → ((o u : OutcomeParts) → o ≡ u → AreAlike o u) → (os us : List OutcomeParts) (set : List Bool) (left : List ℕ) → length os ≡ length us → OutcomesDifferAtMost os us set → left ≡ processes_in set → AreAlikeBut AreAlike os us left
-alike_but_doubtful AreAlike same os us set left count differ all = λ p l none.
+-- before any dirty process is looked at
+pub alike_but_dirty : (AreAlike : OutcomeParts → OutcomeParts → Type 0) → ((o u : OutcomeParts) → o ≡ u → AreAlike o u) → (os us : List OutcomeParts) (set : List Bool) (left : List ℕ) → length os ≡ length us → OutcomesDifferAtMost os us set → left ≡ processes_in set → AreAlikeBut AreAlike os us left
+alike_but_dirty AreAlike same os us set left count differ all = λ p l none.
     let among : p < length set = omega (arith, l, differ.count) in
     same (outcome_of os p) (outcome_of us p) (differ.same p (omega (arith, l, count)) l (none_of set p left among all none))
 

@@ -1,4 +1,4 @@
--- What is carried over from the run before to the next superstep, and what is put in its places.
+-- What is carried over from the previous run to the next superstep, and what is put in its places.
 use Rattle.std.proofs.Common.{◌≡◌, ◌<◌, ℕ, true, false, List, [], ◌∷◌, map, length, get_or, arith, refl, ap, ◌∙◌}
 use Rattle.std.proofs.lemmas.List.{get_or-map, length-map}
 use Rattle.bsp_model.specs.declared.request.Message.{Message}

@@ -38,7 +38,7 @@ first_queue : (i : Input) (p : ℕ) → p < length i.mems → (view_of i.args 0 
 unfolding first_state
 first_queue i p l = get_or-map no_messages i.mems p [] [] l
 
--- The memories and the queues that the processes saw first in the run before, with those of the marked processes in their places, are the new ones.
+-- The memories and the queues that the processes saw first in the previous run, with those of the marked processes in their places, are the new ones.
 pub first_cells_in_place : (turn : ViewParts → OutcomeParts) (r : Run) (input : Input) (marks : List Bool) (marked : List ℕ) → IsBefore turn input (Some r) → AreFirstMarked (Some r) input marks → marked ≡ processes_where (length marks) (λ p. get_or marks p false)
     → replaced (map cell_of (first_views_before r)) marked (map (first_cell input.mems) marked) ≡ map (λ m. (m, no_messages m)) input.mems
 first_cells_in_place turn r input marks marked began h listed =

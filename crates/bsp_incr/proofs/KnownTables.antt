@@ -81,7 +81,7 @@ pub known_of_next : (r : Run) (views : List ViewParts) → 1 ≤ length r.outcom
     → HaveSameTable views (open_views (after_delivery r))
 known_of_next r views some seen table tag = record { some = seen; table = table ∙ sym (table-delivered r some); tag_size = tag ∙ sym (tag-delivered r some) }
 
--- Where the open superstep has the table of the run before, the states share it.
+-- Where the open superstep has the table of the previous run, the states share it.
 shares_open : (turn : ViewParts → OutcomeParts) (input : Input) (k r : Run) (h : IsBefore turn input (Some k)) → IsRecord turn input r → HaveSameTable (views_before (Some k) (length r.past)) (open_views r) → SharesTable (state_at turn h.input_before (length r.past)) r.state
 shares_open turn input k r h made same =
     let s = length r.past in
@@ -95,7 +95,7 @@ shares_open turn input k r h made same =
       tag_size = sym (ap (λ (v : ViewParts). v.tag_size) old) ∙ same.tag_size ∙ ap (λ (v : ViewParts). v.tag_size) new ∙ sym (ap (λ (x : State). x.tag_size) made.state);
     }
 
--- What is known where turns end as those of the run before, which ended by delivery.
+-- What is known where turns end as those of the previous run, which ended by delivery.
 pub record EndAsBefore (old : Option Run) (r : Run) (us : List OutcomeParts) : Type 0 where
   pub same_table : HaveSameTable (views_before old (length r.past)) (open_views r)
   pub alike : AllEndAlike (delivered_outcomes old (length r.past)) us
@@ -112,7 +112,7 @@ delivers_as_before turn input (Some k) r us h made e =
     ∙ ap (end_of s (state_at turn h.input_before s).table) (delivered-in turn input k s h past)
     ∙ (record_of_law turn h.input_before k h.lawful h.law).goes_on s past
 
--- .. and the next one has the table and the tag size of the run before.
+-- .. and the next one has the table and the tag size of the previous run.
 next_as_before : (turn : ViewParts → OutcomeParts) (input : Input) (k r t : Run) (h : IsBefore turn input (Some k)) → IsRecord turn input r → EndAsBefore (Some k) r t.outcomes → t.state ≡ r.state → t.past ≡ r.past → HaveSameTable (views_after (Some k) (length t.past)) (open_views (after_delivery t))
 next_as_before turn input k r t h made e state past =
     let s = length r.past in
@@ -150,7 +150,7 @@ pub knows_next_if : (old : Option Run) (t : Run) (ends : Bool) (known : KnownTab
 knows_next_if old t true known is h = subst (KnowsNextTable old t) (sym is) (h refl)
 knows_next_if old t false known is h = subst (KnowsNextTable old t) (sym is) tt
 
--- A superstep that the run before took after a delivery shows what it showed after that delivery.
+-- A superstep that the previous run took after a delivery shows what it showed after that delivery.
 taken_after : (turn : ViewParts → OutcomeParts) (input : Input) (old : Option Run) (s : ℕ) → IsBefore turn input old → 0 < length (views_before old (s + 1)) → views_after old s ≡ views_before old (s + 1)
 taken_after turn input None s h l = absurd (nothing_taken (s + 1) 0 l)
 taken_after turn input (Some k) s h l =

@@ -39,7 +39,7 @@ turn_there : (turn : ViewParts → OutcomeParts) (input : Input) (r : Run) (plac
 turn_there turn input r place law l below =
     subst (λ n. place.pid < n) (sym (ap (λ (vs : List ViewParts). length vs) (law.views place.step l) ∙ count-views_in turn input place.step)) below
 
--- At each place where no turn was taken again, the lines are those of the run before.
+-- At each place where no turn was taken again, the lines are those of the previous run.
 pub lines_stay : (acts : ViewParts → List Act) (ending : ViewParts → End) (looks : ViewParts → ℕ → Bool) (input : Input) (old new : Run) (update : Update) → IsFootprint acts ending looks → input_fault input ≡ None
     → IsBefore (turn_of acts ending) input (Some old) → IsBspRun (turn_of acts ending) input new → update ≡ update_of looks (Some old) new → LinesStayBut old new update.executed
 lines_stay acts ending looks input old new update footprint lawful before law is = record {

@@ -44,7 +44,7 @@ view_within_there : (acts : ViewParts → List Act) (ending : ViewParts → End)
 view_within_there acts ending input r place lawful law h =
     views_of_run acts ending input r place.step lawful law (step_there (supersteps_of r) place h) place.pid no_view h
 
--- Where a turn of the run before serves, its outcome stays over the new memory.
+-- Where a turn of the previous run serves, its outcome stays over the new memory.
 pub law_reused : (acts : ViewParts → List Act) (ending : ViewParts → End) (looks : ViewParts → ℕ → Bool) (i j : Input) (old new : Run) → IsFootprint acts ending looks → input_fault i ≡ None → input_fault j ≡ None
     → IsBspRun (turn_of acts ending) i old → IsBspRun (turn_of acts ending) j new → AreReused looks (Some old) new
 law_reused acts ending looks i j old new footprint was is before after place h served =

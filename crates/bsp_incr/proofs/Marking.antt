@@ -23,7 +23,7 @@ use Rattle.bsp_incr.proofs.Propagation.{first_memory}
 use Rattle.bsp_incr.proofs.RunBefore.{first_view, record_of_law}
 use Rattle.bsp_incr.proofs.Unnamed.{same_args, same_memory}
 
--- a process begins with the arguments, or with the memory, of the run before
+-- a process begins with the arguments, or with the memory, of the previous run
 abbrev pub SameArgs : Input → ℕ → Run → Type 0
 SameArgs input p r = (first_view_before r p).args ≡ get_or input.args p []
 

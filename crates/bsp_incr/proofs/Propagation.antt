@@ -23,7 +23,7 @@ use Rattle.bsp_incr.specs.Inside.Marks.{AreAlikeButForTable, HaveOneTable}
 use Rattle.bsp_deliver.proofs.SameDelivery.{Decides-delivery}
 use Rattle.bsp_model.proofs.Inputs.{not_false}
 
--- A delivery has to be made where the run before has none to the process, or one that depends on something else.
+-- A delivery has to be made where the previous run has none to the process, or one that depends on something else.
 pub Decides-untouched : (old new : List OutcomeParts) (d : ℕ) → Decides (nat_lt d (length old) && same_delivery (delivery_parts old d) (delivery_parts new d)) ((d < length old) × (delivery_parts old d ≡ delivery_parts new d))
 Decides-untouched old new d =
     Decides-and (nat_lt d (length old)) (same_delivery (delivery_parts old d) (delivery_parts new d)) (Decides-ltb d (length old)) (Decides-delivery (delivery_parts old d) (delivery_parts new d))
@@ -111,7 +111,7 @@ pub same_view : (v w : ViewParts) → AreAlikeButForTable v w → v.table ≡ w.
 same_view v w h table tag =
     λ i. record { nprocs = h.nprocs i; pid = h.pid i; step = h.step i; args = h.args i; memory = h.memory i; table = table i; tag_size = tag i; queue = h.queue i }
 
--- where the run before has a delivery to the process, that is whether it depends on something else
+-- where the previous run has a delivery to the process, that is whether it depends on something else
 touched_from_decides : (old new : List OutcomeParts) (d : ℕ) (same : Bool) → d < length old → Decides same (delivery_parts old d ≡ delivery_parts new d) → not same ≡ is_touched old new d
 touched_from_decides old new d same l h =
     ap not
@@ -130,7 +130,7 @@ mark_is old new marks d long h l =
 pub touched_are : (old new : List OutcomeParts) (marks : List Bool) → length old ≡ length new → AreTouched old new marks → marks ≡ each_below (length new) (is_touched old new)
 touched_are old new marks long h = fill_by_all (is_touched old new) marks (length new) true h.count (λ d l. mark_is old new marks d long h l)
 
--- where the run before has no delivery, each has to be made
+-- where the previous run has no delivery, each has to be made
 pub touched-none : (new : List OutcomeParts) (d : ℕ) → is_touched [] new d ≡ true
 touched-none new d = let none : nat_lt d 0 ≡ false = grind (arith, nat_tests) in ap (λ b. not (b && same_delivery (delivery_parts [] d) (delivery_parts new d))) none
 

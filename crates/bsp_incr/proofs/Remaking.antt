@@ -48,7 +48,7 @@ unchanged_among turn input (Some o) s ws set h is k =
           ap (λ (os : List OutcomeParts). outcome_of os p) old ∙ unchanged_by turn (views_before (Some o) s) ws p seen.0 here seen.1;
     }
 
--- A superstep that the run before took had the same processes.
+-- A superstep that the previous run took had the same processes.
 pub count_taken : (turn : ViewParts → OutcomeParts) (input : Input) (old : Option Run) (s : ℕ) (ws : List ViewParts) → IsBefore turn input old → ws ≡ views_in turn input s → 0 < length (views_before old s) → length (views_before old s) ≡ length ws
 count_taken turn input None s ws h is l = absurd (nothing_taken s 0 l)
 count_taken turn input (Some k) s ws h is l =
@@ -68,7 +68,7 @@ clean_after turn input (Some k) s p h l m same there e =
     subst (λ (xs : List ViewParts). AreAlikeButForTable (get_or xs p no_view) (get_or (views_in turn input (s + 1)) p no_view)) (sym vs)
     (propagated turn h.input_before input s p h.stands l (args_before turn input k p h l same) (ap (λ (xs : List OutcomeParts). delivery_parts xs p) (sym os) ∙ e))
 
--- A process that is not marked after the deliveries sees next what it saw in the run before.
+-- A process that is not marked after the deliveries sees next what it saw in the previous run.
 marked_next : (turn : ViewParts → OutcomeParts) (input : Input) (old : Option Run) (s : ℕ) (others marks : List Bool) → IsBefore turn input old → AreArgsMarked old input others
     → marks ≡ union (each_below (length (outcomes_in turn input s)) (is_touched (delivered_outcomes old s) (outcomes_in turn input s))) others
     → AreMarked (views_before old (s + 1)) (views_in turn input (s + 1)) marks

@@ -22,7 +22,7 @@ use Rattle.bsp_incr.proofs.Patching.{patched, patched_is}
 use Rattle.bsp_incr.proofs.Serving.{serves-itself}
 use Rattle.bsp_model.proofs.Inputs.{not_false}
 
--- where the run before has no view of the process
+-- where the previous run has no view of the process
 pub differs-none : (looks : ViewParts → ℕ → Bool) (old new : List ViewParts) (p : ℕ) → length old ≤ p → differs looks old new p ≡ true
 differs-none looks old new p l =
     let none : slice_get old p ≡ None = slice_get_past old p l in
@@ -41,7 +41,7 @@ unneeded_if : (looks : ViewParts → ℕ → Bool) (o : Option ViewParts) (w : V
 unneeded_if looks None w h = cc
 unneeded_if looks (Some v) w h = (v, refl, not_false (serves looks v w) h)
 
--- where no turn is needed, the run before has a view that serves
+-- where no turn is needed, the previous run has a view that serves
 pub unneeded : (looks : ViewParts → ℕ → Bool) (old new : List ViewParts) (p : ℕ) → differs looks old new p ≡ false → (p < length old) × (serves looks (get_or old p no_view) (get_or new p no_view) ≡ true)
 unneeded looks old new p h =
     let some = unneeded_if looks (slice_get old p) (get_or new p no_view) h in
@@ -71,11 +71,11 @@ needed_among looks old new set h =
     let among : p < length set = omega (arith, l, h.count) in
     needed_if (get_or set p false) (d p) (λ t. let seen = h.same p l (get_or_default set p true false among ∙ t) in differs-same looks old new p seen.0 seen.1))
 
--- so the doubtful processes that need their turn are those of all
+-- so the dirty processes that need their turn are those of all
 pub needed_are : (looks : ViewParts → ℕ → Bool) (old new : List ViewParts) (set needed : List Bool) → ViewsDifferAtMost old new set → needed ≡ each_below (length new) (differs looks old new) → processes_in needed ≡ filter (differs looks old new) (processes_in set)
 needed_are looks old new set needed h is = processes_where-each_below (length new) (differs looks old new) needed is ∙ sym (needed_among looks old new set h)
 
--- where the run before has no such superstep, all do
+-- where the previous run has no such superstep, all do
 pub all_needed : (looks : ViewParts → ℕ → Bool) (old new : List ViewParts) (set : List Bool) → length old ≡ 0 → ViewsDifferAtMost old new set → set ≡ each_below (length new) (differs looks old new)
 all_needed looks old new set none h =
     fill_by_all (differs looks old new) set (length new) true h.count
@@ -130,10 +130,10 @@ first_of (x ∷ xs) (suc n) d l = first_of xs n d (omega (arith, l))
 pub one_of : {X : Type 0} (xs : List X) (n : ℕ) (d : X) → n < length xs → slice_range xs n (n + 1) ≡ get_or xs n d ∷ []
 one_of xs n d l = let one : n + 1 - n ≡ 1 = omega arith in ap (λ k. take k (drop n xs)) one ∙ first_of xs n d l
 
--- The recorded outcomes, with the turns of the doubtful processes in their places, are the turns of the new views.
-pub turns_in_place : (turn : ViewParts → OutcomeParts) (old new : List ViewParts) (set : List Bool) (os us : List OutcomeParts) (doubtful : List ℕ) → ViewsDifferAtMost old new set → length old ≡ length new → os ≡ map turn old
-    → doubtful ≡ processes_in set → us ≡ turns_of turn new doubtful → replaced os doubtful us ≡ map turn new
-turns_in_place turn old new set os us doubtful h long recorded are u =
+-- The recorded outcomes, with the turns of the dirty processes in their places, are the turns of the new views.
+pub turns_in_place : (turn : ViewParts → OutcomeParts) (old new : List ViewParts) (set : List Bool) (os us : List OutcomeParts) (dirty : List ℕ) → ViewsDifferAtMost old new set → length old ≡ length new → os ≡ map turn old
+    → dirty ≡ processes_in set → us ≡ turns_of turn new dirty → replaced os dirty us ≡ map turn new
+turns_in_place turn old new set os us dirty h long recorded are u =
     let f : ℕ → OutcomeParts = λ p. turn (get_or new p no_view) in
     let count = length new in
     let many : length os ≡ count = ap (λ (xs : List OutcomeParts). length xs) recorded ∙ length-map old turn ∙ long in
@@ -142,12 +142,12 @@ turns_in_place turn old new set os us doubtful h long recorded are u =
     let among : p < length set = omega (arith, l, h.count) in
     let seen = h.same p l (get_or_default set p true false among ∙ t) in
     ap (λ (xs : List OutcomeParts). get_or xs p no_outcome) recorded ∙ get_or-map turn old p no_view no_outcome seen.0 ∙ ap turn seen.1 in
-    ap (replaced os doubtful) u
+    ap (replaced os dirty) u
     ∙ ap (λ (ps : List ℕ). patched f os ps) (are ∙ ap (λ n. processes_where n (λ p. get_or set p false)) h.count)
     ∙ patched_is f (λ p. get_or set p false) count os no_outcome many there
     ∙ turns_of-all turn new
 
--- Where the run before has no such superstep, every turn is needed.
+-- Where the previous run has no such superstep, every turn is needed.
 pub turns_of_none : (turn : ViewParts → OutcomeParts) (looks : ViewParts → ℕ → Bool) (old new : List ViewParts) (needed : List ℕ) (ws : List OutcomeParts) → length old ≡ 0 → needed ≡ processes_where (length new) (differs looks old new) → ws ≡ turns_of turn new needed → ws ≡ map turn new
 turns_of_none turn looks old new needed ws none n w =
     w ∙ ap (turns_of turn new) (n ∙ all_where (length new) (differs looks old new) (λ p l. differs-none looks old new p (omega (arith, none)))) ∙ turns_of-all turn new

@@ -1,4 +1,4 @@
--- The run before, superstep by superstep.
+-- The previous run, superstep by superstep.
 use Rattle.std.proofs.Common.{◌≡◌, ◌≤◌, ◌<◌, ◌+◌, ℕ, Bool, true, false, cond, List, [], ◌∷◌, Option, None, Some, map, length, get_or, arith, refl, sym, ap, ◌∙◌, subst, inl, inr}
 use Rattle.std.specs.Prelude.{nat_lt, slice_get}
 use Rattle.std.proofs.lemmas.Bool.{cases_lt}
@@ -55,7 +55,7 @@ pub count_args : (turn : ViewParts → OutcomeParts) (input : Input) (k : Run) (
 count_args turn input k h lawful =
     ap (λ (lists : List (List ℕ)). length lists) h.law.args ∙ (lawful_input h.input_before h.lawful).same_count ∙ h.stands ∙ sym (lawful_input input lawful).same_count
 
--- The arguments of the run before, with those of the marked processes in their places, are the new ones.
+-- The arguments of the previous run, with those of the marked processes in their places, are the new ones.
 pub args_in_place : (turn : ViewParts → OutcomeParts) (input : Input) (k : Run) (always : List Bool) (others : List ℕ) (h : IsBefore turn input (Some k)) → input_fault input ≡ None → AreArgsMarked (Some k) input always
     → others ≡ processes_where (length always) (λ p. get_or always p false) → replaced k.args others (map (λ p. get_or input.args p []) others) ≡ input.args
 args_in_place turn input k always others h lawful marked listed =
@@ -126,7 +126,7 @@ pub turns_before : (turn : ViewParts → OutcomeParts) (input : Input) (old : Op
 turns_before turn input None s h = subst (λ (x : Superstep). x.outcomes ≡ map turn x.views) (sym (superstep_at-past_end [] s (omega arith))) refl
 turns_before turn input (Some k) s h = taken_outcomes turn (supersteps_of k) s (record_of_law turn h.input_before k h.lawful h.law).turns
 
--- what the run before delivered, it delivered to as many processes
+-- what the previous run delivered, it delivered to as many processes
 pub count_delivered : (turn : ViewParts → OutcomeParts) (input : Input) (k : Run) (s : ℕ) (h : IsBefore turn input (Some k)) → s < length k.past → length (delivered_outcomes (Some k) s) ≡ length input.mems
 count_delivered turn input k s h l = ap (λ (os : List OutcomeParts). length os) (delivered-in turn input k s h l) ∙ count-outcomes_in turn h.input_before s ∙ h.stands
 
@@ -143,7 +143,7 @@ delivered_there turn input before k past s n x d is h whole at inside found =
 views_after-some : (k : Run) (s : ℕ) → s < length k.past → views_after (Some k) s ≡ (superstep_at (supersteps_opened k) (s + 1)).views
 views_after-some k s l = let t : nat_lt s (length k.past) ≡ true = grind (arith, nat_tests) in ap (λ b. cond b (superstep_at (supersteps_opened k) (s + 1)).views []) t
 
--- the next superstep of the run before
+-- the next superstep of the previous run
 pub next-in : (turn : ViewParts → OutcomeParts) (input : Input) (k : Run) (s : ℕ) (h : IsBefore turn input (Some k)) → s < length k.past → views_after (Some k) s ≡ views_in turn h.input_before (s + 1)
 next-in turn input k s h l = views_after-some k s l ∙ (record_of_law turn h.input_before k h.lawful h.law).views (s + 1) (omega (arith, l))
 

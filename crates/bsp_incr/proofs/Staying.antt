@@ -1,4 +1,4 @@
--- A superstep in which each process sees what it saw in the run before.
+-- A superstep in which each process sees what it saw in the previous run.
 use Rattle.std.proofs.Common.{◌≡◌, ◌<◌, ◌+◌, ◌++◌, ◌∷◌, ℕ, zero, suc, Bool, true, List, [], None, Some, All, map, length, get_or, arith, refl, sym, ap, ◌∙◌, subst, append-nil, length-append}
 use Rattle.std.proofs.lemmas.Grind.{common_steps}
 use Rattle.std.proofs.lemmas.List.{length-map}
@@ -87,7 +87,7 @@ past_outcomes turn i old s h l =
     let turns = subst (λ (x : Superstep). x.outcomes ≡ map turn x.views) front (taken_outcomes turn (supersteps_of old) s h.turns) in
     turns ∙ ap (map turn) (sym (ap (λ (x : Superstep). x.views) (opened-past old s l)) ∙ h.views s (omega arith))
 
--- Where all see what they saw in the run before, and that superstep ended by delivery, it can be taken over.
+-- Where all see what they saw in the previous run, and that superstep ended by delivery, it can be taken over.
 pub can_take_over : (acts : ViewParts → List Act) (ending : ViewParts → End) (i j : Input) (old r : Run) → IsRecord (turn_of acts ending) i old → IsRecord (turn_of acts ending) j r → r.phase ≡ Open → 0 < length j.mems → length i.mems ≡ length j.mems
     → All IsView (open_views r) → length r.past < length old.past → views_in (turn_of acts ending) i (length r.past) ≡ open_views r → CanTakeOver old r
 can_take_over acts ending i j old r before made phase some many within l seen =
@@ -116,7 +116,7 @@ same_views olds news set differ none long =
     fill_by_all at olds (length news) no_view long (λ p l. (differ.same p l (no_members set p none (omega (arith, l, differ.count)))).1)
     ∙ sym (fill_by_all at news (length news) no_view refl (λ k l. refl))
 
--- The open superstep is one that the run before took whole, and each process sees what it saw there.
+-- The open superstep is one that the previous run took whole, and each process sees what it saw there.
 pub record IsStaying (turn : ViewParts → OutcomeParts) (i j : Input) (old r : Run) : Type 0 where
   pub before : IsRecord turn i old
   pub made : IsRecord turn j r

@@ -29,7 +29,7 @@ pub record IsTakenWhole (turn : ViewParts → OutcomeParts) (looks : ViewParts �
   pub under_way : (q : Run) → q ≡ after_delivery (after_turns r (outcomes_there old r)) → IsUnderWay turn looks before j q set u
   pub table : (q : Run) → q ≡ after_delivery (after_turns r (outcomes_there old r)) → KnowsTable before q AsBefore
 
--- So it is where nobody sees something else than in the run before, and that run ended the superstep by delivery.
+-- So it is where nobody sees something else than in the previous run, and that run ended the superstep by delivery.
 taken_from : (acts : ViewParts → List Act) (ending : ViewParts → End) (looks : ViewParts → ℕ → Bool) (j : Input) (old r : Run) (marks set : List Bool) (u : Update) → input_fault j ≡ None → IsBefore (turn_of acts ending) j (Some old) → is_open r.phase ≡ true → All IsView (open_views r)
     → IsUnderWay (turn_of acts ending) looks (Some old) j r marks u → length r.past < length old.past → processes_in set ≡ [] → ViewsDifferAtMost (views_before (Some old) (length r.past)) (open_views r) set → IsTakenWhole (turn_of acts ending) looks j (Some old) old r set u
 taken_from acts ending looks j old r marks set u lawful k started within under past none differ =
@@ -48,7 +48,7 @@ taken_from acts ending looks j old r marks set u lawful k started within under p
       table = λ q is. knows_taken turn j old r q k stays (under_way q is).made (made q is);
     }
 
--- the same, where the run before has another name
+-- the same, where the previous run has another name
 pub taken_whole : (acts : ViewParts → List Act) (ending : ViewParts → End) (looks : ViewParts → ℕ → Bool) (j : Input) (before : Option Run) (old r : Run) (marks set : List Bool) (u : Update) → before ≡ Some old → input_fault j ≡ None → IsBefore (turn_of acts ending) j before → is_open r.phase ≡ true → All IsView (open_views r)
     → IsUnderWay (turn_of acts ending) looks before j r marks u → length r.past < length old.past → processes_in set ≡ [] → ViewsDifferAtMost (views_before before (length r.past)) (open_views r) set → IsTakenWhole (turn_of acts ending) looks j before old r set u
 taken_whole acts ending looks j before old r marks set u is lawful k started within under past none differ =

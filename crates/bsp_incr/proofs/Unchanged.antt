@@ -1,4 +1,4 @@
--- Nothing has to be done for a run that is the run before.
+-- Nothing has to be done for a run that is the previous run.
 use Rattle.std.proofs.Common.{◌≡◌, ◌<◌, ◌+◌, ℕ, zero, suc, Bool, false, cond, List, [], ◌∷◌, All, length, get_or, arith, refl, ap, ◌∙◌, not}
 use Rattle.std.specs.Prelude.{filter, slice_set}
 use Rattle.std.proofs.lemmas.List.{set-get_or}

@@ -10,7 +10,7 @@ use Rattle.bsp_run.specs.Condition.{no_view}
 use Rattle.bsp_incr.specs.declared.reply.Place.{Place}
 use Rattle.bsp_incr.specs.declared.reply.Update.{Update}
 
--- The supersteps of a run before, if there was one: a run that there is not has none.
+-- The supersteps of a previous run, if there was one: a run that there is not has none.
 abbrev pub supersteps_before : Option Run → List Superstep
 supersteps_before None = []
 supersteps_before (Some old) = supersteps_of old
@@ -27,7 +27,7 @@ HasTurn ss place = place.pid < length (superstep_at ss place.step).views
 abbrev pub view_there : List Superstep → Place → ViewParts
 view_there ss place = slice_index_or (superstep_at ss place.step).views place.pid no_view
 
--- The run before has a turn at the place, and its view is alike where the program looks.
+-- The previous run has a turn at the place, and its view is alike where the program looks.
 pub record IsServed (looks : ViewParts → ℕ → Bool) (olds news : List Superstep) (place : Place) : Type 0 where
   pub there : HasTurn olds place
   pub alike : AreAlike (looks (view_there olds place)) (view_there olds place) (view_there news place)
@@ -36,7 +36,7 @@ pub record IsServed (looks : ViewParts → ℕ → Bool) (olds news : List Super
 abbrev pub HasDelivery : List Superstep → Place → Type 0
 HasDelivery ss place = place.pid < length (superstep_at ss place.step).outcomes
 
--- The run before has a delivery at the place, and it depends on the same.
+-- The previous run has a delivery at the place, and it depends on the same.
 pub record IsKept (olds news : List Superstep) (place : Place) : Type 0 where
   pub there : HasDelivery olds place
   pub same : delivery_parts (superstep_at olds place.step).outcomes place.pid ≡ delivery_parts (superstep_at news place.step).outcomes place.pid
@@ -50,7 +50,7 @@ abbrev pub AreInOrder : List Place → Type 0
 AreInOrder [] = Unit {0}
 AreInOrder (p ∷ later) = ((q : Place) → Contains later q → comes_before p q) × AreInOrder later
 
--- What was done again is no more and no less than has to be: a turn was taken exactly where the new run has one and no turn of the run before serves, and a
+-- What was done again is no more and no less than has to be: a turn was taken exactly where the new run has one and no turn of the previous run serves, and a
 -- delivery was made exactly where the new run has one and none is kept.
 pub record IsExact (looks : ViewParts → ℕ → Bool) (old : Option Run) (new : Run) (update : Update) : Type 0 where
   pub executed : (place : Place) → Contains update.executed place ↔ (HasTurn (supersteps_of new) place × (IsServed looks (supersteps_before old) (supersteps_of new) place → ⊥))

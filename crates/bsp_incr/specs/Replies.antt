@@ -45,7 +45,7 @@ input_if None old new = new
 abbrev pub input_after : Input → List Edit → Input
 input_after input batch = input_if (refusal_of input batch) input (edited input batch)
 
--- The reply gives the run of this input, and what had to be done for it against the run before, if there was one.
+-- The reply gives the run of this input, and what had to be done for it against the previous run, if there was one.
 pub record IsDone (looks : ViewParts → ℕ → Bool) (turn : ViewParts → OutcomeParts) (old : Option Run) (input : Input) (reply : Reply) : Type 0 where
   pub run : Run
   pub law : IsBspRun turn input run

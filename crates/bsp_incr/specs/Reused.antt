@@ -16,7 +16,7 @@ reused o memory = record o { memory = made_again memory o.stores }
 abbrev pub outcome_there : List Superstep → Place → OutcomeParts
 outcome_there ss place = outcome_of (superstep_at ss place.step).outcomes place.pid
 
--- Where a turn of the run before serves, the new run has that turn's outcome, with its stores made again in order on the memory that the process has now.
+-- Where a turn of the previous run serves, the new run has that turn's outcome, with its stores made again in order on the memory that the process has now.
 abbrev pub AreReused : (ViewParts → ℕ → Bool) → Option Run → Run → Type 0
 AreReused looks old new = (place : Place) → HasTurn (supersteps_of new) place → IsServed looks (supersteps_before old) (supersteps_of new) place
     → outcome_there (supersteps_of new) place ≡ reused (outcome_there (supersteps_before old) place) (view_there (supersteps_of new) place).memory

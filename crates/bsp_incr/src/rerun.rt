@@ -1,4 +1,4 @@
-//! A run that is made again, against the record of the run before.
+//! A run that is made again, against the record of the previous run.
 
 ghost use Rattle.std.specs.Prelude.{◌≡◌, IfOk, OnOk, OnErr, None, Some, option_map};
 ghost use Rattle.bsp_model.specs.Input.{input_fault};
@@ -34,8 +34,8 @@ use std::thread::Threads;
 pub use under_way::UnderWay;
 pub use workers::Workers;
 
-/// The run of a program on a lawful input, made against the run before, if there was one. Both runs are of one program and of as many processes.
-/// A turn is taken only where the recorded turn does not serve. A delivery is made only where it depends on something else than in the run before.
+/// The run of a program on a lawful input, made against the previous run, if there was one. Both runs are of one program and of as many processes.
+/// A turn is taken only where the recorded turn does not serve. A delivery is made only where it depends on something else than in the previous run.
 pub fn rerun<P: Program, G: Gate, R: Threads + Sync>(
     workers: Workers<'_, R, G>,
     program: &P,

@@ -1,4 +1,4 @@
-//! One superstep of a run that is made again, against the record of the run before.
+//! One superstep of a run that is made again, against the record of the previous run.
 
 ghost use Rattle.std.specs.Prelude.{◌≡◌, IfOk, IfSome, OnOk, None, length, true};
 ghost use Rattle.bsp_run.specs.Condition.{AreOutcomesOf, is_open, is_turned};
@@ -7,13 +7,13 @@ ghost use Rattle.bsp_run.specs.Run.{after_turns, open_views, advance};
 ghost use Rattle.bsp_run.specs.TurnBy.{turn_by};
 ghost use Rattle.bsp_crew.specs.Parts.{AreOfRun};
 ghost use Rattle.bsp_incr.specs.Inside.Given.{views_beside, IsMidway};
-ghost use Rattle.bsp_incr.specs.Inside.Known.{AreDoubtful, AreMarkedAlone, KnowsTable};
+ghost use Rattle.bsp_incr.specs.Inside.Known.{AreDirty, AreMarkedAlone, KnowsTable};
 
 mod ending;
 mod reuse;
 mod turns;
 
-use crate::compare::{Doubtful, KnownTable, alike_beside, open_superstep};
+use crate::compare::{Dirty, KnownTable, alike_beside, open_superstep};
 use crate::rerun::{Given, UnderWay};
 use crate::superstep::ending::make_deliveries;
 use crate::superstep::turns::turns_again;
@@ -38,19 +38,19 @@ fn end_turns(tape: &mut Tape, outcomes: Outcomes, is_delivery: bool) -> Result<b
     tape.turned(outcomes)
 }
 
-/// Takes the turns of the open superstep, and makes its deliveries. A process that is not doubtful sees in it what it saw in the run before.
+/// Takes the turns of the open superstep, and makes its deliveries. A process that is not dirty sees in it what it saw in the previous run.
 fn remake_superstep<P: Program, J: SharedRun, G: Gate>(
     given: &Given<'_, P, G>,
     tape: &mut Tape,
-    doubtful: &Doubtful,
+    dirty: &Dirty,
     under_way: &mut UnderWay,
     crew: Option<&Crew<J>>,
 ) -> Result<(), OutOfMemory>
     requires crew { IfSome crew (λ _. AreOfRun (turn_by P.Program given.now.program) given.now.input J.turn J.views) }
     requires open { is_open tape.old.phase ≡ true }
-    requires doubtful { AreDoubtful (views_beside given.now tape.old) (open_views tape.old) doubtful.now }
+    requires dirty { AreDirty (views_beside given.now tape.old) (open_views tape.old) dirty.now }
     requires few { AreMarkedAlone (views_beside given.now tape.old) (open_views tape.old)
-        under_way.old.marks doubtful.now }
+        under_way.old.marks dirty.now }
     requires under_way { IsMidway P.Program given.now tape.old under_way.old }
     ensures tape { OnOk result (tape.new ≡ advance (turn_by P.Program given.now.program) tape.old) }
     ensures under_way { OnOk result (IsMidway P.Program given.now tape.new under_way.new) }
@@ -61,29 +61,22 @@ fn remake_superstep<P: Program, J: SharedRun, G: Gate>(
     let outcomes = turns_again(
         given,
         &superstep,
-        doubtful,
+        dirty,
         executed,
         &mut under_way.spare,
         crew,
     )?;
-    let alike = alike_beside(given, tape, doubtful, &outcomes);
+    let alike = alike_beside(given, tape, dirty, &outcomes);
     under_way.table = alike.next_table();
     let goes_on = end_turns(tape, outcomes, alike.ends)?;
     if !goes_on {
         return Ok(());
     }
-    make_deliveries(
-        given,
-        tape,
-        &doubtful.processes,
-        alike.costs,
-        under_way,
-        crew,
-    )?;
+    make_deliveries(given, tape, &dirty.processes, alike.costs, under_way, crew)?;
     Ok(())
 }
 
-/// The open superstep of a run that is made again. Where nobody sees something else than in the run before, it is taken over whole.
+/// The open superstep of a run that is made again. Where nobody sees something else than in the previous run, it is taken over whole.
 pub fn advance<P: Program, J: SharedRun, G: Gate>(
     given: &Given<'_, P, G>,
     tape: &mut Tape,
@@ -99,14 +92,14 @@ pub fn advance<P: Program, J: SharedRun, G: Gate>(
     ensures table { OnOk result (KnowsTable given.now.before tape.new under_way.new.table) }
 {
     let marks = &under_way.marks;
-    let doubtful = Doubtful::among(&open_superstep(given, tape), marks, under_way.table);
+    let dirty = Dirty::among(&open_superstep(given, tape), marks, under_way.table);
     match given.old {
-        Some(history) if tape.step() < history.past().len() && doubtful.processes.is_empty() => {
+        Some(history) if tape.step() < history.past().len() && dirty.processes.is_empty() => {
             tape.take_over(history)?;
-            under_way.marks = doubtful.processes;
+            under_way.marks = dirty.processes;
             under_way.table = KnownTable::AsBefore;
             Ok(())
         }
-        _ => remake_superstep(given, tape, &doubtful, under_way, crew),
+        _ => remake_superstep(given, tape, &dirty, under_way, crew),
     }
 }

@@ -1,4 +1,4 @@
--- A delivery has no cause exactly where a delivery of the run before depends on the same.
+-- A delivery has no cause exactly where a delivery of the previous run depends on the same.
 use Rattle.std.proofs.Common.{◌≡◌, ◌<◌, ◌==◌, ◌&&◌, ◌↔◌, ℕ, Bool, true, false, cond, List, [], None, filter, length, get_or, not, arith, refl, sym, ap, ◌∙◌, subst, inl, inr}
 use Rattle.std.specs.Cmp.Lexicographic.{pointwise}
 use Rattle.std.specs.List.{list_any}

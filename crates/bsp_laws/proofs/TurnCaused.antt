@@ -1,4 +1,4 @@
--- A turn has no cause exactly where a turn of the run before serves.
+-- A turn has no cause exactly where a turn of the previous run serves.
 use Rattle.std.proofs.Common.{◌≡◌, ◌<◌, ◌+◌, ◌==◌, ◌&&◌, ◌↔◌, ℕ, zero, suc, Bool, true, false, List, [], None, All, filter, length, get_or, not, arith, refl, sym, ap, ◌∙◌, subst, inl, inr}
 use Rattle.std.specs.Cmp.Lexicographic.{pointwise}
 use Rattle.std.specs.List.{range_with_len}

@@ -51,7 +51,7 @@ SeesTheSame =
     (turn : ViewParts → OutcomeParts) (i j : Input) → length i.mems ≡ length j.mems → (s d : ℕ) → d < length i.mems → HaveSameTables turn i j s → IsOutOfReach turn i j s d
     → slice_index_or (views_in turn i s) d no_view ≡ slice_index_or (views_in turn j s) d no_view
 
--- So no turn of it is taken again, in a superstep that the run before has.
+-- So no turn of it is taken again, in a superstep that the previous run has.
 pub record IsWithinReach (turn : ViewParts → OutcomeParts) (i j : Input) (update : Update) : Type 0 where
   pub far : (s d : ℕ) → s < length (supersteps_of (run turn i)) → d < length i.mems → HaveSameTables turn i j s → IsOutOfReach turn i j s d → Contains update.executed (record { step = s; pid = d }) → ⊥
 
@@ -77,7 +77,7 @@ pub record HasNoCause (turn : ViewParts → OutcomeParts) (i j : Input) (s d : �
   pub table : (state_at turn i (s + 1)).table ≡ (state_at turn j (s + 1)).table
   pub tag_size : (state_at turn i (s + 1)).tag_size ≡ (state_at turn j (s + 1)).tag_size
 
--- Such a process takes no turn again in superstep s + 1, where the run before has that superstep.
+-- Such a process takes no turn again in superstep s + 1, where the previous run has that superstep.
 abbrev pub NoTurnWithoutACause : Type 0
 NoTurnWithoutACause =
     (turn : ViewParts → OutcomeParts) (looks : ViewParts → ℕ → Bool) (i : Input) (edits : List Edit) (update : Update) → input_fault i ≡ None → refusal_of i edits ≡ None

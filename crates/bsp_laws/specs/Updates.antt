@@ -21,7 +21,7 @@ pub record DoesNothing (update : Update) : Type 0 where
   pub executed : update.executed ≡ []
   pub redelivered : update.redelivered ≡ []
 
--- Where the run is the run before, nothing was done.
+-- Where the run is the previous run, nothing was done.
 abbrev pub NothingForTheSameRun : Type 0
 NothingForTheSameRun = (looks : ViewParts → ℕ → Bool) (run : Run) (update : Update) → IsExact looks (Some run) run update → DoesNothing update
 

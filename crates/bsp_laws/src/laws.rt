@@ -55,12 +55,12 @@ pub fn no_turn_without_a_cause()
     ensures { NoTurnWithoutACause }
 {}
 
-/// Where the run is the run before, nothing was done.
+/// Where the run is the previous run, nothing was done.
 pub fn nothing_for_the_same_run()
     ensures { NothingForTheSameRun }
 {}
 
-/// Other prices and another limit take turns and make deliveries only in supersteps where the run before has none.
+/// Other prices and another limit take turns and make deliveries only in supersteps where the previous run has none.
 pub fn limits_and_prices_go_on()
     ensures { LimitsAndPricesGoOn }
 {}

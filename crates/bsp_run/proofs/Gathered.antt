@@ -1,4 +1,4 @@
--- Lines that are taken from a run before, and those that are gathered.
+-- Lines that are taken from a previous run, and those that are gathered.
 use Rattle.std.proofs.Common.{◌≡◌, ◌<◌, ℕ, ◌&&◌, not, Bool, true, false, cond, List, [], length, get_or, refl, arith}
 use Rattle.std.specs.Prelude.{nat_lt}
 use Rattle.std.proofs.lemmas.Bool.{false≢true, not-true}
@@ -11,7 +11,7 @@ use Rattle.bsp_run.specs.Result.{lines_of_process}
 use Rattle.bsp_run.specs.Inside.Lines.{lines_from, AreGathered, AreLinesUnlessMarked}
 use Rattle.bsp_run.proofs.Lists.{each_below-agree}
 
--- where no process is marked the lines of a run before are those of each process
+-- where no process is marked the lines of a previous run are those of each process
 pub all_taken : (before : List (List (List ℕ))) (marks : List Bool) (turns : List (List OutcomeParts)) (n : ℕ) → AreLinesUnlessMarked before marks turns
     → length before ≡ n → ((p : ℕ) → p < n → get_or marks p true ≡ false) → before ≡ each_below n (lines_of_process turns)
 all_taken before marks turns n h count unmarked =

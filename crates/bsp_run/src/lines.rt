@@ -60,7 +60,7 @@ fn is_none_marked(marks: &ProcessSet, nprocs: usize) -> bool
     nprocs <= marks.count() && marks.is_empty()
 }
 
-/// Whether the lines of all of so many processes are those of a run before, which had as many.
+/// Whether the lines of all of so many processes are those of a previous run, which had as many.
 fn are_all_taken(before: &[Lines], marks: &ProcessSet, nprocs: usize) -> bool
     ensures count { result ≡ true → length before.now ≡ nprocs }
     ensures unmarked { result ≡ true → (p : ℕ) → p < nprocs → slice_index_or marks.now p true ≡ false }
@@ -68,7 +68,7 @@ fn are_all_taken(before: &[Lines], marks: &ProcessSet, nprocs: usize) -> bool
     before.len() == nprocs && is_none_marked(marks, nprocs)
 }
 
-/// Whether the lines of a process are those of a run before: it had such a process, which is not marked.
+/// Whether the lines of a process are those of a previous run: it had such a process, which is not marked.
 fn is_taken(before: &[Lines], marks: &ProcessSet, pid: usize) -> bool
     ensures taken { result ≡ is_taken before.now marks.now pid }
     ensures known { result ≡ true → pid < length before.now }
@@ -96,7 +96,7 @@ fn gather(
     Ok(())
 }
 
-/// The lines of a process: those of a run before, or else those in a column.
+/// The lines of a process: those of a previous run, or else those in a column.
 fn lines_from(
     before: &[Lines],
     marks: &ProcessSet,
@@ -111,7 +111,7 @@ fn lines_from(
     Lines::at(all, pid)
 }
 
-/// The lines of each process: those of a run before, or else those in a column.
+/// The lines of each process: those of a previous run, or else those in a column.
 #[tactic(auto, using(crate::proofs::Lists::each_below_more))]
 pub fn each_lines(
     alloc: Global,
@@ -129,7 +129,7 @@ pub fn each_lines(
     SharedSeq::from_vec(each)
 }
 
-/// The lines of each process: those of a run before where it is not marked. The others are gathered in one column, if there are any.
+/// The lines of each process: those of a previous run where it is not marked. The others are gathered in one column, if there are any.
 fn lines_taken(
     alloc: Global,
     before: &[Lines],

@@ -7,7 +7,7 @@ use Rattle.bsp_incr.specs.declared.reply.Update.{Update}
 use Rattle.bsp_incr.specs.Exact.{HasDelivery, HasTurn, AreInOrder, delivered_before}
 use Rattle.bsp_causes.specs.DeliveryCauses.{HaveAsMany}
 
--- Its places are those of turns and deliveries of the new run, in order, and where the run before has a delivery it has as many processes.
+-- Its places are those of turns and deliveries of the new run, in order, and where the previous run has a delivery it has as many processes.
 pub record IsUpdateTo (old : Option Run) (new : Run) (update : Update) : Type 0 where
   pub executed : All (HasTurn (supersteps_of new)) update.executed
   pub redelivered : All (HasDelivery new.past) update.redelivered

@@ -1,4 +1,4 @@
--- What outcomes have in common where parts of a superstep are taken over from the run before.
+-- What outcomes have in common where parts of a superstep are taken over from the previous run.
 use Rattle.std.specs.Prelude.{◌≡◌, ◌<◌, ℕ, List, length, map}
 use Rattle.bsp_step.specs.OutcomeParts.{OutcomeParts, outcome_of}
 use Rattle.bsp_deliver.specs.Cost.{put_transfer, get_transfer, send_transfer}

@@ -1,4 +1,4 @@
--- What is known of the run before: what the private functions of this crate ask and promise.
+-- What is known of the previous run: what the private functions of this crate ask and promise.
 use Rattle.std.specs.Prelude.{◌≡◌, ℕ, ◌+◌, List, [], Option, None, Some, length, nat_lt, if◌then◌else◌, slice_index_or}
 use Rattle.std.specs.Option.{ForSome}
 use Rattle.bsp_model.specs.declared.input.Input.{Input}
@@ -13,7 +13,7 @@ use Rattle.bsp_incr.specs.declared.edit.Edit.{Edit}
 use Rattle.bsp_incr.specs.Edits.{edited}
 use Rattle.bsp_incr.specs.Exact.{supersteps_before, delivered_before}
 
--- the superstep that the run before took under this number, and the outcomes of the one that it delivered
+-- the superstep that the previous run took under this number, and the outcomes of the one that it delivered
 abbrev pub views_before : Option Run → ℕ → List ViewParts
 views_before old s = (superstep_at (supersteps_before old) s).views
 
@@ -33,41 +33,41 @@ abbrev pub views_after : Option Run → ℕ → List ViewParts
 views_after None s = []
 views_after (Some r) s = if nat_lt s (length r.past) then (superstep_at (supersteps_opened r) (s + 1)).views else []
 
--- what the processes saw in superstep 0 of the run before, and what process p saw
+-- what the processes saw in superstep 0 of the previous run, and what process p saw
 abbrev pub first_views_before : Run → List ViewParts
 first_views_before r = (superstep_at (supersteps_opened r) 0).views
 
 abbrev pub first_view_before : Run → ℕ → ViewParts
 first_view_before r p = slice_index_or (first_views_before r) p no_view
 
--- The run before is that of a lawful input, of which this stands.
+-- The previous run is that of a lawful input, of which this stands.
 pub record IsRunBefore (turn : ViewParts → OutcomeParts) (Stands : Input → Type 0) (r : Run) : Type 0 where
   pub input_before : Input
   pub lawful : input_fault input_before ≡ None
   pub law : IsBspRun turn input_before r
   pub stands : Stands input_before
 
--- the run before, if there was one, is that of an input which has as many processes as the new one
+-- the previous run, if there was one, is that of an input which has as many processes as the new one
 abbrev pub IsBefore : (ViewParts → OutcomeParts) → Input → Option Run → Type 0
 IsBefore turn input None = Unit {0}
 IsBefore turn input (Some r) = IsRunBefore turn (λ before. length before.mems ≡ length input.mems) r
 
--- the run before is that of an input of which these edits make the new one
+-- the previous run is that of an input of which these edits make the new one
 abbrev pub IsBeforeEdits : (ViewParts → OutcomeParts) → List Edit → Input → Run → Type 0
 IsBeforeEdits turn edits input r = IsRunBefore turn (λ before. input ≡ edited before edits) r
 
--- a process has the arguments that it had in the run before, if there was one
+-- a process has the arguments that it had in the previous run, if there was one
 abbrev pub HasSameArgs : Option Run → Input → ℕ → Type 0
 HasSameArgs old input p = ForSome old (λ r. (first_view_before r p).args ≡ slice_index_or input.args p [])
 
--- a process has other arguments than in the run before, if there was one
+-- a process has other arguments than in the previous run, if there was one
 abbrev pub HasOtherArgs : Option Run → Input → ℕ → Type 0
 HasOtherArgs old input p = ForSome old (λ r. (first_view_before r p).args ≡ slice_index_or input.args p [] → ⊥)
 
--- a process has the memory that it had in the run before, if there was one
+-- a process has the memory that it had in the previous run, if there was one
 abbrev pub HasSameMemory : Option Run → Input → ℕ → Type 0
 HasSameMemory old input p = ForSome old (λ r. (first_view_before r p).memory ≡ slice_index_or input.mems p [])
 
--- a process has another memory than in the run before, if there was one
+-- a process has another memory than in the previous run, if there was one
 abbrev pub HasOtherMemory : Option Run → Input → ℕ → Type 0
 HasOtherMemory old input p = ForSome old (λ r. (first_view_before r p).memory ≡ slice_index_or input.mems p [] → ⊥)

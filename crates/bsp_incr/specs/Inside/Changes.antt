@@ -35,12 +35,12 @@ turns_in s = length s.views
 abbrev pub turn_test : (ViewParts → ℕ → Bool) → List Superstep → ℕ → Superstep → ℕ → Bool
 turn_test looks olds n s p = differs looks (superstep_at olds n).views s.views p
 
--- The places whose turn has to be taken (this profile), by superstep, then process: the run before has no such superstep, or a view of the process that does
+-- The places whose turn has to be taken (this profile), by superstep, then process: the previous run has no such superstep, or a view of the process that does
 -- not serve.
 unfoldable pub differ : (ViewParts → ℕ → Bool) → List Superstep → List Superstep → List Place
 differ looks olds news = gathered turns_in (turn_test looks olds) 0 news
 
--- The delivery to d has to be made: the run before has none, or one that depends on something else.
+-- The delivery to d has to be made: the previous run has none, or one that depends on something else.
 abbrev pub is_touched : List OutcomeParts → List OutcomeParts → ℕ → Bool
 is_touched old new d = not (nat_lt d (length old) && same_delivery (delivery_parts old d) (delivery_parts new d))
 
@@ -57,7 +57,7 @@ delivery_test olds n s p = is_touched (superstep_at olds n).outcomes s.outcomes 
 unfoldable pub touched : List Superstep → List Superstep → List Place
 touched olds news = gathered deliveries_in (delivery_test olds) 0 news
 
--- What has to be done for a new run, against the run before.
+-- What has to be done for a new run, against the previous run.
 abbrev pub update_of : (ViewParts → ℕ → Bool) → Option Run → Run → Update
 update_of looks old new =
     record { executed = differ looks (supersteps_before old) (supersteps_of new); redelivered = touched (delivered_before old) new.past }

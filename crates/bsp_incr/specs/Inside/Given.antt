@@ -18,21 +18,21 @@ use Rattle.bsp_incr.specs.Inside.Changes.{update_of}
 use Rattle.bsp_incr.specs.Inside.Known.{KnowsTable}
 use Rattle.bsp_incr.specs.Inside.UnderWay.{IsUnderWay}
 
--- A program, its input, the run before, if there was one, and for each process whether it has other arguments than in that run.
+-- A program, its input, the previous run, if there was one, and for each process whether it has other arguments than in that run.
 pub record Making (P : Type 0) : Type 0 where
   pub program : P
   pub input : Input
   pub before : Option Run
   pub others : List Bool
 
--- The input is lawful, the run before is one of the program on an input with as many processes, and the processes with other arguments are those that are
+-- The input is lawful, the previous run is one of the program on an input with as many processes, and the processes with other arguments are those that are
 -- said to have them.
 pub record IsMaking {P : Type 0} (laws : Ghosts P) (making : Making P) : Type 0 where
   pub lawful : input_fault making.input ≡ None
   pub before : IsBefore (turn_by laws making.program) making.input making.before
   pub others : AreArgsMarked making.before making.input making.others
 
--- of the superstep with the number of the open one: what the run before saw in it, and what it delivered
+-- of the superstep with the number of the open one: what the previous run saw in it, and what it delivered
 abbrev pub views_beside : {P : Type 0} → Making P → Run → List ViewParts
 views_beside making r = views_before making.before (length r.past)
 

@@ -13,7 +13,7 @@ use Rattle.bsp_incr.specs.Edits.{refusal_of, edited}
 use Rattle.bsp_incr.specs.Replies.{input_after}
 use Rattle.bsp_incr.specs.Inside.Changes.{update_of}
 
--- The reply that gives this run, against the run before.
+-- The reply that gives this run, against the previous run.
 abbrev pub done : (ViewParts → ℕ → Bool) → Option Run → Run → Reply
 done looks old new = Done (result_of new) (Some (update_of looks old new))
 

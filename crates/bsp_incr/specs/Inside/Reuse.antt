@@ -20,7 +20,7 @@ same_where_looked_at looks m n = list_all (λ a. not (looks a) || (slice_index m
 abbrev pub serves : (ViewParts → ℕ → Bool) → ViewParts → ViewParts → Bool
 serves looks v w = same_but_for_words v w && same_where_looked_at (looks v) v.memory w.memory
 
--- A turn has to be taken where the run before has no view of the place, or one whose turn does not serve.
+-- A turn has to be taken where the previous run has no view of the place, or one whose turn does not serve.
 abbrev pub needs_turn : (ViewParts → ℕ → Bool) → Option ViewParts → ViewParts → Bool
 needs_turn looks None w = true
 needs_turn looks (Some v) w = not (serves looks v w)

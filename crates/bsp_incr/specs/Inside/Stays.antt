@@ -1,4 +1,4 @@
--- What stays of the run before where no turn is taken again: what the private functions of this crate ask and promise.
+-- What stays of the previous run where no turn is taken again: what the private functions of this crate ask and promise.
 use Rattle.std.specs.Prelude.{◌≡◌, ◌<◌, List, Contains, length}
 use Rattle.bsp_run.specs.Run.{Run}
 use Rattle.bsp_run.specs.Supersteps.{supersteps_of}

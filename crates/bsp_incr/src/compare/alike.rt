@@ -1,4 +1,4 @@
-//! What the outcomes of a superstep have in common with those of the run before.
+//! What the outcomes of a superstep have in common with those of the previous run.
 
 ghost use Rattle.std.specs.Prelude.{◌≡◌, ◌<◌, if◌then◌else◌, length, true};
 ghost use Rattle.bsp_incr.specs.declared.compare.known_table.KnownTable.TheVariants.{AsBefore, Unknown};
@@ -8,7 +8,7 @@ ghost use Rattle.bsp_incr.specs.Inside.Given.{delivered_beside};
 ghost use Rattle.bsp_incr.specs.Inside.Marks.{OutcomesDifferAtMost};
 
 use crate::compare::both_supersteps::delivered_beside;
-use crate::compare::doubtful::Doubtful;
+use crate::compare::dirty::Dirty;
 use crate::compare::known_table::KnownTable;
 use crate::compare::moving::{gets_move_alike, puts_move_alike, sends_move_alike};
 use crate::rerun::Given;
@@ -37,7 +37,7 @@ fn ends_alike(old: &OutcomeRef<'_>, new: &OutcomeRef<'_>) -> bool
         && are_same(old.pushes, new.pushes)
 }
 
-/// What is the same of all turns of a superstep as in the run before, which ended that superstep by delivery.
+/// What is the same of all turns of a superstep as in the previous run, which ended that superstep by delivery.
 #[derive(Clone, Copy)]
 pub struct Alike {
     /// The table and the tag size that the processes saw, how each turn ended, and the table and the tag size for which it asked. So the superstep ends
@@ -62,20 +62,20 @@ impl Alike {
         self.costs = self.costs && costs_alike(&before, &after);
     }
 
-    /// What is the same of these turns. Only those of doubtful processes are looked at.
-    fn among(old: &Outcomes, new: &Outcomes, doubtful: &Doubtful) -> Alike
+    /// What is the same of these turns. Only those of dirty processes are looked at.
+    fn among(old: &Outcomes, new: &Outcomes, dirty: &Dirty) -> Alike
         requires some { 0 < length old.now }
         requires count { length old.now ≡ length new.now }
-        requires doubtful { OutcomesDifferAtMost old.now new.now doubtful.now.processes }
-        ensures table { result.ends ≡ true → doubtful.now.same_table ≡ true }
+        requires dirty { OutcomesDifferAtMost old.now new.now dirty.now.processes }
+        ensures table { result.ends ≡ true → dirty.now.same_table ≡ true }
         ensures ends { result.ends ≡ true → AllEndAlike old.now new.now }
         ensures costs { result.costs ≡ true → AllCostAlike old.now new.now }
     {
         let mut alike = Alike {
-            ends: doubtful.same_table,
+            ends: dirty.same_table,
             costs: true,
         };
-        for process in doubtful.processes.iter() {
+        for process in dirty.processes.iter() {
             alike.look_at(old, new, process);
         }
         alike
@@ -93,21 +93,21 @@ impl Alike {
     }
 }
 
-/// What is the same of the turns of the open superstep. Nothing is, where the run before did not end it by delivery.
+/// What is the same of the turns of the open superstep. Nothing is, where the previous run did not end it by delivery.
 pub fn alike_beside<P: Program, G>(
     given: &Given<'_, P, G>,
     tape: &Tape,
-    doubtful: &Doubtful,
+    dirty: &Dirty,
     new: &Outcomes,
 ) -> Alike
     requires count { length new.now ≡ length given.now.input.mems }
-    requires doubtful { OutcomesDifferAtMost (delivered_beside given.now tape.now) new.now doubtful.now.processes }
-    ensures table { result.ends ≡ true → doubtful.now.same_table ≡ true }
+    requires dirty { OutcomesDifferAtMost (delivered_beside given.now tape.now) new.now dirty.now.processes }
+    ensures table { result.ends ≡ true → dirty.now.same_table ≡ true }
     ensures ends { result.ends ≡ true → AllEndAlike (delivered_beside given.now tape.now) new.now }
     ensures costs { result.costs ≡ true → AllCostAlike (delivered_beside given.now tape.now) new.now }
 {
     match delivered_beside(given, tape) {
-        Some(old) => Alike::among(old, new, doubtful),
+        Some(old) => Alike::among(old, new, dirty),
         None => Alike {
             ends: false,
             costs: false,

@@ -1,4 +1,4 @@
-//! The views and the outcomes of the run before, where a run is made again.
+//! The views and the outcomes of the previous run, where a run is made again.
 
 ghost use Rattle.std.specs.Prelude.{◌≡◌, ◌<◌, [], IfNone, IfSome, Some, length, option_map};
 ghost use Rattle.bsp_deliver.specs.Condition.{AreDeliverable};
@@ -9,7 +9,7 @@ ghost use Rattle.bsp_incr.specs.Inside.Before.{first_views_before};
 use bsp_run::{History, Views, ViewsRef};
 use bsp_step::Outcomes;
 
-/// The views of a superstep of the run before; none where it took no turns of such a superstep.
+/// The views of a superstep of the previous run; none where it took no turns of such a superstep.
 pub fn views_before<'a>(old: Option<&'a History>, step: usize) -> ViewsRef<'a>
     ensures { result ≡ views_before (option_map (λ k. k.now) old.entry) step }
 {
@@ -22,7 +22,7 @@ pub fn views_before<'a>(old: Option<&'a History>, step: usize) -> ViewsRef<'a>
     }
 }
 
-/// The outcomes of a superstep of the run before; none where it took no turns of such a superstep.
+/// The outcomes of a superstep of the previous run; none where it took no turns of such a superstep.
 pub fn outcomes_before<'a>(old: Option<&'a History>, step: usize) -> Option<&'a Outcomes>
     ensures some { IfSome result (λ o. o.now ≡ outcomes_before (option_map (λ k. k.now) old.entry) step) }
     ensures deliverable { IfSome result (λ o. AreDeliverable o.now) }
@@ -34,7 +34,7 @@ pub fn outcomes_before<'a>(old: Option<&'a History>, step: usize) -> Option<&'a 
     }
 }
 
-/// The views after the delivery of a superstep of the run before; none where there was no such delivery.
+/// The views after the delivery of a superstep of the previous run; none where there was no such delivery.
 pub fn views_after<'a>(old: Option<&'a History>, step: usize) -> Option<&'a Views>
     ensures views { IfSome result (λ v. v.now ≡ views_after (option_map (λ k. k.now) old.entry) step) }
     ensures there { IfSome result (λ _. step < length (delivered_before (option_map (λ k. k.now) old.entry))) }

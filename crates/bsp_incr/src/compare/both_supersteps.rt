@@ -1,4 +1,4 @@
-//! The open superstep of a run that is made again, beside that of the run before.
+//! The open superstep of a run that is made again, beside that of the previous run.
 
 ghost use Rattle.std.specs.Prelude.{◌≡◌, ◌<◌, [], All, IfNone, IfSome, length, map, true};
 ghost use Rattle.bsp_deliver.specs.Condition.{AreDeliverable};
@@ -17,14 +17,14 @@ use bsp_model::Shared;
 use bsp_run::{Tape, Views, ViewsRef};
 use bsp_step::{Outcomes, Program};
 
-/// What the processes see in the open superstep, and what the run before has of the superstep with that number.
+/// What the processes see in the open superstep, and what the previous run has of the superstep with that number.
 #[derive(Drop)]
 pub struct OpenSuperstep<'old, 'new> {
     pub step: u64,
     pub views: &'new Shared<Views>,
     /// What the turns of the superstep before left in this run: those of this one will take about as much room.
     pub like: &'new Outcomes,
-    /// What they saw in the run before; none where it took no turns of such a superstep.
+    /// What they saw in the previous run; none where it took no turns of such a superstep.
     pub old_views: ViewsRef<'old>,
     /// What those turns left.
     pub old_outcomes: Option<&'old Outcomes>,
@@ -33,7 +33,7 @@ pub struct OpenSuperstep<'old, 'new> {
     ghost old_table: { HaveOneTable old_views },
 }
 
-/// The open superstep of this run, beside that of the run before.
+/// The open superstep of this run, beside that of the previous run.
 pub fn open_superstep<'old, 'new, P: Program, G>(
     given: &Given<'old, P, G>,
     tape: &'new Tape,
@@ -61,7 +61,7 @@ pub fn open_superstep<'old, 'new, P: Program, G>(
     }
 }
 
-/// The outcomes that the run before delivered in the superstep with the number of the open one; none where it ended no such superstep by delivery.
+/// The outcomes that the previous run delivered in the superstep with the number of the open one; none where it ended no such superstep by delivery.
 pub fn delivered_beside<'old, P: Program, G>(
     given: &Given<'old, P, G>,
     tape: &Tape,

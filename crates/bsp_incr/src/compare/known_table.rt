@@ -3,7 +3,7 @@
 /// What is known of the table and the tag size of a superstep.
 #[derive(Clone, Copy)]
 pub enum KnownTable {
-    /// They are those of the same superstep of the run before, if that run has such a superstep.
+    /// They are those of the same superstep of the previous run, if that run has such a superstep.
     AsBefore,
     /// They may be others.
     Unknown,

@@ -1,4 +1,4 @@
-//! Which processes have another memory or other arguments than in the run before.
+//! Which processes have another memory or other arguments than in the previous run.
 
 ghost use Rattle.std.specs.Prelude.{◌≡◌, ◌≤◌, ◌<◌, ◌↔◌, [], IsTrue, None, Some, length, true, if◌then◌else◌, slice_index_or, slice_set};
 ghost use Rattle.bsp_incr.specs.Inside.Before.{IsBeforeEdits, first_view_before, first_views_before};
@@ -11,7 +11,7 @@ use bsp_model::limits::MOST_PROCESSES;
 use bsp_model::{Input, ProcessSet, Same, are_same_words};
 use bsp_run::History;
 
-/// The processes that begin with something else than in the run before.
+/// The processes that begin with something else than in the previous run.
 #[derive(Clone, Copy)]
 pub struct Marks {
     /// Those with other arguments. They are marked in each superstep.
@@ -20,7 +20,7 @@ pub struct Marks {
     pub first: ProcessSet,
 }
 
-/// Where there is no run before, all processes are marked.
+/// Where there is no previous run, all processes are marked.
 pub fn all_marks(input: &Input) -> Marks
     requires { length input.now.mems ≤ MOST_PROCESSES }
     ensures args { AreArgsMarked None input.now result.args }
@@ -33,7 +33,7 @@ pub fn all_marks(input: &Input) -> Marks
     }
 }
 
-/// Whether a process has the arguments of the run before.
+/// Whether a process has the arguments of the previous run.
 fn has_same_args(old: &History, input: &Input, process: usize) -> bool
     requires seen { process < length (first_views_before old.now) }
     requires known { process < length input.now.args }
@@ -44,7 +44,7 @@ fn has_same_args(old: &History, input: &Input, process: usize) -> bool
     are_same_words(view.args, input.args.as_slice()[process].as_slice())
 }
 
-/// Whether a process has the memory of the run before.
+/// Whether a process has the memory of the previous run.
 fn has_same_memory(old: &History, input: &Input, process: usize) -> bool
     requires seen { process < length (first_views_before old.now) }
     requires known { process < length input.now.mems }

@@ -11,7 +11,7 @@ use bsp_model::limits::MOST_PROCESSES;
 use bsp_model::{OutOfMemory, ProcessSet};
 use bsp_run::{History, Tape};
 
-/// The history of a run that has ended. It shares the lines of each process that are those of the run before, as those of a process are whose turns
+/// The history of a run that has ended. It shares the lines of each process that are those of the previous run, as those of a process are whose turns
 /// were not taken again.
 pub fn finished(
     old: Option<&History>,

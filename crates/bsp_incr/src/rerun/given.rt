@@ -6,7 +6,7 @@ use bsp_step::Program;
 use std::alloc::Global;
 use std::marker::Model;
 
-/// The program and the input of a run that is made again, the run before, where memory comes from, and the gate that each job passes.
+/// The program and the input of a run that is made again, the previous run, where memory comes from, and the gate that each job passes.
 #[derive(Drop)]
 pub struct Given<'a, P: Program, G> {
     pub alloc: Global,
@@ -14,7 +14,7 @@ pub struct Given<'a, P: Program, G> {
     pub program: &'a P,
     pub input: &'a Input,
     pub old: Option<&'a History>,
-    /// The processes with other arguments than in the run before. They are marked in each superstep.
+    /// The processes with other arguments than in the previous run. They are marked in each superstep.
     pub other_args: &'a ProcessSet,
 }
 

@@ -1,4 +1,4 @@
-//! The opening of a run, which shares what it can with the run before.
+//! The opening of a run, which shares what it can with the previous run.
 
 ghost use Rattle.std.specs.Prelude.{◌≡◌, IfOk, length, map, slice_index_or, []};
 ghost use Rattle.bsp_model.specs.ProcessSet.{processes_in};
@@ -12,7 +12,7 @@ use bsp_run::{Arguments, Tape, copied};
 use bsp_step::Program;
 use std::alloc::Global;
 
-/// The arguments of each process: those of the run before, and for some processes those of an input.
+/// The arguments of each process: those of the previous run, and for some processes those of an input.
 fn args_again(
     alloc: Global,
     old: &Arguments,
@@ -35,7 +35,7 @@ fn args_again(
     SharedSeq::from_vec(all)
 }
 
-/// A run of an input whose superstep 0 is open. A process that is not marked shares its memory with the run before, if there was one. A process whose
+/// A run of an input whose superstep 0 is open. A process that is not marked shares its memory with the previous run, if there was one. A process whose
 /// arguments were not edited shares these.
 pub fn opened<P: Program, G>(
     given: &Given<'_, P, G>,

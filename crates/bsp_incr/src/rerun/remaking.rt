@@ -121,7 +121,7 @@ fn by_crew<P: Program, J: SharedRun, G: Gate, R: Threads + Sync>(
     beside_crew(rt, given, tape, under_way, &crew)
 }
 
-/// The run that has just been opened, made again by the calling thread. The processes in `first` begin with something else than in the run before.
+/// The run that has just been opened, made again by the calling thread. The processes in `first` begin with something else than in the previous run.
 pub fn remake_alone<P: Program, G: Gate>(
     given: &Given<'_, P, G>,
     tape: Tape,

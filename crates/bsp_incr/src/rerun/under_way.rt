@@ -12,7 +12,7 @@ use std::alloc::Global;
 /// An update under way, between two supersteps of the run that is made again.
 #[derive(Drop)]
 pub struct UnderWay {
-    /// The processes whose memory, queue or arguments may differ in the open superstep from the run before.
+    /// The processes whose memory, queue or arguments may differ in the open superstep from the previous run.
     pub marks: ProcessSet,
     /// What is known of the table and the tag size of the open superstep.
     pub table: KnownTable,

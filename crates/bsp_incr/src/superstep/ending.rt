@@ -35,25 +35,25 @@ struct Deliveries {
     cells: Cells,
 }
 
-/// To whom the deliveries of the superstep whose turns are taken have to be made. Where the run before made none in it, that is everyone.
+/// To whom the deliveries of the superstep whose turns are taken have to be made. Where the previous run made none in it, that is everyone.
 fn touched_beside<P: Program, G>(
     given: &Given<'_, P, G>,
     tape: &Tape,
-    doubtful: &ProcessSet,
+    dirty: &ProcessSet,
 ) -> ProcessSet
     requires turned { tape.now.phase ≡ Phase.Turned }
     requires many { length tape.now.outcomes ≡ length given.now.input.mems }
-    requires doubtful { OutcomesDifferAtMost (delivered_beside given.now tape.now) tape.now.outcomes doubtful.now }
+    requires dirty { OutcomesDifferAtMost (delivered_beside given.now tape.now) tape.now.outcomes dirty.now }
     ensures { result ≡ each_below (length tape.now.outcomes)
         (is_touched (delivered_beside given.now tape.now) tape.now.outcomes) }
 {
     match delivered_beside(given, tape) {
-        Some(old) => touched_by_changes(old, tape.outcomes(), doubtful),
+        Some(old) => touched_by_changes(old, tape.outcomes(), dirty),
         None => ProcessSet::all(given.input.mems.len()),
     }
 }
 
-/// The cost of the superstep whose turns are taken: that of the run before, at the prices in force, where it is known to be the same.
+/// The cost of the superstep whose turns are taken: that of the previous run, at the prices in force, where it is known to be the same.
 fn cost<P: Program, G>(given: &Given<'_, P, G>, tape: &Tape, is_same: bool) -> CostRow
     requires turned { tape.now.phase ≡ Phase.Turned }
     requires same { is_same ≡ true → AllCostAlike (delivered_beside given.now tape.now) tape.now.outcomes }
@@ -66,7 +66,7 @@ fn cost<P: Program, G>(given: &Given<'_, P, G>, tape: &Tape, is_same: bool) -> C
     }
 }
 
-/// What all processes see alike in the next superstep. It is built and compared with that of the run before only where nothing is known of it.
+/// What all processes see alike in the next superstep. It is built and compared with that of the previous run only where nothing is known of it.
 /// `known` is what is known of the table there.
 fn next_setting(
     tape: &Tape,
@@ -92,7 +92,7 @@ fn next_setting(
     Ok(setting)
 }
 
-/// The views of the next superstep, after the deliveries that were made. A process without a delivery shares its memory and queue with the run before.
+/// The views of the next superstep, after the deliveries that were made. A process without a delivery shares its memory and queue with the previous run.
 /// `known` is what is known of the table there.
 fn next_views_like<P: Program, G>(
     given: &Given<'_, P, G>,
@@ -112,7 +112,7 @@ fn next_views_like<P: Program, G>(
     ensures views { IfOk result (λ views. views ≡ next_views tape.now) }
     ensures known { OnOk result (KnowsNextTable given.now.before tape.now known.new) }
 {
-    // What stands of the run before is known where it is read.
+    // What stands of the previous run is known where it is read.
     let _before = given.old;
     let setting = next_setting(tape, old_next, known)?;
     tape.next_views_like(old_next, setting, deliveries.processes, deliveries.cells)
@@ -179,7 +179,7 @@ fn deliveries_among<P: Program, J: SharedRun, G: Gate>(
 pub fn make_deliveries<P: Program, J: SharedRun, G: Gate>(
     given: &Given<'_, P, G>,
     tape: &mut Tape,
-    doubtful: &ProcessSet,
+    dirty: &ProcessSet,
     is_same_cost: bool,
     under_way: &mut UnderWay,
     crew: Option<&Crew<J>>,
@@ -189,7 +189,7 @@ pub fn make_deliveries<P: Program, J: SharedRun, G: Gate>(
     requires many { length tape.old.outcomes ≡ length given.now.input.mems }
     requires taken { tape.old.outcomes ≡ map (turn_by P.Program given.now.program)
         (views_in (turn_by P.Program given.now.program) given.now.input (length tape.old.past)) }
-    requires doubtful { OutcomesDifferAtMost (delivered_beside given.now tape.old) tape.old.outcomes doubtful.now }
+    requires dirty { OutcomesDifferAtMost (delivered_beside given.now tape.old) tape.old.outcomes dirty.now }
     requires cost { is_same_cost ≡ true → AllCostAlike (delivered_beside given.now tape.old) tape.old.outcomes }
     requires known { KnowsNextTable given.now.before tape.old under_way.old.table }
     ensures tape { OnOk result (tape.new ≡ after_delivery tape.old) }
@@ -200,7 +200,7 @@ pub fn make_deliveries<P: Program, J: SharedRun, G: Gate>(
     ensures redelivered { OnOk result (under_way.new.update.redelivered ≡ under_way.old.update.redelivered
         ++ touched_in (length tape.old.past) (delivered_beside given.now tape.old) tape.old.outcomes) }
 {
-    let touched = touched_beside(given, tape, doubtful);
+    let touched = touched_beside(given, tape, dirty);
     under_way.marks = touched.union(given.other_args);
     let redelivered = &mut under_way.update.redelivered;
     let deliveries = deliveries_among(given, tape, &touched, redelivered, crew)?;

@@ -1,4 +1,4 @@
-//! The turns of a superstep, of which those that serve from the run before are not taken again.
+//! The turns of a superstep, of which those that serve from the previous run are not taken again.
 
 ghost use Rattle.std.specs.Prelude.{◌≡◌, ◌<◌, ◌++◌, [], All, IfNone, IfOk, IfSome, OnOk, filter, map, length, slice_index_or, true, false};
 ghost use Rattle.bsp_model.specs.ProcessSet.{processes_in, processes_where};
@@ -8,12 +8,12 @@ ghost use Rattle.bsp_crew.specs.Parts.{AreOfRun};
 ghost use Rattle.bsp_run.specs.Shares.{turns_of};
 ghost use Rattle.bsp_incr.specs.Inside.Changes.{differ_in};
 ghost use Rattle.bsp_run.specs.TurnBy.{turn_by};
-ghost use Rattle.bsp_incr.specs.Inside.Known.{AreDoubtful};
+ghost use Rattle.bsp_incr.specs.Inside.Known.{AreDirty};
 ghost use Rattle.bsp_incr.specs.Inside.Marks.{ViewsDifferAtMost};
 ghost use Rattle.bsp_incr.specs.Inside.OpenSuperstep.{differs_now};
 
 use crate::Place;
-use crate::compare::{Doubtful, OpenSuperstep, add_places, serves};
+use crate::compare::{Dirty, OpenSuperstep, add_places, serves};
 use crate::rerun::Given;
 use crate::superstep::reuse::add_reused_turn;
 use bsp_crew::{Crew, SharedRun, wide_turns};
@@ -21,16 +21,16 @@ use bsp_gate::Gate;
 use bsp_model::{ByProcess, OutOfMemory, ProcessSet, Seq};
 use bsp_step::{Outcome, OutcomeRows, Outcomes, Program};
 
-/// Whether the turn of a process has to be taken, which may be asked of the doubtful ones alone. The tables are not compared where all processes are known
+/// Whether the turn of a process has to be taken, which may be asked of the dirty processes alone. The tables are not compared where all processes are known
 /// to see the same.
 fn needs_turn<P: Program>(
     program: &P,
     superstep: &OpenSuperstep<'_, '_>,
-    doubtful: &Doubtful,
+    dirty: &Dirty,
     p: usize,
 ) -> bool
-    requires doubtful { AreDoubtful superstep.now.old_views superstep.now.views.now doubtful.now }
-    requires place { slice_index_or doubtful.now.processes p false ≡ true }
+    requires dirty { AreDirty superstep.now.old_views superstep.now.views.now dirty.now }
+    requires place { slice_index_or dirty.now.processes p false ≡ true }
     ensures { result ≡ differs_now (P.looks program.now) superstep.now p }
 {
     if p >= superstep.old_views.len() {
@@ -40,11 +40,11 @@ fn needs_turn<P: Program>(
         program,
         &superstep.old_views.get(p),
         &superstep.views.get(p),
-        doubtful.same_table,
+        dirty.same_table,
     )
 }
 
-/// The turns of doubtful processes, in order: those that had to be taken, and of the other processes the recorded turns, whose stores are replayed.
+/// The turns of dirty processes, in order: those that had to be taken, and of the other processes the recorded turns, whose stores are replayed.
 fn renewed_turns<P: Program, G>(
     given: &Given<'_, P, G>,
     superstep: &OpenSuperstep<'_, '_>,
@@ -111,46 +111,46 @@ fn taken_turns<P: Program, J: SharedRun, G: Gate>(
     taken.and(Ok(rows))
 }
 
-/// The doubtful processes whose turns have to be taken.
+/// The dirty processes whose turns have to be taken.
 fn needed_among<P: Program, G>(
     given: &Given<'_, P, G>,
     superstep: &OpenSuperstep<'_, '_>,
-    doubtful: &Doubtful,
+    dirty: &Dirty,
 ) -> ProcessSet
-    requires doubtful { AreDoubtful superstep.now.old_views superstep.now.views.now doubtful.now }
+    requires dirty { AreDirty superstep.now.old_views superstep.now.views.now dirty.now }
     ensures { result ≡ each_below (length superstep.now.views.now)
         (differs_now (P.looks given.now.program) superstep.now) }
 {
     if superstep.old_views.is_empty() {
-        return doubtful.processes;
+        return dirty.processes;
     }
-    let mut needed = ProcessSet::none(doubtful.processes.count());
-    for process in doubtful.processes.iter() {
-        if needs_turn(given.program, superstep, doubtful, process) {
+    let mut needed = ProcessSet::none(dirty.processes.count());
+    for process in dirty.processes.iter() {
+        if needs_turn(given.program, superstep, dirty, process) {
             needed.insert(process);
         }
     }
     needed
 }
 
-/// The recorded outcomes, with new ones of the doubtful processes. Where all of these took their turns, the outcomes are those that were taken.
+/// The recorded outcomes, with new ones of the dirty processes. Where all of these took their turns, the outcomes are those that were taken.
 fn over_recorded<P: Program, G>(
     given: &Given<'_, P, G>,
     superstep: &OpenSuperstep<'_, '_>,
     old_outcomes: &Outcomes,
-    doubtful: &ProcessSet,
+    dirty: &ProcessSet,
     needed: &ProcessSet,
     taken: OutcomeRows,
 ) -> Result<Outcomes, OutOfMemory>
     requires some { 0 < length superstep.now.old_views }
     requires recorded { old_outcomes.now ≡ map (turn_by P.Program given.now.program) superstep.now.old_views }
-    requires doubtful { ViewsDifferAtMost superstep.now.old_views superstep.now.views.now doubtful.now }
+    requires dirty { ViewsDifferAtMost superstep.now.old_views superstep.now.views.now dirty.now }
     requires needed { needed.now ≡ each_below (length superstep.now.views.now)
         (differs_now (P.looks given.now.program) superstep.now) }
     requires turns { taken ≡ turns_of (turn_by P.Program given.now.program) superstep.now.views.now (processes_in needed.now) }
     ensures { IfOk result (λ all. all ≡ map (turn_by P.Program given.now.program) superstep.now.views.now) }
 {
-    let processes = doubtful.members(given.alloc)?;
+    let processes = dirty.members(given.alloc)?;
     if taken.count() == processes.len() {
         return old_outcomes.replaced(given.alloc, processes, taken);
     }
@@ -164,7 +164,7 @@ fn over_recorded<P: Program, G>(
 pub fn turns_again<P: Program, J: SharedRun, G: Gate>(
     given: &Given<'_, P, G>,
     superstep: &OpenSuperstep<'_, '_>,
-    doubtful: &Doubtful,
+    dirty: &Dirty,
     executed: &mut Seq<Place>,
     spare: &mut Option<Outcome>,
     crew: Option<&Crew<J>>,
@@ -173,20 +173,20 @@ pub fn turns_again<P: Program, J: SharedRun, G: Gate>(
     requires recorded { IfSome superstep.now.old_outcomes (λ o. (0 < length superstep.now.old_views)
         × (o.now ≡ map (turn_by P.Program given.now.program) superstep.now.old_views)) }
     requires none { IfNone superstep.now.old_outcomes (superstep.now.old_views ≡ []) }
-    requires doubtful { AreDoubtful superstep.now.old_views superstep.now.views.now doubtful.now }
+    requires dirty { AreDirty superstep.now.old_views superstep.now.views.now dirty.now }
     requires seen { superstep.now.views.now
         ≡ views_in (turn_by P.Program given.now.program) given.now.input superstep.now.step }
     ensures turns { IfOk result (λ all. all ≡ map (turn_by P.Program given.now.program) superstep.now.views.now) }
     ensures executed { OnOk result (executed.new ≡ executed.old
         ++ differ_in (P.looks given.now.program) superstep.now.step superstep.now.old_views superstep.now.views.now) }
 {
-    let needed = needed_among(given, superstep, doubtful);
+    let needed = needed_among(given, superstep, dirty);
     add_places(executed, superstep.step, &needed)?;
     let processes = needed.members(given.alloc)?;
     let taken = taken_turns(given, superstep, processes.as_slice(), spare, crew)?;
     drop(processes);
     match superstep.old_outcomes {
-        Some(old) => over_recorded(given, superstep, old, &doubtful.processes, &needed, taken),
+        Some(old) => over_recorded(given, superstep, old, &dirty.processes, &needed, taken),
         None => taken.share(),
     }
 }

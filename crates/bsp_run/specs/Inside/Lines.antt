@@ -10,11 +10,11 @@ pub record AreLinesUnlessMarked (lines : List (List (List ℕ))) (marks : List B
   pub same : (p : ℕ) → p < length lines → slice_index_or marks p true ≡ false
       → slice_index_or lines p [] ≡ lines_of_process turns p
 
--- whether a run before had such a process, which is not marked
+-- whether a previous run had such a process, which is not marked
 abbrev pub is_taken : List (List (List ℕ)) → List Bool → ℕ → Bool
 is_taken before marks p = nat_lt p (length before) && not (slice_index_or marks p true)
 
--- the lines of a process: those of a run before, or else those in a column
+-- the lines of a process: those of a previous run, or else those in a column
 abbrev pub lines_from : List (List (List ℕ)) → List Bool → List (List (List ℕ)) → ℕ → List (List ℕ)
 lines_from before marks all p = if is_taken before marks p then row_at before p else row_at all p
 

@@ -16,10 +16,10 @@ take_over-requires g c =
     let old : Run = c.in-Some.history.now in
     let is : option_map (λ (h : Bor Run). h.now) c.given.inside.old ≡ Some old = ap (option_map (λ (h : Bor Run). h.now)) c.in-Some.is in
     let past : length r.past < length old.past = omega (arith, c.if-step-past.true, c.step.ensures, ap (λ (xs : List Superstep). length xs) c.past.ensures.past) in
-    let set : List Bool = c.among-doubtful.result.processes in
+    let set : List Bool = c.among-dirty.result.processes in
     let differ =
     subst (λ (vs : List ViewParts). ViewsDifferAtMost vs (open_views r) set) opened.old_views
-    (subst (λ (vs : List ViewParts). ViewsDifferAtMost c.open_superstep.result.old_views vs set) opened.views c.among-doubtful.ensures.doubtful.processes) in
+    (subst (λ (vs : List ViewParts). ViewsDifferAtMost c.open_superstep.result.old_views vs set) opened.views c.among-dirty.ensures.dirty.processes) in
     let taken = taken_whole acts ending (g.P.Program.looks c.args.given.now.program) c.args.given.now.input c.args.given.now.before c.in-Some.history.now r c.args.under_way.now.marks set c.args.under_way.now.update
     (sym (ap (λ (m : Making _). m.before) c.given.view_is) ∙ is) opened.given.lawful opened.given.before c.requires.open (subst (All IsView) opened.views opened.limits) c.requires.under_way
     past (c.is_empty.ensures.0 c.if-is_empty.true) differ in
@@ -34,10 +34,10 @@ returns-in_ok-take_over-in-Some g c =
     let old : Run = c.in-Some.history.now in
     let is : option_map (λ (h : Bor Run). h.now) c.given.inside.old ≡ Some old = ap (option_map (λ (h : Bor Run). h.now)) c.in-Some.is in
     let past : length r.past < length old.past = omega (arith, c.if-step-past.true, c.step.ensures, ap (λ (xs : List Superstep). length xs) c.past.ensures.past) in
-    let set : List Bool = c.among-doubtful.result.processes in
+    let set : List Bool = c.among-dirty.result.processes in
     let differ =
     subst (λ (vs : List ViewParts). ViewsDifferAtMost vs (open_views r) set) opened.old_views
-    (subst (λ (vs : List ViewParts). ViewsDifferAtMost c.open_superstep.result.old_views vs set) opened.views c.among-doubtful.ensures.doubtful.processes) in
+    (subst (λ (vs : List ViewParts). ViewsDifferAtMost c.open_superstep.result.old_views vs set) opened.views c.among-dirty.ensures.dirty.processes) in
     let taken = taken_whole acts ending (g.P.Program.looks c.args.given.now.program) c.args.given.now.input c.args.given.now.before c.in-Some.history.now r c.args.under_way.now.marks set c.args.under_way.now.update
     (sym (ap (λ (m : Making _). m.before) c.given.view_is) ∙ is) opened.given.lawful opened.given.before c.requires.open (subst (All IsView) opened.views opened.limits) c.requires.under_way
     past (c.is_empty.ensures.0 c.if-is_empty.true) differ in

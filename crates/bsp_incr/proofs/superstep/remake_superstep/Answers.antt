@@ -24,14 +24,14 @@ alike_beside-alike-requires-clause-count g c κs within =
     let taken = c.in_ok-outcomes.ensures.turns ∙ ap (map turn) c.open_superstep-superstep.ensures.views in
     ap (λ (os : List OutcomeParts). length os) taken ∙ count-turns turn c.args.given.now.input c.args.tape.now c.requires.under_way.made
 
-pub alike_beside-alike-requires-clause-doubtful : goal.alike_beside-alike-requires-clause-doubtful
-alike_beside-alike-requires-clause-doubtful g c κs within =
+pub alike_beside-alike-requires-clause-dirty : goal.alike_beside-alike-requires-clause-dirty
+alike_beside-alike-requires-clause-dirty g c κs within =
     let turn = turn_by g.P.Program c.args.given.now.program in
     let taken = c.in_ok-outcomes.ensures.turns ∙ ap (map turn) c.open_superstep-superstep.ensures.views in
     let r : Run = c.args.tape.now in
     let known = c.open_superstep-superstep.ensures.given in
-    subst (λ (os : List OutcomeParts). OutcomesDifferAtMost (delivered_outcomes c.args.given.now.before (length r.past)) os c.args.doubtful.now.processes) (sym taken)
-    (unchanged_among turn c.args.given.now.input c.args.given.now.before (length r.past) (open_views r) c.args.doubtful.now.processes known.before (open_views-in turn c.args.given.now.input r c.requires.under_way.made) c.requires.doubtful.processes)
+    subst (λ (os : List OutcomeParts). OutcomesDifferAtMost (delivered_outcomes c.args.given.now.before (length r.past)) os c.args.dirty.now.processes) (sym taken)
+    (unchanged_among turn c.args.given.now.input c.args.given.now.before (length r.past) (open_views r) c.args.dirty.now.processes known.before (open_views-in turn c.args.given.now.input r c.requires.under_way.made) c.requires.dirty.processes)
 
 pub end_turns-requires-clause-turns : goal.end_turns-requires-clause-turns
 end_turns-requires-clause-turns g c =
@@ -47,7 +47,7 @@ end_turns-requires-clause-delivery g c = λ yes.
     let known = c.open_superstep-superstep.ensures.given in
     let alike = c.alike_beside-alike.ensures in
     delivers_as_before turn c.args.given.now.input c.args.given.now.before c.args.tape.now c.in_ok-outcomes.outcomes known.before c.requires.under_way.made
-    record { same_table = c.requires.doubtful.same_table (alike.table yes); alike = alike.ends yes }
+    record { same_table = c.requires.dirty.same_table (alike.table yes); alike = alike.ends yes }
 
 pub make_deliveries-requires-clause-many : goal.make_deliveries-requires-clause-many
 make_deliveries-requires-clause-many g c κs within =
@@ -64,15 +64,15 @@ make_deliveries-requires-clause-taken g c κs within =
     turned_still (λ n (os : List OutcomeParts). os ≡ map turn (views_in turn input n)) r c.end_turns.new.tape (map turn (open_views r)) is
     (ap (map turn) (open_views-in turn input r c.requires.under_way.made))
 
-pub make_deliveries-requires-clause-doubtful : goal.make_deliveries-requires-clause-doubtful
-make_deliveries-requires-clause-doubtful g c κs within =
+pub make_deliveries-requires-clause-dirty : goal.make_deliveries-requires-clause-dirty
+make_deliveries-requires-clause-dirty g c κs within =
     let turn = turn_by g.P.Program c.args.given.now.program in
     let is = c.in_ok-goes_on.ensures.turned ∙ ap (after_turns c.args.tape.now) (c.in_ok-outcomes.ensures.turns ∙ ap (map turn) c.open_superstep-superstep.ensures.views) in
     let old : Option Run = c.args.given.now.before in
     let r : Run = c.args.tape.now in
-    let set = c.args.doubtful.now.processes in
+    let set = c.args.dirty.now.processes in
     turned_still (λ n os. OutcomesDifferAtMost (delivered_outcomes old n) os set) r c.end_turns.new.tape (map turn (open_views r)) is
-    (unchanged_among turn c.args.given.now.input old (length r.past) (open_views r) set c.open_superstep-superstep.ensures.given.before (open_views-in turn c.args.given.now.input r c.requires.under_way.made) c.requires.doubtful.processes)
+    (unchanged_among turn c.args.given.now.input old (length r.past) (open_views r) set c.open_superstep-superstep.ensures.given.before (open_views-in turn c.args.given.now.input r c.requires.under_way.made) c.requires.dirty.processes)
 
 pub make_deliveries-requires-clause-cost : goal.make_deliveries-requires-clause-cost
 make_deliveries-requires-clause-cost g c κs within = λ yes.
@@ -84,7 +84,7 @@ make_deliveries-requires-clause-known g c κs within =
     let alike = c.alike_beside-alike.ensures in
     knows_next_if old c.end_turns.new.tape c.alike_beside-alike.result.ends _ c.next_table-under_way.ensures
     (λ yes. knows_next_as_before (turn_by g.P.Program c.args.given.now.program) c.args.given.now.input old c.args.tape.now c.end_turns.new.tape c.in_ok-outcomes.outcomes c.open_superstep-superstep.ensures.given.before c.requires.under_way.made
-    record { same_table = c.requires.doubtful.same_table (alike.table yes); alike = alike.ends yes } c.in_ok-goes_on.ensures.turned)
+    record { same_table = c.requires.dirty.same_table (alike.table yes); alike = alike.ends yes } c.in_ok-goes_on.ensures.turned)
 
 pub returns : goal.returns
 returns g c =

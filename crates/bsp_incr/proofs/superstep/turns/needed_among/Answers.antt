@@ -14,7 +14,7 @@ use Rattle.bsp_incr.proofs.superstep.turns.needed_among.Goals as goal
 
 pub loop-process-init : goal.loop-process-init
 loop-process-init g c =
-    let set : List Bool = c.args.doubtful.now.processes in
+    let set : List Bool = c.args.dirty.now.processes in
     let goes : ℕ → Bool = differs (g.P.Program.looks c.args.given.now.program) c.args.superstep.now.old_views c.args.superstep.now.views.now in
     let all = c.into_iter-process-iterator.ensures.into_iter_gives ∙ c.iter-process-items.ensures in
     let none : List Bool = c.none-needed.result in
@@ -26,7 +26,7 @@ loop-process-init g c =
 
 pub loop-process-preserved-then-needs_turn : goal.loop-process-preserved-then-needs_turn
 loop-process-preserved-then-needs_turn g c =
-    let set : List Bool = c.args.doubtful.now.processes in
+    let set : List Bool = c.args.dirty.now.processes in
     let goes : ℕ → Bool = differs (g.P.Program.looks c.args.given.now.program) c.args.superstep.now.old_views c.args.superstep.now.views.now in
     let p = c.in-Some.process in
     let later : List ℕ = c.next.new.self in
@@ -42,7 +42,7 @@ loop-process-preserved-then-needs_turn g c =
 
 pub loop-process-preserved : goal.loop-process-preserved
 loop-process-preserved g c =
-    let set : List Bool = c.args.doubtful.now.processes in
+    let set : List Bool = c.args.dirty.now.processes in
     let goes : ℕ → Bool = differs (g.P.Program.looks c.args.given.now.program) c.args.superstep.now.old_views c.args.superstep.now.views.now in
     let p = c.in-Some.process in
     let later : List ℕ = c.next.new.self in
@@ -58,21 +58,21 @@ loop-process-preserved g c =
 
 pub insert-requires : goal.insert-requires
 insert-requires g c =
-    let set : List Bool = c.args.doubtful.now.processes in
+    let set : List Bool = c.args.dirty.now.processes in
     omega (arith, member_within set c.in-Some.process (first_has (λ p. get_or set p false ≡ true) c.in-Some.process c.next.new.self c.loop-process.process-iterator c.in-Some.ensures.steps c.loop-process.invariant.members), c.loop-process.invariant.count)
 
 pub returns : goal.returns
 returns g c =
-    let set : List Bool = c.args.doubtful.now.processes in
+    let set : List Bool = c.args.dirty.now.processes in
     let old = c.args.superstep.now.old_views in
     let new = c.args.superstep.now.views.now in
     let goes : ℕ → Bool = differs (g.P.Program.looks c.args.given.now.program) old new in
-    let none : c.none-needed.result ≡ replicate (length new) false = c.none-needed.ensures ∙ ap (λ n. replicate n false) (c.count.ensures.count ∙ c.requires.doubtful.processes.count) in
+    let none : c.none-needed.result ≡ replicate (length new) false = c.none-needed.ensures ∙ ap (λ n. replicate n false) (c.count.ensures.count ∙ c.requires.dirty.processes.count) in
     ap (λ (ps : List ℕ). with_members c.loop-process.needed (filter goes ps)) (sym c.in-None.ensures.steps.0)
-    ∙ c.loop-process.invariant.needed ∙ ap (with_members c.none-needed.result) (needed_among (g.P.Program.looks c.args.given.now.program) old new set c.requires.doubtful.processes)
+    ∙ c.loop-process.invariant.needed ∙ ap (with_members c.none-needed.result) (needed_among (g.P.Program.looks c.args.given.now.program) old new set c.requires.dirty.processes)
     ∙ ap (λ (s : List Bool). with_members s (processes_where (length new) goes)) none ∙ members_where (length new) goes
 
 pub returns-then-is_empty : goal.returns-then-is_empty
 returns-then-is_empty g c =
-    all_needed (g.P.Program.looks c.args.given.now.program) c.args.superstep.now.old_views c.args.superstep.now.views.now c.args.doubtful.now.processes
-    (eqb-true (length c.args.superstep.now.old_views) 0 (sym c.is_empty.ensures ∙ c.if-is_empty.true)) c.requires.doubtful.processes
+    all_needed (g.P.Program.looks c.args.given.now.program) c.args.superstep.now.old_views c.args.superstep.now.views.now c.args.dirty.now.processes
+    (eqb-true (length c.args.superstep.now.old_views) 0 (sym c.is_empty.ensures ∙ c.if-is_empty.true)) c.requires.dirty.processes

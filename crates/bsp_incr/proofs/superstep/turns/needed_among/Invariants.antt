@@ -9,7 +9,7 @@ use Rattle.bsp_incr.proofs.superstep.turns.needed_among.Given as goal
 abbrev pub invariant-loop-process : goal.invariant-loop-process
 invariant-loop-process g l = record {
   needed : with_members l.needed (filter (differs_now (g.P.Program.looks l.given.program) l.superstep) l.process-iterator)
-      ≡ with_members l.initial.needed (filter (differs_now (g.P.Program.looks l.given.program) l.superstep) (processes_in l.doubtful.processes));
-  count : length l.needed ≡ length l.doubtful.processes;
-  members : All (λ p. get_or l.doubtful.processes p false ≡ true) l.process-iterator;
+      ≡ with_members l.initial.needed (filter (differs_now (g.P.Program.looks l.given.program) l.superstep) (processes_in l.dirty.processes));
+  count : length l.needed ≡ length l.dirty.processes;
+  members : All (λ p. get_or l.dirty.processes p false ≡ true) l.process-iterator;
 }

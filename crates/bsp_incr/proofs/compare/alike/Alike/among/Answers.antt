@@ -1,6 +1,6 @@
 use Rattle.std.proofs.Common.{◌∙◌, ℕ, Bool, List, length}
 use Rattle.bsp_incr.specs.Inside.Alike.{CostsAlike, EndsAlike}
-use Rattle.bsp_incr.proofs.Alike.{alike_but_doubtful, alike_more}
+use Rattle.bsp_incr.proofs.Alike.{alike_but_dirty, alike_more}
 use Rattle.bsp_incr.proofs.EndLikeness.{ends_alike-same}
 use Rattle.bsp_incr.proofs.Likeness.{costs_alike-same}
 use Rattle.bsp_incr.proofs.Members.{first_known, later_known, members_known}
@@ -8,16 +8,16 @@ use Rattle.bsp_incr.proofs.compare.alike.Alike.among.Goals as goal
 
 pub loop-process-init : goal.loop-process-init
 loop-process-init c =
-    let set : List Bool = c.args.doubtful.now.processes in
+    let set : List Bool = c.args.dirty.now.processes in
     let left : List ℕ = c.into_iter-process-iterator.result in
     let all = c.into_iter-process-iterator.ensures.into_iter_gives ∙ c.iter-process-items.ensures in
     let os = c.args.old.now in
     let us = c.args.new.now in
     record {
       table = λ t. t;
-      ends = λ _. alike_but_doubtful EndsAlike ends_alike-same os us set left c.requires.count c.requires.doubtful all;
-      costs = λ _. alike_but_doubtful CostsAlike costs_alike-same os us set left c.requires.count c.requires.doubtful all;
-      known = members_known set (length us) left c.requires.doubtful.count all;
+      ends = λ _. alike_but_dirty EndsAlike ends_alike-same os us set left c.requires.count c.requires.dirty all;
+      costs = λ _. alike_but_dirty CostsAlike costs_alike-same os us set left c.requires.count c.requires.dirty all;
+      known = members_known set (length us) left c.requires.dirty.count all;
     }
 
 pub loop-process-preserved : goal.loop-process-preserved

@@ -1,24 +1,24 @@
-//! Who may see something else in a superstep than in the run before.
+//! The dirty processes of a superstep: those whose view may differ from that of the previous run.
 
 ghost use Rattle.std.specs.Prelude.{◌↔◌, IsTrue};
 ghost use Rattle.bsp_incr.specs.Inside.Marks.{AreMarked};
-ghost use Rattle.bsp_incr.specs.Inside.Known.{AreDoubtful, AreMarkedAlone, HaveSameTable, IsKnown};
+ghost use Rattle.bsp_incr.specs.Inside.Known.{AreDirty, AreMarkedAlone, HaveSameTable, IsKnown};
 
 use crate::compare::both_supersteps::OpenSuperstep;
 use crate::compare::known_table::KnownTable;
 use crate::compare::looking::has_table;
 use bsp_model::ProcessSet;
 
-/// What may be another in a superstep than in the run before.
+/// The processes whose view may differ from that of the previous run, and whether the table is known to be that of the previous run.
 #[derive(Clone, Copy)]
-pub struct Doubtful {
-    /// The processes that may see something else.
+pub struct Dirty {
+    /// The dirty processes.
     pub processes: ProcessSet,
-    /// Whether all are known to see the table and the tag size of the run before.
+    /// Whether all are known to see the table and the tag size of the previous run.
     pub same_table: bool,
 }
 
-/// Whether all see the table and the tag size that they saw in the run before. False where it took no turns of such a superstep.
+/// Whether all see the table and the tag size that they saw in the previous run. False where it took no turns of such a superstep.
 fn is_same_table(superstep: &OpenSuperstep<'_, '_>, known: KnownTable) -> bool
     requires { IsKnown known superstep.now.old_views superstep.now.views.now }
     ensures { IsTrue result ↔ HaveSameTable superstep.now.old_views superstep.now.views.now }
@@ -35,16 +35,12 @@ fn is_same_table(superstep: &OpenSuperstep<'_, '_>, known: KnownTable) -> bool
     }
 }
 
-impl Doubtful {
-    /// The processes that are marked, where the table and the tag size are those of the run before, and else all.
-    pub fn among(
-        superstep: &OpenSuperstep<'_, '_>,
-        marks: &ProcessSet,
-        known: KnownTable,
-    ) -> Doubtful
+impl Dirty {
+    /// The processes that are marked, where the table and the tag size are those of the previous run, and else all.
+    pub fn among(superstep: &OpenSuperstep<'_, '_>, marks: &ProcessSet, known: KnownTable) -> Dirty
         requires marks { AreMarked superstep.now.old_views superstep.now.views.now marks.now }
         requires known { IsKnown known superstep.now.old_views superstep.now.views.now }
-        ensures doubtful { AreDoubtful superstep.now.old_views superstep.now.views.now result }
+        ensures dirty { AreDirty superstep.now.old_views superstep.now.views.now result }
         ensures few { AreMarkedAlone superstep.now.old_views superstep.now.views.now marks.now result }
     {
         let same_table = is_same_table(superstep, known);
@@ -53,7 +49,7 @@ impl Doubtful {
         } else {
             ProcessSet::all(marks.count())
         };
-        Doubtful {
+        Dirty {
             processes,
             same_table,
         }
