@@ -109,7 +109,8 @@ fn add_row(
 ) -> Result<(), OutOfMemory>
     requires known { step < length (supersteps_of run.now) }
     requires room { cost.old.total < 2 ^ 63 }
-    ensures rows { OnOk result (cost.new ≡ with_rows cost.old (row_if run.now.g run.now.l step (processes_of turned.now) (processes_of delivered.now)
+    ensures rows { OnOk result (cost.new ≡ with_rows cost.old
+        (row_if run.now.g run.now.l step (processes_of turned.now) (processes_of delivered.now)
         (superstep_at (supersteps_of run.now) step).outcomes)) }
     ensures small { OnOk result (cost.new.total < cost.old.total + 2 ^ 50) }
 {

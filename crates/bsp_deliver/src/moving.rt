@@ -62,7 +62,10 @@ pub fn deliver_moving(
     requires deliverable { AreDeliverable outcomes.old }
     requires processes { processes.now ≡ range_with_len 0 (length outcomes.old) }
     ensures { OnOk result (cells.new
-        ≡ map (λ d. (next_memory (delivery_parts outcomes.old d), next_queue (delivery_parts outcomes.old d))) processes.now) }
+        ≡ map (λ d. (
+          next_memory (delivery_parts outcomes.old d),
+          next_queue (delivery_parts outcomes.old d),
+        )) processes.now) }
 {
     if !outcomes.is_without(ListKind::Gets) {
         return deliver_some(alloc, outcomes, processes, cells);

@@ -50,7 +50,8 @@ fn write_gets(
         (slice_index_or memories.old place []))) gets.now }
     requires short { All (λ o. length o.memory ≤ MOST_MEMORY_WORDS) outcomes.now }
     ensures { OnOk result (memories.new ≡ slice_set memories.old place
-        (overlay (slice_index_or memories.old place []) (map (λ g. get_write (g, words_read outcomes.now g)) gets.now))) }
+        (overlay (slice_index_or memories.old place [])
+        (map (λ g. get_write (g, words_read outcomes.now g)) gets.now))) }
 {
     for get in gets {
         write_get(memories, place, get, outcomes)?;
@@ -79,7 +80,8 @@ pub fn memory_with_gets(alloc: Global, d: usize, outcomes: &Outcomes) -> Result<
     requires known { d < length outcomes.now }
     requires deliverable { AreDeliverable outcomes.now }
     ensures { IfOk result (λ memory. memory ≡ each_below (length (delivery_parts outcomes.now d).memory) (λ a.
-        written (map get_write (delivery_parts outcomes.now d).gets) a (slice_index (delivery_parts outcomes.now d).memory a))) }
+        written (map get_write (delivery_parts outcomes.now d).gets) a
+        (slice_index (delivery_parts outcomes.now d).memory a))) }
 {
     let mut memories = Memories::new(alloc);
     add_memory(&mut memories, d, outcomes)?;

@@ -54,7 +54,8 @@ fn push_other_memories(
     news: &Memories,
 ) -> Result<(), OutOfMemory>
     ensures { OnOk result (text.new.items ≡ text.old.items ++
-        numbered (piece_if memory_line) 0 (others same_words (unwrap_or (option_map (λ m. m.now) olds.entry) []) news.now)) }
+        numbered (piece_if memory_line) 0
+        (others same_words (unwrap_or (option_map (λ m. m.now) olds.entry) []) news.now)) }
 {
     for pid in 0..news.len() {
         push_other_memory(text, pid as u64, memory_at(olds, pid), &news.get(pid))?;

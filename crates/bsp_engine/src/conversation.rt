@@ -50,7 +50,8 @@ pub fn attendant_of<C: Catalogue, R: Threads + Sync, G: Gate>(
 ) -> Result<Attendant<C::Program>, JobError>
     ensures ok { IfOk result (λ attendant. IsOkAnd (job_of C.meaning bytes.now) (λ job. WithOwnText bytes.now (λ own.
         due_from C.Program.acts C.Program.ending C.Program.looks attendant
-        ≡ due_of C.Program.acts C.Program.ending (live_replying C.Program.acts C.Program.ending C.Program.looks) detail own job))) }
+        ≡ due_of C.Program.acts C.Program.ending
+        (live_replying C.Program.acts C.Program.ending C.Program.looks) detail own job))) }
     ensures fault { IfErr result (λ e. IfFault e (λ f. job_of C.meaning bytes.now ≡ Err f)) }
 {
     let (job, own) = read_job_and_keys::<C>(workers.alloc, bytes)?;
@@ -72,7 +73,8 @@ fn respond<P: Program + Drop, R: Threads + Sync, G: Gate>(
     line: &[u8],
 ) -> Result<(), OutOfMemory>
     ensures { OnOk result ((later : List (List ℕ)) →
-        due_at P.acts P.ending P.looks attendant.old (line.now ∷ later) ≡ due_from P.acts P.ending P.looks attendant.new later) }
+        due_at P.acts P.ending P.looks attendant.old (line.now ∷ later)
+        ≡ due_from P.acts P.ending P.looks attendant.new later) }
 {
     if asks_for_text(line) {
         let own = attendant.own.as_slice();

@@ -34,7 +34,8 @@ fn put_report_of<C: Catalogue, R: Threads + Sync, G: Gate>(
         (report_of C.meaning C.Program.acts C.Program.ending C.Program.looks options.scratch options.detail bytes.now
         ≡ Ok text.new.items) }
     ensures fault { IfErr result (λ e. IfFault e
-        (λ f. report_of C.meaning C.Program.acts C.Program.ending C.Program.looks options.scratch options.detail bytes.now ≡ Err (EngineError.Job f))) }
+        (λ f. report_of C.meaning C.Program.acts C.Program.ending C.Program.looks options.scratch options.detail
+        bytes.now ≡ Err (EngineError.Job f))) }
 {
     let job = read_job::<C>(workers.alloc, bytes)?;
     Ok(put_report(workers, options.scratch, options.detail, job, text)?)
@@ -62,7 +63,8 @@ pub fn engine<C: Catalogue, R: Threads + Sync, S: Source, K: Sink, G: Gate>(
 
     // The document's report went out, or it has none for the reason that is answered, unless the machine failed; and nothing else went out.
     ensures answer { IfSome (S.remaining reader.old) (λ bytes.
-        IsAnswered C.meaning C.Program.acts C.Program.ending C.Program.looks options.scratch options.detail bytes (K.contents writer.old) (K.contents writer.new) result) }
+        IsAnswered C.meaning C.Program.acts C.Program.ending C.Program.looks options.scratch options.detail bytes
+        (K.contents writer.old) (K.contents writer.new) result) }
     ensures nothing { IfErr result (λ e. e ≢ EngineError.Write → writer.new ≡ writer.old) }
 
     // All was read, and never more than one byte past the limit.

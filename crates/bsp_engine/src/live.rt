@@ -33,7 +33,12 @@ impl<P: Program> Model for Live<P> {
 
     ghost Value = { LiveParts P };
 
-    ghost view = { λ l. record { program = l.session.program; input = l.session.input; undos = l.undos.items; detail = l.detail } };
+    ghost view = { λ l. record {
+      program = l.session.program;
+      input = l.session.input;
+      undos = l.undos.items;
+      detail = l.detail;
+    } };
 }
 
 impl<P: Program + Drop> Live<P> {
@@ -90,7 +95,8 @@ pub(crate) fn apply<P: Program + Drop, R: Threads + Sync, G: Gate>(
     requires accepted { refusal_of session.old.input batch.now ≡ None }
     ensures program { session.new.program ≡ session.old.program }
     ensures input { OnOk result (session.new.input ≡ edited session.old.input batch.now) }
-    ensures runs { IfOk result (λ update. AreRunsAround (turn_of (P.acts session.old.program) (P.ending session.old.program)) (P.looks session.old.program)
+    ensures runs { IfOk result (λ update. AreRunsAround
+        (turn_of (P.acts session.old.program) (P.ending session.old.program)) (P.looks session.old.program)
         session.old.input batch.now update session.old.history session.new.history) }
     ensures before { OnOk result (unwrap_or before.new session.new.history ≡ session.old.history) }
 {

@@ -71,7 +71,8 @@ fn push_accepted<P: Program>(
 ) -> Result<(), OutOfMemory>
     requires count { nprocs ≡ length (result_of old.now).memories }
     requires update { IsUpdateBetween old.now batch.now update.now new.now }
-    ensures { OnOk result (text.new.items ≡ text.old.items ++ reply_lines detail.places (result_if detail.changes old.now)
+    ensures { OnOk result (text.new.items ≡ text.old.items
+        ++ reply_lines detail.places (result_if detail.changes old.now)
         (told_by detail (P.looks program.now) (Some old.now) new.now (Done (result_of new.now) (Some update.now)))) }
 {
     if detail.changes {
@@ -185,8 +186,10 @@ fn tell_all<P: Program + Drop, R: Threads + Sync, G: Gate>(
     requires update { update.now ≡ update_of (P.looks live.old.program) None (run (turn_of (P.acts live.old.program)
         (P.ending live.old.program)) live.old.input) }
     ensures live { OnOk result (live.new ≡ after_batches live.old batches.now) }
-    ensures text { OnOk result (text.new.items ≡ text.old.items ++ opening_block P.acts P.ending P.looks live.old.detail live.old.program live.old.input
-        ++ blocks_after live.old.detail 1 (last_result P.acts P.ending live.old) (live_replies P.acts P.ending P.looks live.old batches.now) ++ end.now) }
+    ensures text { OnOk result (text.new.items ≡ text.old.items
+        ++ opening_block P.acts P.ending P.looks live.old.detail live.old.program live.old.input
+        ++ blocks_after live.old.detail 1 (last_result P.acts P.ending live.old)
+        (live_replies P.acts P.ending P.looks live.old batches.now) ++ end.now) }
 {
     push_opening(live, update, text)?;
     make_batches(workers, live, text, batches)?;

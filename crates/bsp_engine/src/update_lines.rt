@@ -53,7 +53,8 @@ pub fn push_update<P: Program>(
 ) -> Result<(), OutOfMemory>
     requires steps { IsUpdateTo (option_map (λ h. h.now) old) new.now update.now }
     ensures { OnOk result (text.new.items ≡ text.old.items ++ update_lines detail.places
-        (more_lines detail (P.looks program.now) (option_map (λ h. h.now) old.entry) new.now update.now) (Some update.now)) }
+        (more_lines detail (P.looks program.now) (option_map (λ h. h.now) old.entry) new.now update.now)
+        (Some update.now)) }
 {
     push_update_places(text, detail.places, update)?;
     if detail.why {

@@ -71,7 +71,11 @@ impl Block for Send {
 
     ghost use Rattle.std.specs.Prelude.{take, drop, length, ◌≤◌, ◌++◌};
 
-    ghost of = { λ row. record { target = row.0.target; tag = take row.0.tag_len row.1; words = drop row.0.tag_len row.1 } };
+    ghost of = { λ row. record {
+      target = row.0.target;
+      tag = take row.0.tag_len row.1;
+      words = drop row.0.tag_len row.1;
+    } };
 
     ghost IsKept = { λ row. row.0.tag_len ≤ length row.1 };
 
@@ -79,7 +83,8 @@ impl Block for Send {
 
     ghost use Rattle.bsp_model.specs.Inside.Tagged.{tagged_again};
 
-    ghost kept = { λ row inside. tagged_again (λ len ws. (record { target = row.0.target; tag_len = len }, ws)) row.0.tag_len row.1 inside };
+    ghost kept = { λ row inside. tagged_again
+        (λ len ws. (record { target = row.0.target; tag_len = len }, ws)) row.0.tag_len row.1 inside };
 }
 
 impl Block for Message {

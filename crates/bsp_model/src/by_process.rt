@@ -16,7 +16,8 @@ pub trait ByProcess: Sized {
     // All items, with new items in the places of the items of their processes.
     ghost lay: { Self → List ℕ → Self → Self };
 
-    ghost lays: { (all : Self) (processes : List ℕ) (new : Self) → items (lay all processes new) ≡ replaced (items all) processes (items new) };
+    ghost lays: { (all : Self) (processes : List ℕ) (new : Self)
+        → items (lay all processes new) ≡ replaced (items all) processes (items new) };
 
     /// The number of processes.
     fn count(&self) -> usize

@@ -24,7 +24,8 @@ pub trait Computes: Program {
 
     /// The law: it holds of the run of every input.
     fn law(input: &Input)
-        ensures { (program : Self) → computes program input.now (run (turn_of (Self.acts program) (Self.ending program)) input.now) };
+        ensures { (program : Self)
+            → computes program input.now (run (turn_of (Self.acts program) (Self.ending program)) input.now) };
 }
 
 /// The run of a program on an input, on one thread. What the program claims of it holds. `Input(f)` comes exactly where the input's check

@@ -79,7 +79,8 @@ pub fn all_costs(
     last: Option<&Outcomes>,
 ) -> Result<SharedSeq<CostRow>, OutOfMemory>
     requires { All (λ row. row.cost < 2 ^ 50) past.now }
-    ensures rows { IfOk result (λ rows. rows ≡ past.now ++ map cost_of_end (option_to_list (option_map (λ o. o.now) last.entry))) }
+    ensures rows { IfOk result (λ rows. rows
+        ≡ past.now ++ map cost_of_end (option_to_list (option_map (λ o. o.now) last.entry))) }
     ensures small { IfOk result (λ rows. All (λ row. row.cost < 2 ^ 50) rows) }
 {
     let mut rows = past.to_vec(alloc)?;

@@ -28,7 +28,8 @@ pub fn keep_superstep(
     next: Shared<Views>,
     row: CostRow,
 ) -> Result<(), OutOfMemory>
-    ensures past { OnOk result (past.new.items ≡ past.old.items ++ record { views = views.old; outcomes = outcomes.old } ∷ []) }
+    ensures past { OnOk result (past.new.items
+        ≡ past.old.items ++ record { views = views.old; outcomes = outcomes.old } ∷ []) }
     ensures costs { OnOk result (costs.new.items ≡ costs.old.items ++ row ∷ []) }
     ensures views { OnOk result (views.new ≡ next) }
     ensures outcomes { OnOk result (outcomes.new ≡ []) }

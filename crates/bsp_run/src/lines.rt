@@ -178,7 +178,8 @@ pub fn all_lines(
 ) -> Result<SharedSeq<Lines>, OutOfMemory>
     requires { AreLinesUnlessMarked before.now marks.now
         (outcomes_of past.now ++ option_to_list (option_map (λ o. o.now) last)) }
-    ensures { IfOk result (λ each. each ≡ each_below nprocs (lines_of_process (outcomes_of past.now ++ option_to_list (option_map (λ o. o.now) last.entry)))) }
+    ensures { IfOk result (λ each. each ≡ each_below nprocs
+        (lines_of_process (outcomes_of past.now ++ option_to_list (option_map (λ o. o.now) last.entry)))) }
 {
     if are_all_taken(before.as_slice(), marks, nprocs) {
         return before.copy();

@@ -32,7 +32,8 @@ impl Tape {
     /// the prices of this run. After `OutOfMemory` nothing has changed.
     pub fn take_over(&mut self, other: &History) -> Result<(), OutOfMemory>
         requires { CanTakeOver other.now self.old }
-        ensures ok { OnOk result (self.new ≡ after_delivery (after_turns self.old (outcomes_there other.now self.old))) }
+        ensures ok { OnOk result (self.new
+            ≡ after_delivery (after_turns self.old (outcomes_there other.now self.old))) }
         ensures err { OnErr result (self.new ≡ self.old) }
     {
         let step = self.past.len();

@@ -84,7 +84,8 @@ impl Tape {
         requires args { args ≡ input.now.args }
         requires known { All (λ p. p < length input.now.mems) processes.items }
         requires ascending { IsAscending processes.items }
-        requires like { replaced (map cell_of like.now) processes.items (map (first_cell input.now.mems) processes.items)
+        requires like { replaced (map cell_of like.now) processes.items
+            (map (first_cell input.now.mems) processes.items)
             ≡ map (λ m. (m, no_messages m)) input.now.mems }
         ensures { IfOk result (λ tape. tape ≡ start input.now) }
     {
@@ -155,7 +156,8 @@ impl Tape {
 
     /// The outcomes of the superstep before, by process, where a superstep is open that is not the first. It takes no memory.
     pub fn outcomes_before(&self) -> &Outcomes
-        ensures { 0 < length self.now.past → result.now ≡ (superstep_at self.now.past (length self.now.past - 1)).outcomes }
+        ensures { 0 < length self.now.past
+            → result.now ≡ (superstep_at self.now.past (length self.now.past - 1)).outcomes }
     {
         match self.past.last() {
             Some(superstep) => &superstep.outcomes,

@@ -44,7 +44,8 @@ impl Views {
     /// What the processes see with these memories and queues, or `OutOfMemory`.
     pub fn open(alloc: Global, setting: Setting, cells: Cells) -> Result<Views, OutOfMemory>
         requires { CanOpen setting.args (state_of cells setting.table setting.tag_size) }
-        ensures { IfOk result (λ v. v ≡ views_of setting.args setting.step (state_of cells setting.table setting.tag_size)) }
+        ensures { IfOk result
+            (λ v. v ≡ views_of setting.args setting.step (state_of cells setting.table setting.tag_size)) }
     {
         let cells = Layered::new(alloc, cells)?;
         Ok(Views { setting, cells })

@@ -37,7 +37,8 @@ pub trait Program: Sync {
 
     /// Takes the turn of a process, by the calls of its context. It may stop at its first fault, since later acts do nothing.
     fn step(&self, alloc: Global, ctx: &mut Ctx<'_>) -> Result<End, OutOfMemory>
-        ensures { ctx.old ≡ fresh ctx.old.view → IfOk result (λ how. Follows ctx.old (acts self.now ctx.old.view) (ending self.now ctx.old.view) ctx.new how) };
+        ensures { ctx.old ≡ fresh ctx.old.view → IfOk result (λ how. Follows ctx.old
+            (acts self.now ctx.old.view) (ending self.now ctx.old.view) ctx.new how) };
 
     /// What the program looks at is a footprint.
     ghost footprint: { (p : Self) → IsFootprint (acts p) (ending p) (looks p) };

@@ -147,7 +147,8 @@ fn over_recorded<P: Program, G>(
     requires dirty { ViewsDifferAtMost superstep.now.old_views superstep.now.views.now dirty.now }
     requires needed { needed.now ≡ each_below (length superstep.now.views.now)
         (differs_now (P.looks given.now.program) superstep.now) }
-    requires turns { taken ≡ turns_of (turn_by P.Program given.now.program) superstep.now.views.now (processes_in needed.now) }
+    requires turns { taken
+        ≡ turns_of (turn_by P.Program given.now.program) superstep.now.views.now (processes_in needed.now) }
     ensures { IfOk result (λ all. all ≡ map (turn_by P.Program given.now.program) superstep.now.views.now) }
 {
     let processes = dirty.members(given.alloc)?;

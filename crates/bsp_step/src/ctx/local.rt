@@ -112,7 +112,8 @@ impl<'v> Ctx<'v> {
         area: u64,
         offset: u64,
     ) -> Result<Option<()>, Stop>
-        ensures { PutsWords self.old (words_at self.old.memory from len) (λ words. act.put pid words area offset) self.new result }
+        ensures { PutsWords self.old (words_at self.old.memory from len)
+            (λ words. act.put pid words area offset) self.new result }
     {
         let own = self.lists.local.memory().len() as u64;
         if from > own || len > own - from {

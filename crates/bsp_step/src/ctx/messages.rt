@@ -23,7 +23,8 @@ fn count_of_words(messages: &MessagesRef<'_>, from: usize) -> usize
 
 fn first_left<'a>(queue: &MessagesRef<'a>, taken: usize) -> Option<MessageView<'a>>
     ensures none { IsNone result → drop taken queue.now ≡ [] }
-    ensures first { IfSome result (λ m. drop taken queue.now ≡ record { tag = m.tag.now; words = m.words.now } ∷ drop (taken + 1) queue.now) }
+    ensures first { IfSome result (λ m. drop taken queue.now
+        ≡ record { tag = m.tag.now; words = m.words.now } ∷ drop (taken + 1) queue.now) }
     ensures known { IfSome result (λ _. taken < length queue.now) }
 {
     if taken >= queue.len() {
