@@ -21,7 +21,7 @@ use Rattle.bsp_engine.specs.declared.asked.Asked.TheVariants.{Batch, Undo}
 use Rattle.std.specs.List.{list_any}
 use Rattle.std.proofs.lemmas.Bool.{or_parts}
 use Rattle.bsp_engine.specs.declared.jobs.Job.{Job}
-use Rattle.bsp_engine.specs.Answers.{LinesAreBatches}
+use Rattle.bsp_engine.specs.LineLaws.{LinesAreBatches}
 use Rattle.bsp_engine.specs.Asked.{asked_of, asks_for_text}
 use Rattle.bsp_engine.specs.Live.{LiveParts, Replying, asked_text, after, after_batch, after_batches, opened, undos_after, last_result, run_of, answer_to, answer_block, blocks, first_text, due_of, AreLiveReplies}
 use Rattle.bsp_engine.specs.Inside.LiveReplies.{live_reply, live_replies, live_replying, opening_block}

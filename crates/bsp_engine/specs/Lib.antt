@@ -1,5 +1,5 @@
 pub mod Answer
-pub mod Answers
+pub mod LineLaws
 pub mod Asked
 pub mod Blocks
 pub mod Catalogue

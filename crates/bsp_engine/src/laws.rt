@@ -1,6 +1,6 @@
 //! What is known of reports, of documents and of the answers to lines.
 
-ghost use Rattle.bsp_engine.specs.Answers.{LinesAreBatches, UndoTakesBack};
+ghost use Rattle.bsp_engine.specs.LineLaws.{LinesAreBatches, UndoTakesBack};
 ghost use Rattle.bsp_engine.specs.ReadsBack.{DocumentsReadBack};
 ghost use Rattle.bsp_engine.specs.Untouched.{UntouchedProcessesStay};
 ghost use Rattle.bsp_engine.specs.Whole.{ChangesTellTheRest, TextsTellTheRest};
