@@ -7,7 +7,7 @@ pub mod Changed
 pub mod Conversations
 pub mod LawfulInputs
 pub mod Endings
-pub mod Flagging
+pub mod Compared
 pub mod Flowing
 mod HeardLines
 pub mod ItemsRead

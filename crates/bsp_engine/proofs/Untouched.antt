@@ -4,7 +4,7 @@ use Rattle.std.specs.Prelude.{Contains}
 use Rattle.std.specs.List.{flat_map}
 use Rattle.std.proofs.lemmas.Bool.{false≢true, and_parts}
 use Rattle.std.proofs.lemmas.Bool.Decides.{nat_tests}
-use Rattle.std.proofs.lemmas.List.{get_or-map, get_or-set_other}
+use Rattle.std.proofs.lemmas.List.{get_or-map}
 use Rattle.std.proofs.lemmas.List.Elements.{Contains-append_left, Contains-append_right}
 use Rattle.std.proofs.lemmas.Option.{slice_get-get_or}
 use Rattle.bsp_model.specs.declared.input.Input.{Input}
@@ -22,41 +22,19 @@ use Rattle.bsp_run.specs.Result.{status_of, memories_of, lines_of, result_of}
 use Rattle.bsp_run.proofs.Records.{count-views_in, count-outcomes_in}
 use Rattle.bsp_run.proofs.OneRun.{count_past, front}
 use Rattle.bsp_incr.specs.declared.edit.Edit.{Edit}
-use Rattle.bsp_incr.specs.declared.edit.Edit.TheVariants.{Word, Arg, Limit as LimitEdit, Prices}
 use Rattle.bsp_incr.specs.declared.reply.Place.{Place}
 use Rattle.bsp_incr.specs.declared.reply.Update.{Update}
-use Rattle.bsp_incr.specs.Edits.{edited, edited_by}
+use Rattle.bsp_incr.specs.Edits.{edited}
 use Rattle.bsp_incr.specs.Exact.{IsServed, IsKept, HasTurn, HasDelivery, view_there}
+use Rattle.bsp_incr.specs.Named.{word_pids}
 use Rattle.bsp_incr.specs.Inside.Reuse.{serves}
 use Rattle.bsp_incr.specs.Inside.Changes.{is_touched}
 use Rattle.bsp_incr.proofs.Lawful.{edited_count}
+use Rattle.bsp_incr.proofs.Unnamed.{has_place, same_memory}
 use Rattle.bsp_incr.proofs.Propagation.{view-in, memory-in, first_memory, Decides-untouched, untouched_is}
 use Rattle.bsp_incr.proofs.Serving.{Decides-serves}
-use Rattle.bsp_engine.specs.Untouched.{word_pids, touched, at_limit, end_alike, AreRunsAround, UntouchedProcessesStay}
+use Rattle.bsp_engine.specs.Untouched.{touched, at_limit, end_alike, AreRunsAround, UntouchedProcessesStay}
 use Rattle.bsp_engine.proofs.Endings.{count_lines, count_memories, count_turns, limit_is, lines-at, lines_same, memory-cut, memory-stopped, parts, rows_of, turns_at}
-
--- a process of which no edit changes a word begins with the memory that it had
-
-same_memory-edit : (i : Input) (e : Edit) (p : ℕ) → (Contains (word_pids e) p → ⊥) → get_or (edited_by i e).mems p [] ≡ get_or i.mems p []
-same_memory-edit i (Word pid addr value) p away =
-    let another : p ≢ pid = λ e. away (0, omega arith, sym e) in
-    get_or-set_other i.mems pid p _ [] another
-same_memory-edit i (Arg pid index value) p away = refl
-same_memory-edit i (LimitEdit n) p away = refl
-same_memory-edit i (Prices g l) p away = refl
-
-same_memory : (i : Input) (batch : List Edit) (p : ℕ) → (Contains (flat_map word_pids batch) p → ⊥) → get_or (edited i batch).mems p [] ≡ get_or i.mems p []
-same_memory i [] p away = refl
-same_memory i (e ∷ later) p away =
-    same_memory (edited_by i e) later p (λ c. away (Contains-append_right (word_pids e) (flat_map word_pids later) p c))
-    ∙ same_memory-edit i e p (λ c. away (Contains-append_left (word_pids e) (flat_map word_pids later) p c))
-
--- a process of a place
-
-has_place : (places : List Place) (q : Place) → Contains places q → Contains (map (λ (x : Place). x.pid) places) q.pid
-has_place [] q (k, l, at) = absurd (omega arith)
-has_place (x ∷ places) q (zero, l, at) = (0, omega arith, ap (λ (y : Place). y.pid) at)
-has_place (x ∷ places) q (suc k, l, at) = let h = has_place places q (k, omega arith, at) in (suc h.0, omega (arith, h.1), h.2)
 
 -- tests
 

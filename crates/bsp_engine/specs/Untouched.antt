@@ -1,5 +1,5 @@
 -- Which processes an update touches, and that of all others nothing is another where both runs end alike (this profile).
-use Rattle.std.specs.Prelude.{◌≡◌, ◌<◌, ℕ, Bool, true, false, List, [], ◌∷◌, ◌++◌, ◌==◌, ◌&&◌, not, map, length, slice_get, None, Some, Contains, if◌then◌else◌}
+use Rattle.std.specs.Prelude.{◌≡◌, ◌<◌, ℕ, Bool, true, false, List, ◌++◌, ◌==◌, ◌&&◌, not, map, length, slice_get, None, Some, Contains, if◌then◌else◌}
 use Rattle.std.specs.List.{flat_map}
 use Rattle.bsp_model.specs.declared.input.Input.{Input}
 use Rattle.bsp_model.specs.Input.{input_fault}
@@ -12,17 +12,10 @@ use Rattle.bsp_run.specs.Run.{Run}
 use Rattle.bsp_run.specs.Law.{IsBspRun}
 use Rattle.bsp_run.specs.Result.{result_of}
 use Rattle.bsp_incr.specs.declared.edit.Edit.{Edit}
-use Rattle.bsp_incr.specs.declared.edit.Edit.TheVariants.{Word, Arg, Limit as LimitEdit, Prices}
 use Rattle.bsp_incr.specs.declared.reply.Update.{Update}
 use Rattle.bsp_incr.specs.Edits.{refusal_of, edited}
 use Rattle.bsp_incr.specs.Exact.{IsExact}
-
--- the process of which an edit changes a word
-abbrev pub word_pids : Edit → List ℕ
-word_pids (Word pid addr value) = pid ∷ []
-word_pids (Arg pid index value) = []
-word_pids (LimitEdit n) = []
-word_pids (Prices g l) = []
+use Rattle.bsp_incr.specs.Named.{word_pids}
 
 -- The processes of which the batch changes a word, that took a turn again, or to which something was delivered again.
 abbrev pub touched : List Edit → Update → List ℕ

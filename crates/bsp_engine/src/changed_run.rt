@@ -1,21 +1,20 @@
 //! The changes of the run after a batch against the run before it.
 
-ghost use Rattle.std.specs.Prelude.{◌≡◌, ◌++◌, false, length, IfOk, OnOk, slice_get, map, slice_set, true};
+ghost use Rattle.std.specs.Prelude.{◌≡◌, ◌≤◌, ◌++◌, false, length, OnOk, slice_get};
 ghost use Rattle.bsp_run.specs.Result.{lines_of, memories_of, result_of};
 ghost use Rattle.bsp_engine.specs.Changes.{changes_lines, changes_of, other_lines, others, piece_if, same_lines};
 ghost use Rattle.bsp_model.specs.Same.{same_words};
 ghost use Rattle.bsp_text.specs.Lines.{numbered};
 ghost use Rattle.bsp_engine.specs.Text.{memory_line};
-ghost use Rattle.bsp_engine.specs.Inside.Touched.{AreSameUnflagged, IsUpdateBetween, flags_of, piece_there, flagged};
-ghost use Rattle.bsp_engine.specs.Untouched.{at_limit, end_alike, touched, word_pids};
-ghost use Rattle.std.specs.List.{flat_map};
+ghost use Rattle.bsp_engine.specs.Inside.Touched.{AreSameOutside, IsUpdateBetween, compared_processes, piece_there};
+ghost use Rattle.bsp_engine.specs.Untouched.{at_limit, end_alike};
 
 use crate::block_lines::push_status;
 use crate::change_lines::{push_cost_changes, push_other_lines, push_other_memory};
-use bsp_incr::{Edit, Place, Update};
-use bsp_model::OutOfMemory;
+use bsp_incr::{Edit, Update, add_place_processes, add_word_processes};
+use bsp_model::limits::MOST_PROCESSES;
+use bsp_model::{OutOfMemory, ProcessSet};
 use bsp_run::{History, Status};
-use std::alloc::Global;
 
 fn is_at_limit(status: &Status) -> bool
     ensures { result ≡ at_limit status.now }
@@ -36,25 +35,26 @@ fn end_alike(old: &History, new: &History) -> bool
     is_at_limit(old.status()) == is_at_limit(new.status())
 }
 
-/// A flag for each process: up where its memory or its lines may have changed.
-fn flags_of(
-    alloc: Global,
+/// The processes whose memories and lines are compared: those that the update touches, or all where the runs do not end alike.
+fn compared_processes(
     nprocs: usize,
     old: &History,
     new: &History,
     batch: &[Edit],
     update: &Update,
-) -> Result<Vec<bool>, OutOfMemory>
-    requires { nprocs ≡ length (result_of old.now).memories }
-    ensures { IfOk result (λ flags. flags.items ≡ flags_of (result_of old.now)
-        (result_of new.now) batch.now update.now) }
+) -> ProcessSet
+    requires few { nprocs ≤ MOST_PROCESSES }
+    requires count { nprocs ≡ length (result_of old.now).memories }
+    ensures { result ≡ compared_processes (result_of old.now) (result_of new.now) batch.now update.now }
 {
     if !end_alike(old, new) {
-        return Vec::from_elem(alloc, true, nprocs);
+        return ProcessSet::all(nprocs);
     }
-    let mut flags = Vec::from_elem(alloc, false, nprocs)?;
-    flag_touched(flags.as_mut_slice(), batch, update);
-    Ok(flags)
+    let mut touched = ProcessSet::none(nprocs);
+    add_word_processes(&mut touched, batch);
+    add_place_processes(&mut touched, update.executed.as_slice());
+    add_place_processes(&mut touched, update.redelivered.as_slice());
+    touched
 }
 
 fn push_memory_if(
@@ -62,13 +62,13 @@ fn push_memory_if(
     old: &History,
     new: &History,
     pid: u64,
-    flag: bool,
+    is_compared: bool,
 ) -> Result<(), OutOfMemory>
-    requires { flag ≡ false → slice_get (memories_of old.now) pid ≡ slice_get (memories_of new.now) pid }
+    requires { is_compared ≡ false → slice_get (memories_of old.now) pid ≡ slice_get (memories_of new.now) pid }
     ensures { OnOk result (text.new.items ≡ text.old.items ++
         piece_there memory_line same_words (memories_of old.now) (memories_of new.now) pid) }
 {
-    if !flag {
+    if !is_compared {
         return Ok(());
     }
     match new.memory(pid) {
@@ -81,14 +81,14 @@ fn push_changed_memories(
     text: &mut Vec<u8>,
     old: &History,
     new: &History,
-    flags: &[bool],
+    compared: &ProcessSet,
 ) -> Result<(), OutOfMemory>
-    requires { AreSameUnflagged flags.now (memories_of old.now) (memories_of new.now) }
+    requires { AreSameOutside compared.now (memories_of old.now) (memories_of new.now) }
     ensures { OnOk result (text.new.items ≡ text.old.items ++
         numbered (piece_if memory_line) 0 (others same_words (memories_of old.now) (memories_of new.now))) }
 {
-    for (pid, flag) in flags.iter().enumerate() {
-        push_memory_if(text, old, new, pid as u64, *flag)?;
+    for pid in 0..compared.count() {
+        push_memory_if(text, old, new, pid as u64, compared.contains(pid))?;
     }
     Ok(())
 }
@@ -98,13 +98,13 @@ fn push_lines_if(
     old: &History,
     new: &History,
     pid: u64,
-    flag: bool,
+    is_compared: bool,
 ) -> Result<(), OutOfMemory>
-    requires { flag ≡ false → slice_get (lines_of old.now) pid ≡ slice_get (lines_of new.now) pid }
+    requires { is_compared ≡ false → slice_get (lines_of old.now) pid ≡ slice_get (lines_of new.now) pid }
     ensures { OnOk result (text.new.items ≡ text.old.items ++
         piece_there other_lines same_lines (lines_of old.now) (lines_of new.now) pid) }
 {
-    if !flag {
+    if !is_compared {
         return Ok(());
     }
     match new.lines(pid) {
@@ -117,14 +117,14 @@ fn push_changed_lines(
     text: &mut Vec<u8>,
     old: &History,
     new: &History,
-    flags: &[bool],
+    compared: &ProcessSet,
 ) -> Result<(), OutOfMemory>
-    requires { AreSameUnflagged flags.now (lines_of old.now) (lines_of new.now) }
+    requires { AreSameOutside compared.now (lines_of old.now) (lines_of new.now) }
     ensures { OnOk result (text.new.items ≡ text.old.items ++
         numbered (piece_if other_lines) 0 (others same_lines (lines_of old.now) (lines_of new.now))) }
 {
-    for (pid, flag) in flags.iter().enumerate() {
-        push_lines_if(text, old, new, pid as u64, *flag)?;
+    for pid in 0..compared.count() {
+        push_lines_if(text, old, new, pid as u64, compared.contains(pid))?;
     }
     Ok(())
 }
@@ -144,43 +144,9 @@ pub fn push_changed(
     ensures { OnOk result (text.new.items ≡ text.old.items ++ changes_lines (changes_of (result_of old.now)
         (result_of new.now))) }
 {
-    let flags = flags_of(*text.allocator(), nprocs, old, new, batch, update)?;
+    let compared = compared_processes(nprocs, old, new, batch, update);
     push_status(text, new.status())?;
-    push_changed_memories(text, old, new, flags.as_slice())?;
-    push_changed_lines(text, old, new, flags.as_slice())?;
+    push_changed_memories(text, old, new, &compared)?;
+    push_changed_lines(text, old, new, &compared)?;
     push_cost_changes(text, old.costs(), new.costs(), new.total())
-}
-
-fn flag(flags: &mut [bool], pid: u64)
-    ensures { flags.new ≡ slice_set flags.old pid true }
-{
-    if pid < flags.len() as u64 {
-        flags[pid as usize] = true;
-    }
-}
-
-fn flag_edits(flags: &mut [bool], batch: &[Edit])
-    ensures { flags.new ≡ flagged flags.old (flat_map word_pids batch.now) }
-{
-    for edit in batch {
-        if let Edit::Word { pid, .. } = edit {
-            flag(flags, *pid);
-        }
-    }
-}
-
-fn flag_places(flags: &mut [bool], places: &[Place])
-    ensures { flags.new ≡ flagged flags.old (map (λ q. q.pid) places.now) }
-{
-    for place in places {
-        flag(flags, place.pid);
-    }
-}
-
-pub fn flag_touched(flags: &mut [bool], batch: &[Edit], update: &Update)
-    ensures { flags.new ≡ flagged flags.old (touched batch.now update.now) }
-{
-    flag_edits(flags, batch);
-    flag_places(flags, update.executed.as_slice());
-    flag_places(flags, update.redelivered.as_slice());
 }

@@ -2,7 +2,7 @@ use Rattle.std.proofs.Common.{◌∙◌, List, length, ap, sym}
 use Rattle.bsp_model.specs.declared.cost.CostRow.{CostRow}
 use Rattle.bsp_run.specs.Result.{result_of}
 use Rattle.bsp_engine.specs.Untouched.{at_limit}
-use Rattle.bsp_engine.proofs.Flagging.{end_otherwise, end_by}
+use Rattle.bsp_engine.proofs.Compared.{end_otherwise, end_by}
 use Rattle.bsp_engine.proofs.Endings.{parts}
 use Rattle.bsp_engine.proofs.changed_run.end_alike.Goals as goal
 

@@ -1,30 +1,34 @@
-use Rattle.std.proofs.Common.{◌∙◌, ◌++◌, ℕ, List, ap, subst}
+use Rattle.std.proofs.Common.{◌∙◌, ◌++◌, ℕ, Bool, List, ap, sym, subst, arith}
 use Rattle.bsp_run.specs.declared.result.Status.{Status}
 use Rattle.bsp_run.specs.Result.{lines_of, memories_of, result_of}
 use Rattle.bsp_engine.specs.Text.{status_lines}
-use Rattle.bsp_engine.specs.Inside.Touched.{AreSameUnflagged}
+use Rattle.bsp_engine.specs.Inside.Touched.{AreSameOutside}
 use Rattle.bsp_engine.proofs.Endings.{parts}
-use Rattle.bsp_engine.proofs.Flagging.{flags_are_enough}
+use Rattle.bsp_engine.proofs.Compared.{compared_are_enough, few_compared}
 use Rattle.bsp_engine.proofs.Telling.{changes_told}
 use Rattle.bsp_engine.proofs.changed_run.push_changed.Goals as goal
+
+pub compared_processes-compared-requires-clause-few : goal.compared_processes-compared-requires-clause-few
+compared_processes-compared-requires-clause-few c =
+    omega (arith, c.requires.count, few_compared c.args.old.now c.args.batch.now c.args.update.now c.args.new.now c.requires.update)
 
 pub push_changed_memories-requires : goal.push_changed_memories-requires
 push_changed_memories-requires c =
     let old = c.args.old.now in
     let new = c.args.new.now in
-    let flags = c.as_slice.result.now in
-    let enough = flags_are_enough old c.args.batch.now c.args.update.now new flags c.requires.update (c.as_slice.ensures.value ∙ c.in_ok-flags.ensures) in
-    subst (λ (olds : List (List ℕ)). AreSameUnflagged flags olds (memories_of new)) (parts old).memories
-    (subst (λ (news : List (List ℕ)). AreSameUnflagged flags (result_of old).memories news) (parts new).memories enough.memories)
+    let enough = compared_are_enough old c.args.batch.now c.args.update.now new c.requires.update in
+    subst (λ (set : List Bool). AreSameOutside set (memories_of old) (memories_of new)) (sym c.compared_processes-compared.ensures)
+    (subst (λ (olds : List (List ℕ)). AreSameOutside _ olds (memories_of new)) (parts old).memories
+    (subst (λ (news : List (List ℕ)). AreSameOutside _ (result_of old).memories news) (parts new).memories enough.memories))
 
 pub push_changed_lines-requires : goal.push_changed_lines-requires
 push_changed_lines-requires c =
     let old = c.args.old.now in
     let new = c.args.new.now in
-    let flags = c.as_slice-2.result.now in
-    let enough = flags_are_enough old c.args.batch.now c.args.update.now new flags c.requires.update (c.as_slice-2.ensures.value ∙ c.in_ok-flags.ensures) in
-    subst (λ (olds : List (List (List ℕ))). AreSameUnflagged flags olds (lines_of new)) (parts old).lines
-    (subst (λ (news : List (List (List ℕ))). AreSameUnflagged flags (result_of old).lines news) (parts new).lines enough.lines)
+    let enough = compared_are_enough old c.args.batch.now c.args.update.now new c.requires.update in
+    subst (λ (set : List Bool). AreSameOutside set (lines_of old) (lines_of new)) (sym c.compared_processes-compared.ensures)
+    (subst (λ (olds : List (List (List ℕ))). AreSameOutside _ olds (lines_of new)) (parts old).lines
+    (subst (λ (news : List (List (List ℕ))). AreSameOutside _ (result_of old).lines news) (parts new).lines enough.lines))
 
 pub returns : goal.returns
 returns c =

@@ -1,4 +1,4 @@
-use Rattle.std.proofs.Common.{◌<◌, length, arith}
+use Rattle.std.proofs.Common.{◌<◌, ◌∙◌, length, sym, arith}
 use Rattle.bsp_run.specs.Result.{memories_of}
 use Rattle.bsp_model.specs.Same.{same_words}
 use Rattle.bsp_engine.specs.Text.{memory_line}
@@ -11,3 +11,6 @@ loop-pid-preserved c =
     let within : c.loop-pid.pid < length news = omega arith in
     tell_more memory_line same_words (memories_of c.args.old.now) news c.loop-pid.pid c.args.text.now.items c.loop-pid.text.items c.push_memory_if.new.text.items within
     c.loop-pid.invariant c.in_ok-push_memory_if.ensures
+
+pub push_memory_if-requires : goal.push_memory_if-requires
+push_memory_if-requires c = λ out. c.requires.same c.loop-pid.pid (omega arith) (sym c.contains.ensures ∙ out)
