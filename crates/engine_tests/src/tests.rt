@@ -5,4 +5,5 @@ mod failing;
 mod failures;
 mod following;
 mod logged;
+mod reporting;
 mod workers;

@@ -6,9 +6,11 @@ use super::known::{COUNT_OF_KNOWN, End, Known, known_run};
 use super::running::{Way, is_run};
 use super::sessions::{CountedSession, is_changed, is_changed_at_last, opened};
 use super::sittings::{Change, Sitting, UPDATES};
+use super::tables::is_found_once_pushed;
 use bsp_gate::Open;
 use bsp_run::RunError;
 use bsp_step::Program;
+use bsp_table::TableFault;
 use std::alloc::Global;
 use std::process::Abort;
 use std::sync::atomic::Ordering::SeqCst;
@@ -65,8 +67,22 @@ fn wide_runs_with_an_allocation_refused(rt: HostRuntime) {
 }
 
 #[test]
+fn records_with_an_allocation_refused(rt: HostRuntime) {
+    find_runs(&rt, rt.alloc(), Way::Begun);
+}
+
+#[test]
 fn openings_with_an_allocation_refused(rt: HostRuntime) {
     find_runs(&rt, rt.alloc(), Way::Opened);
+}
+
+#[test]
+fn tables_with_an_allocation_refused(rt: HostRuntime) {
+    let begun = begin(&rt);
+    let found = is_found_once_pushed(rt.alloc());
+    let ended = end(&rt);
+    let is_right = found == Ok(true) || found == Err(TableFault::OutOfMemory);
+    assert!(rt; begun && is_right && ended);
 }
 
 /// Whether a batch changes a session, or is refused memory, changes nothing, and then changes the session.

@@ -9,7 +9,7 @@ use bsp_gate::{Gate, Open, Timed};
 use bsp_incr::{Reply, Session};
 use bsp_model::{Input, TryCopy};
 use bsp_right::run_computing;
-use bsp_run::{History, RunError, RunResult};
+use bsp_run::{History, RunError, RunResult, Tape};
 use bsp_whole::{run_plain, run_result, run_result_wide, run_wide, scratch_run, session_run};
 use std::alloc::Global;
 use std::process::Abort;
@@ -28,6 +28,15 @@ pub enum Way {
     Replied,
     /// The replies by runs from scratch.
     RepliedAfresh,
+    /// A record of the run, which is opened only.
+    Begun,
+}
+
+fn is_begun(alloc: Global, input: &Input) -> Result<bool, RunError> {
+    let tape = Tape::open(alloc, input)?;
+    let is_begun = tape.is_open() && tape.step() == 0 && tape.views().len() == input.mems.len();
+    drop(tape);
+    Ok(is_begun)
 }
 
 fn is_recorded(run: Result<History, RunError>, end: &End) -> Result<bool, RunError> {
@@ -113,6 +122,7 @@ fn is_run_on<R: Threads + Sync, G: Gate>(
             let replies = scratch_run(alloc, &program, input.copy()?, &[]);
             is_reply(replies, &known.end, false)
         }
+        Way::Begun => is_begun(alloc, input),
     }
 }
 
@@ -133,7 +143,7 @@ pub fn is_run<R: Threads + Sync, G: Gate>(
     found
 }
 
-static WAYS: [Way; 8] = [
+static WAYS: [Way; 9] = [
     Way::Plain,
     Way::Computing,
     Way::Wide,
@@ -142,6 +152,7 @@ static WAYS: [Way; 8] = [
     Way::Opened,
     Way::Replied,
     Way::RepliedAfresh,
+    Way::Begun,
 ];
 
 fn find_all<R: Threads + Sync + Abort>(rt: &R, alloc: Global, known: &Known) {
