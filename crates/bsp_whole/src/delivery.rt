@@ -8,8 +8,10 @@ ghost use Rattle.bsp_deliver.specs.Inside.Gathering.{overlay};
 ghost use Rattle.bsp_whole.specs.Inbox.{inbox_of};
 ghost use Rattle.bsp_deliver.specs.Condition.{AreDeliverable};
 
-use crate::{Inbox, inbox};
+use crate::Inbox;
+use crate::inboxes::{puts_to, sends_to};
 use bsp_deliver::memory_with_gets;
+use bsp_model::limits::MOST_PROCESSES;
 use bsp_model::{Memory, OutOfMemory, Put, Send};
 use bsp_step::{Outcomes, Queue};
 use std::alloc::Global;
@@ -32,6 +34,16 @@ fn messages_of(alloc: Global, sends: &[(u64, Send)]) -> Result<Queue, OutOfMemor
         queue.push(send.tag.as_slice(), send.words.as_slice())?;
     }
     Ok(queue)
+}
+
+/// The inbox of process `d`: copies of all puts and messages to it, each with its sender, by sender, then by issue. There are at most `MOST_PROCESSES` outcomes.
+pub fn inbox(alloc: Global, d: usize, outcomes: &Outcomes) -> Result<Inbox, OutOfMemory>
+    requires { length outcomes.now ≤ MOST_PROCESSES }
+    ensures { IfOk result (λ inbox. inbox ≡ inbox_of (delivery_parts outcomes.now d)) }
+{
+    let puts = puts_to(alloc, d as u64, outcomes)?;
+    let sends = sends_to(alloc, d as u64, outcomes)?;
+    Ok(Inbox { puts, sends })
 }
 
 /// The next memory and the next queue of process `d`. All gets read the owners' memories as they are after computing; then all puts are

@@ -3,8 +3,7 @@
 ghost use Rattle.std.specs.Prelude.{◌≡◌, ◌<◌, ◌≤◌, ◌++◌, ◌==◌, length, map, filter, slice_get, IfOk, OnOk, Some};
 ghost use Rattle.bsp_step.specs.ViewParts.{IsQueue};
 ghost use Rattle.bsp_deliver.specs.Requests.{all_puts, all_sends};
-ghost use Rattle.bsp_deliver.specs.Delivery.{delivery_parts, message_of};
-ghost use Rattle.bsp_whole.specs.Inbox.{inbox_of};
+ghost use Rattle.bsp_deliver.specs.Delivery.{message_of};
 
 use bsp_model::limits::MOST_PROCESSES;
 use bsp_model::{OutOfMemory, Put, PutsRef, Same, Send, SendsRef, Seq, Words, are_same};
@@ -96,7 +95,11 @@ fn add_sends(
     Ok(())
 }
 
-fn puts_to(alloc: Global, d: u64, outcomes: &Outcomes) -> Result<Seq<(u64, Put)>, OutOfMemory>
+pub(crate) fn puts_to(
+    alloc: Global,
+    d: u64,
+    outcomes: &Outcomes,
+) -> Result<Seq<(u64, Put)>, OutOfMemory>
     ensures { IfOk result (λ puts. puts ≡ filter (λ p. p.1.target == d) (all_puts outcomes.now)) }
 {
     let mut puts = Seq::new(alloc);
@@ -107,7 +110,11 @@ fn puts_to(alloc: Global, d: u64, outcomes: &Outcomes) -> Result<Seq<(u64, Put)>
     Ok(puts)
 }
 
-fn sends_to(alloc: Global, d: u64, outcomes: &Outcomes) -> Result<Seq<(u64, Send)>, OutOfMemory>
+pub(crate) fn sends_to(
+    alloc: Global,
+    d: u64,
+    outcomes: &Outcomes,
+) -> Result<Seq<(u64, Send)>, OutOfMemory>
     requires { length outcomes.now ≤ MOST_PROCESSES }
     ensures sends { IfOk result (λ sends. sends ≡ filter (λ m. m.1.target == d) (all_sends outcomes.now)) }
     ensures limits { IfOk result (λ sends. IsQueue (map (λ m. message_of m.1) sends)) }
@@ -118,14 +125,4 @@ fn sends_to(alloc: Global, d: u64, outcomes: &Outcomes) -> Result<Seq<(u64, Send
         add_sends(&mut sends, sender as u64, d, &outcome.sends)?;
     }
     Ok(sends)
-}
-
-/// The inbox of process `d`: copies of all puts and messages to it, each with its sender, by sender, then by issue. There are at most `MOST_PROCESSES` outcomes.
-pub fn inbox(alloc: Global, d: usize, outcomes: &Outcomes) -> Result<Inbox, OutOfMemory>
-    requires { length outcomes.now ≤ MOST_PROCESSES }
-    ensures { IfOk result (λ inbox. inbox ≡ inbox_of (delivery_parts outcomes.now d)) }
-{
-    let puts = puts_to(alloc, d as u64, outcomes)?;
-    let sends = sends_to(alloc, d as u64, outcomes)?;
-    Ok(Inbox { puts, sends })
 }

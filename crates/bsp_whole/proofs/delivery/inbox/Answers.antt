@@ -1,5 +1,5 @@
 use Rattle.bsp_deliver.specs.Delivery.{delivery_parts}
-use Rattle.bsp_whole.proofs.inboxes.inbox.Goals as goal
+use Rattle.bsp_whole.proofs.delivery.inbox.Goals as goal
 
 pub returns : goal.returns
 unfolding delivery_parts
