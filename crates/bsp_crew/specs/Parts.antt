@@ -1,13 +1,18 @@
 -- Parts of a superstep of a run, as several workers take them.
-use Rattle.std.specs.Prelude.{◌≡◌, ◌<◌, ℕ, List, All, length, map}
+use Rattle.std.specs.Prelude.{◌≡◌, ◌<◌, ℕ, Bool, true, false, List, [], ◌++◌, All, length, map}
 use Rattle.bsp_model.specs.declared.input.Input.{Input}
+use Rattle.bsp_model.specs.declared.request.Message.{Message}
 use Rattle.bsp_step.specs.ViewParts.{ViewParts}
 use Rattle.bsp_step.specs.OutcomeParts.{OutcomeParts}
 use Rattle.bsp_deliver.specs.Condition.{AreDeliverable}
 use Rattle.bsp_model.specs.Replaced.{IsAscending}
 use Rattle.bsp_run.specs.Law.{views_in}
-use Rattle.bsp_crew.specs.declared.sheet.Task.{Task}
-use Rattle.bsp_crew.specs.declared.sheet.Task.TheVariants.{Turns, Deliveries}
+use Rattle.bsp_run.specs.Shares.{turns_of, deliveries_to}
+use Rattle.bsp_crew.specs.declared.part.Part.{Part}
+use Rattle.bsp_crew.specs.declared.part.Task.{Task}
+use Rattle.bsp_crew.specs.declared.part.Task.TheVariants.{Turns, Deliveries}
+use Rattle.bsp_crew.specs.declared.part.Made.{Made}
+use Rattle.bsp_crew.specs.declared.part.Made.TheVariants.{Taken, Delivered}
 
 -- This turn and these views are those of the run of an input.
 pub record AreOfRun (turn : ViewParts → OutcomeParts) (input : Input) (named : ViewParts → OutcomeParts) (views : ℕ → List ViewParts) : Type 0 where
@@ -20,7 +25,36 @@ pub record CanDeliver (os : List OutcomeParts) (ds : List ℕ) : Type 0 where
   pub known : All (λ d. d < length os) ds
   pub ascending : IsAscending ds
 
--- A part of a superstep in which the processes see these views: turns of some processes at the views, or deliveries to some of what all turns left.
-abbrev pub IsPart : (ViewParts → OutcomeParts) → List ViewParts → List ℕ → Task → Type 0
-IsPart turn vs ps (Turns seen) = (seen ≡ vs) × All (λ p. p < length vs) ps
-IsPart turn vs ps (Deliveries os) = (os ≡ map turn vs) × CanDeliver os ps
+-- Processes of a superstep are cut in two.
+pub record AreParts (part rest whole : Part) : Type 0 where
+  pub step : part.step ≡ whole.step
+  pub step_of_rest : rest.step ≡ whole.step
+  pub processes : whole.processes.now ≡ part.processes.now ++ rest.processes.now
+
+-- A part of a superstep in which all processes see these views: turns of some processes at the views, or deliveries to some of what all turns left.
+pub record IsPart (turn : ViewParts → OutcomeParts) (vs : List ViewParts) (ps : List ℕ) (task : Task) : Type 0 where
+  pub turns : (seen : List ViewParts) → task ≡ Turns seen → (seen ≡ vs) × All (λ p. p < length vs) ps
+  pub deliveries : (os : List OutcomeParts) → task ≡ Deliveries os → (os ≡ map turn vs) × CanDeliver os ps
+
+-- The turns or the deliveries of such a part.
+pub record IsMade (turn : ViewParts → OutcomeParts) (vs : List ViewParts) (ps : List ℕ) (made : Made) : Type 0 where
+  pub taken : (rows : List OutcomeParts) → made ≡ Taken rows → rows ≡ turns_of turn vs ps
+  pub delivered : (cells : List (List ℕ × List Message)) → made ≡ Delivered cells → cells ≡ deliveries_to (map turn vs) ps
+
+-- the turns or the deliveries so far, and behind them those of such a part
+abbrev pub with_part : (ViewParts → OutcomeParts) → List ViewParts → List ℕ → Made → Made
+with_part turn vs ps (Taken rows) = Taken (rows ++ turns_of turn vs ps)
+with_part turn vs ps (Delivered cells) = Delivered (cells ++ deliveries_to (map turn vs) ps)
+
+abbrev pub asks_turns : Task → Bool
+asks_turns (Turns seen) = true
+asks_turns (Deliveries os) = false
+
+abbrev pub has_turns : Made → Bool
+has_turns (Taken rows) = true
+has_turns (Delivered cells) = false
+
+-- no turns, or no deliveries
+abbrev pub nothing_of : Task → Made
+nothing_of (Turns seen) = Taken []
+nothing_of (Deliveries os) = Delivered []

@@ -1,21 +1,16 @@
 //! Workers that take parts of the supersteps beside the calling thread until a run is over.
 
-ghost use Rattle.std.specs.Prelude.{◌≡◌, ◌<◌, ◌++◌, All, IfOk, OnOk, length, map};
-ghost use Rattle.bsp_step.specs.Turn.{turn_of};
-ghost use Rattle.bsp_run.specs.Shares.{turns_of, deliveries_to};
-ghost use Rattle.bsp_crew.specs.Parts.{CanDeliver, IsPart};
+ghost use Rattle.std.specs.Prelude.{◌≡◌, ◌<◌, OnOk, length, true};
+ghost use Rattle.bsp_run.specs.TurnBy.{turn_by};
+ghost use Rattle.bsp_crew.specs.Parts.{IsPart, asks_turns, has_turns, with_part};
 
-use crate::deliveries::deliveries_alone;
+use crate::part::{Made, Means, Part, Task};
 use crate::patience::Patience;
 use crate::seat::Seat;
 use crate::shared_run::SharedRun;
-use crate::sheet::Task;
-use crate::turns::turns_alone;
-use bsp_deliver::Cells;
 use bsp_gate::Gate;
-use bsp_model::{ByProcess, OutOfMemory, Shared, TryCopy};
-use bsp_run::Views;
-use bsp_step::{Outcome, OutcomeRows, Outcomes, Program};
+use bsp_model::{OutOfMemory, TryCopy};
+use bsp_step::{Outcome, Program};
 use std::alloc::Global;
 use std::sync::atomic::AtomicU64;
 use std::sync::atomic::Ordering::SeqCst;
@@ -48,125 +43,59 @@ impl<J: SharedRun> Crew<J> {
     }
 
     /// Lets the workers attend to their seats until they are told to leave, each in a thread of its own where one can be made.
-    pub fn attend<P: Program, G: Gate, R: Threads + Sync>(
-        &self,
-        rt: &R,
-        alloc: Global,
-        program: &P,
-        gate: &G,
-    )
-        requires { J.turn ≡ turn_of (P.acts program.now) (P.ending program.now) }
+    pub fn attend<P: Program, G: Gate, R: Threads + Sync>(&self, rt: &R, means: &Means<'_, P, G>)
+        requires { J.turn ≡ turn_by P.Program means.now.program.now }
     {
         let work = |place: usize|
-            requires { (place < length self.now.seats.items) × (J.turn
-                ≡ turn_of (P.acts program.now) (P.ending program.now)) }
-        { self.seats[place].attend(alloc, program, &self.over, gate) };
+            requires { (place < length self.now.seats.items)
+                × (J.turn ≡ turn_by P.Program means.now.program.now) }
+        { self.seats[place].attend(means, &self.over) };
         // Where a thread cannot start, its seat stays empty: the calling thread works the parts of that seat.
-        let _ = map_indices(rt, alloc, self.seats.len(), &work);
+        let _ = map_indices(rt, means.alloc, self.seats.len(), &work);
     }
 
-    /// How many of so many processes a part has.
-    fn size_of_part(&self, count: usize) -> usize {
-        count.div_ceil(self.seats.len() + 1)
-    }
-
-    /// Hands out the processes of a list from the place `from` on, so many to each worker.
-    fn hand_out(&self, step: u64, processes: &[usize], from: usize, size: usize, task: Task)
-        requires { IsPart J.turn (J.views step) processes.now task }
+    /// Hands out a list, so many processes to each worker.
+    fn hand_out(&self, whole: &Part<'_>, size: usize, task: &Task)
+        requires { IsPart J.turn (J.views whole.now.step) whole.now.processes.now task.now }
     {
-        let mut place = from.min(processes.len());
+        let mut rest = *whole;
         for seat in self.seats.as_slice() {
-            let end = place.saturating_add(size).min(processes.len());
+            let (part, behind) = rest.split(size);
+            rest = behind;
             if let Ok(copy) = task.copy() {
-                seat.hand_out(step, &processes[place..end], place, copy);
+                seat.hand_out(&part, copy);
             }
-            place = end;
         }
-        drop(task);
     }
 
-    /// Adds the turns of some processes in this superstep to `rows`. Each worker is handed a part of them. The calling thread takes the turns of the
-    /// first part, and those of a worker that has not begun, is late, or was refused memory.
-    pub(crate) fn take_turns<P: Program, G: Gate>(
+    /// Works a task at the processes of a list, and adds the turns or deliveries to `made`. Each worker is handed a part of the list. The calling thread
+    /// works the first part, and the part of a worker that has not begun, is late, or was refused memory.
+    pub(crate) fn work_parts<P: Program, G: Gate>(
         &self,
-        alloc: Global,
-        rows: &mut OutcomeRows,
+        means: &Means<'_, P, G>,
+        task: &Task,
+        whole: &Part<'_>,
         spare: &mut Option<Outcome>,
-        program: &P,
-        views: &Shared<Views>,
-        processes: &[usize],
-        step: u64,
-        gate: &G,
+        made: &mut Made,
     ) -> Result<(), OutOfMemory>
-        requires turn { J.turn ≡ turn_of (P.acts program.now) (P.ending program.now) }
-        requires seen { views.now ≡ J.views step }
-        requires known { All (λ p. p < length views.now) processes.now }
-        ensures { OnOk result (rows.new ≡ rows.old
-            ++ turns_of (turn_of (P.acts program.now) (P.ending program.now)) views.now processes.now) }
+        requires turn { asks_turns task.now ≡ true → J.turn ≡ turn_by P.Program means.now.program.now }
+        requires part { IsPart J.turn (J.views whole.now.step) whole.now.processes.now task.now }
+        requires alike { has_turns made.old ≡ asks_turns task.now }
+        ensures alike { has_turns made.new ≡ has_turns made.old }
+        ensures made { OnOk result (made.new
+            ≡ with_part J.turn (J.views whole.now.step) whole.now.processes.now made.old) }
     {
-        let size = self.size_of_part(processes.len());
-        let mut place = size.min(processes.len());
-        self.hand_out(step, processes, place, size, Task::Turns(views.copy()?));
-        let began = gate.now();
-        let own = &processes[..place];
-        turns_alone(alloc, rows, spare, program, views, own, 0, gate)?;
-        let mut patience = Patience::new(began, gate);
+        let size = whole.processes.len().div_ceil(self.seats.len() + 1);
+        let (own, mut rest) = whole.split(size);
+        self.hand_out(&rest, size, task);
+        let began = means.gate.now();
+        means.work::<J>(task, &own, spare, made)?;
+        let mut patience = Patience::new(began, means.gate);
         for seat in self.seats.as_slice() {
-            let end = place.saturating_add(size).min(processes.len());
-            let part = &processes[place..end];
-            seat.add_turns(
-                alloc,
-                rows,
-                spare,
-                program,
-                views,
-                part,
-                place,
-                step,
-                &mut patience,
-                gate,
-            )?;
-            place = end;
+            let (part, behind) = rest.split(size);
+            seat.add_part(means, task, &part, &mut patience, spare, made)?;
+            rest = behind;
         }
-        let rest = &processes[place..];
-        turns_alone(alloc, rows, spare, program, views, rest, place, gate)
+        means.work::<J>(task, &rest, spare, made)
     }
-
-    /// The deliveries to some processes at the end of this superstep, made as the turns are taken.
-    pub(crate) fn make_deliveries<G: Gate>(
-        &self,
-        alloc: Global,
-        outcomes: &Outcomes,
-        processes: &[usize],
-        step: u64,
-        gate: &G,
-    ) -> Result<Cells, OutOfMemory>
-        requires made { outcomes.now ≡ map J.turn (J.views step) }
-        requires can { CanDeliver outcomes.now processes.now }
-        ensures { IfOk result (λ cells. cells ≡ deliveries_to outcomes.now processes.now) }
-    {
-        let size = self.size_of_part(processes.len());
-        let mut place = size.min(processes.len());
-        let task = Task::Deliveries(outcomes.copy()?);
-        self.hand_out(step, processes, place, size, task);
-        let began = gate.now();
-        let mut cells = deliveries_alone(alloc, outcomes, &processes[..place], 0, gate)?;
-        let mut patience = Patience::new(began, gate);
-        for seat in self.seats.as_slice() {
-            let end = place.saturating_add(size).min(processes.len());
-            let part = &processes[place..end];
-            let more = seat.deliveries(alloc, outcomes, part, place, step, &mut patience, gate)?;
-            add_cells(&mut cells, more)?;
-            place = end;
-        }
-        let rest = deliveries_alone(alloc, outcomes, &processes[place..], place, gate)?;
-        add_cells(&mut cells, rest)?;
-        Ok(cells)
-    }
-}
-
-fn add_cells(cells: &mut Cells, more: Cells) -> Result<(), OutOfMemory>
-    ensures { OnOk result (cells.new ≡ cells.old ++ more) }
-{
-    cells.append_range(&more, 0, more.len())
 }

@@ -1,37 +1,50 @@
 //! The deliveries of a superstep, by the calling thread or by a crew beside it.
 
-ghost use Rattle.std.specs.Prelude.{◌≡◌, ◌<◌, All, IfOk, IfSome, length, map};
+ghost use Rattle.std.specs.Prelude.{◌≡◌, ◌<◌, ◌++◌, All, IfOk, IfSome, OnOk, length, map};
 ghost use Rattle.bsp_deliver.specs.Condition.{AreDeliverable};
 ghost use Rattle.bsp_model.specs.Replaced.{IsAscending};
 ghost use Rattle.bsp_run.specs.Shares.{deliveries_to};
 ghost use Rattle.bsp_crew.specs.Parts.{CanDeliver};
 
 use crate::crew::Crew;
+use crate::part::{Made, Means, Part, Task};
 use crate::shared_run::SharedRun;
 use bsp_deliver::{Cells, deliver_some};
 use bsp_gate::Gate;
-use bsp_model::OutOfMemory;
-use bsp_step::Outcomes;
+use bsp_model::{ByProcess, OutOfMemory, TryCopy};
+use bsp_step::{Outcomes, Program};
 use std::alloc::Global;
 
-/// The next memory and queue of some processes, in the order of the list, by the calling thread, which goes over the requests once. The gate is passed
-/// with the places in the list, counted from `first` on, before all deliveries.
-pub(crate) fn deliveries_alone<G: Gate>(
-    alloc: Global,
-    outcomes: &Outcomes,
-    processes: &[usize],
-    first: usize,
-    gate: &G,
-) -> Result<Cells, OutOfMemory>
-    requires { CanDeliver outcomes.now processes.now }
-    ensures { IfOk result (λ cells. cells ≡ deliveries_to outcomes.now processes.now) }
+/// Adds cells behind cells. Where there are none yet, the new ones are handed on.
+pub(crate) fn add_cells(cells: &mut Cells, more: Cells) -> Result<(), OutOfMemory>
+    ensures { OnOk result (cells.new ≡ cells.old ++ more) }
 {
-    for place in 0..processes.len() {
-        gate.pass(first.saturating_add(place));
+    if cells.len() == 0 {
+        *cells = more;
+        return Ok(());
     }
-    let mut cells = Cells::new(alloc);
-    let delivered = deliver_some(alloc, outcomes, processes, &mut cells);
-    delivered.and(Ok(cells))
+    cells.append_range(&more, 0, more.len())
+}
+
+impl<'a, P, G: Gate> Means<'a, P, G> {
+    /// Adds to `cells` the next memory and queue of the processes of a part, by this thread, which goes over the requests once. The gate is passed with
+    /// their places in the superstep's list before all deliveries.
+    pub(crate) fn make_deliveries(
+        &self,
+        outcomes: &Outcomes,
+        part: &Part<'_>,
+        cells: &mut Cells,
+    ) -> Result<(), OutOfMemory>
+        requires { CanDeliver outcomes.now part.now.processes.now }
+        ensures { OnOk result (cells.new ≡ cells.old ++ deliveries_to outcomes.now part.now.processes.now) }
+    {
+        for place in 0..part.processes.len() {
+            self.gate.pass(part.first.saturating_add(place));
+        }
+        let mut more = Cells::new(self.alloc);
+        deliver_some(self.alloc, outcomes, part.processes, &mut more)?;
+        add_cells(cells, more)
+    }
 }
 
 /// The next memory and queue of some processes, in the order of the list: where there is a crew, by its workers beside the calling thread. `processes`
@@ -40,13 +53,12 @@ pub(crate) fn deliveries_alone<G: Gate>(
 ///
 /// # Errors
 /// `OutOfMemory` where the calling thread is refused memory for a delivery that no worker hands in, or to add the deliveries.
-pub fn wide_deliveries<J: SharedRun, G: Gate>(
-    alloc: Global,
+pub fn wide_deliveries<J: SharedRun, P: Program, G: Gate>(
+    means: &Means<'_, P, G>,
     outcomes: &Outcomes,
     processes: &[usize],
     step: u64,
     crew: Option<&Crew<J>>,
-    gate: &G,
 ) -> Result<Cells, OutOfMemory>
     requires deliverable { AreDeliverable outcomes.now }
     requires processes { All (λ d. d < length outcomes.now) processes.now }
@@ -54,10 +66,26 @@ pub fn wide_deliveries<J: SharedRun, G: Gate>(
     requires made { IfSome crew (λ _. outcomes.now ≡ map J.turn (J.views step)) }
     ensures { IfOk result (λ cells. cells ≡ deliveries_to outcomes.now processes.now) }
 {
+    let whole = Part {
+        step,
+        processes,
+        first: 0,
+    };
     match crew {
         Some(crew) if processes.len() > 1 => {
-            crew.make_deliveries(alloc, outcomes, processes, step, gate)
+            let task = Task::Deliveries(outcomes.copy()?);
+            let mut made = Made::Delivered(Cells::new(means.alloc));
+            let worked = crew.work_parts(means, &task, &whole, &mut None, &mut made);
+            drop(task);
+            match made {
+                Made::Delivered(cells) => worked.and(Ok(cells)),
+                Made::Taken(_rows) => unreachable!(),
+            }
         }
-        _ => deliveries_alone(alloc, outcomes, processes, 0, gate),
+        _ => {
+            let mut cells = Cells::new(means.alloc);
+            let delivered = means.make_deliveries(outcomes, &whole, &mut cells);
+            delivered.and(Ok(cells))
+        }
     }
 }

@@ -4,6 +4,7 @@
 mod crew;
 mod deliveries;
 mod pace;
+mod part;
 mod patience;
 mod seat;
 mod shared_run;
@@ -13,5 +14,6 @@ mod turns;
 pub use crew::Crew;
 pub use deliveries::wide_deliveries;
 pub use pace::{Pace, calls_workers, workers_beside};
+pub use part::Means;
 pub use shared_run::SharedRun;
 pub use turns::{DEPTH_OF_RUNS, DEPTH_OF_SUPERSTEPS, wide_turns};

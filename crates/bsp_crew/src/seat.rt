@@ -1,20 +1,16 @@
 //! The place at which the calling thread and a worker of a run hand each other a sheet.
 
-ghost use Rattle.std.specs.Prelude.{◌≡◌, ◌<◌, ◌++◌, [], All, IfOk, IfSome, OnOk, length, map};
-ghost use Rattle.bsp_step.specs.Turn.{turn_of};
-ghost use Rattle.bsp_run.specs.Shares.{turns_of, deliveries_to};
-ghost use Rattle.bsp_crew.specs.Parts.{CanDeliver, IsPart};
+ghost use Rattle.std.specs.Prelude.{◌≡◌, OnOk, true};
+ghost use Rattle.bsp_run.specs.TurnBy.{turn_by};
+ghost use Rattle.bsp_crew.specs.Parts.{IsPart, asks_turns, has_turns, with_part};
 
-use crate::deliveries::deliveries_alone;
+use crate::part::{Made, Means, Part, Task};
 use crate::patience::{Patience, pause};
 use crate::shared_run::SharedRun;
-use crate::sheet::{Sheet, Task};
-use crate::turns::turns_alone;
-use bsp_deliver::Cells;
+use crate::sheet::Sheet;
 use bsp_gate::Gate;
-use bsp_model::{OutOfMemory, Shared};
-use bsp_run::Views;
-use bsp_step::{Outcome, OutcomeRows, Outcomes, Program};
+use bsp_model::OutOfMemory;
+use bsp_step::{Outcome, Program};
 use std::alloc::Global;
 use std::sync::atomic::AtomicU64;
 use std::sync::atomic::Ordering::SeqCst;
@@ -56,51 +52,39 @@ impl<J: SharedRun> Seat<J> {
     }
 
     /// Hands the worker a part, unless it still has an earlier one.
-    pub fn hand_out(&self, step: u64, processes: &[usize], first: usize, task: Task)
-        requires { IsPart J.turn (J.views step) processes.now task }
+    pub fn hand_out(&self, part: &Part<'_>, task: Task)
+        requires { IsPart J.turn (J.views part.now.step) part.now.processes.now task }
     {
         if let Some(mut sheet) = self.sheet.try_lock() {
-            sheet.hand_out(step, processes, first, task);
+            sheet.hand_out(part, task);
             self.state.store(WAITING, SeqCst);
         } else {
             drop(task);
         }
     }
 
-    fn work<P: Program, G: Gate>(
-        &self,
-        alloc: Global,
-        program: &P,
-        spare: &mut Option<Outcome>,
-        gate: &G,
-    )
-        requires { J.turn ≡ turn_of (P.acts program.now) (P.ending program.now) }
+    fn work<P: Program, G: Gate>(&self, means: &Means<'_, P, G>, spare: &mut Option<Outcome>)
+        requires { J.turn ≡ turn_by P.Program means.now.program.now }
     {
         if let Some(mut sheet) = self.sheet.try_lock() {
             // The part may have been taken back since the worker saw it.
             if self.state.load(SeqCst) == WAITING {
-                sheet.work(alloc, program, spare, gate);
+                sheet.work(means, spare);
                 self.state.store(WORKED, SeqCst);
             }
         }
     }
 
     /// Works the parts that the worker is handed, until the run is over.
-    pub fn attend<P: Program, G: Gate>(
-        &self,
-        alloc: Global,
-        program: &P,
-        over: &AtomicU64,
-        gate: &G,
-    )
-        requires { J.turn ≡ turn_of (P.acts program.now) (P.ending program.now) }
+    pub fn attend<P: Program, G: Gate>(&self, means: &Means<'_, P, G>, over: &AtomicU64)
+        requires { J.turn ≡ turn_by P.Program means.now.program.now }
     {
         let mut spare = None;
         let mut looks = 0;
         for _look in 0..u64::MAX {
             if self.state.load(SeqCst) == WAITING {
-                self.work(alloc, program, &mut spare, gate);
-                drop(large_piece(alloc));
+                self.work(means, &mut spare);
+                drop(large_piece(means.alloc));
                 looks = 0;
             } else if over.load(SeqCst) != 0 {
                 break;
@@ -131,95 +115,28 @@ impl<J: SharedRun> Seat<J> {
         None
     }
 
-    /// The turns of this part, once the worker has taken them. None where the worker has not begun, was refused memory, or is late.
-    fn collect_turns<G: Gate>(
+    /// Adds the turns or deliveries of a part to `made`. Where the worker has not begun, was refused memory or is late, the calling thread makes them.
+    pub fn add_part<P: Program, G: Gate>(
         &self,
-        step: u64,
-        processes: &[usize],
+        means: &Means<'_, P, G>,
+        task: &Task,
+        part: &Part<'_>,
         patience: &mut Patience,
-        gate: &G,
-    ) -> Option<OutcomeRows>
-        ensures { IfSome result (λ rows. rows ≡ turns_of J.turn (J.views step) processes.now) }
-    {
-        match self.sheet(patience, gate) {
-            Some(mut sheet) => sheet.collect_turns(step, processes),
-            None => None,
-        }
-    }
-
-    /// The deliveries of this part, as the turns are collected.
-    fn collect_deliveries<G: Gate>(
-        &self,
-        step: u64,
-        processes: &[usize],
-        patience: &mut Patience,
-        gate: &G,
-    ) -> Option<Cells>
-        ensures { IfSome result (λ cells. cells ≡ deliveries_to (map J.turn (J.views step)) processes.now) }
-    {
-        match self.sheet(patience, gate) {
-            Some(mut sheet) => sheet.collect_deliveries(step, processes),
-            None => None,
-        }
-    }
-
-    /// Keeps lists for the worker's next turns.
-    fn keep_room(&self, room: OutcomeRows)
-        requires { room ≡ [] }
-    {
-        if let Some(mut sheet) = self.sheet.try_lock() {
-            sheet.keep_room(room);
-        } else {
-            drop(room);
-        }
-    }
-
-    /// Adds the turns of this part to `rows`: those that the worker took, or else by the calling thread.
-    pub fn add_turns<P: Program, G: Gate>(
-        &self,
-        alloc: Global,
-        rows: &mut OutcomeRows,
         spare: &mut Option<Outcome>,
-        program: &P,
-        views: &Shared<Views>,
-        processes: &[usize],
-        first: usize,
-        step: u64,
-        patience: &mut Patience,
-        gate: &G,
+        made: &mut Made,
     ) -> Result<(), OutOfMemory>
-        requires turn { J.turn ≡ turn_of (P.acts program.now) (P.ending program.now) }
-        requires seen { views.now ≡ J.views step }
-        requires known { All (λ p. p < length views.now) processes.now }
-        ensures { OnOk result (rows.new ≡ rows.old
-            ++ turns_of (turn_of (P.acts program.now) (P.ending program.now)) views.now processes.now) }
+        requires turn { asks_turns task.now ≡ true → J.turn ≡ turn_by P.Program means.now.program.now }
+        requires part { IsPart J.turn (J.views part.now.step) part.now.processes.now task.now }
+        requires alike { has_turns made.old ≡ asks_turns task.now }
+        ensures alike { has_turns made.new ≡ has_turns made.old }
+        ensures made { OnOk result (made.new
+            ≡ with_part J.turn (J.views part.now.step) part.now.processes.now made.old) }
     {
-        let Some(mut turns) = self.collect_turns(step, processes, patience, gate) else {
-            return turns_alone(alloc, rows, spare, program, views, processes, first, gate);
-        };
-        let added = rows.append(&mut turns);
-        self.keep_room(turns);
-        added
-    }
-
-    /// The deliveries of this part: those that the worker made, or else by the calling thread.
-    pub fn deliveries<G: Gate>(
-        &self,
-        alloc: Global,
-        outcomes: &Outcomes,
-        processes: &[usize],
-        first: usize,
-        step: u64,
-        patience: &mut Patience,
-        gate: &G,
-    ) -> Result<Cells, OutOfMemory>
-        requires made { outcomes.now ≡ map J.turn (J.views step) }
-        requires can { CanDeliver outcomes.now processes.now }
-        ensures { IfOk result (λ cells. cells ≡ deliveries_to outcomes.now processes.now) }
-    {
-        match self.collect_deliveries(step, processes, patience, gate) {
-            Some(cells) => Ok(cells),
-            None => deliveries_alone(alloc, outcomes, processes, first, gate),
+        if let Some(mut sheet) = self.sheet(patience, means.gate)
+            && let Some(added) = sheet.add_to(part, made)
+        {
+            return added;
         }
+        means.work::<J>(task, part, spare, made)
     }
 }

@@ -1,16 +1,17 @@
 //! The turns of a superstep, by the calling thread or by a crew beside it.
 
-ghost use Rattle.std.specs.Prelude.{◌≡◌, ◌<◌, ◌++◌, All, IfSome, OnOk, length};
-ghost use Rattle.bsp_step.specs.Turn.{turn_of};
+ghost use Rattle.std.specs.Prelude.{◌≡◌, ◌<◌, ◌++◌, All, IfOk, IfSome, OnOk, length};
 ghost use Rattle.bsp_run.specs.Shares.{turns_of};
+ghost use Rattle.bsp_run.specs.TurnBy.{turn_by};
 
 use crate::crew::Crew;
+use crate::part::{Made, Means, Part, Task};
 use crate::shared_run::SharedRun;
 use bsp_gate::Gate;
-use bsp_model::{OutOfMemory, Shared};
+use bsp_model::{OutOfMemory, Shared, TryCopy};
 use bsp_run::Views;
 use bsp_step::{Outcome, OutcomeRows, Program, turn_reusing};
-use std::alloc::Global;
+use std::alloc::{AllocError, Global};
 
 /// At this depth a gate is told of a session's runs: of that of the opening as 0, of those of the batches by their numbers from 1 on.
 pub const DEPTH_OF_RUNS: usize = 0;
@@ -25,60 +26,75 @@ fn spare_of(alloc: Global, spare: &mut Option<Outcome>) -> Result<Outcome, OutOf
     }
 }
 
-/// Adds the turns of some processes to `rows`, in the order of the list, by the calling thread. The gate is passed before each turn, with its place in
-/// the list, counted from `first` on. The spare outcome that is there lends its lists. After `OutOfMemory` there is none.
-pub(crate) fn turns_alone<P: Program, G: Gate>(
-    alloc: Global,
-    rows: &mut OutcomeRows,
-    spare: &mut Option<Outcome>,
-    program: &P,
-    views: &Views,
-    processes: &[usize],
-    first: usize,
-    gate: &G,
-) -> Result<(), OutOfMemory>
-    requires { All (λ p. p < length views.now) processes.now }
-    ensures { OnOk result (rows.new ≡ rows.old
-        ++ turns_of (turn_of (P.acts program.now) (P.ending program.now)) views.now processes.now) }
-{
-    let mut last = spare_of(alloc, spare)?;
-    for (place, process) in processes.iter().enumerate() {
-        gate.pass(first.saturating_add(place));
-        last = turn_reusing(alloc, program, &views.get(*process), last)?;
-        rows.push(&mut last)?;
+impl<'a, P: Program, G: Gate> Means<'a, P, G> {
+    /// Adds the turns of the processes of a part to `rows`, by this thread. The gate is passed before each turn, with its place in the superstep's
+    /// list. The spare outcome that is there lends its lists. After `OutOfMemory` there is none.
+    pub(crate) fn take_turns(
+        &self,
+        views: &Views,
+        part: &Part<'_>,
+        spare: &mut Option<Outcome>,
+        rows: &mut OutcomeRows,
+    ) -> Result<(), OutOfMemory>
+        requires { All (λ p. p < length views.now) part.now.processes.now }
+        ensures { OnOk result (rows.new ≡ rows.old
+            ++ turns_of (turn_by P.Program self.now.program.now) views.now part.now.processes.now) }
+    {
+        let mut last = spare_of(self.alloc, spare)?;
+        for (place, process) in part.processes.iter().enumerate() {
+            self.gate.pass(part.first.saturating_add(place));
+            last = turn_reusing(self.alloc, self.program, &views.get(*process), last)?;
+            rows.push(&mut last)?;
+        }
+        spare.insert(last);
+        Ok(())
     }
-    spare.insert(last);
-    Ok(())
 }
 
-/// Adds the turns of some processes to `rows`, in the order of the list: where there is a crew, by its workers beside the calling thread. `processes`
-/// are places in `views`, which are those of superstep `step`. Whoever takes the turn at the place k of the list, counted from 0, passes the gate with
-/// k before. The spare outcome that is there lends its lists to the calling thread.
+/// The outcomes of `rows`, and behind them the turns of some processes, in the order of the list. Where there is a crew, its workers take turns beside
+/// the calling thread. `processes` are places in `views`, which are those of superstep `step`. Whoever takes the turn at the place k of the list,
+/// counted from 0, passes the gate with k before. The spare outcome that is there lends its lists to the calling thread.
 ///
 /// # Errors
 /// `OutOfMemory` where the calling thread is refused memory for a turn that no worker hands in, or to add the turns.
 pub fn wide_turns<J: SharedRun, P: Program, G: Gate>(
-    alloc: Global,
-    rows: &mut OutcomeRows,
+    means: &Means<'_, P, G>,
+    mut rows: OutcomeRows,
     spare: &mut Option<Outcome>,
-    program: &P,
     views: &Shared<Views>,
     processes: &[usize],
     step: u64,
     crew: Option<&Crew<J>>,
-    gate: &G,
-) -> Result<(), OutOfMemory>
+) -> Result<OutcomeRows, OutOfMemory>
     requires processes { All (λ p. p < length views.now) processes.now }
-    requires turn { IfSome crew (λ _. J.turn ≡ turn_of (P.acts program.now) (P.ending program.now)) }
+    requires turn { IfSome crew (λ _. J.turn ≡ turn_by P.Program means.now.program.now) }
     requires seen { IfSome crew (λ _. views.now ≡ J.views step) }
-    ensures { OnOk result (rows.new ≡ rows.old
-        ++ turns_of (turn_of (P.acts program.now) (P.ending program.now)) views.now processes.now) }
+    ensures { IfOk result (λ all. all
+        ≡ rows ++ turns_of (turn_by P.Program means.now.program.now) views.now processes.now) }
 {
-    gate.enter(DEPTH_OF_SUPERSTEPS, step);
+    means.gate.enter(DEPTH_OF_SUPERSTEPS, step);
+    let whole = Part {
+        step,
+        processes,
+        first: 0,
+    };
     match crew {
         Some(crew) if processes.len() > 1 => {
-            crew.take_turns(alloc, rows, spare, program, views, processes, step, gate)
+            let Ok(copy) = views.copy() else {
+                drop(rows);
+                return Err(AllocError);
+            };
+            let (task, mut made) = (Task::Turns(copy), Made::Taken(rows));
+            let worked = crew.work_parts(means, &task, &whole, spare, &mut made);
+            drop(task);
+            match made {
+                Made::Taken(rows) => worked.and(Ok(rows)),
+                Made::Delivered(_cells) => unreachable!(),
+            }
         }
-        _ => turns_alone(alloc, rows, spare, program, views, processes, 0, gate),
+        _ => {
+            let taken = means.take_turns(views, &whole, spare, &mut rows);
+            taken.and(Ok(rows))
+        }
     }
 }

@@ -10,7 +10,7 @@ ghost use Rattle.bsp_run.specs.Result.{result_of};
 
 use crate::plain::{finish, lawful_result, result_at_end, supersteps};
 use crate::unrecorded::Unrecorded;
-use bsp_crew::{Crew, Pace, SharedRun, workers_beside};
+use bsp_crew::{Crew, Means, Pace, SharedRun, workers_beside};
 use bsp_gate::Gate;
 use bsp_model::{Input, OutOfMemory, Shared, numbers};
 use bsp_run::{Recording, RunResult, Views};
@@ -35,9 +35,14 @@ fn beside_crew<J: SharedRun, P: Program, G: Gate, R: Threads + Sync>(
     requires crew { AreOfRun (turn_of (P.acts program.now) (P.ending program.now)) input.now J.turn J.views }
     ensures { IfOk result (λ r. r ≡ result_of (run (turn_of (P.acts program.now) (P.ending program.now)) input.now)) }
 {
+    let means = Means {
+        alloc,
+        program,
+        gate,
+    };
     let attend = ||
-        requires { J.turn ≡ turn_of (P.acts program.now) (P.ending program.now) }
-    { crew.attend(rt, alloc, program, gate) };
+        requires { J.turn ≡ turn_of (P.acts means.program.now) (P.ending means.program.now) }
+    { crew.attend(rt, &means) };
     let conduct = move || -> Result<RunResult, OutOfMemory>
         requires lawful { input_fault input.now ≡ None }
         requires under_way { IsUnderway (turn_of (P.acts program.now) (P.ending program.now)) input.now views kept }

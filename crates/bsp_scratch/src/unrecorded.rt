@@ -12,7 +12,7 @@ ghost use Rattle.bsp_run.specs.Inside.Settings.{AreTurned};
 ghost use Rattle.bsp_scratch.specs.Inside.IsUnrecorded.{IsUnrecorded, IsUnrecordedIn, HasEnded};
 
 use crate::tally::Tally;
-use bsp_crew::{Crew, SharedRun, wide_turns};
+use bsp_crew::{Crew, Means, SharedRun, wide_turns};
 use bsp_deliver::{Cells, deliver_moving};
 use bsp_gate::Gate;
 use bsp_model::limits::MOST_SUPERSTEPS;
@@ -59,19 +59,14 @@ pub(crate) fn all_turns<J: SharedRun, P: Program, G: Gate>(
         ≡ map (turn_of (P.acts program.now) (P.ending program.now)) views.now) }
 {
     let before = mem::replace(&mut taken.outcomes, Outcomes::new());
-    let mut rows = before.into_room(alloc, views.len())?;
-    let spare = &mut taken.spare;
-    let turns = wide_turns(
-        alloc, &mut rows, spare, program, views, processes, step, crew, gate,
-    );
-    match turns {
-        Ok(()) => {}
-        Err(error) => {
-            drop(rows);
-            return Err(error);
-        }
-    }
-    drop(mem::replace(&mut taken.outcomes, rows.share()?));
+    let rows = before.into_room(alloc, views.len())?;
+    let means = Means {
+        alloc,
+        program,
+        gate,
+    };
+    let turns = wide_turns(&means, rows, &mut taken.spare, views, processes, step, crew)?;
+    drop(mem::replace(&mut taken.outcomes, turns.share()?));
     Ok(())
 }
 

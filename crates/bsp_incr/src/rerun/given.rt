@@ -1,5 +1,8 @@
 //! What stays the same in all supersteps of a run that is made again.
 
+ghost use Rattle.std.specs.Prelude.{◌≡◌};
+
+use bsp_crew::Means;
 use bsp_model::{Input, ProcessSet};
 use bsp_run::History;
 use bsp_step::Program;
@@ -37,4 +40,17 @@ impl<'a, P: Program, G> Model for Given<'a, P, G> {
       before = option_map (λ k. k.now) g.old;
       others = g.other_args.now;
     } };
+}
+
+impl<'a, P: Program, G> Given<'a, P, G> {
+    /// The means of a thread for its work.
+    pub fn means(&self) -> Means<'a, P, G>
+        ensures { result.program.now ≡ self.now.program }
+    {
+        Means {
+            alloc: self.alloc,
+            program: self.program,
+            gate: self.gate,
+        }
+    }
 }

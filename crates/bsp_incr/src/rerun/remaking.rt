@@ -85,10 +85,10 @@ fn beside_crew<P: Program, J: SharedRun, G: Gate, R: Threads + Sync>(
     requires run { AreOfRun (turn_by P.Program given.program) given.input J.turn J.views }
     ensures { IfOk result (λ r. IsRemade P.Program given.entry r) }
 {
-    let (alloc, program, gate) = (given.alloc, given.program, given.gate);
+    let means = given.means();
     let attend = ||
-        requires { J.turn ≡ turn_by P.Program program.now }
-    { crew.attend(rt, alloc, program, gate) };
+        requires { J.turn ≡ turn_by P.Program means.program.now }
+    { crew.attend(rt, &means) };
     let conduct = move || -> Result<Remade, OutOfMemory>
         requires going_on { IsGoingOn P.Program given tape under_way }
         requires run { AreOfRun (turn_by P.Program given.program) given.input J.turn J.views }

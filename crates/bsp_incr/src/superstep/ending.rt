@@ -171,7 +171,7 @@ fn deliveries_among<P: Program, J: SharedRun, G: Gate>(
     add_places(redelivered, step, touched)?;
     let processes = touched.members(given.alloc)?;
     let asked = processes.as_slice();
-    let cells = wide_deliveries(given.alloc, tape.outcomes(), asked, step, crew, given.gate)?;
+    let cells = wide_deliveries(&given.means(), tape.outcomes(), asked, step, crew)?;
     Ok(Deliveries { processes, cells })
 }
 

@@ -96,19 +96,16 @@ fn taken_turns<P: Program, J: SharedRun, G: Gate>(
     ensures { IfOk result (λ all. all
         ≡ turns_of (turn_by P.Program given.now.program) superstep.now.views.now processes.now) }
 {
-    let mut rows = superstep.like.room_for(given.alloc, processes.len())?;
-    let taken = wide_turns(
-        given.alloc,
-        &mut rows,
+    let rows = superstep.like.room_for(given.alloc, processes.len())?;
+    wide_turns(
+        &given.means(),
+        rows,
         spare,
-        given.program,
         superstep.views,
         processes,
         superstep.step,
         crew,
-        given.gate,
-    );
-    taken.and(Ok(rows))
+    )
 }
 
 /// The dirty processes whose turns have to be taken.

@@ -7,8 +7,8 @@ use Rattle.bsp_run.specs.Shares.{turns_of}
 use Rattle.bsp_run.proofs.Shares.{turns_of-all}
 use Rattle.bsp_scratch.proofs.unrecorded.all_turns.Goals as goal
 
-pub wide_turns-turns-requires-clause-processes : goal.wide_turns-turns-requires-clause-processes
-wide_turns-turns-requires-clause-processes g c κs within =
+pub wide_turns-requires-clause-processes : goal.wide_turns-requires-clause-processes
+wide_turns-requires-clause-processes g c κs within =
     let count = length c.args.views.now in
     λ k d l. subst (λ (ps : List ℕ). get_or ps k d < count) (sym c.requires.processes) (omega (arith, get_or-range_with_len 0 count k d (omega (arith, l, ap (λ (ps : List ℕ). length ps) c.requires.processes, length-range_with_len 0 count)), l, ap (λ (ps : List ℕ). length ps) c.requires.processes, length-range_with_len 0 count))
 
@@ -17,4 +17,4 @@ returns g c =
     let turn = turn_of (g.P.Program.acts c.args.program.now) (g.P.Program.ending c.args.program.now) in
     let views = c.args.views.now in
     let taken : List OutcomeParts = turns_of turn views (range_with_len 0 (length views)) in
-    c.replace.ensures.after ∙ c.in_ok-share.ensures ∙ c.in-Ok.ensures ∙ (λ i. c.in_ok-rows.ensures i ++ turns_of turn views (c.requires.processes i)) ∙ turns_of-all turn views
+    c.replace.ensures.after ∙ c.in_ok-share.ensures ∙ c.in_ok-turns.ensures ∙ (λ i. c.in_ok-rows.ensures i ++ turns_of turn views (c.requires.processes i)) ∙ turns_of-all turn views
