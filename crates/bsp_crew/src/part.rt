@@ -1,6 +1,6 @@
 //! A part of a superstep, its task, and the means of a thread to work it.
 
-ghost use Rattle.std.specs.Prelude.{◌≡◌, [], IfOk, IfSome, OnOk, true};
+ghost use Rattle.std.specs.Prelude.{◌≡◌, [], IfOk, IfSome, OnOk, length, min, true};
 ghost use Rattle.bsp_run.specs.TurnBy.{turn_by};
 ghost use Rattle.bsp_crew.specs.Parts.{AreParts, IsPart, asks_turns, has_turns, nothing_of, with_part};
 
@@ -25,7 +25,8 @@ pub(crate) struct Part<'a> {
 impl<'a> Part<'a> {
     /// The first processes, at most so many, and the rest.
     pub fn split(&self, size: usize) -> (Part<'a>, Part<'a>)
-        ensures { AreParts result.0 result.1 self.now }
+        ensures cut { AreParts result.0 result.1 self.now }
+        ensures size { length result.0.processes.now ≡ min size (length self.now.processes.now) }
     {
         let size = size.min(self.processes.len());
         let (processes, rest) = self.processes.split_at(size);

@@ -1,6 +1,6 @@
 //! The sheet that the calling thread and a worker of a run hand each other.
 
-ghost use Rattle.std.specs.Prelude.{◌≡◌, [], None, IfNone, IfSome, OnOk};
+ghost use Rattle.std.specs.Prelude.{◌≡◌, [], None, IfNone, IfSome, IsSome, OnOk};
 ghost use Rattle.std.specs.Option.{ForSome};
 ghost use Rattle.bsp_run.specs.TurnBy.{turn_by};
 ghost use Rattle.bsp_crew.specs.Parts.{IsMade, IsPart, has_turns, with_part};
@@ -94,13 +94,18 @@ impl<J: SharedRun> Sheet<J> {
     /// Takes the part back, whose work has not begun.
     pub fn take_back(&mut self)
         ensures task { self.new.task ≡ None }
+        ensures made { self.new.made ≡ self.old.made }
+        ensures first { self.new.first ≡ self.old.first }
     {
         drop(self.task.take());
     }
 
     /// The turns or deliveries of this part, if they are made.
     fn collect(&mut self, part: &Part<'_>) -> Option<Made>
-        ensures { IfSome result (IsMade J.turn (J.views part.now.step) part.now.processes.now) }
+        ensures made { IfSome result (IsMade J.turn (J.views part.now.step) part.now.processes.now) }
+        ensures found { self.old.step ≡ part.now.step → self.old.processes.items ≡ part.now.processes.now
+            → result ≡ self.old.made }
+        ensures first { self.new.first ≡ self.old.first }
     {
         if self.step == part.step && self.processes.as_slice() == part.processes {
             self.made.take()
@@ -114,6 +119,9 @@ impl<J: SharedRun> Sheet<J> {
         ensures added { IfSome result (λ added. OnOk added (made.new
             ≡ with_part J.turn (J.views part.now.step) part.now.processes.now made.old)) }
         ensures none { IfNone result (made.new ≡ made.old) }
+        ensures found { self.old.step ≡ part.now.step → self.old.processes.items ≡ part.now.processes.now
+            → IfSome self.old.made (λ m. has_turns m ≡ has_turns made.old → IsSome result) }
+        ensures first { self.new.first ≡ self.old.first }
         ensures alike { has_turns made.new ≡ has_turns made.old }
     {
         match (self.collect(part)?, made) {
