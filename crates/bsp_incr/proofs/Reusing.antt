@@ -1,7 +1,6 @@
 -- A recorded turn over another memory.
 use Rattle.std.proofs.Common.{◌≡◌, ◌<◌, ℕ, ◌+◌, Bool, true, List, [], ◌∷◌, ◌++◌, Option, None, Some, get_or, length, map, refl, sym, ap, ◌∙◌}
 use Rattle.std.specs.Prelude.{slice_set, nat_lt, nat_le}
-use Rattle.std.proofs.Math.ListN.{length-set}
 use Rattle.std.proofs.lemmas.List.{get_or-map}
 use Rattle.bsp_model.specs.declared.request.Store.{Store}
 use Rattle.bsp_model.specs.declared.fault.Fault.{Fault}

@@ -4,12 +4,13 @@ use bsp_table::{Area, Registers, Table, TableFault};
 use std::alloc::Global;
 
 /// One process, which pushes areas.
+#[derive(Drop)]
 struct Pusher<'a> {
     areas: &'a [Area],
 }
 
 impl<'a> Registers for Pusher<'a> {
-    ghost use Rattle.std.specs.Prelude.{replicate};
+    ghost use Rattle.std.specs.Prelude.{[], replicate};
 
     ghost pops = { λ _. replicate 1 [] };
 

@@ -13,7 +13,7 @@ fn is_refusal_told(alloc: Global) -> Result<bool, OutOfMemory> {
     };
     let replies = [Reply::Refused(refusal)];
     let text = report(alloc, &replies, ONE_WORKER.detail)?;
-    let is_told = text.as_slice() == b"run 0\nrefused E2 at 1\n";
+    let is_told = text.as_slice() == b"run 0\nrefused E2 at 1\n".as_slice();
     drop(text);
     Ok(is_told)
 }
