@@ -73,25 +73,21 @@ impl Call {
         ensures { Makes ctx.old (call_plan ctx.old self.now) ctx.new result }
     {
         match self {
-            Call::Store(address, value) => made(ctx.store(address.read(ctx)?, value.read(ctx)?)),
+            Call::Store(address, value) => making::store(ctx, address, value),
             Call::Charge(amount) => made(ctx.charge(amount.read(ctx)?)),
             Call::Put(pid, words, area, offset) => making::put(ctx, pid, words, area, offset, room),
             Call::Get(pid, area, offset, into, len) => {
                 making::get(ctx, pid, area, offset, into, len)
             }
             Call::Send(pid, tag, words) => making::send(ctx, pid, tag, words, room),
-            Call::PushReg(start, len) => made(ctx.push_reg(start.read(ctx)?, len.read(ctx)?)),
+            Call::PushReg(start, len) => making::push_reg(ctx, start, len),
             Call::PopReg(start) => made(ctx.pop_reg(start.read(ctx)?)),
             Call::SetTagsize(size) => made(ctx.set_tagsize(size.read(ctx)?)),
             Call::Print(words) => {
                 read_all(ctx, words, &mut room.words)?;
                 made(ctx.print(room.words.as_slice()))
             }
-            Call::Add(address, value) => {
-                let word = Operand::Word(*address).read(ctx)?;
-                let value = value.read(ctx)?;
-                made(ctx.store(*address, word.wrapping_add(value)))
-            }
+            Call::Add(address, value) => making::add(ctx, *address, value),
             Call::MoveInto(count, into) => {
                 making::move_into(*room.words.allocator(), ctx, *count, *into)
             }

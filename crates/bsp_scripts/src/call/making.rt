@@ -1,6 +1,6 @@
-//! The calls that take more than an operand or two: each reads its operands from left to right, and then is made.
+//! The calls that take more than one operand, and those that make a buffer. Each reads its operands from left to right, and then is made.
 
-ghost use Rattle.bsp_scripts.specs.declared.call.Call.TheVariants.{Put, Get, Send, MoveInto, PrintGetTag};
+ghost use Rattle.bsp_scripts.specs.declared.call.Call.TheVariants.{Add, Get, MoveInto, PrintGetTag, PushReg, Put, Send, Store};
 ghost use Rattle.bsp_scripts.specs.Calls.{call_plan, heading_line};
 ghost use Rattle.bsp_scripts.specs.Inside.Making.{Makes};
 ghost use Rattle.std.specs.Prelude.{◌≡◌, OnOk};
@@ -14,6 +14,30 @@ use bsp_model::limits::MOST_PAYLOAD_WORDS;
 use bsp_model::{OutOfMemory, Seq};
 use bsp_step::Ctx;
 use std::alloc::Global;
+
+pub(super) fn store(ctx: &mut Ctx<'_>, address: &Operand, value: &Operand) -> Result<(), Exit>
+    ensures { Makes ctx.old (call_plan ctx.old (Store address.now value.now)) ctx.new result }
+{
+    let address = address.read(ctx)?;
+    let value = value.read(ctx)?;
+    made(ctx.store(address, value))
+}
+
+pub(super) fn push_reg(ctx: &mut Ctx<'_>, start: &Operand, len: &Operand) -> Result<(), Exit>
+    ensures { Makes ctx.old (call_plan ctx.old (PushReg start.now len.now)) ctx.new result }
+{
+    let start = start.read(ctx)?;
+    let len = len.read(ctx)?;
+    made(ctx.push_reg(start, len))
+}
+
+pub(super) fn add(ctx: &mut Ctx<'_>, address: u64, value: &Operand) -> Result<(), Exit>
+    ensures { Makes ctx.old (call_plan ctx.old (Add address value.now)) ctx.new result }
+{
+    let word = Operand::Word(address).read(ctx)?;
+    let value = value.read(ctx)?;
+    made(ctx.store(address, word.wrapping_add(value)))
+}
 
 pub(super) fn put(
     ctx: &mut Ctx<'_>,
