@@ -126,7 +126,9 @@ pub fn session_run<P: Program + Drop, R: Threads + Sync, G: Gate>(
         count: workers,
         gate,
     };
-    Ok(all_replies(&workers, &mut session, update, batches)?)
+    let replies = all_replies(&workers, &mut session, update, batches);
+    drop(session);
+    Ok(replies?)
 }
 
 /// The replies of `session_run` without their updates: each accepted input is run by itself on the calling thread, from its first superstep.

@@ -14,11 +14,11 @@ returns-clause-law g c =
     let looks = g.P.Program.looks c.args.program in
     let program = c.in_ok-session.ensures.program in
     let input = c.in_ok-session.ensures.given in
-    let all : c.in_ok-all_replies.field-0.items ≡ replies looks turn c.args.input c.args.batches.now =
-    c.in_ok-all_replies.ensures ∙ (λ i. replies (g.P.Program.looks (program i)) (turn_of (g.P.Program.acts (program i)) (g.P.Program.ending (program i))) (input i) c.args.batches.now) in
+    let all : c.in_ok-replies.field-0.items ≡ replies looks turn c.args.input c.args.batches.now =
+    c.in_ok-replies.ensures ∙ (λ i. replies (g.P.Program.looks (program i)) (turn_of (g.P.Program.acts (program i)) (g.P.Program.ending (program i))) (input i) c.args.batches.now) in
     subst (AreReplies looks turn c.args.input c.args.batches.now) (sym all)
     (law_of_replies looks turn c.args.input c.args.batches.now c.in_ok-session.ensures.lawful)
 
-pub returns-in_err-all_replies-clause-input : goal.returns-in_err-all_replies-clause-input
-returns-in_err-all_replies-clause-input g c =
-    lawful_input_refused _ c.from_residual-in_err-all_replies.result (input_fault c.args.input) c.in_ok-session.ensures.lawful (λ e out. ap input_fault_of out) c.from_residual-in_err-all_replies.ensures.1
+pub returns-in_err-replies-clause-input : goal.returns-in_err-replies-clause-input
+returns-in_err-replies-clause-input g c =
+    lawful_input_refused _ c.from_residual-in_err-replies.result (input_fault c.args.input) c.in_ok-session.ensures.lawful (λ e out. ap input_fault_of out) c.from_residual-in_err-replies.ensures.1
