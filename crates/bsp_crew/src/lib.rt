@@ -10,10 +10,12 @@ mod seat;
 mod shared_run;
 mod sheet;
 mod turns;
+mod workers;
 
 pub use crew::Crew;
 pub use deliveries::wide_deliveries;
-pub use pace::{Pace, calls_workers, workers_beside};
+pub use pace::{Pace, calls_workers};
 pub use part::Means;
 pub use shared_run::SharedRun;
 pub use turns::{DEPTH_OF_RUNS, DEPTH_OF_SUPERSTEPS, wide_turns};
+pub use workers::Workers;

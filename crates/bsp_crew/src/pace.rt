@@ -1,10 +1,9 @@
-//! When a run is worth workers, and how many.
+//! When a run is worth workers.
 
 ghost use Rattle.std.specs.Prelude.{◌≡◌, false, None, IfNone};
 
 use bsp_gate::Gate;
 use bsp_run::Recording;
-use std::thread::{Threads, available_parallelism};
 use std::time::Instant;
 
 /// How many nanoseconds a run goes on alone at least. To start a few threads, each with an arena of the allocator, takes a third of that.
@@ -47,17 +46,6 @@ impl Pace {
         let worth = u128::from(self.supersteps).saturating_mul(self.nanos_a_superstep);
         self.supersteps = self.supersteps.saturating_add(1);
         nanos >= NANOS_ALONE && nanos >= worth
-    }
-}
-
-/// How many workers a run has beside the calling thread: where the gate tells the time, no more than there are processors.
-pub fn workers_beside<G: Gate, R: Threads>(rt: &R, workers: usize, gate: &G) -> usize {
-    if gate.now().is_none() {
-        return workers.saturating_sub(1);
-    }
-    match available_parallelism(rt) {
-        Ok(processors) => workers.min(processors.get()).saturating_sub(1),
-        Err(_) => 0,
     }
 }
 

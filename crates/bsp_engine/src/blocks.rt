@@ -17,7 +17,8 @@ use crate::jobs::Job;
 use crate::live_blocks::begin;
 use crate::update_lines::push_update_alone;
 use bsp_gate::{Gate, let_go};
-use bsp_incr::{Batch, Reply, Workers, scratch_run_behind};
+use bsp_crew::Workers;
+use bsp_incr::{Batch, Reply, scratch_run_behind};
 use bsp_model::{Input, OutOfMemory};
 use bsp_options::Detail;
 use bsp_run::{RunError, RunResult};
@@ -103,14 +104,12 @@ fn replies_by_runs<P: Program, R: Threads + Sync, G: Gate>(
     ensures lawful { OnOk result (input_fault input ≡ None) }
     ensures input { IfErr result (λ e. input_fault input ≡ input_fault_of e) }
 {
-    let (rt, alloc, count, gate) = (workers.rt, workers.alloc, workers.count, workers.gate);
     let make = |input: &Input| -> Result<RunResult, OutOfMemory>
-        requires lawful { input_fault input.now ≡ None }
-        requires workers { (0 < count) × (count ≤ 16) }
+        requires { input_fault input.now ≡ None }
         ensures { IfOk result (λ given. given ≡ result_of (run (turn_of (P.acts program.entry.now)
             (P.ending program.entry.now)) input.entry.now)) }
-    { wide_result(rt, alloc, program, input, count, gate) };
-    scratch_run_behind(alloc, input, batches, &make, gate)
+    { wide_result(workers, program, input) };
+    scratch_run_behind(workers.alloc, input, batches, &make, workers.gate)
 }
 
 #[tactic(auto, using(bsp_incr::proofs::Replying::scratch_replies_fixed), unfolding(crate::specs::Inside::Replies::replies_of))]

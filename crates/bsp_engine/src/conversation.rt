@@ -22,7 +22,7 @@ use crate::live_blocks::{begin, push_answer};
 use crate::terminal::Terminal;
 use bsp_crew::DEPTH_OF_RUNS;
 use bsp_gate::Gate;
-use bsp_incr::Workers;
+use bsp_crew::Workers;
 use bsp_model::OutOfMemory;
 use bsp_options::Detail;
 use bsp_step::Program;

@@ -18,7 +18,7 @@ use crate::flow::{Sink, Source, read_all, write_text};
 use crate::jobs::read_job;
 use crate::terminal::Terminal;
 use bsp_gate::{Gate, let_go};
-use bsp_incr::Workers;
+use bsp_crew::Workers;
 use bsp_options::Options;
 use std::alloc::Global;
 use std::thread::Threads;

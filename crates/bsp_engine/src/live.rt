@@ -10,7 +10,8 @@ ghost use Rattle.bsp_engine.specs.Live.{opened, run_of};
 ghost use Rattle.bsp_engine.specs.Untouched.{AreRunsAround};
 
 use bsp_gate::Gate;
-use bsp_incr::{Batch, Edit, Session, Update, Workers};
+use bsp_crew::Workers;
+use bsp_incr::{Batch, Edit, Session, Update};
 use bsp_model::{Input, OutOfMemory};
 use bsp_options::Detail;
 use bsp_run::History;
@@ -69,14 +70,7 @@ pub(crate) fn open<P: Program + Drop, R: Threads + Sync, G: Gate>(
     ensures update { IfOk result (λ r. r.1 ≡ update_of (P.looks program) None (run (turn_of (P.acts program)
         (P.ending program)) input)) }
 {
-    let (session, update) = Session::open_lawful(
-        workers.rt,
-        workers.alloc,
-        program,
-        input,
-        workers.count,
-        workers.gate,
-    )?;
+    let (session, update) = Session::open_lawful(workers, program, input)?;
     let live = Live {
         session,
         detail,
@@ -103,12 +97,5 @@ pub(crate) fn apply<P: Program + Drop, R: Threads + Sync, G: Gate>(
     // That the input is lawful, and the history its run, is known where they are read.
     let _input = session.input();
     let _history = session.history();
-    session.apply_accepted(
-        workers.rt,
-        workers.alloc,
-        batch,
-        workers.count,
-        workers.gate,
-        before,
-    )
+    session.apply_accepted(workers, batch, before)
 }

@@ -12,5 +12,5 @@ mod superstep;
 pub use edit::{Batch, Edit, EditError, EditFault, EditRefusal};
 pub use named::{add_place_processes, add_word_processes};
 pub use reply::{Place, Reply, Update};
-pub use rerun::{Workers, recorded_alone, recorded_run};
+pub use rerun::{recorded_alone, recorded_run};
 pub use session::{Session, scratch_run_behind};

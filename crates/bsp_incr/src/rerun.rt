@@ -15,7 +15,6 @@ mod given;
 mod opening;
 mod remaking;
 mod under_way;
-mod workers;
 
 use crate::compare::{Marks, all_marks, marks_of_edits};
 use crate::edit::{make_edits, restore};
@@ -23,6 +22,7 @@ use crate::rerun::finishing::finished;
 use crate::rerun::opening::opened;
 use crate::rerun::remaking::{Remade, remake_all, remake_alone};
 use crate::{Edit, Update};
+use bsp_crew::Workers;
 use bsp_gate::Gate;
 use bsp_model::{Input, OutOfMemory};
 use bsp_run::History;
@@ -32,12 +32,11 @@ use std::alloc::Global;
 use std::mem::replace;
 use std::thread::Threads;
 pub use under_way::UnderWay;
-pub use workers::Workers;
 
 /// The run of a program on a lawful input, made against the previous run, if there was one. Both runs are of one program and of as many processes.
 /// A turn is taken only where the recorded turn does not serve. A delivery is made only where it depends on something else than in the previous run.
 pub fn rerun<P: Program, G: Gate, R: Threads + Sync>(
-    workers: Workers<'_, R, G>,
+    workers: &Workers<'_, R, G>,
     program: &P,
     old: Option<&History>,
     input: &Input,
@@ -61,14 +60,14 @@ pub fn rerun<P: Program, G: Gate, R: Threads + Sync>(
         other_args: &args,
     };
     let tape = opened(&given, &first)?;
-    let Remade { tape, update } = remake_all(workers.rt, given, workers.count, tape, first)?;
+    let Remade { tape, update } = remake_all(workers, given, tape, first)?;
     let history = finished(old, tape, input.mems.len(), update.executed.as_slice())?;
     Ok((history, update))
 }
 
 /// The run of a program on a lawful input, and what was done for it: every turn, and every delivery.
 pub fn recorded_run<P: Program, G: Gate, R: Threads + Sync>(
-    workers: Workers<'_, R, G>,
+    workers: &Workers<'_, R, G>,
     program: &P,
     input: &Input,
 ) -> Result<(History, Update), OutOfMemory>
@@ -121,7 +120,7 @@ pub fn recorded_alone<P: Program, G: Gate>(
 
 /// Edits an input and makes its run again, against the run of the input as it was, which goes to `before`. After `OutOfMemory` nothing has changed.
 pub fn rerun_edited<P: Program, G: Gate, R: Threads + Sync>(
-    workers: Workers<'_, R, G>,
+    workers: &Workers<'_, R, G>,
     program: &P,
     history: &mut History,
     before: &mut Option<History>,

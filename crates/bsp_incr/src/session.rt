@@ -3,8 +3,9 @@
 mod replies;
 
 use crate::edit::{are_there, refusal_of};
-use crate::rerun::{Workers, recorded_run, rerun_edited};
+use crate::rerun::{recorded_run, rerun_edited};
 use crate::{Edit, EditError, EditRefusal, Update};
+use bsp_crew::Workers;
 use bsp_gate::Gate;
 use bsp_model::{Input, OutOfMemory};
 use bsp_run::{History, RunError};
@@ -64,31 +65,27 @@ impl<P: Program + Drop> Session<P> {
         if let Err(fault) = input.check() {
             return Err(RunError::Input(fault));
         }
-        Ok(Session::open_lawful(rt, alloc, program, input, workers, gate)?)
-    }
-
-    /// A session on an input that is known to be lawful, opened as by `open`. Or `OutOfMemory`.
-    pub fn open_lawful<R: Threads + Sync, G: Gate>(
-        rt: &R,
-        alloc: Global,
-        program: P,
-        input: Input,
-        workers: usize,
-        gate: &G,
-    ) -> Result<(Session<P>, Update), OutOfMemory>
-        requires workers { (0 < workers) × (workers ≤ 16) }
-        requires lawful { input_fault input ≡ None }
-        ensures program { IfOk result (λ r. r.0.program ≡ program) }
-        ensures given { IfOk result (λ r. r.0.input ≡ input) }
-        ensures law { IfOk result (λ r. IsBspRun (turn_of (P.acts program) (P.ending program)) input r.0.history) }
-        ensures exact { IfOk result (λ r. IsExact (P.looks program) None r.0.history r.1) }
-    {
         let workers = Workers {
             rt,
             alloc,
             count: workers,
             gate,
         };
+        Ok(Session::open_lawful(&workers, program, input)?)
+    }
+
+    /// A session on an input that is known to be lawful, opened as by `open`. Or `OutOfMemory`.
+    pub fn open_lawful<R: Threads + Sync, G: Gate>(
+        workers: &Workers<'_, R, G>,
+        program: P,
+        input: Input,
+    ) -> Result<(Session<P>, Update), OutOfMemory>
+        requires lawful { input_fault input ≡ None }
+        ensures program { IfOk result (λ r. r.0.program ≡ program) }
+        ensures given { IfOk result (λ r. r.0.input ≡ input) }
+        ensures law { IfOk result (λ r. IsBspRun (turn_of (P.acts program) (P.ending program)) input r.0.history) }
+        ensures exact { IfOk result (λ r. IsExact (P.looks program) None r.0.history r.1) }
+    {
         let (history, update) = recorded_run(workers, &program, &input)?;
         let session = Session {
             program,
@@ -154,8 +151,14 @@ impl<P: Program + Drop> Session<P> {
         if let Some(refusal) = self.refusal(edits) {
             return Err(EditError::Refused(refusal));
         }
+        let workers = Workers {
+            rt,
+            alloc,
+            count: workers,
+            gate,
+        };
         let mut before = None;
-        let applied = self.apply_accepted(rt, alloc, edits, workers, gate, &mut before);
+        let applied = self.apply_accepted(&workers, edits, &mut before);
         drop(before);
         Ok(applied?)
     }
@@ -164,14 +167,10 @@ impl<P: Program + Drop> Session<P> {
     /// the history as it was. After `OutOfMemory` nothing has changed.
     pub fn apply_accepted<R: Threads + Sync, G: Gate>(
         &mut self,
-        rt: &R,
-        alloc: Global,
+        workers: &Workers<'_, R, G>,
         edits: &[Edit],
-        workers: usize,
-        gate: &G,
         before: &mut Option<History>,
     ) -> Result<Update, OutOfMemory>
-        requires workers { (0 < workers) × (workers ≤ 16) }
         requires accepted { refusal_of self.old.input edits.now ≡ None }
         ensures program { self.new.program ≡ self.old.program }
         ensures given { OnOk result (self.new.input ≡ edited self.old.input edits.now) }
@@ -184,14 +183,8 @@ impl<P: Program + Drop> Session<P> {
     {
         drop(before.take());
         if are_there(&self.input, edits) {
-            return Ok(Update::none(alloc));
+            return Ok(Update::none(workers.alloc));
         }
-        let workers = Workers {
-            rt,
-            alloc,
-            count: workers,
-            gate,
-        };
         let update = rerun_edited(
             workers,
             &self.program,

@@ -1,56 +1,51 @@
 //! A run of which no record is kept, by several workers.
 
-ghost use Rattle.std.specs.Prelude.{◌≡◌, ◌≤◌, ◌<◌, None, IfOk};
+ghost use Rattle.std.specs.Prelude.{◌≡◌, None, IfOk};
 ghost use Rattle.bsp_model.specs.Input.{input_fault};
 ghost use Rattle.bsp_step.specs.Turn.{turn_of};
 ghost use Rattle.bsp_crew.specs.Parts.{AreOfRun};
 ghost use Rattle.bsp_run.specs.Run.{run};
+ghost use Rattle.bsp_run.specs.TurnBy.{turn_by};
 ghost use Rattle.bsp_scratch.specs.Inside.Underway.{IsUnderway};
 ghost use Rattle.bsp_run.specs.Result.{result_of};
 
 use crate::plain::{finish, lawful_result, result_at_end, supersteps};
 use crate::unrecorded::Unrecorded;
-use bsp_crew::{Crew, Means, Pace, SharedRun, workers_beside};
+use bsp_crew::{Crew, Pace, SharedRun, Workers};
 use bsp_gate::Gate;
 use bsp_model::{Input, OutOfMemory, Shared, numbers};
 use bsp_run::{Recording, RunResult, Views};
 use bsp_step::Program;
-use std::alloc::Global;
 use std::marker::Brand;
 use std::thread::{Threads, join};
 
 /// The result of a run that is under way, beside a crew that is there.
 fn beside_crew<J: SharedRun, P: Program, G: Gate, R: Threads + Sync>(
-    rt: &R,
-    alloc: Global,
+    workers: &Workers<'_, R, G>,
     program: &P,
     input: &Input,
     views: Shared<Views>,
     kept: Unrecorded,
     crew: &Crew<J>,
-    gate: &G,
 ) -> Result<RunResult, OutOfMemory>
     requires lawful { input_fault input.now ≡ None }
-    requires under_way { IsUnderway (turn_of (P.acts program.now) (P.ending program.now)) input.now views kept }
-    requires crew { AreOfRun (turn_of (P.acts program.now) (P.ending program.now)) input.now J.turn J.views }
-    ensures { IfOk result (λ r. r ≡ result_of (run (turn_of (P.acts program.now) (P.ending program.now)) input.now)) }
+    requires under_way { IsUnderway (turn_by P.Program program.now) input.now views kept }
+    requires crew { AreOfRun (turn_by P.Program program.now) input.now J.turn J.views }
+    ensures { IfOk result (λ r. r ≡ result_of (run (turn_by P.Program program.now) input.now)) }
 {
-    let means = Means {
-        alloc,
-        program,
-        gate,
-    };
+    let rt = workers.rt;
+    let theirs = workers.means(program);
+    let own = workers.means(program);
     let attend = ||
-        requires { J.turn ≡ turn_of (P.acts means.program.now) (P.ending means.program.now) }
-    { crew.attend(rt, &means) };
+        requires { J.turn ≡ turn_by P.Program theirs.program.now }
+    { crew.attend(rt, &theirs) };
     let conduct = move || -> Result<RunResult, OutOfMemory>
         requires lawful { input_fault input.now ≡ None }
-        requires under_way { IsUnderway (turn_of (P.acts program.now) (P.ending program.now)) input.now views kept }
-        requires crew { AreOfRun (turn_of (P.acts program.now) (P.ending program.now)) input.now J.turn J.views }
-        ensures { IfOk result (λ r. r ≡ result_of (run (turn_of (P.acts program.entry.now)
-            (P.ending program.entry.now)) input.entry.now)) }
+        requires under_way { IsUnderway (turn_by P.Program own.program.now) input.now views kept }
+        requires crew { AreOfRun (turn_by P.Program own.program.now) input.now J.turn J.views }
+        ensures { IfOk result (λ r. r ≡ result_of (run (turn_by P.Program own.entry.program.now) input.entry.now)) }
     {
-        let result = finish(alloc, program, input, views, kept, Some(crew), gate);
+        let result = finish(&own, input, views, kept, Some(crew));
         crew.dismiss();
         result
     };
@@ -59,42 +54,37 @@ fn beside_crew<J: SharedRun, P: Program, G: Gate, R: Threads + Sync>(
 
 /// The result of a run that is under way, by so many workers beside the calling thread.
 fn by_crew<J: SharedRun, P: Program, G: Gate, R: Threads + Sync>(
-    rt: &R,
-    alloc: Global,
+    workers: &Workers<'_, R, G>,
     program: &P,
     input: &Input,
     views: Shared<Views>,
     kept: Unrecorded,
-    workers: usize,
-    gate: &G,
+    beside: usize,
 ) -> Result<RunResult, OutOfMemory>
     requires lawful { input_fault input.now ≡ None }
-    requires under_way { IsUnderway (turn_of (P.acts program.now) (P.ending program.now)) input.now views kept }
-    requires run { AreOfRun (turn_of (P.acts program.now) (P.ending program.now)) input.now J.turn J.views }
-    ensures { IfOk result (λ r. r ≡ result_of (run (turn_of (P.acts program.now) (P.ending program.now)) input.now)) }
+    requires under_way { IsUnderway (turn_by P.Program program.now) input.now views kept }
+    requires run { AreOfRun (turn_by P.Program program.now) input.now J.turn J.views }
+    ensures { IfOk result (λ r. r ≡ result_of (run (turn_by P.Program program.now) input.now)) }
 {
-    let crew: Result<Crew<J>, OutOfMemory> = Crew::new(alloc, workers);
+    let crew: Result<Crew<J>, OutOfMemory> = Crew::new(workers.alloc, beside);
     let Ok(crew) = crew else {
-        return finish::<Brand, P, G>(alloc, program, input, views, kept, None, gate);
+        return finish::<Brand, P, G>(&workers.means(program), input, views, kept, None);
     };
-    beside_crew(rt, alloc, program, input, views, kept, &crew, gate)
+    beside_crew(workers, program, input, views, kept, &crew)
 }
 
 /// The result of `lawful_result`, by 1 to 16 workers, the calling thread among them. It goes on alone until workers are worth their start. Where
 /// the gate tells no time they start at once.
 pub fn wide_result<P: Program, G: Gate, R: Threads + Sync>(
-    rt: &R,
-    alloc: Global,
+    workers: &Workers<'_, R, G>,
     program: &P,
     input: &Input,
-    workers: usize,
-    gate: &G,
 ) -> Result<RunResult, OutOfMemory>
     requires lawful { input_fault input.now ≡ None }
-    requires workers { (0 < workers) × (workers ≤ 16) }
     ensures { IfOk result (λ r. r ≡ result_of (run (turn_of (P.acts program.now) (P.ending program.now)) input.now)) }
 {
-    let useful = workers.min(input.mems.len());
+    let (alloc, gate) = (workers.alloc, workers.gate);
+    let useful = workers.useful(input.mems.len());
     if useful < 2 {
         return lawful_result(alloc, program, input, gate);
     }
@@ -102,9 +92,8 @@ pub fn wide_result<P: Program, G: Gate, R: Threads + Sync>(
     let views = Shared::new(alloc, Views::first(alloc, input, Recording::None)?)?;
     let mut kept = Unrecorded::new(alloc, input, processes);
     let pace = Some(Pace::new(gate, Recording::None));
-    let alone = supersteps::<Brand, P, G>(
-        alloc, program, input, views, &mut kept, None, pace, gate,
-    );
+    let means = workers.means(program);
+    let alone = supersteps::<Brand, P, G>(&means, input, views, &mut kept, None, pace);
     let views = match alone {
         Ok(views) => views,
         Err(error) => {
@@ -115,6 +104,6 @@ pub fn wide_result<P: Program, G: Gate, R: Threads + Sync>(
     if kept.is_over(input.limit) {
         return result_at_end(alloc, views, kept);
     }
-    let beside = workers_beside(rt, useful, gate);
-    by_crew::<Brand, P, G, R>(rt, alloc, program, input, views, kept, beside, gate)
+    let beside = workers.beside(useful);
+    by_crew::<Brand, P, G, R>(workers, program, input, views, kept, beside)
 }

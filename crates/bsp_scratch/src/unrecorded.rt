@@ -4,7 +4,7 @@ ghost use Rattle.std.specs.Prelude.{◌≡◌, ◌≤◌, ◌<◌, ◌+◌, [], 
 ghost use Rattle.std.specs.Bool.{OnTrue, OnFalse};
 ghost use Rattle.std.specs.List.{range_with_len};
 ghost use Rattle.bsp_model.specs.Input.{input_fault};
-ghost use Rattle.bsp_step.specs.Turn.{turn_of};
+ghost use Rattle.bsp_run.specs.TurnBy.{turn_by};
 ghost use Rattle.bsp_run.specs.Run.{Run, start, open_views, after_delivery};
 ghost use Rattle.bsp_run.specs.Setting.{next_views};
 ghost use Rattle.bsp_run.specs.Result.{result_of};
@@ -43,29 +43,21 @@ pub(crate) struct Unrecorded {
 
 /// The turns of all processes, gathered in the room of the turns that were taken before.
 pub(crate) fn all_turns<J: SharedRun, P: Program, G: Gate>(
-    alloc: Global,
-    program: &P,
+    means: &Means<'_, P, G>,
     views: &Shared<Views>,
     processes: &[usize],
     taken: &mut Taken,
     step: u64,
     crew: Option<&Crew<J>>,
-    gate: &G,
 ) -> Result<(), OutOfMemory>
     requires processes { processes.now ≡ range_with_len 0 (length views.now) }
-    requires turn { IfSome crew (λ _. J.turn ≡ turn_of (P.acts program.now) (P.ending program.now)) }
+    requires turn { IfSome crew (λ _. J.turn ≡ turn_by P.Program means.now.program.now) }
     requires seen { IfSome crew (λ _. views.now ≡ J.views step) }
-    ensures { OnOk result (taken.new.outcomes
-        ≡ map (turn_of (P.acts program.now) (P.ending program.now)) views.now) }
+    ensures { OnOk result (taken.new.outcomes ≡ map (turn_by P.Program means.now.program.now) views.now) }
 {
     let before = mem::replace(&mut taken.outcomes, Outcomes::new());
-    let rows = before.into_room(alloc, views.len())?;
-    let means = Means {
-        alloc,
-        program,
-        gate,
-    };
-    let turns = wide_turns(&means, rows, &mut taken.spare, views, processes, step, crew)?;
+    let rows = before.into_room(means.alloc, views.len())?;
+    let turns = wide_turns(means, rows, &mut taken.spare, views, processes, step, crew)?;
     drop(mem::replace(&mut taken.outcomes, turns.share()?));
     Ok(())
 }

@@ -9,7 +9,8 @@ ghost use Rattle.bsp_run.specs.Law.{IsBspRun, IsBspResult};
 ghost use Rattle.bsp_run.specs.RunErrors.{input_fault_of};
 
 use bsp_gate::{Gate, Open};
-use bsp_incr::{Workers, recorded_alone, recorded_run};
+use bsp_crew::Workers;
+use bsp_incr::{recorded_alone, recorded_run};
 use bsp_model::Input;
 use bsp_run::{History, RunError, RunResult};
 use bsp_scratch::{lawful_result, wide_result};
@@ -66,7 +67,7 @@ pub fn run_wide<P: Program, G: Gate, R: Threads + Sync>(
         count: workers,
         gate,
     };
-    Ok(recorded_run(workers, program, input)?.0)
+    Ok(recorded_run(&workers, program, input)?.0)
 }
 
 /// What the run of a program on an input gives. It keeps no record of the run: beside the lines and the costs, memory for one superstep.
@@ -103,5 +104,11 @@ pub fn run_result_wide<P: Program, G: Gate, R: Threads + Sync>(
     ensures input { IfErr result (λ e. input_fault input.now ≡ input_fault_of e) }
 {
     checked(input)?;
-    Ok(wide_result(rt, alloc, program, input, workers, gate)?)
+    let workers = Workers {
+        rt,
+        alloc,
+        count: workers,
+        gate,
+    };
+    Ok(wide_result(&workers, program, input)?)
 }

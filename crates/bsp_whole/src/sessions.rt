@@ -12,7 +12,8 @@ ghost use Rattle.bsp_incr.specs.Replies.{input_after, AreReplies, AreScratchRepl
 ghost use Rattle.bsp_incr.specs.Inside.Replies.{done, reply_to, replies_from, replies};
 
 use bsp_gate::{Gate, Open};
-use bsp_incr::{Batch, EditError, Reply, Session, Update, Workers, scratch_run_behind};
+use bsp_crew::Workers;
+use bsp_incr::{Batch, EditError, Reply, Session, Update, scratch_run_behind};
 use bsp_model::{Input, OutOfMemory};
 use bsp_run::{History, RunError, RunResult};
 use bsp_scratch::lawful_result;

@@ -11,7 +11,7 @@ ghost use Rattle.bsp_incr.specs.Inside.Marks.{AreFirstMarked};
 use crate::Update;
 use crate::rerun::{Given, UnderWay};
 use crate::superstep::advance;
-use bsp_crew::{Crew, Pace, SharedRun, calls_workers, workers_beside};
+use bsp_crew::{Crew, Pace, SharedRun, Workers, calls_workers};
 use bsp_gate::Gate;
 use bsp_model::{OutOfMemory, ProcessSet};
 use bsp_run::{Recording, Tape};
@@ -138,9 +138,8 @@ pub fn remake_alone<P: Program, G: Gate>(
 /// The run that has just been opened, made again by 1 to 16 workers, the calling thread among them. It goes on alone until workers are worth their
 /// start. Where the gate tells no time they start at once.
 pub fn remake_all<P: Program, G: Gate, R: Threads + Sync>(
-    rt: &R,
+    workers: &Workers<'_, R, G>,
     given: Given<'_, P, G>,
-    workers: usize,
     mut tape: Tape,
     first: ProcessSet,
 ) -> Result<Remade, OutOfMemory>
@@ -148,7 +147,7 @@ pub fn remake_all<P: Program, G: Gate, R: Threads + Sync>(
     requires first { AreFirstMarked given.before given.input first }
     ensures { IfOk result (λ r. IsRemade P.Program given.entry r) }
 {
-    let useful = workers.min(given.input.mems.len());
+    let useful = workers.useful(given.input.mems.len());
     if useful < 2 {
         return remake_alone(&given, tape, first);
     }
@@ -157,8 +156,8 @@ pub fn remake_all<P: Program, G: Gate, R: Threads + Sync>(
     let alone = supersteps::<P, Brand, G>(&given, &mut tape, &mut under_way, pace, None);
     match alone {
         Ok(()) if tape.is_open() => {
-            let beside = workers_beside(rt, useful, given.gate);
-            by_crew::<P, Brand, G, R>(rt, given, tape, under_way, beside)
+            let beside = workers.beside(useful);
+            by_crew::<P, Brand, G, R>(workers.rt, given, tape, under_way, beside)
         }
         Ok(()) => finish::<P, Brand, G>(&given, tape, under_way, None),
         Err(error) => {

@@ -2,7 +2,7 @@ use Rattle.std.proofs.Common.{◌+◌, ◌-◌, ◌∙◌, List, ℕ, sym, ap}
 use Rattle.std.proofs.lemmas.Option.{IfSome_then}
 use Rattle.bsp_model.specs.declared.input.Input.{Input}
 use Rattle.bsp_step.specs.ViewParts.{ViewParts}
-use Rattle.bsp_step.specs.Turn.{turn_of}
+use Rattle.bsp_run.specs.TurnBy.{turn_by}
 use Rattle.bsp_scratch.specs.declared.unrecorded.Unrecorded.{Unrecorded}
 use Rattle.bsp_scratch.specs.Inside.Underway.{HasLeft}
 use Rattle.bsp_scratch.proofs.UnrecordedRuns.{turned_so, underway_open, underway_next}
@@ -17,14 +17,14 @@ returns-then-calls_workers-clause-over g c =
 pub unrecorded_turns-requires-clause-opened : goal.unrecorded_turns-requires-clause-opened
 unrecorded_turns-requires-clause-opened g c κs within =
     let input : Input = c.args.input.now in
-    let turn = turn_of (g.P.Program.acts c.args.program.now) (g.P.Program.ending c.args.program.now) in
+    let turn = turn_by g.P.Program c.args.means.now.program.now in
     let step : ℕ = c.loop-step._step in
     is_opened turn input step (input.limit - (step + 1)) c.loop-step.views c.loop-step.kept (one_left turn input step input.limit c.loop-step.views c.loop-step.kept c.loop-step-test.true c.loop-step.invariant.so_far)
 
 pub unrecorded_turns-requires-clause-seen : goal.unrecorded_turns-requires-clause-seen
 unrecorded_turns-requires-clause-seen g c κs within =
     let input : Input = c.args.input.now in
-    let turn = turn_of (g.P.Program.acts c.args.program.now) (g.P.Program.ending c.args.program.now) in
+    let turn = turn_by g.P.Program c.args.means.now.program.now in
     let before = c.loop-step.invariant in
     let seen = views_then turn input c.loop-step._step (input.limit - c.loop-step._step) c.loop-step.views c.loop-step.kept before.so_far in
     IfSome_then c.args.crew c.requires.crew (λ _ h. seen ∙ sym (h.same_views c.loop-step._step) ∙ ap g.J.SharedRun.views (sym before.step))
@@ -32,7 +32,7 @@ unrecorded_turns-requires-clause-seen g c κs within =
 pub returns-then-is_some-clause-stands : goal.returns-then-is_some-clause-stands
 returns-then-is_some-clause-stands g c =
     let input : Input = c.args.input.now in
-    let turn = turn_of (g.P.Program.acts c.args.program.now) (g.P.Program.ending c.args.program.now) in
+    let turn = turn_by g.P.Program c.args.means.now.program.now in
     let step : ℕ = c.loop-step._step in
     let n = input.limit - (step + 1) in
     let vs : List ViewParts = c.loop-step.views in
@@ -46,7 +46,7 @@ returns-then-is_some-clause-over g c = no_end _ c.args.pace c.unrecorded_turns.n
 pub go_on-requires-clause-turned : goal.go_on-requires-clause-turned
 go_on-requires-clause-turned g c =
     let input : Input = c.args.input.now in
-    let turn = turn_of (g.P.Program.acts c.args.program.now) (g.P.Program.ending c.args.program.now) in
+    let turn = turn_by g.P.Program c.args.means.now.program.now in
     let step : ℕ = c.loop-step._step in
     let n = input.limit - (step + 1) in
     let vs : List ViewParts = c.loop-step.views in
@@ -57,7 +57,7 @@ go_on-requires-clause-turned g c =
 pub loop-step-preserved : goal.loop-step-preserved
 loop-step-preserved g c =
     let input : Input = c.args.input.now in
-    let turn = turn_of (g.P.Program.acts c.args.program.now) (g.P.Program.ending c.args.program.now) in
+    let turn = turn_by g.P.Program c.args.means.now.program.now in
     let step : ℕ = c.loop-step._step in
     let n = input.limit - (step + 1) in
     let vs : List ViewParts = c.loop-step.views in

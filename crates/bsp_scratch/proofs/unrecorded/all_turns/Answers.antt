@@ -1,7 +1,7 @@
 use Rattle.std.proofs.Common.{◌++◌, ◌<◌, ◌∙◌, ℕ, List, ap, arith, get_or, length, subst, sym}
 use Rattle.std.specs.List.{range_with_len}
 use Rattle.bsp_step.specs.OutcomeParts.{OutcomeParts}
-use Rattle.bsp_step.specs.Turn.{turn_of}
+use Rattle.bsp_run.specs.TurnBy.{turn_by}
 use Rattle.std.proofs.lemmas.List.FromFn.{length-range_with_len, get_or-range_with_len}
 use Rattle.bsp_run.specs.Shares.{turns_of}
 use Rattle.bsp_run.proofs.Shares.{turns_of-all}
@@ -14,7 +14,7 @@ wide_turns-requires-clause-processes g c κs within =
 
 pub returns : goal.returns
 returns g c =
-    let turn = turn_of (g.P.Program.acts c.args.program.now) (g.P.Program.ending c.args.program.now) in
+    let turn = turn_by g.P.Program c.args.means.now.program.now in
     let views = c.args.views.now in
     let taken : List OutcomeParts = turns_of turn views (range_with_len 0 (length views)) in
     c.replace.ensures.after ∙ c.in_ok-share.ensures ∙ c.in_ok-turns.ensures ∙ (λ i. c.in_ok-rows.ensures i ++ turns_of turn views (c.requires.processes i)) ∙ turns_of-all turn views

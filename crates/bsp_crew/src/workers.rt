@@ -1,0 +1,53 @@
+//! The workers of a run.
+
+ghost use Rattle.std.specs.Prelude.{◌≡◌, ◌<◌, ◌≤◌, min};
+
+use crate::part::Means;
+use bsp_gate::Gate;
+use std::alloc::Global;
+use std::thread::{Threads, available_parallelism};
+
+/// A runtime, where memory comes from, how many workers may be started, and the gate that each job passes.
+#[derive(Drop)]
+pub struct Workers<'a, R, G> {
+    pub rt: &'a R,
+    pub alloc: Global,
+    /// 1 to 16.
+    pub count: usize,
+    pub gate: &'a G,
+    pub ghost some: { 0 < count },
+    pub ghost few: { count ≤ 16 },
+}
+
+impl<'a, R, G> Workers<'a, R, G> {
+    /// How many of them find work where there are so many processes.
+    pub fn useful(&self, processes: usize) -> usize
+        ensures { result ≡ min self.now.count processes }
+    {
+        self.count.min(processes)
+    }
+
+    /// The means of one of them to work a program.
+    pub fn means<'p, P>(&'p self, program: &'p P) -> Means<'p, P, G>
+        ensures { result.program.now ≡ program.now }
+    {
+        Means {
+            alloc: self.alloc,
+            program,
+            gate: self.gate,
+        }
+    }
+}
+
+impl<'a, R: Threads, G: Gate> Workers<'a, R, G> {
+    /// How many of so many work beside the calling thread: where the gate tells the time, no more than there are processors.
+    pub fn beside(&self, useful: usize) -> usize {
+        if self.gate.now().is_none() {
+            return useful.saturating_sub(1);
+        }
+        match available_parallelism(self.rt) {
+            Ok(processors) => useful.min(processors.get()).saturating_sub(1),
+            Err(_) => 0,
+        }
+    }
+}
