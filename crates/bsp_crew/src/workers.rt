@@ -2,7 +2,6 @@
 
 ghost use Rattle.std.specs.Prelude.{◌≡◌, ◌<◌, ◌≤◌, min};
 
-use crate::part::Means;
 use bsp_gate::Gate;
 use std::alloc::Global;
 use std::thread::{Threads, available_parallelism};
@@ -25,17 +24,6 @@ impl<'a, R, G> Workers<'a, R, G> {
         ensures { result ≡ min self.now.count processes }
     {
         self.count.min(processes)
-    }
-
-    /// The means of one of them to work a program.
-    pub fn means<'p, P>(&'p self, program: &'p P) -> Means<'p, P, G>
-        ensures { result.program.now ≡ program.now }
-    {
-        Means {
-            alloc: self.alloc,
-            program,
-            gate: self.gate,
-        }
     }
 }
 

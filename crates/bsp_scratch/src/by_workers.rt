@@ -11,7 +11,7 @@ ghost use Rattle.bsp_run.specs.Result.{result_of};
 
 use crate::plain::{finish, lawful_result, result_at_end, supersteps};
 use crate::unrecorded::Unrecorded;
-use bsp_crew::{Crew, Pace, SharedRun, Workers};
+use bsp_crew::{Crew, Means, Pace, SharedRun, Workers};
 use bsp_gate::Gate;
 use bsp_model::{Input, OutOfMemory, Shared, numbers};
 use bsp_run::{Recording, RunResult, Views};
@@ -33,19 +33,27 @@ fn beside_crew<J: SharedRun, P: Program, G: Gate, R: Threads + Sync>(
     requires crew { AreOfRun (turn_by P.Program program.now) input.now J.turn J.views }
     ensures { IfOk result (λ r. r ≡ result_of (run (turn_by P.Program program.now) input.now)) }
 {
-    let rt = workers.rt;
-    let theirs = workers.means(program);
-    let own = workers.means(program);
+    let (rt, alloc, gate) = (workers.rt, workers.alloc, workers.gate);
+    let means = Means {
+        alloc,
+        program,
+        gate,
+    };
     let attend = ||
-        requires { J.turn ≡ turn_by P.Program theirs.program.now }
-    { crew.attend(rt, &theirs) };
+        requires { J.turn ≡ turn_by P.Program means.program.now }
+    { crew.attend(rt, &means) };
     let conduct = move || -> Result<RunResult, OutOfMemory>
         requires lawful { input_fault input.now ≡ None }
-        requires under_way { IsUnderway (turn_by P.Program own.program.now) input.now views kept }
-        requires crew { AreOfRun (turn_by P.Program own.program.now) input.now J.turn J.views }
-        ensures { IfOk result (λ r. r ≡ result_of (run (turn_by P.Program own.entry.program.now) input.entry.now)) }
+        requires under_way { IsUnderway (turn_by P.Program program.now) input.now views kept }
+        requires crew { AreOfRun (turn_by P.Program program.now) input.now J.turn J.views }
+        ensures { IfOk result (λ r. r ≡ result_of (run (turn_by P.Program program.entry.now) input.entry.now)) }
     {
-        let result = finish(&own, input, views, kept, Some(crew));
+        let means = Means {
+            alloc,
+            program,
+            gate,
+        };
+        let result = finish(&means, input, views, kept, Some(crew));
         crew.dismiss();
         result
     };
@@ -68,7 +76,12 @@ fn by_crew<J: SharedRun, P: Program, G: Gate, R: Threads + Sync>(
 {
     let crew: Result<Crew<J>, OutOfMemory> = Crew::new(workers.alloc, beside);
     let Ok(crew) = crew else {
-        return finish::<Brand, P, G>(&workers.means(program), input, views, kept, None);
+        let means = Means {
+            alloc: workers.alloc,
+            program,
+            gate: workers.gate,
+        };
+        return finish::<Brand, P, G>(&means, input, views, kept, None);
     };
     beside_crew(workers, program, input, views, kept, &crew)
 }
@@ -92,7 +105,11 @@ pub fn wide_result<P: Program, G: Gate, R: Threads + Sync>(
     let views = Shared::new(alloc, Views::first(alloc, input, Recording::None)?)?;
     let mut kept = Unrecorded::new(alloc, input, processes);
     let pace = Some(Pace::new(gate, Recording::None));
-    let means = workers.means(program);
+    let means = Means {
+        alloc,
+        program,
+        gate,
+    };
     let alone = supersteps::<Brand, P, G>(&means, input, views, &mut kept, None, pace);
     let views = match alone {
         Ok(views) => views,
