@@ -74,11 +74,11 @@ pub fn wide_deliveries<J: SharedRun, P: Program, G: Gate>(
     match crew {
         Some(crew) if processes.len() > 1 => {
             let task = Task::Deliveries(outcomes.copy()?);
-            let mut made = Made::Delivered(Cells::new(means.alloc));
-            let worked = crew.work_parts(means, &task, &whole, &mut None, &mut made);
+            let none = Made::Delivered(Cells::new(means.alloc));
+            let worked = crew.work_parts(means, &task, &whole, none);
             drop(task);
-            match made {
-                Made::Delivered(cells) => worked.and(Ok(cells)),
+            match worked? {
+                Made::Delivered(cells) => Ok(cells),
                 Made::Taken(_rows) => unreachable!(),
             }
         }

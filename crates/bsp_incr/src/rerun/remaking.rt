@@ -61,8 +61,7 @@ fn finish<P: Program, J: SharedRun, G: Gate>(
 {
     match supersteps(given, &mut tape, &mut under_way, None, crew) {
         Ok(()) => {
-            let UnderWay { update, spare, .. } = under_way;
-            drop(spare);
+            let UnderWay { update, .. } = under_way;
             Ok(Remade { tape, update })
         }
         Err(error) => {

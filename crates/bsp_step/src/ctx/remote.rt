@@ -54,7 +54,7 @@ impl<'v> Ctx<'v> {
         ensures { Performs self.old (act.put pid words.now area offset) self.new result }
     {
         let start = self.resolve(pid, area, offset, words.len() as u64)?;
-        self.lists.puts.push(pid, start, words)?;
+        self.turn.add_put(pid, start, words)?;
         Ok(())
     }
 
@@ -65,11 +65,11 @@ impl<'v> Ctx<'v> {
         ensures { Performs self.old (act.get pid area offset into len) self.new result }
     {
         let start = self.resolve(pid, area, offset, len)?;
-        let own = self.lists.local.memory().len() as u64;
+        let own = self.turn.memory().len() as u64;
         if into > own || len > own - into {
             return self.refuse(Fault::BadLocal);
         }
-        self.lists.gets.push(Get {
+        self.turn.add_get(Get {
             owner: pid,
             start,
             len,
@@ -84,11 +84,11 @@ impl<'v> Ctx<'v> {
         ensures { Performs self.old (act.push_reg start len) self.new result }
     {
         self.begin_request()?;
-        let words = self.lists.local.memory().len() as u64;
+        let words = self.turn.memory().len() as u64;
         if start > words || len > words - start {
             return self.refuse(Fault::BadLocal);
         }
-        self.lists.pushes.push(Area { start, len })?;
+        self.turn.add_push(Area { start, len })?;
         Ok(())
     }
 
@@ -99,11 +99,11 @@ impl<'v> Ctx<'v> {
     {
         self.begin_request()?;
         let view = self.view;
-        let popped = self.lists.pops.as_slice();
+        let popped = self.turn.pops();
         let Some(slot) = view.table.find_under(view.pid, start, popped) else {
             return self.refuse(Fault::NotRegistered(start));
         };
-        self.lists.pops.push(slot)?;
+        self.turn.add_pop(slot)?;
         Ok(())
     }
 }

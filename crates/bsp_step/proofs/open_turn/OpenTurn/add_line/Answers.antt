@@ -1,0 +1,14 @@
+use Rattle.std.proofs.Common.{◌++◌, ◌∷◌, [], ◌∙◌}
+use Rattle.std.proofs.lemmas.Result.{on_ok_weaker, on_err_weaker}
+use Rattle.bsp_step.proofs.OpenTurns.{lines_put}
+use Rattle.bsp_step.proofs.open_turn.OpenTurn.add_line.Goals as goal
+
+pub returns-clause-ok : goal.returns-clause-ok
+returns-clause-ok c =
+    let t = c.self.inside in
+    on_ok_weaker _ (lines_put t.ends.items t.memories c.deref_mut-lists.result.now t.lists.value t.local c.args.self.now c.add_line.new.self c.len.result (λ row. row ++ c.args.words.now ∷ []) c.deref_mut-lists.ensures.value c.self.view_is (c.len.ensures ∙ t.ends.ok.0)) c.add_line.ensures.ok
+
+pub returns-clause-err : goal.returns-clause-err
+returns-clause-err c =
+    let t = c.self.inside in
+    on_err_weaker _ (lines_put t.ends.items t.memories c.deref_mut-lists.result.now t.lists.value t.local c.args.self.now c.add_line.new.self c.len.result (λ row. row) c.deref_mut-lists.ensures.value c.self.view_is (c.len.ensures ∙ t.ends.ok.0)) c.add_line.ensures.err
