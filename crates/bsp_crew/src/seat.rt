@@ -1,6 +1,6 @@
 //! The place at which the calling thread and a worker of a run hand each other a sheet.
 
-ghost use Rattle.std.specs.Prelude.{◌≡◌, OnOk, true};
+ghost use Rattle.std.specs.Prelude.{◌≡◌, IfOk, true};
 ghost use Rattle.bsp_run.specs.TurnBy.{turn_by};
 ghost use Rattle.bsp_crew.specs.Parts.{IsPart, asks_turns, has_turns, with_part};
 

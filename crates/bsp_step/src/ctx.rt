@@ -83,7 +83,12 @@ impl<'v> Ctx<'v> {
     fn count_of_requests(&self) -> usize
         ensures { result ≡ count_of_requests self.now }
     {
-        self.turn.count_of_requests()
+        let turn: &OpenTurn = &self.turn;
+        turn.puts().len()
+            + turn.gets().len()
+            + turn.sends().len()
+            + turn.pops().len()
+            + turn.pushes().len()
     }
 
     fn begin_request(&mut self) -> Result<(), Stop>

@@ -9,7 +9,8 @@ ghost use Rattle.bsp_step.specs.Inside.OpenTurn.{begun_turn, left_by};
 use crate::lists::{Lists, TurnEnd};
 use crate::{Ended, OutcomeRef, OutcomeRows};
 use bsp_model::{
-    Change, Fault, Get, LocalMemory, Memories, MemoryRef, OutOfMemory, TryCopy,
+    Change, Fault, Get, LocalMemory, Memories, MemoryRef, OutOfMemory, PrintedLinesRef, PutsRef,
+    SendsRef, TryCopy,
 };
 use bsp_table::Area;
 use std::alloc::Global;
@@ -111,37 +112,55 @@ impl OpenTurn {
         self.local.memory()
     }
 
+    #[inline(always)]
+    pub(crate) fn puts(&self) -> PutsRef<'_>
+        ensures { result ≡ self.now.puts }
+    {
+        let lists: &Lists = &self.lists;
+        lists.puts.get(self.ends.len())
+    }
+
+    #[inline(always)]
+    pub(crate) fn gets(&self) -> &[Get]
+        ensures { result.now ≡ self.now.gets }
+    {
+        let lists: &Lists = &self.lists;
+        lists.gets.row(self.ends.len())
+    }
+
+    #[inline(always)]
+    pub(crate) fn sends(&self) -> SendsRef<'_>
+        ensures { result ≡ self.now.sends }
+    {
+        let lists: &Lists = &self.lists;
+        lists.sends.get(self.ends.len())
+    }
+
     /// The slots that it popped.
     #[inline(always)]
     pub(crate) fn pops(&self) -> &[usize]
         ensures { result.now ≡ self.now.pops }
     {
-        self.lists.pops.row(self.ends.len())
-    }
-
-    /// How many requests it issued.
-    #[inline(always)]
-    pub(crate) fn count_of_requests(&self) -> usize
-        requires { length self.now.puts + length self.now.gets + length self.now.sends + length self.now.pops
-            + length self.now.pushes < 2 ^ 64 }
-        ensures { result ≡ length self.now.puts + length self.now.gets + length self.now.sends
-            + length self.now.pops + length self.now.pushes }
-    {
-        let place = self.ends.len();
         let lists: &Lists = &self.lists;
-        lists.puts.get(place).len()
-            + lists.gets.row(place).len()
-            + lists.sends.get(place).len()
-            + lists.pops.row(place).len()
-            + lists.pushes.row(place).len()
+        lists.pops.row(self.ends.len())
     }
 
-    /// How many lines it printed.
+    /// The areas that it pushed.
     #[inline(always)]
-    pub(crate) fn count_of_lines(&self) -> usize
-        ensures { result ≡ length self.now.lines }
+    pub(crate) fn pushes(&self) -> &[Area]
+        ensures { result.now ≡ self.now.pushes }
     {
-        self.lists.lines.get(self.ends.len()).len()
+        let lists: &Lists = &self.lists;
+        lists.pushes.row(self.ends.len())
+    }
+
+    /// The lines that it printed.
+    #[inline(always)]
+    pub(crate) fn lines(&self) -> PrintedLinesRef<'_>
+        ensures { result ≡ self.now.lines }
+    {
+        let lists: &Lists = &self.lists;
+        lists.lines.get(self.ends.len())
     }
 
     /// What it leaves, to be read where it lies.
@@ -156,20 +175,18 @@ impl OpenTurn {
         requires { IsOutcome (left_by self.now fault tag ended work) }
         ensures { result ≡ left_by self.now fault tag ended work }
     {
-        let place = self.ends.len();
-        let lists: &Lists = &self.lists;
         OutcomeRef {
             fault,
             ended,
             memory: self.local.memory(),
             stores: self.local.stores(),
-            puts: lists.puts.get(place),
-            gets: lists.gets.row(place),
-            sends: lists.sends.get(place),
-            pops: lists.pops.row(place),
-            pushes: lists.pushes.row(place),
+            puts: self.puts(),
+            gets: self.gets(),
+            sends: self.sends(),
+            pops: self.pops(),
+            pushes: self.pushes(),
             tag,
-            lines: lists.lines.get(place),
+            lines: self.lines(),
             work,
         }
     }

@@ -47,7 +47,7 @@ impl<'v> Ctx<'v> {
         if let Some(fault) = self.fault {
             return Err(Stop::Fault(fault));
         }
-        if self.turn.count_of_lines() >= MOST_LINES {
+        if self.turn.lines().len() >= MOST_LINES {
             return self.refuse(Fault::LineLimit);
         }
         if words.len() > MOST_LINE_WORDS {

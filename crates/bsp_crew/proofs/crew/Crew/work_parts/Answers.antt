@@ -37,7 +37,7 @@ loop-seat-preserved g c =
     let cut = c.split-in-loop-seat.ensures.cut in
     let rest = c.loop-seat.rest in
     let before = c.loop-seat.invariant in
-    let more = c.in_ok-add_part.ensures in
+    let more = c.in_ok-all-2.ensures in
     record {
       part = (parts_of turn views part behind rest c.args.task.now cut before.part).1;
       alike = alike_with turn (views part.step) part.processes.now c.loop-seat.all _ more ∙ before.alike;
