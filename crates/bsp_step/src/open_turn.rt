@@ -275,7 +275,7 @@ impl OpenTurn {
 
     /// Sends a message. After `OutOfMemory` nothing has changed.
     #[inline(always)]
-    pub(crate) fn add_message(
+    pub(crate) fn add_send(
         &mut self,
         target: u64,
         tag: &[u64],
@@ -287,9 +287,7 @@ impl OpenTurn {
         ensures err { OnErr result (self.new ≡ self.old) }
     {
         let lists: &mut Lists = &mut self.lists;
-        lists
-            .sends
-            .add_message(self.ends.len(), target, tag, words)
+        lists.sends.add_send(self.ends.len(), target, tag, words)
     }
 
     /// Pops a slot. After `OutOfMemory` nothing has changed.

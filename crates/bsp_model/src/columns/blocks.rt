@@ -8,7 +8,7 @@ ghost use Rattle.bsp_model.specs.declared.block.PutHead.{PutHead};
 use super::pairs::Pairs;
 use crate::block::{Block, PutHead, SendHead};
 use crate::rows::{row_behind, start_of};
-use crate::{BlocksRef, OutOfMemory, ProcessSet, Put, Send, Share, Words};
+use crate::{BlocksRef, Message, OutOfMemory, ProcessSet, Put, Send, Share, Words};
 use std::alloc::Global;
 use std::marker::Model;
 
@@ -192,7 +192,7 @@ impl BlockColumn<Put> {
 impl BlockColumn<Send> {
     /// Adds a message to those that a process sends, and takes away those of the processes behind it. After `OutOfMemory` its own are as before.
     #[inline(always)]
-    pub fn add_message(
+    pub fn add_send(
         &mut self,
         place: usize,
         target: u64,
@@ -205,6 +205,23 @@ impl BlockColumn<Send> {
     {
         let tag_len = tag.len();
         self.add(place, SendHead { target, tag_len }, tag, words)
+    }
+}
+
+impl BlockColumn<Message> {
+    /// Adds a message to the queue of a process, and takes away those of the processes behind it. After `OutOfMemory` its own is as before.
+    #[inline(always)]
+    pub fn add_message(
+        &mut self,
+        place: usize,
+        tag: &[u64],
+        words: &[u64],
+    ) -> Result<(), OutOfMemory>
+        ensures ok { OnOk result (IsPut [] (row_at self.old) place (row_at self.old place
+            ++ record { tag = tag.now; words = words.now } ∷ []) (row_at self.new)) }
+        ensures err { OnErr result (IsPut [] (row_at self.old) place (row_at self.old place) (row_at self.new)) }
+    {
+        self.add(place, tag.len(), tag, words)
     }
 }
 

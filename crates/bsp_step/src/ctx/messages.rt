@@ -71,7 +71,7 @@ impl<'v> Ctx<'v> {
         if words.len() > MOST_PAYLOAD_WORDS {
             return self.refuse(Fault::TooLong);
         }
-        self.turn.add_message(pid, tag, words)?;
+        self.turn.add_send(pid, tag, words)?;
         Ok(())
     }
 
