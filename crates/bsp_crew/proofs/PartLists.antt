@@ -1,5 +1,5 @@
 -- Processes of a superstep, cut in two.
-use Rattle.std.proofs.Common.{◌≡◌, ◌<◌, ◌+◌, ◌++◌, ◌∙◌, ℕ, List, All, ap, append_assoc, arith, length, length-append, map, refl, subst, sym}
+use Rattle.std.proofs.Common.{◌≡◌, ◌<◌, ◌+◌, ◌++◌, ◌∙◌, ℕ, List, All, ap, append_assoc, arith, length, length-append, map, subst, sym}
 use Rattle.std.proofs.Math.ListN.{get_or-append}
 use Rattle.std.proofs.lemmas.List.{get_or-append-add, map-append}
 use Rattle.std.specs.Prelude.{slice_index_or}
@@ -13,7 +13,7 @@ use Rattle.bsp_crew.specs.declared.part.Task.{Task}
 use Rattle.bsp_crew.specs.declared.part.Task.TheVariants.{Turns, Deliveries}
 use Rattle.bsp_crew.specs.declared.part.Made.{Made}
 use Rattle.bsp_crew.specs.declared.part.Made.TheVariants.{Taken, Delivered}
-use Rattle.bsp_crew.specs.Parts.{AreParts, CanDeliver, IsPart, has_turns, with_part}
+use Rattle.bsp_crew.specs.Parts.{AreParts, CanDeliver, IsPart, with_part}
 
 all_of_both : {X : Type 0} (P : X → Type 0) (xs ys : List X) → All P (xs ++ ys) → All P xs × All P ys
 all_of_both P xs ys all =
@@ -67,11 +67,3 @@ with_parts turn views part rest whole made more are is =
     ∙ (λ i. with_part turn (views whole.step) rest.processes.now (with_part turn (views (are.step i)) part.processes.now made))
     ∙ sym (with_both turn (views whole.step) part.processes.now rest.processes.now made)
     ∙ (λ i. with_part turn (views whole.step) (sym are.processes i) made)
-
--- turns are added to turns, and deliveries to deliveries
-has_turns_with : (turn : ViewParts → OutcomeParts) (vs : List ViewParts) (ps : List ℕ) (made : Made) → has_turns (with_part turn vs ps made) ≡ has_turns made
-has_turns_with turn vs ps (Taken rows) = refl
-has_turns_with turn vs ps (Delivered cells) = refl
-
-pub alike_with : (turn : ViewParts → OutcomeParts) (vs : List ViewParts) (ps : List ℕ) (made more : Made) → more ≡ with_part turn vs ps made → has_turns more ≡ has_turns made
-alike_with turn vs ps made more is = ap has_turns is ∙ has_turns_with turn vs ps made

@@ -1,6 +1,6 @@
 //! Workers that take parts of the supersteps beside the calling thread until a run is over.
 
-ghost use Rattle.std.specs.Prelude.{◌≡◌, ◌<◌, IfOk, length, true};
+ghost use Rattle.std.specs.Prelude.{◌≡◌, ◌<◌, OnOk, length, true};
 ghost use Rattle.bsp_run.specs.TurnBy.{turn_by};
 ghost use Rattle.bsp_crew.specs.Parts.{IsPart, asks_turns, has_turns, with_part};
 
@@ -10,7 +10,7 @@ use crate::seat::Seat;
 use crate::shared_run::SharedRun;
 use bsp_gate::Gate;
 use bsp_model::{OutOfMemory, TryCopy};
-use bsp_step::Program;
+use bsp_step::{Outcome, Program};
 use std::alloc::Global;
 use std::sync::atomic::AtomicU64;
 use std::sync::atomic::Ordering::SeqCst;
@@ -75,25 +75,27 @@ impl<J: SharedRun> Crew<J> {
         means: &Means<'_, P, G>,
         task: &Task,
         whole: &Part<'_>,
-        made: Made,
-    ) -> Result<Made, OutOfMemory>
+        spare: &mut Option<Outcome>,
+        made: &mut Made,
+    ) -> Result<(), OutOfMemory>
         requires turn { asks_turns task.now ≡ true → J.turn ≡ turn_by P.Program means.now.program.now }
         requires part { IsPart J.turn (J.views whole.now.step) whole.now.processes.now task.now }
-        requires alike { has_turns made ≡ asks_turns task.now }
-        ensures { IfOk result (λ all. all
-            ≡ with_part J.turn (J.views whole.now.step) whole.now.processes.now made) }
+        requires alike { has_turns made.old ≡ asks_turns task.now }
+        ensures alike { has_turns made.new ≡ has_turns made.old }
+        ensures made { OnOk result (made.new
+            ≡ with_part J.turn (J.views whole.now.step) whole.now.processes.now made.old) }
     {
         let size = whole.processes.len().div_ceil(self.seats.len() + 1);
         let (own, mut rest) = whole.split(size);
         self.hand_out(&rest, size, task);
         let began = means.gate.now();
-        let mut all = means.work::<J>(task, &own, made)?;
+        means.work::<J>(task, &own, spare, made)?;
         let mut patience = Patience::new(began, means.gate);
         for seat in self.seats.as_slice() {
             let (part, behind) = rest.split(size);
-            all = seat.add_part(means, task, &part, &mut patience, all)?;
+            seat.add_part(means, task, &part, &mut patience, spare, made)?;
             rest = behind;
         }
-        means.work::<J>(task, &rest, all)
+        means.work::<J>(task, &rest, spare, made)
     }
 }

@@ -74,11 +74,11 @@ pub fn wide_deliveries<J: SharedRun, P: Program, G: Gate>(
     match crew {
         Some(crew) if processes.len() > 1 => {
             let task = Task::Deliveries(outcomes.copy()?);
-            let none = Made::Delivered(Cells::new(means.alloc));
-            let worked = crew.work_parts(means, &task, &whole, none);
+            let mut made = Made::Delivered(Cells::new(means.alloc));
+            let worked = crew.work_parts(means, &task, &whole, &mut None, &mut made);
             drop(task);
-            match worked? {
-                Made::Delivered(cells) => Ok(cells),
+            match made {
+                Made::Delivered(cells) => worked.and(Ok(cells)),
                 Made::Taken(_rows) => unreachable!(),
             }
         }

@@ -9,7 +9,7 @@ use bsp_deliver::Cells;
 use bsp_gate::Gate;
 use bsp_model::{OutOfMemory, Shared, TryCopy};
 use bsp_run::Views;
-use bsp_step::{OutcomeRows, Outcomes, Program};
+use bsp_step::{Outcome, OutcomeRows, Outcomes, Program};
 use std::alloc::Global;
 
 /// Processes in a row in the list of a superstep, whose turns are to be taken, or to which deliveries are to be made.
@@ -93,27 +93,25 @@ pub struct Means<'a, P, G> {
 }
 
 impl<'a, P: Program, G: Gate> Means<'a, P, G> {
-    /// Works a part, and adds its turns or deliveries to `made`.
+    /// Works a part, and adds its turns or deliveries to `made`. The spare outcome that is there lends its lists to turns.
     pub(crate) fn work<J: SharedRun>(
         &self,
         task: &Task,
         part: &Part<'_>,
-        made: Made,
-    ) -> Result<Made, OutOfMemory>
+        spare: &mut Option<Outcome>,
+        made: &mut Made,
+    ) -> Result<(), OutOfMemory>
         requires turn { asks_turns task.now ≡ true → J.turn ≡ turn_by P.Program self.now.program.now }
         requires part { IsPart J.turn (J.views part.now.step) part.now.processes.now task.now }
-        requires alike { has_turns made ≡ asks_turns task.now }
-        ensures { IfOk result (λ all. all
-            ≡ with_part J.turn (J.views part.now.step) part.now.processes.now made) }
+        requires alike { has_turns made.old ≡ asks_turns task.now }
+        ensures alike { has_turns made.new ≡ has_turns made.old }
+        ensures made { OnOk result (made.new
+            ≡ with_part J.turn (J.views part.now.step) part.now.processes.now made.old) }
     {
         match (task, made) {
-            (Task::Turns(views), Made::Taken(rows)) => {
-                let rows = self.take_turns(views, part, rows)?;
-                Ok(Made::Taken(rows))
-            }
-            (Task::Deliveries(outcomes), Made::Delivered(mut cells)) => {
-                let delivered = self.make_deliveries(outcomes, part, &mut cells);
-                delivered.and(Ok(Made::Delivered(cells)))
+            (Task::Turns(views), Made::Taken(rows)) => self.take_turns(views, part, spare, rows),
+            (Task::Deliveries(outcomes), Made::Delivered(cells)) => {
+                self.make_deliveries(outcomes, part, cells)
             }
             _ => unreachable!(),
         }

@@ -1,6 +1,6 @@
 //! The place at which the calling thread and a worker of a run hand each other a sheet.
 
-ghost use Rattle.std.specs.Prelude.{◌≡◌, IfOk, true};
+ghost use Rattle.std.specs.Prelude.{◌≡◌, OnOk, true};
 ghost use Rattle.bsp_run.specs.TurnBy.{turn_by};
 ghost use Rattle.bsp_crew.specs.Parts.{IsPart, asks_turns, has_turns, with_part};
 
@@ -10,7 +10,7 @@ use crate::shared_run::SharedRun;
 use crate::sheet::Sheet;
 use bsp_gate::Gate;
 use bsp_model::OutOfMemory;
-use bsp_step::Program;
+use bsp_step::{Outcome, Program};
 use std::alloc::Global;
 use std::sync::atomic::AtomicU64;
 use std::sync::atomic::Ordering::SeqCst;
@@ -63,13 +63,13 @@ impl<J: SharedRun> Seat<J> {
         }
     }
 
-    fn work<P: Program, G: Gate>(&self, means: &Means<'_, P, G>)
+    fn work<P: Program, G: Gate>(&self, means: &Means<'_, P, G>, spare: &mut Option<Outcome>)
         requires { J.turn ≡ turn_by P.Program means.now.program.now }
     {
         if let Some(mut sheet) = self.sheet.try_lock() {
             // The part may have been taken back since the worker saw it.
             if self.state.load(SeqCst) == WAITING {
-                sheet.work(means);
+                sheet.work(means, spare);
                 self.state.store(WORKED, SeqCst);
             }
         }
@@ -79,10 +79,11 @@ impl<J: SharedRun> Seat<J> {
     pub fn attend<P: Program, G: Gate>(&self, means: &Means<'_, P, G>, over: &AtomicU64)
         requires { J.turn ≡ turn_by P.Program means.now.program.now }
     {
+        let mut spare = None;
         let mut looks = 0;
         for _look in 0..u64::MAX {
             if self.state.load(SeqCst) == WAITING {
-                self.work(means);
+                self.work(means, &mut spare);
                 drop(large_piece(means.alloc));
                 looks = 0;
             } else if over.load(SeqCst) != 0 {
@@ -92,6 +93,7 @@ impl<J: SharedRun> Seat<J> {
                 looks = looks.saturating_add(1);
             }
         }
+        drop(spare);
     }
 
     /// The sheet, once the worker has left it. None where the worker is late.
@@ -120,19 +122,21 @@ impl<J: SharedRun> Seat<J> {
         task: &Task,
         part: &Part<'_>,
         patience: &mut Patience,
-        mut made: Made,
-    ) -> Result<Made, OutOfMemory>
+        spare: &mut Option<Outcome>,
+        made: &mut Made,
+    ) -> Result<(), OutOfMemory>
         requires turn { asks_turns task.now ≡ true → J.turn ≡ turn_by P.Program means.now.program.now }
         requires part { IsPart J.turn (J.views part.now.step) part.now.processes.now task.now }
-        requires alike { has_turns made ≡ asks_turns task.now }
-        ensures { IfOk result (λ all. all
-            ≡ with_part J.turn (J.views part.now.step) part.now.processes.now made) }
+        requires alike { has_turns made.old ≡ asks_turns task.now }
+        ensures alike { has_turns made.new ≡ has_turns made.old }
+        ensures made { OnOk result (made.new
+            ≡ with_part J.turn (J.views part.now.step) part.now.processes.now made.old) }
     {
         if let Some(mut sheet) = self.sheet(patience, means.gate)
-            && let Some(added) = sheet.add_to(part, &mut made)
+            && let Some(added) = sheet.add_to(part, made)
         {
-            return added.and(Ok(made));
+            return added;
         }
-        means.work::<J>(task, part, made)
+        means.work::<J>(task, part, spare, made)
     }
 }

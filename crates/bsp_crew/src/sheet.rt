@@ -10,7 +10,7 @@ use crate::part::{Made, Means, Part, Task};
 use crate::shared_run::SharedRun;
 use bsp_gate::Gate;
 use bsp_model::OutOfMemory;
-use bsp_step::{OutcomeRows, Program};
+use bsp_step::{Outcome, OutcomeRows, Program};
 use std::alloc::Global;
 use std::marker::PhantomData;
 
@@ -64,13 +64,17 @@ impl<J: SharedRun> Sheet<J> {
     }
 
     /// Does the work of the part. Where memory is refused nothing is made.
-    pub fn work<P: Program, G: Gate>(&mut self, means: &Means<'_, P, G>)
+    pub fn work<P: Program, G: Gate>(
+        &mut self,
+        means: &Means<'_, P, G>,
+        spare: &mut Option<Outcome>,
+    )
         requires { J.turn ≡ turn_by P.Program means.now.program.now }
     {
         let Some(task) = self.task.take() else {
             return;
         };
-        let Ok(made) = task.nothing(means.alloc, &mut self.room) else {
+        let Ok(mut made) = task.nothing(means.alloc, &mut self.room) else {
             drop(task);
             return;
         };
@@ -79,10 +83,11 @@ impl<J: SharedRun> Sheet<J> {
             processes: self.processes.as_slice(),
             first: self.first,
         };
-        let worked = means.work::<J>(&task, &part, made);
+        let worked = means.work::<J>(&task, &part, spare, &mut made);
         drop(task);
-        if let Ok(made) = worked {
-            drop(self.made.replace(made));
+        match worked {
+            Ok(()) => drop(self.made.replace(made)),
+            Err(_) => drop(made),
         }
     }
 

@@ -1,6 +1,6 @@
 //! The turns of a superstep, by the calling thread or by a crew beside it.
 
-ghost use Rattle.std.specs.Prelude.{◌≡◌, ◌<◌, ◌++◌, All, IfOk, IfSome, length};
+ghost use Rattle.std.specs.Prelude.{◌≡◌, ◌<◌, ◌++◌, All, IfOk, IfSome, OnOk, length};
 ghost use Rattle.bsp_run.specs.Shares.{turns_of};
 ghost use Rattle.bsp_run.specs.TurnBy.{turn_by};
 
@@ -10,8 +10,8 @@ use crate::shared_run::SharedRun;
 use bsp_gate::Gate;
 use bsp_model::{OutOfMemory, Shared, TryCopy};
 use bsp_run::Views;
-use bsp_step::{OutcomeRows, Program, turn_behind};
-use std::alloc::AllocError;
+use bsp_step::{Outcome, OutcomeRows, Program, turn_reusing};
+use std::alloc::{AllocError, Global};
 
 /// At this depth a gate is told of a session's runs: of that of the opening as 0, of those of the batches by their numbers from 1 on.
 pub const DEPTH_OF_RUNS: usize = 0;
@@ -19,37 +19,48 @@ pub const DEPTH_OF_RUNS: usize = 0;
 /// At this depth a gate is told of a run's supersteps, by their numbers from 0 on.
 pub const DEPTH_OF_SUPERSTEPS: usize = 1;
 
+fn spare_of(alloc: Global, spare: &mut Option<Outcome>) -> Result<Outcome, OutOfMemory> {
+    match spare.take() {
+        Some(outcome) => Ok(outcome),
+        None => Outcome::new(alloc),
+    }
+}
+
 impl<'a, P: Program, G: Gate> Means<'a, P, G> {
-    /// The outcomes of `rows`, and behind them the turns of the processes of a part, by this thread. The gate is passed before each turn, with its place
-    /// in the superstep's list.
+    /// Adds the turns of the processes of a part to `rows`, by this thread. The gate is passed before each turn, with its place in the superstep's
+    /// list. The spare outcome that is there lends its lists. After `OutOfMemory` there is none.
     pub(crate) fn take_turns(
         &self,
         views: &Views,
         part: &Part<'_>,
-        rows: OutcomeRows,
-    ) -> Result<OutcomeRows, OutOfMemory>
+        spare: &mut Option<Outcome>,
+        rows: &mut OutcomeRows,
+    ) -> Result<(), OutOfMemory>
         requires { All (λ p. p < length views.now) part.now.processes.now }
-        ensures { IfOk result (λ all. all ≡ rows
+        ensures { OnOk result (rows.new ≡ rows.old
             ++ turns_of (turn_by P.Program self.now.program.now) views.now part.now.processes.now) }
     {
-        let mut gathered = rows.open(self.alloc)?;
+        let mut last = spare_of(self.alloc, spare)?;
         for (place, process) in part.processes.iter().enumerate() {
             self.gate.pass(part.first.saturating_add(place));
-            gathered = turn_behind(self.alloc, self.program, &views.get(*process), gathered)?;
+            last = turn_reusing(self.alloc, self.program, &views.get(*process), last)?;
+            rows.push(&mut last)?;
         }
-        Ok(Box::into_inner(gathered).into_rows())
+        spare.insert(last);
+        Ok(())
     }
 }
 
 /// The outcomes of `rows`, and behind them the turns of some processes, in the order of the list. Where there is a crew, its workers take turns beside
 /// the calling thread. `processes` are places in `views`, which are those of superstep `step`. Whoever takes the turn at the place k of the list,
-/// counted from 0, passes the gate with k before.
+/// counted from 0, passes the gate with k before. The spare outcome that is there lends its lists to the calling thread.
 ///
 /// # Errors
 /// `OutOfMemory` where the calling thread is refused memory for a turn that no worker hands in, or to add the turns.
 pub fn wide_turns<J: SharedRun, P: Program, G: Gate>(
     means: &Means<'_, P, G>,
-    rows: OutcomeRows,
+    mut rows: OutcomeRows,
+    spare: &mut Option<Outcome>,
     views: &Shared<Views>,
     processes: &[usize],
     step: u64,
@@ -73,14 +84,17 @@ pub fn wide_turns<J: SharedRun, P: Program, G: Gate>(
                 drop(rows);
                 return Err(AllocError);
             };
-            let task = Task::Turns(copy);
-            let worked = crew.work_parts(means, &task, &whole, Made::Taken(rows));
+            let (task, mut made) = (Task::Turns(copy), Made::Taken(rows));
+            let worked = crew.work_parts(means, &task, &whole, spare, &mut made);
             drop(task);
-            match worked? {
-                Made::Taken(all) => Ok(all),
+            match made {
+                Made::Taken(rows) => worked.and(Ok(rows)),
                 Made::Delivered(_cells) => unreachable!(),
             }
         }
-        _ => means.take_turns(views, &whole, rows),
+        _ => {
+            let taken = means.take_turns(views, &whole, spare, &mut rows);
+            taken.and(Ok(rows))
+        }
     }
 }

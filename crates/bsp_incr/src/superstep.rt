@@ -58,7 +58,14 @@ fn remake_superstep<P: Program, J: SharedRun, G: Gate>(
 {
     let superstep = open_superstep(given, tape);
     let executed = &mut under_way.update.executed;
-    let outcomes = turns_again(given, &superstep, dirty, executed, crew)?;
+    let outcomes = turns_again(
+        given,
+        &superstep,
+        dirty,
+        executed,
+        &mut under_way.spare,
+        crew,
+    )?;
     let alike = alike_beside(given, tape, dirty, &outcomes);
     under_way.table = alike.next_table();
     let goes_on = end_turns(tape, outcomes, alike.ends)?;

@@ -3,7 +3,6 @@ pub mod BlocksOf
 pub mod Changes
 pub mod HeadsTo
 pub mod Inputs
-pub mod LastRow
 pub mod Layers
 pub mod MadeAgain
 pub mod EitherWay

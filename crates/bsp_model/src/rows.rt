@@ -4,8 +4,6 @@ ghost use Rattle.std.specs.Prelude.{◌≡◌, ◌<◌, ◌≤◌, ◌+◌, ◌^
 ghost use Rattle.bsp_model.specs.Columns.{row_at, AreCut, AreTaken, IsPut};
 ghost use Rattle.bsp_model.specs.Inside.Rows.{AreEnds};
 
-mod adding;
-
 use crate::seq::{append_items, replace_items};
 use crate::{OutOfMemory, Share};
 use std::alloc::Global;

@@ -48,7 +48,7 @@ stands_ended turn input step n vs old now u some taken =
 
 -- the run whose turns have not ended it goes on
 pub goes_on : (turn : ViewParts → OutcomeParts) (input : Input) (step n : ℕ) (vs : List ViewParts) (old now : Unrecorded) (u : HasLeft turn input step (n + 1) vs old) → is_some now.end ≡ false
-    → AreTaken (is_some now.end) (turned_so turn u.so_far) vs now → (now.end ≡ None) × IsUnrecordedIn Turned (turned_so turn u.so_far) vs now now.outcomes
+    → AreTaken (is_some now.end) (turned_so turn u.so_far) vs now → (now.end ≡ None) × IsUnrecordedIn Turned (turned_so turn u.so_far) vs now now.taken.outcomes
 goes_on turn input step n vs old now u none taken = subst (λ (b : Bool). AreTaken b (turned_so turn u.so_far) vs now) none taken
 
 -- nothing is said of a status that there is

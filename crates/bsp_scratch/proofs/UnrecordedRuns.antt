@@ -258,16 +258,16 @@ no_limit (SyncFaulted s fault) step slots os e = refl
 abbrev pub turned_so : (ViewParts → OutcomeParts) → Run → Run
 turned_so turn r = after_turns r (map turn (open_views r))
 
-taken_by : (e : Option Status) (r t : Run) (vs : List ViewParts) (now : Unrecorded) → now.end ≡ e → end_of (length r.past) r.state.table now.outcomes ≡ e → IsUnrecordedIn (phase_after e) t vs now now.outcomes → AreTaken (is_some e) t vs now
+taken_by : (e : Option Status) (r t : Run) (vs : List ViewParts) (now : Unrecorded) → now.end ≡ e → end_of (length r.past) r.state.table now.taken.outcomes ≡ e → IsUnrecordedIn (phase_after e) t vs now now.taken.outcomes → AreTaken (is_some e) t vs now
 taken_by None r t vs now e ends h = (e, h)
 taken_by (Some status) r t vs now e ends h =
-    (ap is_turned h.phase, subst (λ (o : Option Status). HasEnded o t vs now) (sym e) (h, no_limit status (length r.past) r.state.table now.outcomes ends))
+    (ap is_turned h.phase, subst (λ (o : Option Status). HasEnded o t vs now) (sym e) (h, no_limit status (length r.past) r.state.table now.taken.outcomes ends))
 
 -- The turns that are gathered are those of the views, and what is kept beside them serves the run.
-pub taken_on : (turn : ViewParts → OutcomeParts) (r : Run) (vs : List ViewParts) (kept now : Unrecorded) → IsUnrecorded r vs kept → HaveTurns r vs now.outcomes → now.outcomes ≡ map turn vs → now.end ≡ end_of (length r.past) r.state.table now.outcomes
+pub taken_on : (turn : ViewParts → OutcomeParts) (r : Run) (vs : List ViewParts) (kept now : Unrecorded) → IsUnrecorded r vs kept → HaveTurns r vs now.taken.outcomes → now.taken.outcomes ≡ map turn vs → now.end ≡ end_of (length r.past) r.state.table now.taken.outcomes
     → now.processes.now ≡ kept.processes.now → now.tally ≡ kept.tally → AreTaken (is_some now.end) (turned_so turn r) vs now
 taken_on turn r vs kept now h have made ends ep et =
-    let os : List OutcomeParts = now.outcomes in
+    let os : List OutcomeParts = now.taken.outcomes in
     taken_by now.end r (turned_so turn r) vs now refl (sym ends)
     (subst (λ (us : List OutcomeParts). IsUnrecordedIn (phase_after now.end) (after_turns r us) vs now os) (turns_are turn r vs kept os h made) (kept_then r vs kept now os now.end h have (sym ends) ep et))
 

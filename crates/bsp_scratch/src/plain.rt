@@ -35,8 +35,8 @@ fn unrecorded_turns<J: SharedRun, P: Program, G: Gate>(
         (after_turns r (map (turn_by P.Program means.now.program.now) (open_views r))) views.now kept.new) }
 {
     let (step, processes) = (kept.step, kept.processes);
-    all_turns(means, views, processes, &mut kept.outcomes, step, crew)?;
-    kept.end = views.end(means.alloc, &kept.outcomes)?;
+    all_turns(means, views, processes, &mut kept.taken, step, crew)?;
+    kept.end = views.end(means.alloc, &kept.taken.outcomes)?;
     Ok(())
 }
 

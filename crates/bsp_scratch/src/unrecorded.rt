@@ -18,9 +18,16 @@ use bsp_gate::Gate;
 use bsp_model::limits::MOST_SUPERSTEPS;
 use bsp_model::{Input, Memories, OutOfMemory, Shared};
 use bsp_run::{Phase, RunResult, Status, Views, add_memories};
-use bsp_step::{Outcomes, Program};
+use bsp_step::{Outcome, OutcomeRows, Outcomes, Program};
 use std::alloc::Global;
 use std::mem;
+
+/// The outcomes of a superstep, and an outcome whose lists serve the turns of the next, if there is one.
+#[derive(Drop)]
+pub(crate) struct Taken {
+    pub(crate) outcomes: Outcomes,
+    pub(crate) spare: Option<Outcome>,
+}
 
 /// What is kept of a run beside the views: the numbers of the processes, what is added up so far, and the turns that were taken last.
 #[derive(Drop)]
@@ -29,7 +36,7 @@ pub(crate) struct Unrecorded {
     /// The number of supersteps that ended by delivery.
     pub(crate) step: u64,
     pub(crate) tally: Tally,
-    pub(crate) outcomes: Outcomes,
+    pub(crate) taken: Taken,
     /// How these turns ended the run, if they did.
     pub(crate) end: Option<Status>,
 }
@@ -39,19 +46,19 @@ pub(crate) fn all_turns<J: SharedRun, P: Program, G: Gate>(
     means: &Means<'_, P, G>,
     views: &Shared<Views>,
     processes: &[usize],
-    taken: &mut Outcomes,
+    taken: &mut Taken,
     step: u64,
     crew: Option<&Crew<J>>,
 ) -> Result<(), OutOfMemory>
     requires processes { processes.now ≡ range_with_len 0 (length views.now) }
     requires turn { IfSome crew (λ _. J.turn ≡ turn_by P.Program means.now.program.now) }
     requires seen { IfSome crew (λ _. views.now ≡ J.views step) }
-    ensures { OnOk result (taken.new ≡ map (turn_by P.Program means.now.program.now) views.now) }
+    ensures { OnOk result (taken.new.outcomes ≡ map (turn_by P.Program means.now.program.now) views.now) }
 {
-    let before = mem::replace(taken, Outcomes::new());
+    let before = mem::replace(&mut taken.outcomes, Outcomes::new());
     let rows = before.into_room(means.alloc, views.len())?;
-    let turns = wide_turns(means, rows, views, processes, step, crew)?;
-    drop(mem::replace(taken, turns.share()?));
+    let turns = wide_turns(means, rows, &mut taken.spare, views, processes, step, crew)?;
+    drop(mem::replace(&mut taken.outcomes, turns.share()?));
     Ok(())
 }
 
@@ -96,7 +103,10 @@ impl Unrecorded {
             processes,
             step: 0,
             tally: Tally::new(alloc, input),
-            outcomes: Outcomes::new(),
+            taken: Taken {
+                outcomes: Outcomes::new(),
+                spare: None,
+            },
             end: None,
         }
     }
@@ -115,15 +125,15 @@ impl Unrecorded {
         alloc: Global,
         views: Shared<Views>,
     ) -> Result<Shared<Views>, OutOfMemory>
-        requires turned { (r : Run) × IsUnrecordedIn Phase.Turned r views self.old self.old.outcomes }
+        requires turned { (r : Run) × IsUnrecordedIn Phase.Turned r views self.old self.old.taken.outcomes }
         requires below { self.old.step < MOST_SUPERSTEPS }
-        ensures views { (r : Run) → IsUnrecordedIn Phase.Turned r views self.old self.old.outcomes
+        ensures views { (r : Run) → IsUnrecordedIn Phase.Turned r views self.old self.old.taken.outcomes
             → IfOk result (λ next. IsUnrecorded (after_delivery r) next self.new) }
         ensures end { OnOk result (self.new.end ≡ self.old.end) }
         ensures step { OnOk result (self.new.step ≡ self.old.step + 1) }
     {
         self.step += 1;
-        let taken = &mut self.outcomes;
+        let taken = &mut self.taken.outcomes;
         self.tally.add_delivery(alloc, taken)?;
         next_views(alloc, views, self.processes, taken)
     }
@@ -136,7 +146,7 @@ impl Unrecorded {
         let mut memories = Memories::new(alloc);
         match self.end.take() {
             Some(status) => {
-                let outcomes = &self.outcomes;
+                let outcomes = &self.taken.outcomes;
                 let added = self.tally.add_end(alloc, outcomes);
                 match added.and(outcomes.copy_memories(&mut memories)) {
                     Ok(()) => self.tally.take_result(alloc, status, memories),

@@ -1,3 +1,2 @@
-pub mod Before
 pub mod Continuing
 pub mod Reading

@@ -1,15 +1,15 @@
--- The open turn of a context, which lies in a box: what is written through the box is written to it.
+-- The lists of a context, which lie in a box: what is written through the box is written to them.
 use Rattle.std.proofs.Common.{◌≡◌, ap}
+use Rattle.bsp_step.specs.declared.turn_lists.TurnLists.{TurnLists}
 use Rattle.bsp_step.specs.Context.{Context}
-use Rattle.bsp_step.specs.Inside.OpenTurn.{OpenParts}
 
-abbrev pub turn_in : Context → OpenParts
-turn_in c = record { before = c.before; local = record { memory = c.memory; stores = c.stores }; puts = c.puts; gets = c.gets; sends = c.sends; pops = c.pops; pushes = c.pushes; lines = c.lines }
+abbrev pub lists_of : Context → TurnLists
+lists_of c = record { local = record { memory = c.memory; stores = c.stores }; puts = c.puts; gets = c.gets; sends = c.sends; pops = c.pops; pushes = c.pushes; lines = c.lines }
 
-abbrev pub with_turn : Context → OpenParts → Context
-with_turn c t =
-    record c { before = t.before; memory = t.local.memory; stores = t.local.stores; puts = t.puts; gets = t.gets; sends = t.sends; pops = t.pops; pushes = t.pushes; lines = t.lines }
+abbrev pub with_lists : Context → TurnLists → Context
+with_lists c l =
+    record c { memory = l.local.memory; stores = l.local.stores; puts = l.puts; gets = l.gets; sends = l.sends; pops = l.pops; pushes = l.pushes; lines = l.lines }
 
--- the turn that is read in the box is the context's
-pub same-turn : (c : Context) (t : OpenParts) → t ≡ turn_in c → with_turn c t ≡ c
-same-turn c t e = ap (with_turn c) e
+-- the lists that are read in the box are the context's
+pub same-lists : (c : Context) (l : TurnLists) → l ≡ lists_of c → with_lists c l ≡ c
+same-lists c l e = ap (with_lists c) e

@@ -11,7 +11,6 @@ pub mod StoredLists
 pub mod Storing
 pub mod Laws
 pub mod OutcomeColumns
-pub mod OpenTurns
 pub mod Sorting
 pub mod Rising
 pub mod Stepping

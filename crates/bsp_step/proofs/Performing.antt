@@ -6,7 +6,6 @@ use Rattle.bsp_model.specs.declared.fault.Fault.{Fault}
 use Rattle.bsp_step.specs.declared.stop.Stop.{Stop}
 use Rattle.bsp_step.specs.declared.stop.Stop.TheVariants.{Fault as Faulted, OutOfMemory}
 use Rattle.bsp_step.specs.Context.{Context}
-use Rattle.bsp_step.specs.OutcomeParts.{OutcomeParts}
 use Rattle.bsp_step.specs.Calls.{Stops, RunStops}
 use Rattle.bsp_step.specs.Turn.{Follows}
 use Rattle.bsp_model.specs.declared.fault.End.{End}
@@ -98,45 +97,3 @@ perform_all-length c (a ∷ acts) = perform_all-length (perform c a) acts ∙ pe
 -- nor does a step
 pub Follows-view : {old new : Context} {acts : List Act} {ending how : End} → Follows old acts ending new how → new.view ≡ old.view
 Follows-view {old = old} {acts = acts} f = ap (λ (d : Context). d.view) f.acted ∙ perform_all-view old acts
-
--- What stands before a turn makes no difference to its acts.
-
-done-before : (os : List OutcomeParts) (c : Context) (a : Act) → done (record c { before = os }) a ≡ record (done c a) { before = os }
-done-before os c (store a v) = refl
-done-before os c (charge n) = refl
-done-before os c (put pid words area offset) = refl
-done-before os c (push_reg start len) = refl
-done-before os c (print words) = refl
-done-before os c (get pid area offset into len) = refl
-done-before os c (send pid tag words) = refl
-done-before os c (move_into room) = refl
-done-before os c (pop_reg start) = refl
-done-before os c (set_tagsize size) = refl
-
-refusal-before : (os : List OutcomeParts) (c : Context) (a : Act) → refusal (record c { before = os }) a ≡ refusal c a
-refusal-before os c (store a v) = refl
-refusal-before os c (charge n) = refl
-refusal-before os c (put pid words area offset) = refl
-refusal-before os c (push_reg start len) = refl
-refusal-before os c (print words) = refl
-refusal-before os c (get pid area offset into len) = refl
-refusal-before os c (send pid tag words) = refl
-refusal-before os c (move_into room) = refl
-refusal-before os c (pop_reg start) = refl
-refusal-before os c (set_tagsize size) = refl
-
-performed-before : (os : List OutcomeParts) (f r : Option Fault) (c d : Context) → performed f r (record c { before = os }) (record d { before = os }) ≡ record (performed f r c d) { before = os }
-performed-before os (Some f) r c d = refl
-performed-before os None (Some f) c d = refl
-performed-before os None None c d = refl
-
-perform-before : (os : List OutcomeParts) (c : Context) (a : Act) → perform (record c { before = os }) a ≡ record (perform c a) { before = os }
-perform-before os c a =
-    let d : Context = record c { before = os } in
-    ap (λ (r : Option Fault). performed c.fault r d (done d a)) (refusal-before os c a)
-    ∙ ap (performed c.fault (refusal c a) d) (done-before os c a)
-    ∙ performed-before os c.fault (refusal c a) c (done c a)
-
-pub perform_all-before : (os : List OutcomeParts) (c : Context) (acts : List Act) → perform_all (record c { before = os }) acts ≡ record (perform_all c acts) { before = os }
-perform_all-before os c [] = refl
-perform_all-before os c (a ∷ acts) = ap (λ (d : Context). perform_all d acts) (perform-before os c a) ∙ perform_all-before os (perform c a) acts

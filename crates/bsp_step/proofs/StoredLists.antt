@@ -5,17 +5,15 @@ use Rattle.bsp_model.specs.Memory.{memory_written}
 use Rattle.bsp_model.specs.Stores.{records}
 use Rattle.bsp_step.specs.Context.{Context}
 use Rattle.bsp_step.specs.Blocks.{stored, with_stored}
-use Rattle.bsp_model.specs.LocalParts.{LocalParts}
-use Rattle.bsp_step.specs.Inside.OpenTurn.{OpenParts}
-use Rattle.bsp_step.proofs.Boxed.{turn_in, with_turn, same-turn}
+use Rattle.bsp_step.specs.declared.turn_lists.TurnLists.{TurnLists}
+use Rattle.bsp_step.proofs.Boxed.{lists_of, with_lists, same-lists}
 use Rattle.bsp_step.proofs.Storing.{stored-written}
 
 -- the context once the words inside the memory are stored
-pub kept : (c d : Context) (t new : OpenParts) (start : ℕ) (words : List ℕ) → c ≡ d → t ≡ turn_in c → length words ≤ length d.memory - start
-    → new ≡ record t { local = record { memory = memory_written t.local.memory start words; stores = t.local.stores ++ records start words } } → with_turn c new ≡ with_stored d start words
-kept c d t new start words e read within made =
+pub kept : (c d : Context) (l : TurnLists) (start : ℕ) (words memory : List ℕ) (made : List Store) → c ≡ d → l ≡ lists_of c → length words ≤ length d.memory - start → memory ≡ memory_written l.local.memory start words → made ≡ l.local.stores ++ records start words → record (with_lists c l) { memory = memory; stores = made } ≡ with_stored d start words
+kept c d l start words memory made e read within written all =
     let long : length words ≤ length c.memory - start = omega (arith, ap (λ (x : Context). length x.memory) e) in
-    ap (with_turn c) made
-    ∙ ap (λ (m : OpenParts). with_turn c (record m { local = record { memory = memory_written m.local.memory start words; stores = m.local.stores ++ records start words } })) read
-    ∙ ap (λ (m : List ℕ). record c { memory = m; stores = c.stores ++ records start words }) (stored-written c.memory start words long)
+    ap (λ (x : Context). record x { memory = memory; stores = made }) (same-lists c l read)
+    ∙ ap (λ (m : List ℕ). record c { memory = m; stores = made }) (written ∙ ap (λ (m : TurnLists). memory_written m.local.memory start words) read ∙ stored-written c.memory start words long)
+    ∙ ap (λ (ss : List Store). record c { memory = stored c.memory start words; stores = ss }) (all ∙ ap (λ (m : TurnLists). m.local.stores ++ records start words) read)
     ∙ ap (λ (x : Context). with_stored x start words) e

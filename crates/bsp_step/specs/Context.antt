@@ -8,13 +8,11 @@ use Rattle.bsp_model.specs.declared.request.Store.{Store}
 use Rattle.bsp_model.specs.declared.fault.Fault.{Fault}
 use Rattle.bsp_table.specs.declared.area.Area.{Area}
 use Rattle.bsp_step.specs.ViewParts.{ViewParts}
-use Rattle.bsp_step.specs.OutcomeParts.{OutcomeParts}
 
--- A view; the outcomes of the turns before; the memory as it is now; the messages that are left; what was issued, in order; the choice of the
--- next tag size; the work; and the fault that is kept, if there is one (Hill et al. 1998; stores, lines and faults are this profile's).
+-- A view; the memory as it is now; the messages that are left; what was issued, in order; the choice of the next tag size;
+-- the work; and the fault that is kept, if there is one (Hill et al. 1998; stores, lines and faults are this profile's).
 pub record Context : Type 0 where
   pub view : ViewParts
-  pub before : List OutcomeParts
   pub memory : List ℕ
   pub left : List Message
   pub stores : List Store
@@ -28,12 +26,11 @@ pub record Context : Type 0 where
   pub work : ℕ
   pub fault : Option Fault
 
--- The state in which the turn of a view begins, behind no other turn.
+-- The state in which the turn of a view begins.
 abbrev pub fresh : ViewParts → Context
 fresh v =
     record {
       view = v;
-      before = [];
       memory = v.memory;
       left = v.queue;
       stores = [];
@@ -47,7 +44,3 @@ fresh v =
       work = 0;
       fault = None;
     }
-
--- The same behind these outcomes.
-abbrev pub begun : List OutcomeParts → ViewParts → Context
-begun before v = record (fresh v) { before = before }

@@ -13,17 +13,16 @@ abbrev pub context_of : Inside → Context
 context_of c =
     record {
       view = c.view.now;
-      before = c.turn.value.before;
-      memory = c.turn.value.local.memory;
+      memory = c.lists.value.local.memory;
       left = drop c.taken c.view.now.queue;
-      stores = c.turn.value.local.stores;
-      puts = c.turn.value.puts;
-      gets = c.turn.value.gets;
-      sends = c.turn.value.sends;
-      pops = c.turn.value.pops;
-      pushes = c.turn.value.pushes;
+      stores = c.lists.value.local.stores;
+      puts = c.lists.value.puts;
+      gets = c.lists.value.gets;
+      sends = c.lists.value.sends;
+      pops = c.lists.value.pops;
+      pushes = c.lists.value.pushes;
       tag = c.tag;
-      lines = c.turn.value.lines;
+      lines = c.lists.value.lines;
       work = c.work;
       fault = c.fault;
     }

@@ -2,4 +2,4 @@ pub mod Checks
 pub mod Rows
 pub mod Outcomes
 pub mod SameOutcome
-pub mod OpenTurn
+pub mod TurnLists

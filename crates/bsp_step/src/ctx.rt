@@ -1,7 +1,7 @@
 //! The context of a turn.
 
-ghost use Rattle.std.specs.Prelude.{◌≡◌, ◌++◌, ◌∷◌, [], IfOk, Err, Some};
-ghost use Rattle.bsp_step.specs.Context.{begun, fresh};
+ghost use Rattle.std.specs.Prelude.{◌≡◌, IfOk, Err, Some};
+ghost use Rattle.bsp_step.specs.Context.{fresh};
 ghost use Rattle.bsp_step.specs.Perform.{count_of_requests, request_fault};
 ghost use Rattle.bsp_step.specs.Inside.Checks.{Passes};
 ghost use Rattle.bsp_step.specs.OutcomeParts.{IsOutcome, IsOutcomeOf};
@@ -12,8 +12,7 @@ mod messages;
 mod reading;
 mod remote;
 
-use crate::lists::TurnEnd;
-use crate::{Ended, OpenTurn, Outcome, Stop, View};
+use crate::{Ended, Outcome, Stop, TurnLists, View};
 use bsp_model::limits::MOST_REQUESTS;
 use bsp_model::{End, Fault, OutOfMemory};
 use std::alloc::Global;
@@ -25,7 +24,7 @@ pub struct Ctx<'v> {
     view: &'v View<'v>,
     alloc: Global,
     taken: usize,
-    turn: Box<OpenTurn>,
+    lists: Box<TurnLists>,
     tag: Option<u64>,
     work: u64,
     fault: Option<Fault>,
@@ -48,24 +47,25 @@ impl<'v> Ctx<'v> {
     pub fn open(alloc: Global, view: &'v View<'v>) -> Result<Ctx<'v>, OutOfMemory>
         ensures { IfOk result (λ c. c ≡ fresh view.now) }
     {
-        Ctx::open_behind(alloc, view, OpenTurn::new(alloc)?)
+        Ctx::open_reusing(alloc, view, Outcome::new(alloc)?)
     }
 
-    /// The context in which the turn of a view begins, behind the outcomes behind which a turn was open. Of that turn nothing is left. Or `OutOfMemory`.
+    /// The context in which the turn of a view begins, in the lists of an outcome that is no longer needed, of which nothing is left. Or `OutOfMemory`.
     #[inline(always)]
-    pub(crate) fn open_behind(
+    pub fn open_reusing(
         alloc: Global,
         view: &'v View<'v>,
-        mut turn: Box<OpenTurn>,
+        spare: Outcome,
     ) -> Result<Ctx<'v>, OutOfMemory>
-        ensures { IfOk result (λ c. c ≡ begun turn.value.before view.now) }
+        ensures { IfOk result (λ c. c ≡ fresh view.now) }
     {
-        turn.begin(&view.memory)?;
+        let Outcome { mut lists, .. } = spare;
+        lists.begin(&view.memory)?;
         Ok(Ctx {
             view,
             alloc,
             taken: 0,
-            turn,
+            lists,
             tag: None,
             work: 0,
             fault: None,
@@ -83,12 +83,12 @@ impl<'v> Ctx<'v> {
     fn count_of_requests(&self) -> usize
         ensures { result ≡ count_of_requests self.now }
     {
-        let turn: &OpenTurn = &self.turn;
-        turn.puts().len()
-            + turn.gets().len()
-            + turn.sends().len()
-            + turn.pops().len()
-            + turn.pushes().len()
+        let lists: &TurnLists = &self.lists;
+        lists.puts.len()
+            + lists.gets.len()
+            + lists.sends.len()
+            + lists.pops.len()
+            + lists.pushes.len()
     }
 
     fn begin_request(&mut self) -> Result<(), Stop>
@@ -103,51 +103,28 @@ impl<'v> Ctx<'v> {
         Ok(())
     }
 
-    /// The fault of the turn and how it ended, where its step answered `how`.
+    /// What the turn leaves, where its step answered `how`. It takes no memory.
     #[inline(always)]
-    fn ended(&self, how: End) -> (Option<Fault>, Ended)
-        ensures fault { result.0 ≡ (closed self.now how).fault }
-        ensures ended { result.1 ≡ (closed self.now how).ended }
+    pub fn close(self, how: End) -> Outcome
+        ensures closed { result ≡ closed self.entry how }
+        ensures limits { IsOutcome result }
+        ensures issued { IsOutcomeOf self.entry.view result }
     {
         let fault = match (self.fault, how) {
             (Some(fault), _) => Some(fault),
             (None, End::Abort(code)) => Some(Fault::Abort(code)),
             (None, _) => None,
         };
-        match (fault, how) {
-            (None, End::Sync) => (None, Ended::Sync),
-            _ => (fault, Ended::Halt),
-        }
-    }
-
-    /// What the turn leaves, where its step answered `how`. It takes no memory.
-    pub fn close(self, how: End) -> Outcome
-        ensures closed { result ≡ closed self.entry how }
-        ensures limits { IsOutcome result }
-        ensures issued { IsOutcomeOf self.entry.view result }
-    {
-        let (fault, ended) = self.ended(how);
+        let ended = match (fault, how) {
+            (None, End::Sync) => Ended::Sync,
+            _ => Ended::Halt,
+        };
         Outcome {
             fault,
             ended,
-            turn: self.turn,
+            lists: self.lists,
             tag: self.tag,
             work: self.work,
         }
-    }
-
-    /// The outcomes behind which the turn was open, and behind them what it leaves, where its step answered `how`. Or `OutOfMemory`.
-    #[inline(always)]
-    pub(crate) fn end(self, how: End) -> Result<Box<OpenTurn>, OutOfMemory>
-        ensures { IfOk result (λ all. all.value.before ≡ self.entry.before ++ closed self.entry how ∷ []) }
-    {
-        let (fault, ended) = self.ended(how);
-        let end = TurnEnd {
-            ended,
-            work: self.work as u32,
-        };
-        let mut turn = self.turn;
-        let added = turn.end(end, fault, self.tag);
-        added.and(Ok(turn))
     }
 }

@@ -4,20 +4,20 @@
 mod ctx;
 mod list_kind;
 mod lists;
-mod open_turn;
 mod outcome;
 mod outcome_rows;
 mod outcomes;
 mod program;
 mod stop;
+mod turn_lists;
 mod view;
 
 pub use ctx::Ctx;
 pub use list_kind::ListKind;
-pub use open_turn::OpenTurn;
 pub use outcome::{Ended, Outcome, OutcomeRef};
 pub use outcome_rows::{OutcomeRows, PutRows};
 pub use outcomes::Outcomes;
-pub use program::{Program, turn, turn_behind};
+pub use program::{Program, turn, turn_reusing};
 pub use stop::{Stop, settle};
+pub use turn_lists::TurnLists;
 pub use view::{Queue, View};

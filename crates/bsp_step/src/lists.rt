@@ -2,13 +2,13 @@
 
 ghost use Rattle.std.specs.Prelude.{◌≡◌, ◌≤◌, ◌<◌, ◌+◌, ◌-◌, ℕ, OnOk};
 ghost use Rattle.std.specs.Bool.{OnTrue};
-ghost use Rattle.bsp_step.specs.declared.outcome.Ended.{Ended};
-ghost use Rattle.bsp_step.specs.Inside.Outcomes.{IsWithoutColumn, first_at, left_in, AreSameLists, HasLists, HasNoRows, HasRareLists};
+ghost use Rattle.bsp_step.specs.OutcomeParts.{no_outcome};
+ghost use Rattle.bsp_step.specs.Inside.Outcomes.{IsWithoutColumn, first_at, AreSameLists, HasLists, HasRareLists};
 
-use crate::{Ended, ListKind, OutcomeRef};
+use crate::{Ended, ListKind, Outcome, OutcomeRef, TurnLists};
 use bsp_model::{
-    BlockColumn, Column, Fault, Get, LineColumn, LocalMemory, MemoryRef, OutOfMemory, Put, Send,
-    Share, StoreColumn,
+    BlockColumn, Column, Fault, Get, LineColumn, MemoryRef, OutOfMemory, Put, Send, Share,
+    StoreColumn,
 };
 use bsp_table::Area;
 use std::alloc::Global;
@@ -105,36 +105,20 @@ impl Lists {
         self.lines.clear();
     }
 
-    /// Leaves out the rows into which the open turn of a process writes.
     #[inline(always)]
-    pub(crate) fn cut_open(&mut self, place: usize)
+    fn cut_rare(&mut self, place: usize)
+        ensures stores { self.new.stores ≡ self.old.stores }
+        ensures puts { self.new.puts ≡ self.old.puts }
         ensures before { (k : ℕ) → k < place → AreSameLists self.old k self.new k }
-        ensures there { HasNoRows self.new place }
+        ensures there { HasRareLists self.new place no_outcome }
     {
-        self.puts.cut(place);
+        self.faults.cut(place);
         self.gets.cut(place);
         self.sends.cut(place);
         self.pops.cut(place);
         self.pushes.cut(place);
+        self.tags.cut(place);
         self.lines.cut(place);
-    }
-
-    /// Puts what the turn of a process leaves beside the rows into which it wrote. Its stores are kept beside its memory.
-    #[inline(always)]
-    pub(crate) fn end_turn(
-        &mut self,
-        place: usize,
-        local: &LocalMemory,
-        fault: Option<Fault>,
-        tag: Option<u64>,
-    ) -> Result<(), OutOfMemory>
-        ensures before { (k : ℕ) → k < place → AreSameLists self.old k self.new k }
-        ensures there { (how : Ended) (work : ℕ) → OnOk result (HasLists self.new place local.now.memory
-            (left_in self.old place local.now fault tag how work)) }
-    {
-        let done = self.stores.put_local(place, local);
-        let done = done.and(self.faults.put(place, fault.as_slice()));
-        done.and(self.tags.put(place, tag.as_slice()))
     }
 
     /// Puts copies of the lists that few turns fill.
@@ -154,6 +138,17 @@ impl Lists {
         done.and(self.lines.put(place, &outcome.lines))
     }
 
+    /// The same for an outcome that a turn has just left. It is not inlined, so that the other turns do not gather the parts of their outcomes.
+    #[inline(never)]
+    fn put_rare_of(&mut self, place: usize, outcome: &Outcome) -> Result<(), OutOfMemory>
+        ensures stores { self.new.stores ≡ self.old.stores }
+        ensures puts { self.new.puts ≡ self.old.puts }
+        ensures before { (k : ℕ) → k < place → AreSameLists self.old k self.new k }
+        ensures there { OnOk result (HasRareLists self.new place outcome.now) }
+    {
+        self.put_rare(place, &outcome.as_ref())
+    }
+
     /// Puts copies of an outcome's lists. The stores are kept beside the memory that is kept of the process.
     #[inline(always)]
     pub(crate) fn put(
@@ -168,6 +163,22 @@ impl Lists {
         let done = self.stores.put(place, &outcome.stores, memory);
         let done = done.and(self.puts.put(place, &outcome.puts));
         done.and(self.put_rare(place, outcome))
+    }
+
+    /// The same for an outcome that a turn has just left. Few turns leave more than a memory, stores and puts.
+    #[inline(always)]
+    pub(crate) fn put_turn(&mut self, place: usize, outcome: &Outcome) -> Result<(), OutOfMemory>
+        ensures before { (k : ℕ) → k < place → AreSameLists self.old k self.new k }
+        ensures there { OnOk result (HasLists self.new place outcome.now.memory outcome.now) }
+    {
+        let lists: &TurnLists = &outcome.lists;
+        let done = self.stores.put_local(place, &lists.local);
+        let done = done.and(self.puts.put(place, &lists.puts.as_ref()));
+        if !outcome.is_plain() {
+            return done.and(self.put_rare_of(place, outcome));
+        }
+        self.cut_rare(place);
+        done
     }
 
     #[inline(always)]

@@ -1,13 +1,17 @@
 //! What a turn leaves.
 
-ghost use Rattle.std.specs.Prelude.{◌≡◌, ◌↔◌, IsTrue};
+ghost use Rattle.std.specs.Prelude.{◌≡◌, ◌↔◌, IfOk, IsTrue};
+ghost use Rattle.std.specs.Bool.{OnTrue};
+ghost use Rattle.bsp_step.specs.OutcomeParts.{no_outcome};
+ghost use Rattle.bsp_step.specs.Inside.Outcomes.{IsPlain};
 
-use crate::OpenTurn;
+use crate::TurnLists;
 use bsp_model::{
     Fault, Get, MemoryRef, OutOfMemory, PrintedLinesRef, PutsRef, Same, SendsRef, StoresRef,
     TryCopy, are_same,
 };
 use bsp_table::Area;
+use std::alloc::Global;
 use std::marker::Model;
 
 /// How a turn ended.
@@ -24,8 +28,7 @@ pub struct Outcome {
     pub fault: Option<Fault>,
     /// How the turn ended; `Halt` where there is a fault.
     pub ended: Ended,
-    /// Its memory, its stores, its requests and its lines.
-    pub(crate) turn: Box<OpenTurn>,
+    pub lists: Box<TurnLists>,
     /// The choice of the next tag size, if one was made.
     pub tag: Option<u64>,
     pub work: u64,
@@ -44,23 +47,64 @@ impl Model for Outcome {
 }
 
 impl Outcome {
+    /// What a process has left that has done nothing: no words, no requests, no lines. Or `OutOfMemory`.
+    pub fn new(alloc: Global) -> Result<Outcome, OutOfMemory>
+        ensures { IfOk result (λ o. o ≡ no_outcome) }
+    {
+        Ok(Outcome {
+            fault: None,
+            ended: Ended::Halt,
+            lists: Box::new(alloc, TurnLists::new(alloc))?,
+            tag: None,
+            work: 0,
+        })
+    }
+
+    /// Whether the turn left nothing but its memory, its stores, puts and work.
+    #[inline(always)]
+    pub(crate) fn is_plain(&self) -> bool
+        ensures { OnTrue result (IsPlain self.now) }
+    {
+        let lists: &TurnLists = &self.lists;
+        self.fault.is_none()
+            && lists.gets.as_slice().is_empty()
+            && lists.sends.as_ref().is_empty()
+            && lists.pops.as_slice().is_empty()
+            && lists.pushes.as_slice().is_empty()
+            && self.tag.is_none()
+            && lists.lines.as_ref().is_empty()
+    }
+
     /// This outcome, to be read where it lies.
     #[inline(always)]
     pub fn as_ref(&self) -> OutcomeRef<'_>
         ensures { result ≡ self.now }
     {
-        self.turn
-            .outcome(self.fault, self.tag, self.ended, self.work)
+        let lists: &TurnLists = &self.lists;
+        OutcomeRef {
+            fault: self.fault,
+            ended: self.ended,
+            memory: lists.local.memory(),
+            stores: lists.local.stores(),
+            puts: lists.puts.as_ref(),
+            gets: lists.gets.as_slice(),
+            sends: lists.sends.as_ref(),
+            pops: lists.pops.as_slice(),
+            pushes: lists.pushes.as_slice(),
+            tag: self.tag,
+            lines: lists.lines.as_ref(),
+            work: self.work,
+        }
     }
 }
 
 impl TryCopy for Outcome {
     fn copy(&self) -> Result<Outcome, OutOfMemory> {
-        let turn = self.turn.copy()?;
+        let lists: &TurnLists = &self.lists;
         Ok(Outcome {
             fault: self.fault,
             ended: self.ended,
-            turn,
+            lists: Box::new(lists.gets.allocator(), lists.copy()?)?,
             tag: self.tag,
             work: self.work,
         })

@@ -11,7 +11,7 @@ ghost use Rattle.bsp_step.specs.ListKind.{IsWithout};
 mod put_rows;
 
 use crate::lists::{Lists, TurnEnd, first};
-use crate::{ListKind, OutcomeRef};
+use crate::{ListKind, Outcome, OutcomeRef, TurnLists};
 use bsp_model::{ByProcess, LineColumn, Memories, Memory, OutOfMemory, ProcessSet, Share};
 pub use put_rows::PutRows;
 use std::alloc::{AllocError, Global};
@@ -21,8 +21,8 @@ use std::marker::Model;
 #[derive(Drop)]
 pub struct OutcomeRows {
     pub(crate) ends: Vec<TurnEnd>,
-    pub(crate) memories: Memories,
-    pub(crate) lists: Box<Lists>,
+    memories: Memories,
+    lists: Box<Lists>,
 }
 
 impl Model for OutcomeRows {
@@ -161,6 +161,24 @@ impl OutcomeRows {
             Some(next) => next,
             None => self.len(),
         }
+    }
+
+    /// Adds what the turn of one process more left. The lists of `outcome` may serve again. After `OutOfMemory` these outcomes have not changed.
+    #[inline(always)]
+    pub fn push(&mut self, outcome: &mut Outcome) -> Result<(), OutOfMemory>
+        ensures ok { OnOk result (self.new ≡ self.old ++ outcome.old ∷ []) }
+        ensures err { OnErr result (self.new ≡ self.old) }
+    {
+        let end = TurnEnd {
+            ended: outcome.ended,
+            work: outcome.work as u32,
+        };
+        let put = self.lists.put_turn(self.ends.len(), outcome);
+        put.and(self.ends.reserve(1))?;
+        let lists: &mut TurnLists = &mut outcome.lists;
+        lists.local.move_to(&mut self.memories)?;
+        self.ends.push_reserved(end);
+        Ok(())
     }
 
     /// Adds an outcome with another memory of as many words, which are taken out of `memory`. After `OutOfMemory` these outcomes have not changed.

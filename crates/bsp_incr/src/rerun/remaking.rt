@@ -61,7 +61,8 @@ fn finish<P: Program, J: SharedRun, G: Gate>(
 {
     match supersteps(given, &mut tape, &mut under_way, None, crew) {
         Ok(()) => {
-            let UnderWay { update, .. } = under_way;
+            let UnderWay { update, spare, .. } = under_way;
+            drop(spare);
             Ok(Remade { tape, update })
         }
         Err(error) => {

@@ -6,6 +6,7 @@ ghost use Rattle.bsp_incr.specs.declared.compare.known_table.KnownTable.TheVaria
 use crate::Update;
 use crate::compare::KnownTable;
 use bsp_model::ProcessSet;
+use bsp_step::Outcome;
 use std::alloc::Global;
 
 /// An update under way, between two supersteps of the run that is made again.
@@ -17,6 +18,8 @@ pub struct UnderWay {
     pub table: KnownTable,
     /// What was done again so far.
     pub update: Update,
+    /// An outcome whose lists serve the next turn, if there is one.
+    pub spare: Option<Outcome>,
 }
 
 impl UnderWay {
@@ -31,6 +34,7 @@ impl UnderWay {
             marks,
             table: KnownTable::Unknown,
             update: Update::none(alloc),
+            spare: None,
         }
     }
 }

@@ -1,14 +1,14 @@
 //! For each process blocks.
 
-ghost use Rattle.std.specs.Prelude.{◌≡◌, ◌≤◌, ◌<◌, ◌++◌, ◌∷◌, [], ℕ, IfNone, IfSome, OnErr, OnOk, false, length, nat_eq, slice_index_or, true};
+ghost use Rattle.std.specs.Prelude.{◌≡◌, ◌≤◌, ◌<◌, [], ℕ, IfNone, IfSome, OnErr, OnOk, false, length, nat_eq, slice_index_or, true};
 ghost use Rattle.bsp_model.specs.Columns.{row_at, AreCut, AreTaken, IsPut};
 ghost use Rattle.bsp_model.specs.PutsTo.{AreToNone};
 ghost use Rattle.bsp_model.specs.declared.block.PutHead.{PutHead};
 
 use super::pairs::Pairs;
-use crate::block::{Block, PutHead, SendHead};
+use crate::block::{Block, PutHead};
 use crate::rows::{row_behind, start_of};
-use crate::{BlocksRef, Message, OutOfMemory, ProcessSet, Put, Send, Share, Words};
+use crate::{BlocksRef, OutOfMemory, ProcessSet, Put, Share};
 use std::alloc::Global;
 use std::marker::Model;
 
@@ -100,23 +100,6 @@ impl<X: Block> BlockColumn<X> {
         self.pairs.put_pair(place, blocks.heads, blocks.words)
     }
 
-    /// Adds a block to those of a process, and takes away those of the processes behind it. After `OutOfMemory` its own are as before.
-    #[inline(always)]
-    fn add(
-        &mut self,
-        place: usize,
-        head: X::Head,
-        front: &[u64],
-        back: &[u64],
-    ) -> Result<(), OutOfMemory>
-        requires { X.IsKept (head, front.now ++ back.now) }
-        ensures ok { OnOk result (IsPut [] (row_at self.old) place
-            (row_at self.old place ++ X.of (head, front.now ++ back.now) ∷ []) (row_at self.new)) }
-        ensures err { OnErr result (IsPut [] (row_at self.old) place (row_at self.old place) (row_at self.new)) }
-    {
-        self.pairs.add_block(place, head, front, back)
-    }
-
     /// Copies the rows `from` to `to` of `more`, the last excluded, to `place` and the places behind it. After `OutOfMemory` no row stands from `place` on.
     pub fn take_range(
         &mut self,
@@ -151,22 +134,6 @@ fn head_to(heads: &[(PutHead, usize)], targets: &ProcessSet, from: usize) -> usi
 }
 
 impl BlockColumn<Put> {
-    /// Adds a put to those of a process, and takes away those of the processes behind it. After `OutOfMemory` its own are as before.
-    #[inline(always)]
-    pub fn add_put(
-        &mut self,
-        place: usize,
-        target: u64,
-        start: u64,
-        words: &[u64],
-    ) -> Result<(), OutOfMemory>
-        ensures ok { OnOk result (IsPut [] (row_at self.old) place (row_at self.old place
-            ++ record { target = target; start = start; words = words.now } ∷ []) (row_at self.new)) }
-        ensures err { OnErr result (IsPut [] (row_at self.old) place (row_at self.old place) (row_at self.new)) }
-    {
-        self.add(place, PutHead { target, start }, &[], words)
-    }
-
     /// The first process from `from` on that puts something to a process of the set.
     pub fn next_to(&self, targets: &ProcessSet, from: usize) -> Option<usize>
         ensures later { IfSome result (λ next. from ≤ next) }
@@ -186,53 +153,5 @@ impl BlockColumn<Put> {
             return None;
         }
         Some(row_behind(ends, from, place))
-    }
-}
-
-impl BlockColumn<Send> {
-    /// Adds a message to those that a process sends, and takes away those of the processes behind it. After `OutOfMemory` its own are as before.
-    #[inline(always)]
-    pub fn add_send(
-        &mut self,
-        place: usize,
-        target: u64,
-        tag: &[u64],
-        words: &[u64],
-    ) -> Result<(), OutOfMemory>
-        ensures ok { OnOk result (IsPut [] (row_at self.old) place (row_at self.old place
-            ++ record { target = target; tag = tag.now; words = words.now } ∷ []) (row_at self.new)) }
-        ensures err { OnErr result (IsPut [] (row_at self.old) place (row_at self.old place) (row_at self.new)) }
-    {
-        let tag_len = tag.len();
-        self.add(place, SendHead { target, tag_len }, tag, words)
-    }
-}
-
-impl BlockColumn<Message> {
-    /// Adds a message to the queue of a process, and takes away those of the processes behind it. After `OutOfMemory` its own is as before.
-    #[inline(always)]
-    pub fn add_message(
-        &mut self,
-        place: usize,
-        tag: &[u64],
-        words: &[u64],
-    ) -> Result<(), OutOfMemory>
-        ensures ok { OnOk result (IsPut [] (row_at self.old) place (row_at self.old place
-            ++ record { tag = tag.now; words = words.now } ∷ []) (row_at self.new)) }
-        ensures err { OnErr result (IsPut [] (row_at self.old) place (row_at self.old place) (row_at self.new)) }
-    {
-        self.add(place, tag.len(), tag, words)
-    }
-}
-
-impl BlockColumn<Words> {
-    /// Adds a line to those of a process, and takes away those of the processes behind it. After `OutOfMemory` its own are as before.
-    #[inline(always)]
-    pub fn add_line(&mut self, place: usize, words: &[u64]) -> Result<(), OutOfMemory>
-        ensures ok { OnOk result
-            (IsPut [] (row_at self.old) place (row_at self.old place ++ words.now ∷ []) (row_at self.new)) }
-        ensures err { OnErr result (IsPut [] (row_at self.old) place (row_at self.old place) (row_at self.new)) }
-    {
-        self.add(place, (), &[], words)
     }
 }

@@ -129,43 +129,6 @@ impl<A: Copy, B: Copy> Pairs<A, B> {
     }
 }
 
-impl<H: Copy> Pairs<(H, usize), u64> {
-    ghost use Rattle.std.specs.Prelude.{◌++◌, ◌∷◌};
-
-    /// Adds to the rows of a process a head, with the place where its words end, and the words, in two pieces. The rows behind the process are left out.
-    /// After `OutOfMemory` its rows are as before.
-    #[inline(always)]
-    pub(crate) fn add_block(
-        &mut self,
-        place: usize,
-        head: H,
-        front: &[u64],
-        back: &[u64],
-    ) -> Result<(), OutOfMemory>
-        ensures ok { let words = (pair_at self.old place).1 ++ (front.now ++ back.now) in
-            OnOk result (IsPut ([], []) (pair_at self.old) place
-            ((pair_at self.old place).0 ++ (head, length words) ∷ [], words) (pair_at self.new)) }
-        ensures err { OnErr result
-            (IsPut ([], []) (pair_at self.old) place (pair_at self.old place) (pair_at self.new)) }
-    {
-        let heads = self.firsts.row(place).len();
-        let words = self.seconds.row(place).len();
-        match self.seconds.add_words(place, front, back) {
-            Ok(end) => {
-                let added = self.firsts.add_item(place, (head, end));
-                if added.is_err() {
-                    self.seconds.shorten(place, words);
-                }
-                added
-            }
-            Err(error) => {
-                self.firsts.shorten(place, heads);
-                Err(error)
-            }
-        }
-    }
-}
-
 /// For each process, by its number, stores in the order in which they were made, in few lists. They are kept beside the memory that its turn left:
 /// where they are one range, whose words stand there, no words are kept.
 pub type StoreColumn = Pairs<Range, u64>;

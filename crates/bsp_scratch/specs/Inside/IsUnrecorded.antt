@@ -36,10 +36,10 @@ pub record IsUnrecordedIn (comes : Phase) (r : Run) (vs : List ViewParts) (kept 
 
 -- What is kept of a run that has ended so, by its last turns or at the limit.
 abbrev pub HasEnded : Option Status → Run → List ViewParts → Unrecorded → Type 0
-HasEnded (Some status) r vs kept = IsUnrecordedIn (Ended status) r vs kept kept.outcomes × (is_limit (Ended status) ≡ false)
+HasEnded (Some status) r vs kept = IsUnrecordedIn (Ended status) r vs kept kept.taken.outcomes × (is_limit (Ended status) ≡ false)
 HasEnded None r vs kept = IsUnrecordedIn (Ended Limit) r vs kept r.outcomes
 
 -- A run whose turns are taken: they have ended it, or it goes on by its deliveries.
 abbrev pub AreTaken : Bool → Run → List ViewParts → Unrecorded → Type 0
 AreTaken true r vs kept = (is_turned r.phase ≡ false) × HasEnded kept.end r vs kept
-AreTaken false r vs kept = (kept.end ≡ None) × IsUnrecordedIn Turned r vs kept kept.outcomes
+AreTaken false r vs kept = (kept.end ≡ None) × IsUnrecordedIn Turned r vs kept kept.taken.outcomes

@@ -4,10 +4,7 @@ use Rattle.std.specs.List.{range_with_len}
 use Rattle.bsp_model.specs.Columns.{row_at}
 use Rattle.bsp_model.specs.Inside.Beside.{stores_beside, AreBeside}
 use Rattle.bsp_model.specs.Inside.Columns.{pair_at}
-use Rattle.bsp_model.specs.LocalParts.{LocalParts}
 use Rattle.bsp_model.specs.declared.request.Put.{Put}
-use Rattle.bsp_model.specs.declared.fault.Fault.{Fault}
-use Rattle.bsp_step.specs.declared.outcome.Ended.{Ended}
 use Rattle.bsp_step.specs.declared.outcome.Ended.TheVariants.{Halt}
 use Rattle.bsp_step.specs.declared.list_kind.ListKind.{ListKind}
 use Rattle.bsp_step.specs.declared.list_kind.ListKind.TheVariants.{Faults, Gets, Sends, Pops, Pushes, Tags, Lines}
@@ -46,24 +43,6 @@ outcome_in end memory lists k =
 abbrev pub outcome_at : List TurnEnd → List (List ℕ) → Lists → ℕ → OutcomeParts
 outcome_at ends memories lists k = outcome_in (slice_index_or ends k no_end) (slice_index_or memories k []) lists k
 
--- what a process leaves, from the rows into which its turn wrote
-abbrev pub left_in : Lists → ℕ → LocalParts → Option Fault → Option ℕ → Ended → ℕ → OutcomeParts
-left_in lists k local fault tag how work =
-    record {
-      fault = fault;
-      ended = how;
-      memory = local.memory;
-      stores = local.stores;
-      puts = row_at lists.puts k;
-      gets = row_at lists.gets k;
-      sends = row_at lists.sends k;
-      pops = row_at lists.pops k;
-      pushes = row_at lists.pushes k;
-      tag = tag;
-      lines = row_at lists.lines k;
-      work = work;
-    }
-
 -- the outcomes of all processes
 abbrev pub outcomes_of : List TurnEnd → List (List ℕ) → Lists → List OutcomeParts
 outcomes_of ends memories lists = map (outcome_at ends memories lists) (range_with_len 0 (length ends))
@@ -87,6 +66,16 @@ pub record HasRareLists (lists : Lists) (k : ℕ) (o : OutcomeParts) : Type 0 wh
   pub pushes : row_at lists.pushes k ≡ o.pushes
   pub tags : first_at lists.tags k ≡ o.tag
   pub lines : row_at lists.lines k ≡ o.lines
+
+-- An outcome has none of them.
+pub record IsPlain (o : OutcomeParts) : Type 0 where
+  pub fault : o.fault ≡ None
+  pub gets : o.gets ≡ []
+  pub sends : o.sends ≡ []
+  pub pops : o.pops ≡ []
+  pub pushes : o.pushes ≡ []
+  pub tag : o.tag ≡ None
+  pub lines : o.lines ≡ []
 
 -- The lists have those of this outcome as the rows of a process, its stores beside this memory.
 pub record HasLists (lists : Lists) (k : ℕ) (memory : List ℕ) (o : OutcomeParts) : Type 0 where
@@ -116,12 +105,3 @@ IsWithoutColumn Pops lists = lists.pops ≡ []
 IsWithoutColumn Pushes lists = lists.pushes ≡ []
 IsWithoutColumn Tags lists = lists.tags ≡ []
 IsWithoutColumn Lines lists = lists.lines ≡ []
-
--- A process has none of the rows into which an open turn writes.
-pub record HasNoRows (lists : Lists) (k : ℕ) : Type 0 where
-  pub puts : row_at lists.puts k ≡ []
-  pub gets : row_at lists.gets k ≡ []
-  pub sends : row_at lists.sends k ≡ []
-  pub pops : row_at lists.pops k ≡ []
-  pub pushes : row_at lists.pushes k ≡ []
-  pub lines : row_at lists.lines k ≡ []

@@ -5,7 +5,7 @@ ghost use Rattle.bsp_step.specs.Act as act;
 ghost use Rattle.bsp_step.specs.Blocks.{words_at, stores, with_stored};
 ghost use Rattle.bsp_step.specs.Calls.{Performs, PerformsAll, PerformsAlways, PutsWords};
 
-use crate::{Ctx, OpenTurn, Stop};
+use crate::{Ctx, Stop, TurnLists};
 use bsp_model::limits::{MOST_LINE_WORDS, MOST_LINES, MOST_MEMORY_WORDS, MOST_WORK};
 use bsp_model::{Change, Fault, OutOfMemory, Words};
 use std::slice;
@@ -18,11 +18,11 @@ impl<'v> Ctx<'v> {
         if let Some(fault) = self.fault {
             return Err(Stop::Fault(fault));
         }
-        if address >= self.turn.memory().len() as u64 {
+        if address >= self.lists.local.memory().len() as u64 {
             return self.refuse(Fault::BadLocal);
         }
-        let turn: &mut OpenTurn = &mut self.turn;
-        turn.store(address, slice::from_ref(&value))?;
+        let lists: &mut TurnLists = &mut self.lists;
+        lists.local.store(address, slice::from_ref(&value))?;
         Ok(())
     }
 
@@ -47,13 +47,13 @@ impl<'v> Ctx<'v> {
         if let Some(fault) = self.fault {
             return Err(Stop::Fault(fault));
         }
-        if self.turn.lines().len() >= MOST_LINES {
+        if self.lists.lines.len() >= MOST_LINES {
             return self.refuse(Fault::LineLimit);
         }
         if words.len() > MOST_LINE_WORDS {
             return self.refuse(Fault::TooLong);
         }
-        self.turn.add_line(words)?;
+        self.lists.lines.push(words)?;
         Ok(())
     }
 
@@ -64,7 +64,7 @@ impl<'v> Ctx<'v> {
         ensures within { IsSome result ↔ (address + length words.old ≤ length self.now.memory) }
         ensures short { length self.now.memory ≤ MOST_MEMORY_WORDS }
     {
-        self.turn.memory().read(address, words).then_some(())
+        self.lists.local.memory().read(address, words).then_some(())
     }
 
     /// The `len` words of the own memory from `address` on, as they are now, or `None` where they pass its end: `load_words` into a new list.
@@ -77,7 +77,10 @@ impl<'v> Ctx<'v> {
             return Ok(None);
         }
         let mut words = vec![in self.alloc; 0; len as usize]?;
-        self.turn.memory().read(address, words.as_mut_slice());
+        self.lists
+            .local
+            .memory()
+            .read(address, words.as_mut_slice());
         Ok(Some(Words::from_vec(words)))
     }
 
@@ -90,10 +93,10 @@ impl<'v> Ctx<'v> {
         if let Some(fault) = self.fault {
             return Err(Stop::Fault(fault));
         }
-        let room = (self.turn.memory().len() as u64).saturating_sub(address);
+        let room = (self.lists.local.memory().len() as u64).saturating_sub(address);
         let (inside, past) = words.split_at(words.len().min(room as usize));
-        let turn: &mut OpenTurn = &mut self.turn;
-        turn.store(address, inside)?;
+        let lists: &mut TurnLists = &mut self.lists;
+        lists.local.store(address, inside)?;
         if !past.is_empty() {
             return self.refuse(Fault::BadLocal);
         }
@@ -112,14 +115,14 @@ impl<'v> Ctx<'v> {
         ensures { PutsWords self.old (words_at self.old.memory from len)
             (λ words. act.put pid words area offset) self.new result }
     {
-        let own = self.turn.memory().len() as u64;
+        let own = self.lists.local.memory().len() as u64;
         if from > own || len > own - from {
             return Ok(None);
         }
         let start = self.resolve(pid, area, offset, len)?;
         let mut words = vec![in self.alloc; 0; len as usize]?;
-        self.turn.memory().read(from, words.as_mut_slice());
-        self.turn.add_put(pid, start, words.as_slice())?;
+        self.lists.local.memory().read(from, words.as_mut_slice());
+        self.lists.puts.push(pid, start, words.as_slice())?;
         Ok(Some(()))
     }
 
@@ -146,8 +149,8 @@ impl<'v> Ctx<'v> {
         if let Some(fault) = self.fault {
             return Err(Stop::Fault(fault));
         }
-        let turn: &mut OpenTurn = &mut self.turn;
-        turn.change(address, len as usize, change)?;
+        let lists: &mut TurnLists = &mut self.lists;
+        lists.local.change(address, len as usize, change)?;
         Ok(Some(()))
     }
 }

@@ -54,7 +54,7 @@ impl<'v> Ctx<'v> {
         ensures { Performs self.old (act.put pid words.now area offset) self.new result }
     {
         let start = self.resolve(pid, area, offset, words.len() as u64)?;
-        self.turn.add_put(pid, start, words)?;
+        self.lists.puts.push(pid, start, words)?;
         Ok(())
     }
 
@@ -65,11 +65,11 @@ impl<'v> Ctx<'v> {
         ensures { Performs self.old (act.get pid area offset into len) self.new result }
     {
         let start = self.resolve(pid, area, offset, len)?;
-        let own = self.turn.memory().len() as u64;
+        let own = self.lists.local.memory().len() as u64;
         if into > own || len > own - into {
             return self.refuse(Fault::BadLocal);
         }
-        self.turn.add_get(Get {
+        self.lists.gets.push(Get {
             owner: pid,
             start,
             len,
@@ -84,11 +84,11 @@ impl<'v> Ctx<'v> {
         ensures { Performs self.old (act.push_reg start len) self.new result }
     {
         self.begin_request()?;
-        let words = self.turn.memory().len() as u64;
+        let words = self.lists.local.memory().len() as u64;
         if start > words || len > words - start {
             return self.refuse(Fault::BadLocal);
         }
-        self.turn.add_push(Area { start, len })?;
+        self.lists.pushes.push(Area { start, len })?;
         Ok(())
     }
 
@@ -99,11 +99,11 @@ impl<'v> Ctx<'v> {
     {
         self.begin_request()?;
         let view = self.view;
-        let popped = self.turn.pops();
+        let popped = self.lists.pops.as_slice();
         let Some(slot) = view.table.find_under(view.pid, start, popped) else {
             return self.refuse(Fault::NotRegistered(start));
         };
-        self.turn.add_pop(slot)?;
+        self.lists.pops.push(slot)?;
         Ok(())
     }
 }

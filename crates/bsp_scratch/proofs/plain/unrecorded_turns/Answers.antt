@@ -15,7 +15,7 @@ all_turns-requires-clause-processes g c κs within =
 pub end-requires : goal.end-requires
 end-requires g c =
     let given = c.requires.opened in
-    let os : List OutcomeParts = c.all_turns.new.taken in
+    let os : List OutcomeParts = c.all_turns.new.taken.outcomes in
     record { turns = (given.0, subst (λ (vs : List ViewParts). HaveTurns given.0 vs os) (sym c.deref.ensures) (have_turns (g.P.Program.acts c.args.means.now.program.now) (g.P.Program.ending c.args.means.now.program.now) given.0 c.args.views.now c.args.kept.now os given.1.1 given.1.0 c.in_ok-all_turns.ensures)) }
 
 pub returns-clause-taken : goal.returns-clause-taken
@@ -23,8 +23,8 @@ returns-clause-taken g c = λ r opened same.
     let turn = turn_by g.P.Program c.args.means.now.program.now in
     let vs : List ViewParts = c.args.views.now in
     let kept : Unrecorded = c.args.kept.now in
-    let os : List OutcomeParts = c.all_turns.new.taken in
-    let now : Unrecorded = record kept { outcomes = c.all_turns.new.taken; end = c.in_ok-kept.field-0 } in
+    let os : List OutcomeParts = c.all_turns.new.taken.outcomes in
+    let now : Unrecorded = record kept { taken = c.all_turns.new.taken; end = c.in_ok-kept.field-0 } in
     let have : HaveTurns r vs os = have_turns (g.P.Program.acts c.args.means.now.program.now) (g.P.Program.ending c.args.means.now.program.now) r vs kept os same opened c.in_ok-all_turns.ensures in
     let ended = c.in_ok-kept.ensures r (subst (λ (us : List ViewParts). HaveTurns r us os) (sym c.deref.ensures) have) in
     taken_on turn r vs kept now same have c.in_ok-all_turns.ensures ended refl refl

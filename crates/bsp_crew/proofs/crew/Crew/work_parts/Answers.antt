@@ -1,5 +1,5 @@
 use Rattle.std.proofs.Common.{◌∙◌}
-use Rattle.bsp_crew.proofs.PartLists.{parts_of, with_parts, alike_with}
+use Rattle.bsp_crew.proofs.PartLists.{parts_of, with_parts}
 use Rattle.bsp_crew.proofs.crew.Crew.work_parts.Goals as goal
 
 pub hand_out-requires-after_bounds : goal.hand_out-requires-after_bounds
@@ -19,8 +19,8 @@ loop-seat-init g c =
     let whole = c.args.whole.now in
     record {
       part = (parts_of turn views own rest whole c.args.task.now c.split.ensures.cut c.requires.part).1;
-      alike = alike_with turn (views own.step) own.processes.now c.args.made c.in_ok-all.all c.in_ok-all.ensures;
-      made = with_parts turn views own rest whole c.args.made c.in_ok-all.all c.split.ensures.cut c.in_ok-all.ensures;
+      alike = c.in_ok-work.ensures.alike;
+      made = with_parts turn views own rest whole c.args.made.now c.work.new.made c.split.ensures.cut c.in_ok-work.ensures.made;
     }
 
 pub add_part-requires-clause-part : goal.add_part-requires-clause-part
@@ -37,9 +37,9 @@ loop-seat-preserved g c =
     let cut = c.split-in-loop-seat.ensures.cut in
     let rest = c.loop-seat.rest in
     let before = c.loop-seat.invariant in
-    let more = c.in_ok-all-2.ensures in
+    let more = c.in_ok-add_part.ensures in
     record {
       part = (parts_of turn views part behind rest c.args.task.now cut before.part).1;
-      alike = alike_with turn (views part.step) part.processes.now c.loop-seat.all _ more ∙ before.alike;
-      made = with_parts turn views part behind rest c.loop-seat.all _ cut more ∙ before.made;
+      alike = more.alike ∙ before.alike;
+      made = with_parts turn views part behind rest c.loop-seat.made c.add_part.new.made cut more.made ∙ before.made;
     }

@@ -23,7 +23,7 @@ take_result-requires c =
     let before : Tally = c.args.self.now.tally in
     let added = both_ok c.add_end-added.result c.copy_memories.result c.in-Ok.field-0 c.in-Ok.ensures c.add_end-added.ensures.costs c.copy_memories.ensures in
     let rows : length c.add_end-added.new.self.costs ≡ length before.costs + 1 =
-    ap (λ (rows : List CostRow). length rows) added.0 ∙ length-append before.costs (cost_of_end c.args.self.now.outcomes ∷ []) in
+    ap (λ (rows : List CostRow). length rows) added.0 ∙ length-append before.costs (cost_of_end c.args.self.now.taken.outcomes ∷ []) in
     omega (arith, room, rows, rows_are r c.args.views.now c.args.self.now t.same, t.same.run.few_supersteps)
 
 pub returns-in-Ok : goal.returns-in-Ok
@@ -31,7 +31,7 @@ returns-in-Ok c = λ r e.
     let h : HasEnded (Some c.in-Some.status) r c.args.views.now c.args.self.now =
     subst (λ (o : Option Status). HasEnded o r c.args.views.now c.args.self.now) (sym c.take.ensures.value ∙ c.in-Some.is) e in
     let t = h.0 in
-    let os : List OutcomeParts = c.args.self.now.outcomes in
+    let os : List OutcomeParts = c.args.self.now.taken.outcomes in
     let made = ended_so r c.in-Some.status (subst (λ p. IsInPhase p r) t.phase t.same.run.phase) h.1 in
     let count : length os ≡ length r.state.memories = ap (λ (us : List OutcomeParts). length us) (sym t.outcomes) ∙ count_of_outcomes r.args (length r.past) r.state r.outcomes made.1 in
     let lines = both_ok c.add_end-added.result c.copy_memories.result c.in-Ok.field-0 c.in-Ok.ensures c.add_end-added.ensures.lines c.copy_memories.ensures in

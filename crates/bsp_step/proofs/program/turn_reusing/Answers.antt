@@ -1,14 +1,14 @@
 use Rattle.std.proofs.Common.{◌≡◌, ◌∙◌, ap, sym, subst}
 use Rattle.bsp_step.specs.ViewParts.{ViewParts}
-use Rattle.bsp_step.specs.Context.{Context, fresh, begun}
+use Rattle.bsp_step.specs.Context.{Context, fresh}
 use Rattle.bsp_step.specs.OutcomeParts.{IsOutcomeOf}
 use Rattle.bsp_step.proofs.Performing.{Follows-view}
-use Rattle.bsp_step.proofs.program.turn.Goals as goal
+use Rattle.bsp_step.proofs.program.turn_reusing.Goals as goal
 
 pub returns-clause-issued : goal.returns-clause-issued
 returns-clause-issued g c =
     let opened : c.in_ok-ctx.ctx ≡ fresh c.args.view.now = c.in_ok-ctx.ensures in
     let view_is : c.in_ok-ctx.ctx.view ≡ c.args.view.now = ap (λ (d : Context). d.view) opened in
-    let follows = c.in_ok-how.ensures (opened ∙ ap fresh (sym view_is) ∙ ap (λ os. begun os c.in_ok-ctx.ctx.view) (ap (λ (d : Context). d.before) (sym opened))) in
+    let follows = c.in_ok-how.ensures (opened ∙ ap fresh (sym view_is)) in
     let kept : c.step.new.ctx.view ≡ c.args.view.now = Follows-view follows ∙ view_is in
     subst (λ (v : ViewParts). IsOutcomeOf v c.close.result) kept c.close.ensures.issued
