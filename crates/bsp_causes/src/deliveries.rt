@@ -16,7 +16,7 @@ use bsp_deliver::{are_same_puts, are_same_sends, get_reads_same_words};
 use bsp_incr::Place;
 use bsp_model::{Get, OutOfMemory, Same, Seq, are_same};
 use bsp_run::History;
-use bsp_step::{OutcomeRef, Outcomes};
+use bsp_step::Outcomes;
 use std::alloc::Global;
 
 /// Why a delivery was made again: which of its parts differ from the previous run.

@@ -13,7 +13,6 @@ use bsp_deliver::{Cells, deliver_some};
 use bsp_gate::Gate;
 use bsp_model::{ByProcess, OutOfMemory, TryCopy};
 use bsp_step::{Outcomes, Program};
-use std::alloc::Global;
 
 /// Adds cells behind cells. Where there are none yet, the new ones are handed on.
 pub(crate) fn add_cells(cells: &mut Cells, more: Cells) -> Result<(), OutOfMemory>

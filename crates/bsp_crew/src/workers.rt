@@ -19,6 +19,19 @@ pub struct Workers<'a, R, G> {
 }
 
 impl<'a, R, G> Workers<'a, R, G> {
+    /// So many workers, 1 to 16.
+    pub fn new(rt: &'a R, alloc: Global, count: usize, gate: &'a G) -> Workers<'a, R, G>
+        requires { (0 < count) × (count ≤ 16) }
+        ensures { result.count ≡ count }
+    {
+        Workers {
+            rt,
+            alloc,
+            count,
+            gate,
+        }
+    }
+
     /// How many of them find work where there are so many processes.
     pub fn useful(&self, processes: usize) -> usize
         ensures { result ≡ min self.now.count processes }

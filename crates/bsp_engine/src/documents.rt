@@ -17,8 +17,8 @@ use crate::errors::{EngineError, JobError, JobFault};
 use crate::flow::{Sink, Source, read_all, write_text};
 use crate::jobs::read_job;
 use crate::terminal::Terminal;
-use bsp_gate::{Gate, let_go};
 use bsp_crew::Workers;
+use bsp_gate::{Gate, let_go};
 use bsp_options::Options;
 use std::alloc::Global;
 use std::thread::Threads;
@@ -82,12 +82,7 @@ pub fn engine<C: Catalogue, R: Threads + Sync, S: Source, K: Sink, G: Gate>(
     ensures write_calm { result ≢ Err EngineError.Write → K.failures writer.new ≡ K.failures writer.old }
 {
     read_all(reader, document)?;
-    let workers = Workers {
-        rt,
-        alloc,
-        count: options.workers,
-        gate,
-    };
+    let workers = Workers::new(rt, alloc, options.workers, gate);
     let mut text = Vec::new(alloc);
     put_report_of::<C, _, _>(&workers, document.as_slice(), options, &mut text)?;
     gate.leave();
@@ -131,12 +126,7 @@ pub fn follow<C: Catalogue, R: Threads + Sync, S: Source, T: Terminal, G: Gate>(
     ensures write_failed { result ≡ Err EngineError.Write → HasNotWritten (T.log terminal.new) }
 {
     read_all(source, document)?;
-    let workers = Workers {
-        rt,
-        alloc,
-        count: options.workers,
-        gate,
-    };
+    let workers = Workers::new(rt, alloc, options.workers, gate);
     let mut attendant = attendant_of::<C, _, _>(&workers, options.detail, document.as_slice())?;
     let talked = talk(&workers, &mut attendant, terminal);
     let_go(attendant, gate);

@@ -9,8 +9,8 @@ ghost use Rattle.bsp_incr.specs.Inside.Changes.{update_of};
 ghost use Rattle.bsp_engine.specs.Live.{opened, run_of};
 ghost use Rattle.bsp_engine.specs.Untouched.{AreRunsAround};
 
-use bsp_gate::Gate;
 use bsp_crew::Workers;
+use bsp_gate::Gate;
 use bsp_incr::{Batch, Edit, Session, Update};
 use bsp_model::{Input, OutOfMemory};
 use bsp_options::Detail;

@@ -65,12 +65,7 @@ impl<P: Program + Drop> Session<P> {
         if let Err(fault) = input.check() {
             return Err(RunError::Input(fault));
         }
-        let workers = Workers {
-            rt,
-            alloc,
-            count: workers,
-            gate,
-        };
+        let workers = Workers::new(rt, alloc, workers, gate);
         Ok(Session::open_lawful(&workers, program, input)?)
     }
 
@@ -151,12 +146,7 @@ impl<P: Program + Drop> Session<P> {
         if let Some(refusal) = self.refusal(edits) {
             return Err(EditError::Refused(refusal));
         }
-        let workers = Workers {
-            rt,
-            alloc,
-            count: workers,
-            gate,
-        };
+        let workers = Workers::new(rt, alloc, workers, gate);
         let mut before = None;
         let applied = self.apply_accepted(&workers, edits, &mut before);
         drop(before);

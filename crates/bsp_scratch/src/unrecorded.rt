@@ -18,7 +18,7 @@ use bsp_gate::Gate;
 use bsp_model::limits::MOST_SUPERSTEPS;
 use bsp_model::{Input, Memories, OutOfMemory, Shared};
 use bsp_run::{Phase, RunResult, Status, Views, add_memories};
-use bsp_step::{Outcome, OutcomeRows, Outcomes, Program};
+use bsp_step::{Outcome, Outcomes, Program};
 use std::alloc::Global;
 use std::mem;
 

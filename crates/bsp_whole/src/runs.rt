@@ -8,8 +8,8 @@ ghost use Rattle.bsp_run.specs.Result.{result_of};
 ghost use Rattle.bsp_run.specs.Law.{IsBspRun, IsBspResult};
 ghost use Rattle.bsp_run.specs.RunErrors.{input_fault_of};
 
-use bsp_gate::{Gate, Open};
 use bsp_crew::Workers;
+use bsp_gate::{Gate, Open};
 use bsp_incr::{recorded_alone, recorded_run};
 use bsp_model::Input;
 use bsp_run::{History, RunError, RunResult};
@@ -61,12 +61,7 @@ pub fn run_wide<P: Program, G: Gate, R: Threads + Sync>(
     ensures input { IfErr result (λ e. input_fault input.now ≡ input_fault_of e) }
 {
     checked(input)?;
-    let workers = Workers {
-        rt,
-        alloc,
-        count: workers,
-        gate,
-    };
+    let workers = Workers::new(rt, alloc, workers, gate);
     Ok(recorded_run(&workers, program, input)?.0)
 }
 
@@ -104,11 +99,6 @@ pub fn run_result_wide<P: Program, G: Gate, R: Threads + Sync>(
     ensures input { IfErr result (λ e. input_fault input.now ≡ input_fault_of e) }
 {
     checked(input)?;
-    let workers = Workers {
-        rt,
-        alloc,
-        count: workers,
-        gate,
-    };
+    let workers = Workers::new(rt, alloc, workers, gate);
     Ok(wide_result(&workers, program, input)?)
 }

@@ -11,8 +11,8 @@ ghost use Rattle.bsp_incr.specs.Exact.{IsExact};
 ghost use Rattle.bsp_incr.specs.Replies.{input_after, AreReplies, AreScratchReplies};
 ghost use Rattle.bsp_incr.specs.Inside.Replies.{done, reply_to, replies_from, replies};
 
-use bsp_gate::{Gate, Open};
 use bsp_crew::Workers;
+use bsp_gate::{Gate, Open};
 use bsp_incr::{Batch, EditError, Reply, Session, Update, scratch_run_behind};
 use bsp_model::{Input, OutOfMemory};
 use bsp_run::{History, RunError, RunResult};
@@ -121,12 +121,7 @@ pub fn session_run<P: Program + Drop, R: Threads + Sync, G: Gate>(
     ensures input { IfErr result (λ e. input_fault input ≡ input_fault_of e) }
 {
     let (mut session, update) = Session::open(rt, alloc, program, input, workers, gate)?;
-    let workers = Workers {
-        rt,
-        alloc,
-        count: workers,
-        gate,
-    };
+    let workers = Workers::new(rt, alloc, workers, gate);
     let replies = all_replies(&workers, &mut session, update, batches);
     drop(session);
     Ok(replies?)
