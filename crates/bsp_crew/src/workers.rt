@@ -19,7 +19,7 @@ pub struct Workers<'a, R, G> {
 }
 
 impl<'a, R, G> Workers<'a, R, G> {
-    /// So many workers, 1 to 16.
+    /// A bundle for `count` workers, 1 to 16.
     pub fn new(rt: &'a R, alloc: Global, count: usize, gate: &'a G) -> Workers<'a, R, G>
         requires { (0 < count) × (count ≤ 16) }
         ensures { result.count ≡ count }
@@ -32,7 +32,7 @@ impl<'a, R, G> Workers<'a, R, G> {
         }
     }
 
-    /// How many of them find work where there are so many processes.
+    /// The number of workers that find work in a run of `processes` processes.
     pub fn useful(&self, processes: usize) -> usize
         ensures { result ≡ min self.now.count processes }
     {
@@ -41,7 +41,8 @@ impl<'a, R, G> Workers<'a, R, G> {
 }
 
 impl<'a, R: Threads, G: Gate> Workers<'a, R, G> {
-    /// How many of so many work beside the calling thread: where the gate tells the time, no more than there are processors.
+    /// The number of workers that start beside the calling thread, which is one of the `useful` workers. Where the gate tells the time, all
+    /// together are no more than the processors.
     pub fn beside(&self, useful: usize) -> usize {
         if self.gate.now().is_none() {
             return useful.saturating_sub(1);
