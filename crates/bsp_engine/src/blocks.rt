@@ -82,8 +82,8 @@ fn push_report(text: &mut Vec<u8>, replies: &[Reply], detail: Detail) -> Result<
     Ok(())
 }
 
-/// The text of a report: for each reply a block of lines, which ends with LF. With places each update tells its turns and its deliveries, and with
-/// changes each block after the first only what is another than in the last one before it that has a status.
+/// The text of a report: for each reply a block of lines, which ends with LF. With places each update tells its turns and its deliveries. With
+/// changes each block after the first tells only the differences from the last block before it that has a status.
 pub fn report(alloc: Global, replies: &[Reply], detail: Detail) -> Result<Vec<u8>, OutOfMemory>
     ensures { IfOk result (λ text. text.items ≡ text_of detail (map alone replies.now)) }
 {
