@@ -5,7 +5,6 @@ ghost use Rattle.std.specs.Prelude.{◌≡◌, ◌<◌, ◌++◌, ◌∷◌, [],
 use bsp_model::{
     ByProcess, Memories, Memory, MemoryRef, MessageColumn, MessagesRef, OutOfMemory, Share,
 };
-use bsp_step::Queue;
 use std::alloc::Global;
 use std::marker::Model;
 

@@ -1,8 +1,8 @@
 -- Lists by process, of which the items of some processes lie apart.
-use Rattle.std.proofs.Common.{◌≡◌, ◌≢◌, ◌<◌, ℕ, List, Option, None, Some, All, length, get_or, refl, ap, subst, sym, ◌∙◌, arith}
+use Rattle.std.proofs.Common.{◌≡◌, ◌≢◌, ◌<◌, ℕ, List, Option, None, Some, length, get_or, refl, ap, sym, ◌∙◌, arith}
 use Rattle.std.proofs.lemmas.List.Elements.{All-get_or}
 use Rattle.bsp_model.specs.Inside.Layers.{layered, AreApart}
-use Rattle.bsp_model.specs.Replaced.{replaced, IsAscending}
+use Rattle.bsp_model.specs.Replaced.{replaced}
 use Rattle.bsp_model.specs.declared.layered.Apart.{Apart}
 use Rattle.bsp_model.proofs.Replaced.{length-replaced, replaced-there, replaced-elsewhere}
 

@@ -1,13 +1,12 @@
 -- The processes of a set, one after the other.
 use Rattle.std.proofs.Common.{◌≡◌, ◌<◌, ◌≤◌, ◌+◌, ◌-◌, ℕ, zero, suc, Bool, true, false, cond, List, [], ◌∷◌, filter, length, replicate, get_or, All, inl, inr, refl, sym, ap, ◌∙◌, subst, arith}
-use Rattle.std.specs.Prelude.{◌↔◌, IsTrue, slice_get, None, Some, not}
+use Rattle.std.specs.Prelude.{◌↔◌, IsTrue, slice_get, Some, not}
 use Rattle.std.specs.Option.{is_some}
 use Rattle.std.specs.List.{range_with_len, Contains}
 use Rattle.std.proofs.lemmas.Bool.{false≢true, cases_lt, cases_eq, cases_Bool, cond-true, cond-false}
 use Rattle.std.proofs.lemmas.List.{get_or-replicate, get_or_past, length-replicate}
 use Rattle.std.proofs.lemmas.List.Elements.{All-from_get_or, All-contains, filter_passes}
 use Rattle.bsp_model.specs.ProcessSet.{processes_in, processes_from}
-use Rattle.bsp_model.specs.Replaced.{IsAscending}
 
 -- numbers of a range that pass a test
 

@@ -1,9 +1,8 @@
 -- Rows that lie one behind the other in one list.
-use Rattle.std.proofs.Common.{◌≡◌, ◌≤◌, ◌<◌, ℕ, zero, suc, ◌+◌, ◌-◌, List, [], ◌∷◌, ◌++◌, length, get_or, take, drop, map, refl, sym, ap, ◌∙◌, arith, rules, add-zero, take-append-drop}
+use Rattle.std.proofs.Common.{◌≡◌, ◌≤◌, ◌<◌, ℕ, zero, suc, ◌+◌, ◌-◌, List, [], ◌∷◌, ◌++◌, length, get_or, take, drop, map, refl, sym, ap, ◌∙◌, arith, rules, add-zero}
 use Rattle.std.specs.Prelude.{slice_range}
 use Rattle.std.proofs.Math.Seq.{drop-append-add}
-use Rattle.std.proofs.lemmas.List.{same_lists, places, take_all, drop_all, drop-drop}
-use Rattle.std.proofs.lemmas.List.Edits.{length-between}
+use Rattle.std.proofs.lemmas.List.{same_lists, places, take_all}
 use Rattle.bsp_model.specs.Inside.Rows.{rows_of, AreEnds}
 
 pub length-rows_of : {X : Type 0} (start : ℕ) (items : List X) (ends : List ℕ) → length (rows_of start items ends) ≡ length ends

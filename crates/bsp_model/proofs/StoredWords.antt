@@ -1,5 +1,5 @@
 -- The words that were stored, where they are kept and where they stand in a memory.
-use Rattle.std.proofs.Common.{◌≡◌, ◌≢◌, ◌<◌, ◌≤◌, ◌+◌, ◌-◌, ℕ, true, List, [], ◌∷◌, ◌++◌, length, get_or, take, drop, nat_le, refl, sym, ap, ◌∙◌, subst, arith, add-zero, zero-add, append_assoc, take-append-drop, append-nil}
+use Rattle.std.proofs.Common.{◌≡◌, ◌<◌, ◌≤◌, ◌+◌, ◌-◌, ℕ, true, List, [], ◌∷◌, ◌++◌, length, get_or, take, drop, nat_le, refl, sym, ap, ◌∙◌, subst, arith, add-zero, zero-add, append_assoc, take-append-drop, append-nil}
 use Rattle.std.specs.Prelude.{◌==◌, Bool}
 use Rattle.std.specs.Bool.{OnTrue}
 use Rattle.std.proofs.lemmas.Bool.Decides.{nat_tests}
@@ -151,6 +151,19 @@ beside-longer (r ∷ next ∷ later) values memory words start on are inside som
 pub no_stores : (ranges : List Range) (values memory : List ℕ) → ranges ≡ [] → stores_of ranges (words_beside ranges values memory) ≡ []
 unfolding stores_of
 no_stores ranges values memory none = ap (λ (rs : List Range). stores_of rs (words_beside rs values memory)) none
+
+-- where words of a memory are the only ones that were stored
+pub one_range : (ranges : List Range) (values memory words : List ℕ) (start len : ℕ) → ranges ≡ record { start = start; len = len } ∷ [] → values ≡ [] → memory ≡ words
+    → stores_of ranges (words_beside ranges values memory) ≡ records start (take len (drop start words))
+unfolding stores_of
+one_range ranges values memory words start len one none same =
+    let r : Range = record { start = start; len = len } in
+    let all = take len (drop start words) in
+    ap (λ (rs : List Range). stores_of rs (words_beside rs values memory)) one
+    ∙ ap (λ (vs : List ℕ). stores_of (r ∷ []) (words_beside (r ∷ []) vs memory)) none
+    ∙ ap (λ (m : List ℕ). stores_of (r ∷ []) (take len (drop start m))) same
+    ∙ append-nil (records start (take len all))
+    ∙ ap (records start) (take_all len all (omega (arith, length-take len (drop start words))))
 
 -- once more words are stored
 pub stores-more : (ranges ranges' : List Range) (all all' words : List ℕ) (start : ℕ) → 0 < length words → AreRanges ranges all → ranges' ≡ longer ranges start (length words) → all' ≡ all ++ words

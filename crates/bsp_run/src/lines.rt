@@ -9,10 +9,7 @@ ghost use Rattle.bsp_run.specs.Result.{lines_of_process};
 ghost use Rattle.bsp_run.specs.Inside.Lines.{is_taken, lines_from, AreGathered, AreLinesUnlessMarked};
 
 use crate::{Lines, Superstep};
-use bsp_model::limits::MOST_PROCESSES;
-use bsp_model::{
-    LineColumn, OutOfMemory, PrintedLines, PrintedLinesRef, ProcessSet, Shared, SharedSeq, TryCopy,
-};
+use bsp_model::{LineColumn, OutOfMemory, PrintedLines, ProcessSet, Shared, SharedSeq, TryCopy};
 use bsp_step::{ListKind, Outcomes};
 use std::alloc::Global;
 

@@ -15,7 +15,6 @@ use crate::limit::phase_at;
 use crate::{History, Phase, Tape, Views};
 use bsp_model::{CostRow, OutOfMemory, Shared, TryCopy};
 use bsp_step::Outcomes;
-use std::mem;
 
 fn views_in(history: &History, step: usize) -> Result<Shared<Views>, OutOfMemory>
     requires { step ≤ length history.now.past }

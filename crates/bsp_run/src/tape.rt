@@ -19,11 +19,10 @@ use crate::limit::phase_at;
 use crate::opening::{Recording, add_first_cells};
 use crate::{Arguments, Phase, RunError, Setting, Status, Superstep, Views, ViewsRef};
 use bsp_deliver::Cells;
-use bsp_model::{CostRow, Input, OutOfMemory, Shared, SharedSeq, TryCopy};
-use bsp_step::{Outcomes, View};
+use bsp_model::{CostRow, Input, OutOfMemory, Shared, TryCopy};
+use bsp_step::Outcomes;
 use std::alloc::Global;
 use std::marker::Model;
-use std::mem;
 
 /// A run while it is recorded: the turns and the deliveries are handed in, superstep by superstep.
 #[derive(Drop)]

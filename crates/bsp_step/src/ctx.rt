@@ -14,7 +14,7 @@ mod remote;
 
 use crate::{Ended, Outcome, Stop, TurnLists, View};
 use bsp_model::limits::MOST_REQUESTS;
-use bsp_model::{End, Fault, OutOfMemory};
+use bsp_model::{End, Fault, OutOfMemory, OwnMemory};
 use std::alloc::Global;
 use std::marker::Model;
 
@@ -24,6 +24,7 @@ pub struct Ctx<'v> {
     view: &'v View<'v>,
     alloc: Global,
     taken: usize,
+    own: OwnMemory<'v>,
     lists: Box<TurnLists>,
     tag: Option<u64>,
     work: u64,
@@ -59,17 +60,28 @@ impl<'v> Ctx<'v> {
     ) -> Result<Ctx<'v>, OutOfMemory>
         ensures { IfOk result (λ c. c ≡ fresh view.now) }
     {
-        let Outcome { mut lists, .. } = spare;
-        lists.begin(&view.memory)?;
-        Ok(Ctx {
-            view,
-            alloc,
-            taken: 0,
-            lists,
-            tag: None,
-            work: 0,
-            fault: None,
-        })
+        let Outcome {
+            workspace,
+            mut lists,
+            ..
+        } = spare;
+        lists.clear();
+        match OwnMemory::open(&view.memory, workspace) {
+            Ok(own) => Ok(Ctx {
+                view,
+                alloc,
+                taken: 0,
+                own,
+                lists,
+                tag: None,
+                work: 0,
+                fault: None,
+            }),
+            Err(error) => {
+                drop(lists);
+                Err(error)
+            }
+        }
     }
 
     fn refuse<T>(&mut self, fault: Fault) -> Result<T, Stop>
@@ -122,6 +134,7 @@ impl<'v> Ctx<'v> {
         Outcome {
             fault,
             ended,
+            workspace: self.own.close(),
             lists: self.lists,
             tag: self.tag,
             work: self.work,

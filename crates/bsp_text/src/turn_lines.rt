@@ -10,11 +10,8 @@ ghost use Rattle.bsp_text.specs.FaultWords.{fault_numbers, fault_word};
 ghost use Rattle.bsp_text.specs.ViewLines.{message_line, slot_line, view_block};
 
 use crate::lines::{push_field, push_fields, push_joined_line, push_line, push_memory_line};
-use bsp_model::{
-    Fault, Get, MessagesRef, OutOfMemory, PrintedLinesRef, PutsRef, SendsRef, StoresRef,
-};
+use bsp_model::{Fault, OutOfMemory, StoresRef};
 use bsp_step::{Ended, OutcomeRef, View};
-use bsp_table::Area;
 
 fn push_ended(text: &mut Vec<u8>, fault: Option<Fault>, ended: Ended) -> Result<(), OutOfMemory>
     ensures { OnOk result (text.new.items ≡ text.old.items ++ ended_line fault ended) }
