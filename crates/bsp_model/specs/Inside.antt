@@ -6,7 +6,6 @@ pub mod Cut
 pub mod LawfulInput
 pub mod Layers
 pub mod Memories
-pub mod Own
 pub mod Pages
 pub mod Ranges
 pub mod Rows

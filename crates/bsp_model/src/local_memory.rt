@@ -131,42 +131,6 @@ impl LocalMemory {
         self.memory.load_from(memory)
     }
 
-    /// Makes these words the memory, in which no store was made. The list of words behind the pages is handed out.
-    #[inline(always)]
-    pub(crate) fn take_words(&mut self, words: &mut Vec<u64>)
-        ensures { self.new ≡ record { memory = words.old.items; stores = [] } }
-    {
-        self.ranges.clear();
-        self.values.clear();
-        self.memory.take_words(words);
-    }
-
-    /// Makes these words the memory, of which `len` from `start` on were stored. After `OutOfMemory` the words are still there.
-    #[inline(always)]
-    pub(crate) fn take_stored(
-        &mut self,
-        words: &mut Vec<u64>,
-        start: usize,
-        len: usize,
-    ) -> Result<(), OutOfMemory>
-        requires some { 0 < len }
-        requires inside { start + len ≤ length words.old.items }
-        ensures ok { OnOk result (self.new ≡ record {
-          memory = words.old.items;
-          stores = records start (take len (drop start words.old.items));
-        }) }
-        ensures err { OnErr result (words.new.items ≡ words.old.items) }
-    {
-        self.ranges.clear();
-        self.values.clear();
-        self.ranges.push(Range {
-            start: start as u64,
-            len,
-        })?;
-        self.memory.take_words(words);
-        Ok(())
-    }
-
     /// The words of the memory.
     #[inline(always)]
     pub fn memory(&self) -> MemoryRef<'_>
@@ -244,11 +208,9 @@ impl LocalMemory {
                 return Ok(());
             }
         }
-        let alloc = *self.values.allocator();
-        let mut before = vec![in alloc; 0; len]?;
-        self.memory.read(start, before.as_mut_slice());
-        let mut words = vec![in alloc; 0; len]?;
-        change.change(before.as_slice(), words.as_mut_slice());
+        let mut words = vec![in *self.values.allocator(); 0; len]?;
+        self.memory.read(start, words.as_mut_slice());
+        change.change(words.as_mut_slice());
         self.store(start, words.as_slice())
     }
 

@@ -4,14 +4,14 @@ ghost use Rattle.std.specs.Prelude.{◌≡◌, ◌≤◌, ◌+◌, ◌-◌, ◌/
 ghost use Rattle.std.specs.Bool.{OnTrue, OnFalse};
 ghost use Rattle.bsp_model.specs.Memory.{memory_written};
 
-use crate::change::change_in_place;
+use crate::change::change_part;
 use crate::page::{Page, WORDS_OF_A_PAGE};
 use crate::paging::{copied_pages, cut_write, is_within, write_pages};
 use crate::seq::{append_items, replace_items};
 use crate::{Change, MemoryRef, OutOfMemory, Same, TryCopy};
 use std::alloc::Global;
 use std::marker::Model;
-use std::{mem, slice};
+use std::slice;
 
 /// The memory of a process: a list of 64-bit words at the addresses 0, 1, .. Its copies share the pages that are full.
 pub struct Memory {
@@ -115,16 +115,6 @@ impl Memory {
         Ok(())
     }
 
-    /// Makes these words the memory, which lies in their list then. The list of words behind the full pages is handed out.
-    #[inline(always)]
-    pub(crate) fn take_words(&mut self, words: &mut Vec<u64>)
-        ensures { self.new ≡ words.old.items }
-    {
-        self.pages.clear();
-        self.len = words.len();
-        mem::swap(&mut self.last, words);
-    }
-
     /// This memory, to be read where it lies.
     #[inline]
     pub fn as_ref(&self) -> MemoryRef<'_>
@@ -179,8 +169,7 @@ impl Memory {
         self.write(address, slice::from_ref(&value))
     }
 
-    /// Makes the change in words of one page, or in as few of those behind the full pages. False where they are more; then, and after `OutOfMemory`,
-    /// nothing has changed.
+    /// Makes the change where the words lie. False where they lie in several full pages; then, and after `OutOfMemory`, nothing has changed.
     #[inline]
     pub(crate) fn change<C: Change>(
         &mut self,
@@ -198,10 +187,7 @@ impl Memory {
     {
         let full = self.len - self.last.len();
         if start >= full {
-            if len > WORDS_OF_A_PAGE {
-                return Ok(false);
-            }
-            change_in_place(self.last.as_mut_slice(), start - full, len, change);
+            change_part(self.last.as_mut_slice(), start - full, len, change);
             return Ok(true);
         }
         let place = start % WORDS_OF_A_PAGE;

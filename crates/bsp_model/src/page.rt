@@ -2,7 +2,7 @@
 
 ghost use Rattle.std.specs.Prelude.{◌≡◌, ◌+◌, ◌≤◌, ◌<◌, ◌++◌, ◌↔◌, IsTrue, IfOk, OnOk, OnErr, length, take, drop, slice_index, slice_set};
 
-use crate::change::{change_in_place, change_part};
+use crate::change::change_part;
 use crate::seq::replace_items;
 use crate::{Change, OutOfMemory, TryCopy, are_same_words};
 use std::alloc::Global;
@@ -87,11 +87,10 @@ impl Page {
         ensures len { length self.old ≡ WORDS_OF_A_PAGE }
     {
         match Arc::get_mut(&mut self.words) {
-            Some(all) => change_in_place(all, start, len, change),
+            Some(all) => change_part(all, start, len, change),
             None => {
-                let words = self.as_slice();
                 let mut all: [u64; WORDS_OF_A_PAGE] = *self.words;
-                change_part(&words[start..start + len], &mut all, start, change);
+                change_part(&mut all, start, len, change);
                 *self = Page::new(alloc, all)?;
             }
         }

@@ -13,9 +13,9 @@ abbrev pub context_of : Inside → Context
 context_of c =
     record {
       view = c.view.now;
-      memory = c.own.memory;
+      memory = c.lists.value.local.memory;
       left = drop c.taken c.view.now.queue;
-      stores = c.own.stores;
+      stores = c.lists.value.local.stores;
       puts = c.lists.value.puts;
       gets = c.lists.value.gets;
       sends = c.lists.value.sends;

@@ -14,7 +14,7 @@ mod remote;
 
 use crate::{Ended, Outcome, Stop, TurnLists, View};
 use bsp_model::limits::MOST_REQUESTS;
-use bsp_model::{End, Fault, OutOfMemory, OwnMemory};
+use bsp_model::{End, Fault, OutOfMemory};
 use std::alloc::Global;
 use std::marker::Model;
 
@@ -24,7 +24,6 @@ pub struct Ctx<'v> {
     view: &'v View<'v>,
     alloc: Global,
     taken: usize,
-    own: OwnMemory<'v>,
     lists: Box<TurnLists>,
     tag: Option<u64>,
     work: u64,
@@ -60,28 +59,17 @@ impl<'v> Ctx<'v> {
     ) -> Result<Ctx<'v>, OutOfMemory>
         ensures { IfOk result (λ c. c ≡ fresh view.now) }
     {
-        let Outcome {
-            workspace,
-            mut lists,
-            ..
-        } = spare;
-        lists.clear();
-        match OwnMemory::open(&view.memory, workspace) {
-            Ok(own) => Ok(Ctx {
-                view,
-                alloc,
-                taken: 0,
-                own,
-                lists,
-                tag: None,
-                work: 0,
-                fault: None,
-            }),
-            Err(error) => {
-                drop(lists);
-                Err(error)
-            }
-        }
+        let Outcome { mut lists, .. } = spare;
+        lists.begin(&view.memory)?;
+        Ok(Ctx {
+            view,
+            alloc,
+            taken: 0,
+            lists,
+            tag: None,
+            work: 0,
+            fault: None,
+        })
     }
 
     fn refuse<T>(&mut self, fault: Fault) -> Result<T, Stop>
@@ -134,7 +122,6 @@ impl<'v> Ctx<'v> {
         Outcome {
             fault,
             ended,
-            workspace: self.own.close(),
             lists: self.lists,
             tag: self.tag,
             work: self.work,

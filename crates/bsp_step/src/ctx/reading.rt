@@ -51,7 +51,7 @@ impl<'v> Ctx<'v> {
         ensures same { result ≡ length self.now.view.memory }
         ensures short { result ≤ MOST_MEMORY_WORDS }
     {
-        self.own.memory().len() as u64
+        self.lists.local.memory().len() as u64
     }
 
     /// The word at `address` of the own memory as it is now, if there is one: exactly below `memory_len`.
@@ -60,7 +60,7 @@ impl<'v> Ctx<'v> {
         ensures within { IsSome result ↔ (address < length self.now.memory) }
         ensures short { length self.now.memory ≤ MOST_MEMORY_WORDS }
     {
-        self.own.memory().load(address)
+        self.lists.local.memory().load(address)
     }
 
     /// How many words of the own memory from `address` on lie in one piece, at least one where there is any. It is for speed: no act should depend on it.
@@ -68,7 +68,7 @@ impl<'v> Ctx<'v> {
         ensures some { address < length self.now.memory → 0 < result }
         ensures inside { result ≤ length self.now.memory - address }
     {
-        self.own.memory().piece_len(address) as u64
+        self.lists.local.memory().piece_len(address) as u64
     }
 
     /// The tag size in force in this superstep: at most `MOST_TAG_WORDS` words.

@@ -1,6 +1,6 @@
 //! Memories of several pages, and in one piece.
 
-use bsp_model::{Change, LocalMemory, Memory, OutOfMemory, OwnMemory, Same, TryCopy, Workspace};
+use bsp_model::{Change, LocalMemory, Memory, OutOfMemory, Same, TryCopy};
 use std::alloc::Global;
 
 /// Whether words are written up to the end, and not past it.
@@ -55,64 +55,46 @@ impl Change for Sevens {
 
     ghost makes = { λ _ words. replicate (length words) 7 };
 
-    fn change(&self, _before: &[u64], after: &mut [u64]) {
-        after.fill(7);
+    fn change(&self, words: &mut [u64]) {
+        words.fill(7);
     }
 }
 
 /// Makes eight words from `start` on 7, if they are there.
-fn makes_sevens(own: &mut OwnMemory<'_>, start: u64) -> Result<bool, OutOfMemory> {
-    let len = own.memory().len() as u64;
+fn makes_sevens(local: &mut LocalMemory, start: u64) -> Result<bool, OutOfMemory> {
+    let len = local.memory().len() as u64;
     if start > len || 8 > len - start {
         return Ok(false);
     }
-    own.change(start, 8, &Sevens)?;
+    local.change(start, 8, &Sevens)?;
     Ok(true)
 }
 
-/// Whether words of one page, of two, and behind a gap are made 7 in a turn.
-fn makes_all_sevens(own: &mut OwnMemory<'_>) -> Result<bool, OutOfMemory> {
-    let is_made = makes_sevens(own, 64)? && makes_sevens(own, 60)? && makes_sevens(own, 100)?;
-    let is_past = makes_sevens(own, 123)?;
-    Ok(is_made && !is_past)
-}
-
-/// Whether a turn has changed the words at 60 to 71 and 100 to 107.
-fn has_sevens(local: &LocalMemory) -> bool {
+/// Whether words of one page, of two, and behind a gap are changed, and the memory that shares their pages stays.
+fn is_changed(local: &mut LocalMemory, paged: &Memory) -> Result<bool, OutOfMemory> {
+    local.begin(&paged.as_ref())?;
+    let is_made = makes_sevens(local, 64)? && makes_sevens(local, 60)? && makes_sevens(local, 100)?;
+    let is_past = makes_sevens(local, 123)?;
     let memory = local.memory();
     let is_there = memory.load(60) == Some(7)
         && memory.load(71) == Some(7)
         && memory.load(107) == Some(7);
-    let is_alone = memory.load(59) == Some(0) && memory.load(72) == Some(0);
-    is_there && is_alone && local.stores().len() == 24
+    let is_alone = memory.load(59) == Some(0)
+        && memory.load(72) == Some(0)
+        && paged.load(71) == Some(0);
+    Ok(is_made && !is_past && is_there && is_alone && local.stores().len() == 24)
 }
 
-/// Whether a turn changes its own words, and the memory before it stays.
-fn is_changed(before: &Memory, workspace: Box<Workspace>) -> Result<bool, OutOfMemory> {
-    let memory = before.as_ref();
-    let mut own = OwnMemory::open(&memory, workspace)?;
-    let is_made = makes_all_sevens(&mut own);
-    let workspace = own.close();
-    let is_there = has_sevens(&workspace.local) && before.load(71) == Some(0);
-    drop(workspace);
-    Ok(is_made? && is_there)
-}
-
-fn is_changed_apart(alloc: Global, in_one_piece: bool) -> Result<bool, OutOfMemory> {
+fn is_changed_apart(alloc: Global) -> Result<bool, OutOfMemory> {
     let paged = Memory::from_words(alloc, &[0; 130])?;
-    let workspace = Box::new(alloc, Workspace::of(alloc, LocalMemory::new(alloc)))?;
-    if !in_one_piece {
-        return is_changed(&paged, workspace);
-    }
-    is_changed(&paged.as_ref().to_one_piece()?, workspace)
+    let mut local = LocalMemory::new(alloc);
+    let is_changed = is_changed(&mut local, &paged);
+    drop(local);
+    drop(paged);
+    is_changed
 }
 
 #[test]
 fn a_change_is_made_in_pages_and_behind_gaps(rt: HostRuntime) {
-    assert!(rt; is_changed_apart(rt.alloc(), false) == Ok(true));
-}
-
-#[test]
-fn a_change_is_made_in_one_piece(rt: HostRuntime) {
-    assert!(rt; is_changed_apart(rt.alloc(), true) == Ok(true));
+    assert!(rt; is_changed_apart(rt.alloc()) == Ok(true));
 }
