@@ -152,6 +152,19 @@ pub no_stores : (ranges : List Range) (values memory : List ℕ) → ranges ≡ 
 unfolding stores_of
 no_stores ranges values memory none = ap (λ (rs : List Range). stores_of rs (words_beside rs values memory)) none
 
+-- where words of a memory are the only ones that were stored
+pub one_range : (ranges : List Range) (values memory words : List ℕ) (start len : ℕ) → ranges ≡ record { start = start; len = len } ∷ [] → values ≡ [] → memory ≡ words
+    → stores_of ranges (words_beside ranges values memory) ≡ records start (take len (drop start words))
+unfolding stores_of
+one_range ranges values memory words start len one none same =
+    let r : Range = record { start = start; len = len } in
+    let all = take len (drop start words) in
+    ap (λ (rs : List Range). stores_of rs (words_beside rs values memory)) one
+    ∙ ap (λ (vs : List ℕ). stores_of (r ∷ []) (words_beside (r ∷ []) vs memory)) none
+    ∙ ap (λ (m : List ℕ). stores_of (r ∷ []) (take len (drop start m))) same
+    ∙ append-nil (records start (take len all))
+    ∙ ap (records start) (take_all len all (omega (arith, length-take len (drop start words))))
+
 -- once more words are stored
 pub stores-more : (ranges ranges' : List Range) (all all' words : List ℕ) (start : ℕ) → 0 < length words → AreRanges ranges all → ranges' ≡ longer ranges start (length words) → all' ≡ all ++ words
     → AreRanges ranges' all' × (stores_of ranges' all' ≡ stores_of ranges all ++ records start words)

@@ -9,4 +9,5 @@ pub mod Replaced
 pub mod Same
 pub mod StoredRanges
 pub mod Stores
+pub mod Workspace
 pub mod Inside

@@ -31,12 +31,12 @@ impl Model for Lasts {
     ghost invariant = { λ l. l.count ≤ length l.own.items };
 }
 
-/// Puts a list of words itself at a place among lists, and hands out the room of the one that stood there.
+/// Puts a list of words itself at a place among lists, and hands out the one that stood there, with no more words.
 fn put_list(lists: &mut Vec<Words>, place: usize, words: &mut Vec<u64>) -> Result<(), OutOfMemory>
     requires { place ≤ length lists.old.items }
     ensures ok { OnOk result (take (place + 1) lists.new.items ≡ take place lists.old.items ++ words.old.items ∷ []) }
     ensures count { OnOk result (place + 1 ≤ length lists.new.items) }
-    ensures rest { OnOk result (words.new.items ≡ []) }
+    ensures rest { OnOk result (length words.new.items ≤ length words.old.items) }
     ensures err { OnErr result (lists.new.items ≡ lists.old.items) }
     ensures err_words { OnErr result (words.new.items ≡ words.old.items) }
 {
@@ -48,7 +48,7 @@ fn put_list(lists: &mut Vec<Words>, place: usize, words: &mut Vec<u64>) -> Resul
     }
     let list = &mut lists[place];
     mem::swap(&mut list.items, words);
-    words.clear();
+    words.truncate(list.items.len());
     Ok(())
 }
 
@@ -109,18 +109,16 @@ impl Lasts {
         self.rows.push(words)
     }
 
-    /// Takes the list itself where its words are as many as a page has, so that they are a memory in one piece.
+    /// Takes the list itself where its words are as many as a page has, so that they are a memory in one piece. `words` then has any words, but no more.
     #[inline(always)]
     pub fn push_from(&mut self, words: &mut Vec<u64>) -> Result<(), OutOfMemory>
         ensures ok { OnOk result (self.new ≡ self.old ++ words.old.items ∷ []) }
-        ensures rest { OnOk result (words.new.items ≡ []) }
+        ensures rest { OnOk result (length words.new.items ≤ length words.old.items) }
         ensures err { OnErr result (self.new ≡ self.old) }
         ensures err_words { OnErr result (words.new.items ≡ words.old.items) }
     {
         if words.len() < WORDS_OF_A_PAGE || !self.rows.is_empty() {
-            self.rows.push(words.as_slice())?;
-            words.clear();
-            return Ok(());
+            return self.rows.push(words.as_slice());
         }
         put_list(&mut self.own, self.count, words)?;
         self.count += 1;

@@ -29,6 +29,7 @@ mod seq;
 mod share;
 mod shared;
 mod stores_ref;
+mod workspace;
 
 pub use block::{Block, PutHead, SendHead};
 pub use blocks::{Blocks, BlocksRef, MessageView, PutView, SendView};
@@ -56,6 +57,7 @@ pub use share::Share;
 pub use shared::{Shared, SharedSeq};
 pub use std::alloc::AllocError as OutOfMemory;
 pub use stores_ref::StoresRef;
+pub use workspace::Workspace;
 
 /// A list of 64-bit words.
 pub type Words = Seq<u64>;

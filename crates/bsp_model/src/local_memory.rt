@@ -109,6 +109,25 @@ fn store_apart(
     Ok(())
 }
 
+/// The words that the change makes of `len` words from `start` on.
+fn changed_words<C: Change>(
+    memory: &Memory,
+    start: u64,
+    len: usize,
+    change: &C,
+) -> Result<Vec<u64>, OutOfMemory>
+    requires { start + len ≤ length memory.now }
+    ensures words { IfOk result (λ words. words.items ≡ C.makes change.now (take len (drop start memory.now))) }
+    ensures len { IfOk result (λ words. length words.items ≡ len) }
+{
+    let alloc = *memory.pages.allocator();
+    let mut before = vec![in alloc; 0; len]?;
+    memory.read(start, before.as_mut_slice());
+    let mut words = vec![in alloc; 0; len]?;
+    change.change(before.as_slice(), words.as_mut_slice());
+    Ok(words)
+}
+
 impl LocalMemory {
     /// No words and no stores, which take no memory.
     pub fn new(alloc: Global) -> LocalMemory
@@ -129,6 +148,42 @@ impl LocalMemory {
         self.ranges.clear();
         self.values.clear();
         self.memory.load_from(memory)
+    }
+
+    /// Makes these words the memory, in which no store was made. The list of words behind the pages is handed out.
+    #[inline(always)]
+    pub(crate) fn take_words(&mut self, words: &mut Vec<u64>)
+        ensures { self.new ≡ record { memory = words.old.items; stores = [] } }
+    {
+        self.ranges.clear();
+        self.values.clear();
+        self.memory.take_words(words);
+    }
+
+    /// Makes these words the memory, of which `len` from `start` on were stored. After `OutOfMemory` the words are still there.
+    #[inline(always)]
+    pub(crate) fn take_stored(
+        &mut self,
+        words: &mut Vec<u64>,
+        start: usize,
+        len: usize,
+    ) -> Result<(), OutOfMemory>
+        requires some { 0 < len }
+        requires inside { start + len ≤ length words.old.items }
+        ensures ok { OnOk result (self.new ≡ record {
+          memory = words.old.items;
+          stores = records start (take len (drop start words.old.items));
+        }) }
+        ensures err { OnErr result (words.new.items ≡ words.old.items) }
+    {
+        self.ranges.clear();
+        self.values.clear();
+        self.ranges.push(Range {
+            start: start as u64,
+            len,
+        })?;
+        self.memory.take_words(words);
+        Ok(())
     }
 
     /// The words of the memory.
@@ -208,9 +263,7 @@ impl LocalMemory {
                 return Ok(());
             }
         }
-        let mut words = vec![in *self.values.allocator(); 0; len]?;
-        self.memory.read(start, words.as_mut_slice());
-        change.change(words.as_mut_slice());
+        let words = changed_words(&self.memory, start, len, change)?;
         self.store(start, words.as_slice())
     }
 

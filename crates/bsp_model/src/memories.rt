@@ -117,19 +117,18 @@ impl Memories {
         }
     }
 
-    /// Takes the words out of `memory`, in which room stays. After `OutOfMemory` `memory` may have any words, but no more than before.
+    /// Takes the words out of `memory`, which may then have any words, but no more than before.
     #[inline(always)]
     pub fn push_from(&mut self, memory: &mut Memory) -> Result<(), OutOfMemory>
         ensures ok { OnOk result (self.new ≡ self.old ++ memory.old ∷ []) }
         ensures err { OnErr result (self.new ≡ self.old) }
-        ensures rest { OnOk result (memory.new ≡ []) }
         ensures few { length memory.new ≤ length memory.old }
     {
         memory.len = memory.last.len();
         let full = take_full(&mut memory.pages)?;
         self.pages.put(self.lasts.len(), full)?;
         self.lasts.push_from(&mut memory.last)?;
-        memory.len = 0;
+        memory.len = memory.last.len();
         Ok(())
     }
 

@@ -4,14 +4,14 @@ ghost use Rattle.std.specs.Prelude.{◌≡◌, ◌≤◌, ◌+◌, ◌-◌, ◌/
 ghost use Rattle.std.specs.Bool.{OnTrue, OnFalse};
 ghost use Rattle.bsp_model.specs.Memory.{memory_written};
 
-use crate::change::change_part;
+use crate::change::change_in_place;
 use crate::page::{Page, WORDS_OF_A_PAGE};
 use crate::paging::{copied_pages, cut_write, is_within, write_pages};
 use crate::seq::{append_items, replace_items};
 use crate::{Change, MemoryRef, OutOfMemory, Same, TryCopy};
 use std::alloc::Global;
 use std::marker::Model;
-use std::slice;
+use std::{mem, slice};
 
 /// The memory of a process: a list of 64-bit words at the addresses 0, 1, .. Its copies share the pages that are full.
 pub struct Memory {
@@ -100,12 +100,27 @@ impl Memory {
     pub fn load_from(&mut self, source: &MemoryRef<'_>) -> Result<(), OutOfMemory>
         ensures { OnOk result (self.new ≡ source.now) }
     {
+        if self.pages.is_empty() && source.pages.is_empty() {
+            self.last.clear();
+            if let Err(error) = append_words(&mut self.last, source.last) {
+                self.last.clear();
+                self.len = 0;
+                return Err(error);
+            }
+            self.len = source.len;
+            return Ok(());
+        }
+        self.load_paged(source)
+    }
+
+    #[inline(never)]
+    fn load_paged(&mut self, source: &MemoryRef<'_>) -> Result<(), OutOfMemory>
+        ensures { OnOk result (self.new ≡ source.now) }
+    {
         self.last.clear();
         self.len = 0;
-        if !self.pages.is_empty() || !source.pages.is_empty() {
-            self.pages.clear();
-            self.pages = copied_pages(source.alloc, source.pages)?;
-        }
+        self.pages.clear();
+        self.pages = copied_pages(source.alloc, source.pages)?;
         self.len = WORDS_OF_A_PAGE * source.pages.len();
         if let Err(error) = append_words(&mut self.last, source.last) {
             self.last.clear();
@@ -113,6 +128,16 @@ impl Memory {
         }
         self.len = source.len;
         Ok(())
+    }
+
+    /// Makes these words the memory, which lies in their list then. The list of words behind the full pages is handed out.
+    #[inline(always)]
+    pub(crate) fn take_words(&mut self, words: &mut Vec<u64>)
+        ensures { self.new ≡ words.old.items }
+    {
+        self.pages.clear();
+        self.len = words.len();
+        mem::swap(&mut self.last, words);
     }
 
     /// This memory, to be read where it lies.
@@ -169,7 +194,8 @@ impl Memory {
         self.write(address, slice::from_ref(&value))
     }
 
-    /// Makes the change where the words lie. False where they lie in several full pages; then, and after `OutOfMemory`, nothing has changed.
+    /// Makes the change in words of one page, or in as few of those behind the full pages. False where they are more; then, and after `OutOfMemory`,
+    /// nothing has changed.
     #[inline]
     pub(crate) fn change<C: Change>(
         &mut self,
@@ -187,7 +213,10 @@ impl Memory {
     {
         let full = self.len - self.last.len();
         if start >= full {
-            change_part(self.last.as_mut_slice(), start - full, len, change);
+            if len > WORDS_OF_A_PAGE {
+                return Ok(false);
+            }
+            change_in_place(self.last.as_mut_slice(), start - full, len, change);
             return Ok(true);
         }
         let place = start % WORDS_OF_A_PAGE;

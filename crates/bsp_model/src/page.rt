@@ -5,7 +5,7 @@ ghost use Rattle.std.specs.Prelude.{◌≡◌, ◌+◌, ◌≤◌, ◌<◌, ◌+
 use crate::change::change_part;
 use crate::seq::replace_items;
 use crate::{Change, OutOfMemory, TryCopy, are_same_words};
-use std::alloc::Global;
+use std::alloc::{AllocError, Global};
 use std::marker::Model;
 use std::sync::Arc;
 
@@ -15,6 +15,18 @@ pub const WORDS_OF_A_PAGE: usize = 64;
 #[derive(Drop)]
 pub struct Page {
     words: Arc<[u64; WORDS_OF_A_PAGE], Global>,
+}
+
+/// It is not inlined, since few pages have one owner, and its copy of a page takes time at entry.
+#[inline(never)]
+fn change_owned<C: Change>(words: &mut [u64; WORDS_OF_A_PAGE], start: usize, len: usize, change: &C)
+    requires { start + len ≤ WORDS_OF_A_PAGE }
+    ensures made { let changed = C.makes change.now (take len (drop start words.old)) in
+        words.new ≡ take start words.old ++ changed ++ drop (start + len) words.old }
+    ensures count { length (C.makes change.now (take len (drop start words.old))) ≡ len }
+{
+    let before: [u64; WORDS_OF_A_PAGE] = *words;
+    change_part(&before[start..start + len], words, start, change);
 }
 
 impl Model for Page {
@@ -82,18 +94,21 @@ impl Page {
         requires { start + len ≤ WORDS_OF_A_PAGE }
         ensures ok { let changed = C.makes change.now (take len (drop start self.old)) in
             OnOk result (self.new ≡ take start self.old ++ changed ++ drop (start + len) self.old) }
-        ensures count { length (C.makes change.now (take len (drop start self.old))) ≡ len }
+        ensures count { OnOk result (length (C.makes change.now (take len (drop start self.old))) ≡ len) }
         ensures err { OnErr result (self.new ≡ self.old) }
         ensures len { length self.old ≡ WORDS_OF_A_PAGE }
     {
-        match Arc::get_mut(&mut self.words) {
-            Some(all) => change_part(all, start, len, change),
-            None => {
-                let mut all: [u64; WORDS_OF_A_PAGE] = *self.words;
-                change_part(&mut all, start, len, change);
-                *self = Page::new(alloc, all)?;
-            }
+        if let Some(all) = Arc::get_mut(&mut self.words) {
+            change_owned(all, start, len, change);
+            return Ok(());
         }
+        let mut new = Arc::new(alloc, *self.words)?;
+        // A new page has one owner.
+        let Some(all) = Arc::get_mut(&mut new) else {
+            return Err(AllocError);
+        };
+        change_part(&self.as_slice()[start..start + len], all, start, change);
+        self.words = new;
         Ok(())
     }
 
@@ -105,14 +120,17 @@ impl Page {
         ensures err { OnErr result (self.new ≡ self.old) }
         ensures len { length self.old ≡ WORDS_OF_A_PAGE }
     {
-        match Arc::get_mut(&mut self.words) {
-            Some(all) => replace_items(all, start, words),
-            None => {
-                let mut all: [u64; WORDS_OF_A_PAGE] = *self.words;
-                replace_items(&mut all, start, words);
-                *self = Page::new(alloc, all)?;
-            }
+        if let Some(all) = Arc::get_mut(&mut self.words) {
+            replace_items(all, start, words);
+            return Ok(());
         }
+        let mut new = Arc::new(alloc, *self.words)?;
+        // A new page has one owner.
+        let Some(all) = Arc::get_mut(&mut new) else {
+            return Err(AllocError);
+        };
+        replace_items(all, start, words);
+        self.words = new;
         Ok(())
     }
 }

@@ -1,6 +1,7 @@
 -- The state of a turn, from the fields of its context.
 use Rattle.std.specs.Prelude.{◌≡◌, ◌≤◌, drop, length}
 use Rattle.bsp_model.specs.Limits.{most_requests, most_work}
+use Rattle.bsp_model.specs.Workspace.{own_memory}
 use Rattle.bsp_step.specs.declared.ctx.Ctx.TheInside.{Inside}
 use Rattle.bsp_step.specs.ViewParts.{IsView, IsQueue}
 use Rattle.bsp_step.specs.Context.{Context}
@@ -13,9 +14,9 @@ abbrev pub context_of : Inside → Context
 context_of c =
     record {
       view = c.view.now;
-      memory = c.lists.value.local.memory;
+      memory = (own_memory c.workspace.value c.view.now.memory).memory;
       left = drop c.taken c.view.now.queue;
-      stores = c.lists.value.local.stores;
+      stores = (own_memory c.workspace.value c.view.now.memory).stores;
       puts = c.lists.value.puts;
       gets = c.lists.value.gets;
       sends = c.lists.value.sends;

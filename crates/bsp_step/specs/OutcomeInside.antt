@@ -7,8 +7,8 @@ outcome_parts o =
     record {
       fault = o.fault;
       ended = o.ended;
-      memory = o.lists.value.local.memory;
-      stores = o.lists.value.local.stores;
+      memory = o.workspace.value.local.memory;
+      stores = o.workspace.value.local.stores;
       puts = o.lists.value.puts;
       gets = o.lists.value.gets;
       sends = o.lists.value.sends;

@@ -1,6 +1,6 @@
 //! The context of a turn.
 
-ghost use Rattle.std.specs.Prelude.{◌≡◌, IfOk, Err, Some};
+ghost use Rattle.std.specs.Prelude.{◌≡◌, ◌≤◌, IfOk, Err, Some, length};
 ghost use Rattle.bsp_step.specs.Context.{fresh};
 ghost use Rattle.bsp_step.specs.Perform.{count_of_requests, request_fault};
 ghost use Rattle.bsp_step.specs.Inside.Checks.{Passes};
@@ -13,8 +13,8 @@ mod reading;
 mod remote;
 
 use crate::{Ended, Outcome, Stop, TurnLists, View};
-use bsp_model::limits::MOST_REQUESTS;
-use bsp_model::{End, Fault, OutOfMemory};
+use bsp_model::limits::{MOST_MEMORY_WORDS, MOST_REQUESTS};
+use bsp_model::{End, Fault, MemoryRef, OutOfMemory, Workspace};
 use std::alloc::Global;
 use std::marker::Model;
 
@@ -24,6 +24,7 @@ pub struct Ctx<'v> {
     view: &'v View<'v>,
     alloc: Global,
     taken: usize,
+    workspace: Box<Workspace>,
     lists: Box<TurnLists>,
     tag: Option<u64>,
     work: u64,
@@ -59,17 +60,34 @@ impl<'v> Ctx<'v> {
     ) -> Result<Ctx<'v>, OutOfMemory>
         ensures { IfOk result (λ c. c ≡ fresh view.now) }
     {
-        let Outcome { mut lists, .. } = spare;
-        lists.begin(&view.memory)?;
+        let Outcome {
+            mut workspace,
+            mut lists,
+            ..
+        } = spare;
+        lists.clear();
+        workspace.begin(&view.memory)?;
         Ok(Ctx {
             view,
             alloc,
             taken: 0,
+            workspace,
             lists,
             tag: None,
             work: 0,
             fault: None,
         })
+    }
+
+    /// The words of the own memory.
+    #[inline(always)]
+    fn memory(&self) -> MemoryRef<'_>
+        ensures words { result ≡ self.now.memory }
+        ensures short { length self.now.memory ≤ MOST_MEMORY_WORDS }
+    {
+        let view = self.view;
+        let workspace: &Workspace = &self.workspace;
+        workspace.memory(&view.memory)
     }
 
     fn refuse<T>(&mut self, fault: Fault) -> Result<T, Stop>
@@ -105,11 +123,13 @@ impl<'v> Ctx<'v> {
 
     /// What the turn leaves, where its step answered `how`. It takes no memory.
     #[inline(always)]
-    pub fn close(self, how: End) -> Outcome
+    pub fn close(mut self, how: End) -> Outcome
         ensures closed { result ≡ closed self.entry how }
         ensures limits { IsOutcome result }
         ensures issued { IsOutcomeOf self.entry.view result }
     {
+        let view = self.view;
+        self.workspace.load(&view.memory);
         let fault = match (self.fault, how) {
             (Some(fault), _) => Some(fault),
             (None, End::Abort(code)) => Some(Fault::Abort(code)),
@@ -122,6 +142,7 @@ impl<'v> Ctx<'v> {
         Outcome {
             fault,
             ended,
+            workspace: self.workspace,
             lists: self.lists,
             tag: self.tag,
             work: self.work,

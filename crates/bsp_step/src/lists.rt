@@ -8,7 +8,7 @@ ghost use Rattle.bsp_step.specs.Inside.Outcomes.{IsWithoutColumn, first_at, AreS
 use crate::{Ended, ListKind, Outcome, OutcomeRef, TurnLists};
 use bsp_model::{
     BlockColumn, Column, Fault, Get, LineColumn, MemoryRef, OutOfMemory, Put, Send, Share,
-    StoreColumn,
+    StoreColumn, Workspace,
 };
 use bsp_table::Area;
 use std::alloc::Global;
@@ -172,7 +172,8 @@ impl Lists {
         ensures there { OnOk result (HasLists self.new place outcome.now.memory outcome.now) }
     {
         let lists: &TurnLists = &outcome.lists;
-        let done = self.stores.put_local(place, &lists.local);
+        let workspace: &Workspace = &outcome.workspace;
+        let done = self.stores.put_local(place, &workspace.local);
         let done = done.and(self.puts.put(place, &lists.puts.as_ref()));
         if !outcome.is_plain() {
             return done.and(self.put_rare_of(place, outcome));

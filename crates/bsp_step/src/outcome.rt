@@ -7,8 +7,8 @@ ghost use Rattle.bsp_step.specs.Inside.Outcomes.{IsPlain};
 
 use crate::TurnLists;
 use bsp_model::{
-    Fault, Get, MemoryRef, OutOfMemory, PrintedLinesRef, PutsRef, Same, SendsRef, StoresRef,
-    TryCopy, are_same,
+    Fault, Get, LocalMemory, MemoryRef, OutOfMemory, PrintedLinesRef, PutsRef, Same, SendsRef,
+    StoresRef, TryCopy, Workspace, are_same,
 };
 use bsp_table::Area;
 use std::alloc::Global;
@@ -28,6 +28,8 @@ pub struct Outcome {
     pub fault: Option<Fault>,
     /// How the turn ended; `Halt` where there is a fault.
     pub ended: Ended,
+    /// The memory after computing, and the stores that were made, in order.
+    pub workspace: Box<Workspace>,
     pub lists: Box<TurnLists>,
     /// The choice of the next tag size, if one was made.
     pub tag: Option<u64>,
@@ -54,6 +56,7 @@ impl Outcome {
         Ok(Outcome {
             fault: None,
             ended: Ended::Halt,
+            workspace: Box::new(alloc, Workspace::of(alloc, LocalMemory::new(alloc)))?,
             lists: Box::new(alloc, TurnLists::new(alloc))?,
             tag: None,
             work: 0,
@@ -81,11 +84,12 @@ impl Outcome {
         ensures { result ≡ self.now }
     {
         let lists: &TurnLists = &self.lists;
+        let workspace: &Workspace = &self.workspace;
         OutcomeRef {
             fault: self.fault,
             ended: self.ended,
-            memory: lists.local.memory(),
-            stores: lists.local.stores(),
+            memory: workspace.local.memory(),
+            stores: workspace.local.stores(),
             puts: lists.puts.as_ref(),
             gets: lists.gets.as_slice(),
             sends: lists.sends.as_ref(),
@@ -101,10 +105,13 @@ impl Outcome {
 impl TryCopy for Outcome {
     fn copy(&self) -> Result<Outcome, OutOfMemory> {
         let lists: &TurnLists = &self.lists;
+        let workspace: &Workspace = &self.workspace;
+        let alloc = lists.gets.allocator();
         Ok(Outcome {
             fault: self.fault,
             ended: self.ended,
-            lists: Box::new(lists.gets.allocator(), lists.copy()?)?,
+            workspace: Box::new(alloc, Workspace::of(alloc, workspace.local.copy()?))?,
+            lists: Box::new(alloc, lists.copy()?)?,
             tag: self.tag,
             work: self.work,
         })

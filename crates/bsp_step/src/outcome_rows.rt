@@ -11,8 +11,10 @@ ghost use Rattle.bsp_step.specs.ListKind.{IsWithout};
 mod put_rows;
 
 use crate::lists::{Lists, TurnEnd, first};
-use crate::{ListKind, Outcome, OutcomeRef, TurnLists};
-use bsp_model::{ByProcess, LineColumn, Memories, Memory, OutOfMemory, ProcessSet, Share};
+use crate::{ListKind, Outcome, OutcomeRef};
+use bsp_model::{
+    ByProcess, LineColumn, Memories, Memory, OutOfMemory, ProcessSet, Share, Workspace,
+};
 pub use put_rows::PutRows;
 use std::alloc::{AllocError, Global};
 use std::marker::Model;
@@ -175,8 +177,8 @@ impl OutcomeRows {
         };
         let put = self.lists.put_turn(self.ends.len(), outcome);
         put.and(self.ends.reserve(1))?;
-        let lists: &mut TurnLists = &mut outcome.lists;
-        lists.local.move_to(&mut self.memories)?;
+        let workspace: &mut Workspace = &mut outcome.workspace;
+        workspace.local.move_to(&mut self.memories)?;
         self.ends.push_reserved(end);
         Ok(())
     }

@@ -1,18 +1,15 @@
 //! The lists that a turn leaves.
 
-ghost use Rattle.std.specs.Prelude.{◌≡◌, ◌≤◌, ◌+◌, ◌++◌, ◌∷◌, [], drop, length, take, OnErr, OnOk};
+ghost use Rattle.std.specs.Prelude.{◌≡◌};
 ghost use Rattle.bsp_step.specs.Inside.TurnLists.{no_lists};
 
-use bsp_model::{
-    Blocks, Get, LocalMemory, MemoryRef, OutOfMemory, PrintedLines, Put, Send, Seq, TryCopy,
-};
+use bsp_model::{Blocks, Get, OutOfMemory, PrintedLines, Put, Send, Seq, TryCopy};
 use bsp_table::Area;
 use std::alloc::Global;
 
-/// What a turn leaves in lists, each in issue order. They lie in a box, so that an outcome and a context that move take few words with them.
+/// What a turn leaves beside its memory and stores, each list in issue order. They lie in a box, so that an outcome and a context that move take few
+/// words with them.
 pub struct TurnLists {
-    /// The memory after computing, and the stores that were made, in order.
-    pub local: LocalMemory,
     pub puts: Blocks<Put>,
     pub gets: Seq<Get>,
     pub sends: Blocks<Send>,
@@ -24,7 +21,6 @@ pub struct TurnLists {
 impl Drop for TurnLists {
     fn drop(self) {
         let Self {
-            local,
             puts,
             gets,
             sends,
@@ -37,10 +33,9 @@ impl Drop for TurnLists {
 
 impl TurnLists {
     pub(crate) fn new(alloc: Global) -> TurnLists
-        ensures { result ≡ no_lists [] }
+        ensures { result ≡ no_lists }
     {
         TurnLists {
-            local: LocalMemory::new(alloc),
             puts: Blocks::new(alloc),
             gets: Seq::new(alloc),
             sends: Blocks::new(alloc),
@@ -51,8 +46,8 @@ impl TurnLists {
     }
 
     #[inline(always)]
-    pub(crate) fn begin(&mut self, memory: &MemoryRef<'_>) -> Result<(), OutOfMemory>
-        ensures { OnOk result (self.new ≡ no_lists memory.now) }
+    pub(crate) fn clear(&mut self)
+        ensures { self.new ≡ no_lists }
     {
         self.puts.clear();
         self.gets.clear();
@@ -60,14 +55,12 @@ impl TurnLists {
         self.pops.clear();
         self.pushes.clear();
         self.lines.clear();
-        self.local.begin(memory)
     }
 }
 
 impl TryCopy for TurnLists {
     fn copy(&self) -> Result<TurnLists, OutOfMemory> {
         Ok(TurnLists {
-            local: self.local.copy()?,
             puts: self.puts.copy()?,
             gets: self.gets.copy()?,
             sends: self.sends.copy()?,

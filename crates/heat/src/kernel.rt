@@ -130,17 +130,17 @@ impl Change for TimeStep {
 
     ghost makes = { λ step cells. next_cells (step.before ∷ cells ++ step.after ∷ []) };
 
-    fn change(&self, cells: &mut [u64]) {
+    fn change(&self, cells: &[u64], next: &mut [u64]) {
         let Some(last) = cells.len().checked_sub(1) else {
             return;
         };
         let mut before = self.before;
         for i in 0..last {
             let own = cells[i];
-            cells[i] = next_cell(before, own, cells[i + 1]);
+            next[i] = next_cell(before, own, cells[i + 1]);
             before = own;
         }
-        cells[last] = next_cell(before, cells[last], self.after);
+        next[last] = next_cell(before, cells[last], self.after);
     }
 }
 

@@ -5,9 +5,9 @@ ghost use Rattle.bsp_step.specs.Act as act;
 ghost use Rattle.bsp_step.specs.Blocks.{words_at, stores, with_stored};
 ghost use Rattle.bsp_step.specs.Calls.{Performs, PerformsAll, PerformsAlways, PutsWords};
 
-use crate::{Ctx, Stop, TurnLists};
+use crate::{Ctx, Stop};
 use bsp_model::limits::{MOST_LINE_WORDS, MOST_LINES, MOST_MEMORY_WORDS, MOST_WORK};
-use bsp_model::{Change, Fault, OutOfMemory, Words};
+use bsp_model::{Change, Fault, OutOfMemory, Words, Workspace};
 use std::slice;
 
 impl<'v> Ctx<'v> {
@@ -18,11 +18,12 @@ impl<'v> Ctx<'v> {
         if let Some(fault) = self.fault {
             return Err(Stop::Fault(fault));
         }
-        if address >= self.lists.local.memory().len() as u64 {
+        if address >= self.memory_len() {
             return self.refuse(Fault::BadLocal);
         }
-        let lists: &mut TurnLists = &mut self.lists;
-        lists.local.store(address, slice::from_ref(&value))?;
+        let view = self.view;
+        let workspace: &mut Workspace = &mut self.workspace;
+        workspace.store(&view.memory, address, slice::from_ref(&value))?;
         Ok(())
     }
 
@@ -64,7 +65,7 @@ impl<'v> Ctx<'v> {
         ensures within { IsSome result ↔ (address + length words.old ≤ length self.now.memory) }
         ensures short { length self.now.memory ≤ MOST_MEMORY_WORDS }
     {
-        self.lists.local.memory().read(address, words).then_some(())
+        self.memory().read(address, words).then_some(())
     }
 
     /// The `len` words of the own memory from `address` on, as they are now, or `None` where they pass its end: `load_words` into a new list.
@@ -77,10 +78,7 @@ impl<'v> Ctx<'v> {
             return Ok(None);
         }
         let mut words = vec![in self.alloc; 0; len as usize]?;
-        self.lists
-            .local
-            .memory()
-            .read(address, words.as_mut_slice());
+        self.memory().read(address, words.as_mut_slice());
         Ok(Some(Words::from_vec(words)))
     }
 
@@ -93,10 +91,11 @@ impl<'v> Ctx<'v> {
         if let Some(fault) = self.fault {
             return Err(Stop::Fault(fault));
         }
-        let room = (self.lists.local.memory().len() as u64).saturating_sub(address);
+        let room = self.memory_len().saturating_sub(address);
         let (inside, past) = words.split_at(words.len().min(room as usize));
-        let lists: &mut TurnLists = &mut self.lists;
-        lists.local.store(address, inside)?;
+        let view = self.view;
+        let workspace: &mut Workspace = &mut self.workspace;
+        workspace.store(&view.memory, address, inside)?;
         if !past.is_empty() {
             return self.refuse(Fault::BadLocal);
         }
@@ -115,19 +114,19 @@ impl<'v> Ctx<'v> {
         ensures { PutsWords self.old (words_at self.old.memory from len)
             (λ words. act.put pid words area offset) self.new result }
     {
-        let own = self.lists.local.memory().len() as u64;
+        let own = self.memory_len();
         if from > own || len > own - from {
             return Ok(None);
         }
         let start = self.resolve(pid, area, offset, len)?;
         let mut words = vec![in self.alloc; 0; len as usize]?;
-        self.lists.local.memory().read(from, words.as_mut_slice());
+        self.memory().read(from, words.as_mut_slice());
         self.lists.puts.push(pid, start, words.as_slice())?;
         Ok(Some(()))
     }
 
     /// Stores what the change makes of the `len` words from `address` on. `Ok(None)`, and nothing is done, where they pass the end of the memory.
-    /// After `OutOfMemory` nothing is changed. Words that lie in one piece (`piece_len`) are changed where they lie.
+    /// After `OutOfMemory` nothing is changed. A first change in words that lie in one piece (`piece_len`) copies none of them.
     pub fn change_words<C: Change>(
         &mut self,
         address: u64,
@@ -149,8 +148,9 @@ impl<'v> Ctx<'v> {
         if let Some(fault) = self.fault {
             return Err(Stop::Fault(fault));
         }
-        let lists: &mut TurnLists = &mut self.lists;
-        lists.local.change(address, len as usize, change)?;
+        let view = self.view;
+        let workspace: &mut Workspace = &mut self.workspace;
+        workspace.change(&view.memory, address, len as usize, change)?;
         Ok(Some(()))
     }
 }

@@ -4,6 +4,7 @@
 ghost use Rattle.std.specs.Prelude.{◌≡◌, ◌≤◌, ◌<◌, ◌-◌, ◌↔◌, length, slice_get, IsSome};
 
 use crate::Ctx;
+use bsp_model::Workspace;
 use bsp_model::limits::{MOST_ARGUMENTS, MOST_MEMORY_WORDS, MOST_PROCESSES, MOST_TAG_WORDS};
 
 impl<'v> Ctx<'v> {
@@ -51,7 +52,8 @@ impl<'v> Ctx<'v> {
         ensures same { result ≡ length self.now.view.memory }
         ensures short { result ≤ MOST_MEMORY_WORDS }
     {
-        self.lists.local.memory().len() as u64
+        let view = self.view;
+        view.memory.len() as u64
     }
 
     /// The word at `address` of the own memory as it is now, if there is one: exactly below `memory_len`.
@@ -60,7 +62,9 @@ impl<'v> Ctx<'v> {
         ensures within { IsSome result ↔ (address < length self.now.memory) }
         ensures short { length self.now.memory ≤ MOST_MEMORY_WORDS }
     {
-        self.lists.local.memory().load(address)
+        let view = self.view;
+        let workspace: &Workspace = &self.workspace;
+        workspace.word_at(&view.memory, address)
     }
 
     /// How many words of the own memory from `address` on lie in one piece, at least one where there is any. It is for speed: no act should depend on it.
@@ -68,7 +72,7 @@ impl<'v> Ctx<'v> {
         ensures some { address < length self.now.memory → 0 < result }
         ensures inside { result ≤ length self.now.memory - address }
     {
-        self.lists.local.memory().piece_len(address) as u64
+        self.memory().piece_len(address) as u64
     }
 
     /// The tag size in force in this superstep: at most `MOST_TAG_WORDS` words.

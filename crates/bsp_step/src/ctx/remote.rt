@@ -65,7 +65,7 @@ impl<'v> Ctx<'v> {
         ensures { Performs self.old (act.get pid area offset into len) self.new result }
     {
         let start = self.resolve(pid, area, offset, len)?;
-        let own = self.lists.local.memory().len() as u64;
+        let own = self.memory_len();
         if into > own || len > own - into {
             return self.refuse(Fault::BadLocal);
         }
@@ -84,7 +84,7 @@ impl<'v> Ctx<'v> {
         ensures { Performs self.old (act.push_reg start len) self.new result }
     {
         self.begin_request()?;
-        let words = self.lists.local.memory().len() as u64;
+        let words = self.memory_len();
         if start > words || len > words - start {
             return self.refuse(Fault::BadLocal);
         }

@@ -1,6 +1,6 @@
 //! Memories of several pages, and in one piece.
 
-use bsp_model::{Change, LocalMemory, Memory, OutOfMemory, Same, TryCopy};
+use bsp_model::{Change, LocalMemory, Memory, OutOfMemory, Same, TryCopy, Workspace};
 use std::alloc::Global;
 
 /// Whether words are written up to the end, and not past it.
@@ -55,8 +55,8 @@ impl Change for Sevens {
 
     ghost makes = { λ _ words. replicate (length words) 7 };
 
-    fn change(&self, words: &mut [u64]) {
-        words.fill(7);
+    fn change(&self, _before: &[u64], after: &mut [u64]) {
+        after.fill(7);
     }
 }
 
@@ -97,4 +97,34 @@ fn is_changed_apart(alloc: Global) -> Result<bool, OutOfMemory> {
 #[test]
 fn a_change_is_made_in_pages_and_behind_gaps(rt: HostRuntime) {
     assert!(rt; is_changed_apart(rt.alloc()) == Ok(true));
+}
+
+/// Whether the first change of a turn writes eight words of a memory in one piece, and keeps the words beside them.
+fn is_changed_at_first(before: &Memory, workspace: &mut Workspace) -> Result<bool, OutOfMemory> {
+    let memory = before.as_ref();
+    if memory.len() != 130 {
+        return Ok(false);
+    }
+    workspace.begin(&memory)?;
+    workspace.change(&memory, 64, 8, &Sevens)?;
+    let after = workspace.local.memory();
+    let is_there = after.load(64) == Some(7) && after.load(71) == Some(7);
+    let is_alone = after.load(63) == Some(0) && after.load(72) == Some(0);
+    Ok(is_there && is_alone && workspace.local.stores().len() == 8 && before.load(64) == Some(0))
+}
+
+fn is_changed_in_one_piece(alloc: Global) -> Result<bool, OutOfMemory> {
+    let whole = Memory::from_words(alloc, &[0; 130])?
+        .as_ref()
+        .to_one_piece()?;
+    let mut workspace = Workspace::of(alloc, LocalMemory::new(alloc));
+    let is_changed = is_changed_at_first(&whole, &mut workspace);
+    drop(workspace);
+    drop(whole);
+    is_changed
+}
+
+#[test]
+fn a_change_is_made_in_one_piece(rt: HostRuntime) {
+    assert!(rt; is_changed_in_one_piece(rt.alloc()) == Ok(true));
 }

@@ -1,4 +1,4 @@
-use Rattle.std.proofs.Common.{◌≤◌, ℕ, List, [], length, refl, arith}
+use Rattle.std.proofs.Common.{◌≤◌, ℕ, List, [], length, arith}
 use Rattle.std.proofs.lemmas.Result.{MatchResult-from_err}
 use Rattle.bsp_model.specs.Columns.{row_at, IsPut}
 use Rattle.bsp_model.specs.Inside.Pages.{words_of}
@@ -32,10 +32,6 @@ returns-clause-ok c =
     rw c.in_ok-push_from.ensures.ok
     (memories_of-push c.self.inside.pages c.put.new.self c.self.inside.lasts c.args.self.now c.memory.inside.pages.items c.memory.inside.last.items _ c.memory.inside.len c.self.view_is put c.memory.invariant c.memory.view_is)
 
-pub returns-clause-rest : goal.returns-clause-rest
-unfolding words_of
-returns-clause-rest c = refl
-
 -- as many words as the memory that is left says that it has
 left : (full : List (List ℕ)) (last : List ℕ) (len count : ℕ) → len ≤ count → length (words_of full last len) ≤ count
 left full last len count few = omega (arith, few, length-words_of full last len)
@@ -50,4 +46,4 @@ pub returns-in_err-push_from-clause-few : goal.returns-in_err-push_from-clause-f
 returns-in_err-push_from-clause-few c = left c.take_full.new.pages.items _ _ _ (omega (arith, words_len _ _ _ _ c.memory.view_is, c.memory.invariant.count, c.len-memory-inside.ensures))
 
 pub returns-clause-few : goal.returns-clause-few
-returns-clause-few c = left c.take_full.new.pages.items c.push_from.new.words.items 0 _ (omega arith)
+returns-clause-few c = left c.take_full.new.pages.items c.push_from.new.words.items _ _ (omega (arith, c.in_ok-push_from.ensures.rest, words_len _ _ _ _ c.memory.view_is, c.memory.invariant.count, c.len-memory-inside.ensures))

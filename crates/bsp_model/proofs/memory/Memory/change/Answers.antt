@@ -5,8 +5,8 @@ use Rattle.bsp_model.proofs.Pages.{words_len}
 use Rattle.bsp_model.proofs.Changes.{seen_behind, changed_behind, seen_in_page, changed_page}
 use Rattle.bsp_model.proofs.memory.Memory.change.Goals as goal
 
-pub change_part-requires : goal.change_part-requires
-change_part-requires g c =
+pub change_in_place-requires : goal.change_in_place-requires
+change_in_place-requires g c =
     let count = c.self.invariant.count in
     let e = words_len _ _ _ _ c.self.view_is in
     omega (arith, count, e, c.requires, c.len.ensures, c.as_mut_slice.ensures.len)
@@ -19,7 +19,7 @@ seen g c =
     ∙ seen_behind c.self.inside.pages.items c.self.inside.last.items c.args.self.now c.self.inside.len c.args.start place c.args.len c.self.view_is c.self.invariant (omega (arith, count, c.len.ensures, c.if-start-full.true))
 
 counted : (g : _) (c : goal.After-self-1 g) → length (g.C.Change.makes c.args.change.now (take c.args.len (drop c.args.start c.args.self.now))) ≡ c.args.len
-counted g c = ap (λ (ws : List ℕ). length (g.C.Change.makes c.args.change.now ws)) (sym (seen g c)) ∙ c.change_part.ensures.count
+counted g c = ap (λ (ws : List ℕ). length (g.C.Change.makes c.args.change.now ws)) (sym (seen g c)) ∙ c.change_in_place.ensures.count
 
 pub returns-then-start-full-clause-made : goal.returns-then-start-full-clause-made
 returns-then-start-full-clause-made g c made =
@@ -28,14 +28,14 @@ returns-then-start-full-clause-made g c made =
     let count = c.self.invariant.count in
     let words = g.C.Change.makes c.args.change.now (take c.args.len (drop c.args.start c.args.self.now)) in
     let many : length words ≡ c.args.len = counted g c in
-    let items : (with_items c.self.inside.last c.change_part.new.words).items ≡ c.change_part.new.words =
-    with_items_is c.self.inside.last c.change_part.new.words (c.change_part.auto.words ∙ c.as_mut_slice.ensures.len) in
-    let new : c.change_part.new.words ≡ take place last ++ words ++ drop (place + length words) last =
-    c.change_part.ensures.made
+    let items : (with_items c.self.inside.last c.change_in_place.new.words).items ≡ c.change_in_place.new.words =
+    with_items_is c.self.inside.last c.change_in_place.new.words (c.change_in_place.auto.words ∙ c.as_mut_slice.ensures.len) in
+    let new : c.change_in_place.new.words ≡ take place last ++ words ++ drop (place + length words) last =
+    c.change_in_place.ensures.made
     ∙ (λ i. take place (c.as_mut_slice.ensures.value i) ++ g.C.Change.makes c.args.change.now (seen g c i) ++ drop (place + c.args.len) (c.as_mut_slice.ensures.value i))
     ∙ ap (λ (n : ℕ). take place last ++ words ++ drop (place + n) last) (sym many) in
     rw items
-    (changed_behind c.self.inside.pages.items last c.change_part.new.words c.args.self.now words c.self.inside.len c.args.start place c.self.view_is c.self.invariant
+    (changed_behind c.self.inside.pages.items last c.change_in_place.new.words c.args.self.now words c.self.inside.len c.args.start place c.self.view_is c.self.invariant
     (omega (arith, count, c.len.ensures, c.if-start-full.true)) (omega (arith, many, c.requires, words_len _ _ _ _ c.self.view_is)) new)
 
 pub returns-then-start-full-clause-count : goal.returns-then-start-full-clause-count

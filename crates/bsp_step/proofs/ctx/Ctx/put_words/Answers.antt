@@ -7,5 +7,5 @@ use Rattle.bsp_step.proofs.ctx.Ctx.put_words.Goals as goal
 pub invariant_of-self-2 : goal.invariant_of-self-2
 invariant_of-self-2 c =
     let long : length c.as_slice.result.now ≡ c.args.len = grind (arith, common_steps) in
-    put-within (context_of c.self-2.inside) c.args.self.now c.deref_mut.result.now c.args.pid c.args.len c.args.area c.args.offset c.in_ok-start.start c.as_slice.result.now c.push.new.self
-    c.self-2.invariant (c.self-2.view_is ∙ c.in_ok-start.ensures.passes.0) c.deref_mut.ensures.value c.in_ok-start.ensures.passes.2 c.in_ok-start.ensures.start long c.in_ok-push.ensures.ok
+    put-within (context_of c.self.inside) c.args.self.now c.deref_mut.result.now c.args.pid c.args.len c.args.area c.args.offset c.in_ok-start.start c.as_slice.result.now c.push.new.self
+    c.self.invariant (c.self.view_is ∙ c.in_ok-start.ensures.passes.0) c.deref_mut.ensures.value c.in_ok-start.ensures.passes.2 c.in_ok-start.ensures.start long c.in_ok-push.ensures.ok

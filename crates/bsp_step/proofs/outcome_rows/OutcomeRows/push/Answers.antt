@@ -1,5 +1,5 @@
 use Rattle.std.proofs.Common.{◌≡◌, ◌∷◌, [], ◌++◌, ℕ, List, length, ap, subst, refl, ◌∙◌, arith}
-use Rattle.bsp_step.specs.declared.turn_lists.TurnLists.{TurnLists}
+use Rattle.bsp_model.specs.declared.workspace.Workspace.{Workspace}
 use Rattle.bsp_step.specs.OutcomeParts.{OutcomeParts, IsOutcome}
 use Rattle.bsp_step.proofs.BothOk.{both_ok}
 use Rattle.bsp_step.proofs.OutcomeColumns.{outcomes-push, lawful-push, end_of, same_below, unchanged-below, has_there, on_err}
@@ -24,7 +24,7 @@ invariant_of-self-2 c =
     let r = c.self.inside in
     let o = c.args.outcome.now in
     let moved : c.move_to.new.memories ≡ r.memories ++ o.memory ∷ [] =
-    c.in_ok-move_to.ensures.ok ∙ ap (λ (m : List ℕ). r.memories ++ m ∷ []) (ap (λ (l : TurnLists). l.local.memory) c.deref_mut-lists.ensures.value ∙ ap (λ (p : OutcomeParts). p.memory) c.outcome.view_is) in
+    c.in_ok-move_to.ensures.ok ∙ ap (λ (m : List ℕ). r.memories ++ m ∷ []) (ap (λ (l : Workspace). l.local.memory) c.deref_mut-workspace.ensures.value ∙ ap (λ (p : OutcomeParts). p.memory) c.outcome.view_is) in
     let lawful : IsOutcome o = subst IsOutcome c.outcome.view_is c.outcome.invariant in
     rw (c.push_reserved.ensures.items, c.reserve.ensures.items, moved)
     (lawful-push r.ends.items r.memories r.lists.value c.put_turn-put.new.self _ o.memory o c.self.invariant
@@ -37,7 +37,7 @@ returns-clause-ok c =
     let r = c.self.inside in
     let o = c.args.outcome.now in
     let moved : c.move_to.new.memories ≡ r.memories ++ o.memory ∷ [] =
-    c.in_ok-move_to.ensures.ok ∙ ap (λ (m : List ℕ). r.memories ++ m ∷ []) (ap (λ (l : TurnLists). l.local.memory) c.deref_mut-lists.ensures.value ∙ ap (λ (p : OutcomeParts). p.memory) c.outcome.view_is) in
+    c.in_ok-move_to.ensures.ok ∙ ap (λ (m : List ℕ). r.memories ++ m ∷ []) (ap (λ (l : Workspace). l.local.memory) c.deref_mut-workspace.ensures.value ∙ ap (λ (p : OutcomeParts). p.memory) c.outcome.view_is) in
     rw (c.push_reserved.ensures.items, c.reserve.ensures.items, moved, ← c.self.view_is)
     (outcomes-push r.ends.items r.memories r.lists.value c.put_turn-put.new.self _ o.memory o c.self.invariant.count
     (same_below c.deref_mut.result.now r.lists.value c.put_turn-put.new.self c.len.result (length r.ends.items) c.deref_mut.ensures.value (omega (arith, c.len.ensures, r.ends.ok)) c.put_turn-put.ensures.before)
@@ -48,10 +48,9 @@ pub invariant_of-outcome : goal.invariant_of-outcome
 invariant_of-outcome c =
     let i = c.outcome.invariant in
     let short = i.short_memory in
-    rw c.deref_mut-lists.ensures.value
     (record {
       halts = i.halts;
-      short_memory = omega (arith, short, c.move_to.ensures.few, ap (λ (l : TurnLists). length l.local.memory) c.deref_mut-lists.ensures.value);
+      short_memory = omega (arith, short, c.move_to.ensures.few, ap (λ (l : Workspace). length l.local.memory) c.deref_mut-workspace.ensures.value);
       few_requests = i.few_requests;
       sends = i.sends;
       tag = i.tag;
