@@ -44,7 +44,8 @@ fn word_before(before: &MemoryRef<'_>, address: u64) -> Option<u64>
 impl Workspace {
     /// A workspace with this memory and these stores. It takes no memory itself.
     pub fn of(alloc: Global, local: LocalMemory) -> Workspace
-        ensures { result.local ≡ local }
+        ensures local { result.local ≡ local }
+        ensures loaded { result.is_loaded ≡ true }
     {
         Workspace {
             local,
@@ -127,10 +128,11 @@ impl Workspace {
         requires room { length (own_memory self.old before.now).memory ≡ length before.now }
         requires inside { length words.now ≤ length before.now - start }
         requires short { length before.now < 2 ^ 64 }
-        ensures ok { let own = own_memory self.old before.now in OnOk result (own_memory self.new before.now ≡ record {
-          memory = memory_written own.memory start words.now;
-          stores = own.stores ++ records start words.now;
-        }) }
+        ensures ok { let own = own_memory self.old before.now in
+            OnOk result (own_memory self.new before.now ≡ record {
+              memory = memory_written own.memory start words.now;
+              stores = own.stores ++ records start words.now;
+            }) }
         ensures err { OnErr result (own_memory self.new before.now ≡ own_memory self.old before.now) }
     {
         self.load(before);
@@ -156,9 +158,11 @@ impl Workspace {
               memory = memory_written own.memory start words;
               stores = own.stores ++ records start words;
             }) }
-        ensures count { let words = C.makes change.now (take len (drop start (own_memory self.old before.now).memory)) in
+        ensures count { let own = own_memory self.old before.now in
+            let words = C.makes change.now (take len (drop start own.memory)) in
             IfOk result (λ made. made ≡ true → length words ≡ len) }
-        ensures left { IfOk result (λ made. made ≡ false → own_memory self.new before.now ≡ own_memory self.old before.now) }
+        ensures left { IfOk result (λ made. made ≡ false
+            → own_memory self.new before.now ≡ own_memory self.old before.now) }
         ensures err { OnErr result (own_memory self.new before.now ≡ own_memory self.old before.now) }
     {
         let words = before.piece(0, before.len());
@@ -190,7 +194,8 @@ impl Workspace {
               memory = memory_written own.memory start words;
               stores = own.stores ++ records start words;
             }) }
-        ensures count { let words = C.makes change.now (take len (drop start (own_memory self.old before.now).memory)) in
+        ensures count { let own = own_memory self.old before.now in
+            let words = C.makes change.now (take len (drop start own.memory)) in
             OnOk result (length words ≡ len) }
         ensures err { OnErr result (own_memory self.new before.now ≡ own_memory self.old before.now) }
     {
