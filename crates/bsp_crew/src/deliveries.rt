@@ -11,18 +11,18 @@ use crate::part::{Made, Means, Part, Task};
 use crate::shared_run::SharedRun;
 use bsp_deliver::{Cells, deliver_some};
 use bsp_gate::Gate;
-use bsp_model::{ByProcess, OutOfMemory, TryCopy};
+use bsp_model::{OutOfMemory, TryCopy};
 use bsp_step::{Outcomes, Program};
 
 /// Adds cells behind cells. Where there are none yet, the new ones are handed on.
-pub(crate) fn add_cells(cells: &mut Cells, more: Cells) -> Result<(), OutOfMemory>
+pub(crate) fn add_cells(cells: &mut Cells, mut more: Cells) -> Result<(), OutOfMemory>
     ensures { OnOk result (cells.new ≡ cells.old ++ more) }
 {
     if cells.len() == 0 {
         *cells = more;
         return Ok(());
     }
-    cells.append_range(&more, 0, more.len())
+    cells.append(&mut more)
 }
 
 impl<'a, P, G: Gate> Means<'a, P, G> {

@@ -23,7 +23,8 @@ pub(crate) fn pause(look: u64) {
     }
 }
 
-/// How long the calling thread waits in a superstep: as long as its own part took, and some microseconds at least.
+/// How long the calling thread waits in a superstep: twice as long as its own part took, and some microseconds at least. To work a part again that is
+/// about to be ready costs more than the wait.
 #[derive(Clone, Copy)]
 pub(crate) struct Patience {
     since: Option<Instant>,
@@ -36,7 +37,7 @@ impl Patience {
     pub fn new<G: Gate>(began: Option<Instant>, gate: &G) -> Patience {
         let since = gate.now();
         let took = match (began, since) {
-            (Some(began), Some(since)) => since.duration_since(began).as_nanos(),
+            (Some(began), Some(since)) => since.duration_since(began).as_nanos().saturating_mul(2),
             _ => 0,
         };
         Patience {

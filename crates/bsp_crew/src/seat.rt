@@ -11,6 +11,7 @@ use crate::sheet::Sheet;
 use bsp_gate::Gate;
 use bsp_model::OutOfMemory;
 use bsp_step::{Outcome, Program};
+use crossbeam_utils::CachePadded;
 use std::alloc::Global;
 use std::sync::atomic::AtomicU64;
 use std::sync::atomic::Ordering::SeqCst;
@@ -22,32 +23,37 @@ const IDLE: u64 = 0;
 /// A part waits for the worker.
 const WAITING: u64 = 1;
 
+/// The worker works the part, and has the lock.
+const WORKING: u64 = 2;
+
 /// The worker has worked the part.
-const WORKED: u64 = 2;
+const WORKED: u64 = 3;
 
-/// The number of words that a worker asks for in one piece: fewer than the C library takes from the system apart.
-const WORDS_AT_ONCE: usize = 15_000;
+/// The number of words that a worker asks for in one piece, 1 MiB. The C library takes the first such piece from the system apart, and from then on
+/// serves pieces of this length from the arena of the thread.
+const WORDS_AT_ONCE: usize = 131_072;
 
-/// A large piece of memory. Asked for and given back, it makes the C library's arena of the thread grow at once by as much as some hundred pages take,
+/// A large piece of memory. Asked for and given back, it makes the C library's arena of the thread grow at once by as much as some thousand pages take,
 /// each of which would else be a call of the system that holds up the page faults of all threads. It is not inlined, so that no compiler leaves it out.
 #[inline(never)]
 fn large_piece(alloc: Global) -> Result<Vec<u64>, OutOfMemory> {
     Vec::with_capacity(alloc, WORDS_AT_ONCE)
 }
 
-/// The place of one worker: its sheet, and a word that tells of it. Both threads only try the lock, so neither waits for it.
+/// The place of one worker: its sheet, and a word that tells of it. Both threads only try the lock, so neither waits for it. The word has cache lines of
+/// its own, since one thread looks at it all the time while the other is at work on the sheet.
 #[derive(Drop)]
 pub(crate) struct Seat<J: SharedRun> {
-    state: AtomicU64,
-    sheet: Mutex<Sheet<J>>,
+    state: CachePadded<AtomicU64>,
+    sheet: CachePadded<Mutex<Sheet<J>>>,
 }
 
 impl<J: SharedRun> Seat<J> {
     /// A place with no part.
     pub fn new(alloc: Global) -> Seat<J> {
         Seat {
-            state: AtomicU64::new(IDLE),
-            sheet: Mutex::new(Sheet::new(alloc)),
+            state: CachePadded::new(AtomicU64::new(IDLE)),
+            sheet: CachePadded::new(Mutex::new(Sheet::new(alloc))),
         }
     }
 
@@ -69,8 +75,11 @@ impl<J: SharedRun> Seat<J> {
         if let Some(mut sheet) = self.sheet.try_lock() {
             // The part may have been taken back since the worker saw it.
             if self.state.load(SeqCst) == WAITING {
+                self.state.store(WORKING, SeqCst);
                 sheet.work(means, spare);
                 self.state.store(WORKED, SeqCst);
+                drop(sheet);
+                drop(large_piece(means.alloc));
             }
         }
     }
@@ -84,7 +93,6 @@ impl<J: SharedRun> Seat<J> {
         for _look in 0..u64::MAX {
             if self.state.load(SeqCst) == WAITING {
                 self.work(means, &mut spare);
-                drop(large_piece(means.alloc));
                 looks = 0;
             } else if over.load(SeqCst) != 0 {
                 break;
@@ -103,7 +111,9 @@ impl<J: SharedRun> Seat<J> {
         gate: &G,
     ) -> Option<MutexGuard<'_, Sheet<J>>> {
         for _look in 0..u64::MAX {
-            if let Some(mut sheet) = self.sheet.try_lock() {
+            if self.state.load(SeqCst) != WORKING
+                && let Some(mut sheet) = self.sheet.try_lock()
+            {
                 sheet.take_back();
                 self.state.store(IDLE, SeqCst);
                 return Some(sheet);

@@ -104,6 +104,15 @@ impl Cells {
         self.queues.put(self.memories.len(), queue)?;
         self.memories.push_copy(memory)
     }
+
+    /// Adds the processes of `more`, whose memories are handed on.
+    pub fn append(&mut self, more: &mut Cells) -> Result<(), OutOfMemory>
+        ensures { OnOk result (self.new ≡ self.old ++ more.old) }
+    {
+        let (place, count) = (self.memories.len(), more.memories.len());
+        self.queues.take_range(place, &more.queues, 0, count)?;
+        self.memories.append(&mut more.memories)
+    }
 }
 
 impl ByProcess for Cells {

@@ -143,14 +143,14 @@ impl Memories {
         self.lasts.push(memory.last)
     }
 
-    /// Adds the memories of `more`, and leaves none there: pages are shared, lists of words handed on. After `OutOfMemory` there are none here either.
+    /// Adds the memories of `more`, and leaves none there: pages and lists of words are handed on. After `OutOfMemory` there are none here either.
     pub fn append(&mut self, more: &mut Memories) -> Result<(), OutOfMemory>
         ensures ok { OnOk result (self.new ≡ self.old ++ more.old) }
         ensures err { OnErr result (self.new ≡ []) }
         ensures rest { more.new ≡ [] }
     {
         let (place, count) = (self.lasts.len(), more.lasts.len());
-        let pages = self.pages.take_range(place, &more.pages, 0, count);
+        let pages = self.pages.append(place, &mut more.pages, count);
         let lasts = self.lasts.append(&mut more.lasts);
         more.pages.clear();
         more.lasts.clear();

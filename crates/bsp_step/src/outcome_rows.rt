@@ -204,7 +204,7 @@ impl OutcomeRows {
         Ok(())
     }
 
-    /// Adds the outcomes of `more`, and leaves none there: pages are shared, lists of words handed on. After `OutOfMemory` there are none here either.
+    /// Adds the outcomes of `more`, and leaves none there: pages and lists of words are handed on. After `OutOfMemory` there are none here either.
     pub fn append(&mut self, more: &mut OutcomeRows) -> Result<(), OutOfMemory>
         ensures ok { OnOk result (self.new ≡ self.old ++ more.old) }
         ensures rest { more.new ≡ [] }

@@ -92,6 +92,24 @@ impl<T: Drop> SharedColumn<T> {
         Ok(())
     }
 
+    /// Moves so many rows of `more` to `place` and the places behind it. After `OutOfMemory` no row of `more` stands here.
+    pub fn append(
+        &mut self,
+        place: usize,
+        more: &mut SharedColumn<T>,
+        count: usize,
+    ) -> Result<(), OutOfMemory>
+        ensures ok { OnOk result (AreTaken [] (row_at self.old) place (row_at more.old) 0 count (row_at self.new)) }
+    {
+        self.rows.truncate(place);
+        more.rows.truncate(count);
+        if more.rows.is_empty() {
+            return Ok(());
+        }
+        fill(&mut self.rows, place)?;
+        self.rows.append(&mut more.rows)
+    }
+
     /// Copies share their items. After `OutOfMemory` some of the copies stand.
     pub fn take_range(
         &mut self,
