@@ -6,7 +6,7 @@ use std::thread;
 use std::time::Instant;
 
 /// How often a thread looks in vain before it yields at each look.
-const LOOKS_BEFORE_YIELD: u64 = 500;
+const LOOKS_BEFORE_YIELD: u64 = 2_000;
 
 /// How many looks there are at most, where the gate tells no time.
 const MOST_LOOKS: u64 = 1_000_000;

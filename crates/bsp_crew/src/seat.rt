@@ -72,14 +72,13 @@ impl<J: SharedRun> Seat<J> {
     fn work<P: Program, G: Gate>(&self, means: &Means<'_, P, G>, spare: &mut Option<Outcome>)
         requires { J.turn ≡ turn_by P.Program means.now.program.now }
     {
+        let state: &AtomicU64 = &self.state;
         if let Some(mut sheet) = self.sheet.try_lock() {
             // The part may have been taken back since the worker saw it.
-            if self.state.load(SeqCst) == WAITING {
-                self.state.store(WORKING, SeqCst);
+            if state.load(SeqCst) == WAITING {
+                state.store(WORKING, SeqCst);
                 sheet.work(means, spare);
-                self.state.store(WORKED, SeqCst);
-                drop(sheet);
-                drop(large_piece(means.alloc));
+                state.store(WORKED, SeqCst);
             }
         }
     }
@@ -88,11 +87,13 @@ impl<J: SharedRun> Seat<J> {
     pub fn attend<P: Program, G: Gate>(&self, means: &Means<'_, P, G>, over: &AtomicU64)
         requires { J.turn ≡ turn_by P.Program means.now.program.now }
     {
+        let state: &AtomicU64 = &self.state;
         let mut spare = None;
         let mut looks = 0;
         for _look in 0..u64::MAX {
-            if self.state.load(SeqCst) == WAITING {
+            if state.load(SeqCst) == WAITING {
                 self.work(means, &mut spare);
+                drop(large_piece(means.alloc));
                 looks = 0;
             } else if over.load(SeqCst) != 0 {
                 break;
@@ -110,12 +111,13 @@ impl<J: SharedRun> Seat<J> {
         patience: &mut Patience,
         gate: &G,
     ) -> Option<MutexGuard<'_, Sheet<J>>> {
+        let state: &AtomicU64 = &self.state;
         for _look in 0..u64::MAX {
-            if self.state.load(SeqCst) != WORKING
+            if state.load(SeqCst) != WORKING
                 && let Some(mut sheet) = self.sheet.try_lock()
             {
                 sheet.take_back();
-                self.state.store(IDLE, SeqCst);
+                state.store(IDLE, SeqCst);
                 return Some(sheet);
             }
             if !patience.lasts(gate) {
