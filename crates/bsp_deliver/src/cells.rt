@@ -105,7 +105,7 @@ impl Cells {
         self.memories.push_copy(memory)
     }
 
-    /// Adds the processes of `more`, whose memories are handed on.
+    /// Adds the processes of `more`, whose memories are handed on. After `OutOfMemory` both may have any processes.
     pub fn append(&mut self, more: &mut Cells) -> Result<(), OutOfMemory>
         ensures { OnOk result (self.new ≡ self.old ++ more.old) }
     {

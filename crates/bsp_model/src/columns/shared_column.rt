@@ -92,7 +92,7 @@ impl<T: Drop> SharedColumn<T> {
         Ok(())
     }
 
-    /// Moves so many rows of `more` to `place` and the places behind it. After `OutOfMemory` no row of `more` stands here.
+    /// Moves so many rows of `more` to `place` and the places behind it. After `OutOfMemory` both columns may have any rows.
     pub fn append(
         &mut self,
         place: usize,
