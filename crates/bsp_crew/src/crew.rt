@@ -10,7 +10,7 @@ use crate::seat::Seat;
 use crate::shared_run::SharedRun;
 use bsp_gate::Gate;
 use bsp_model::{OutOfMemory, TryCopy};
-use bsp_step::{Outcome, Program};
+use bsp_step::{Gathering, Program};
 use std::alloc::Global;
 use std::sync::atomic::AtomicU64;
 use std::sync::atomic::Ordering::SeqCst;
@@ -75,7 +75,7 @@ impl<J: SharedRun> Crew<J> {
         means: &Means<'_, P, G>,
         task: &Task,
         whole: &Part<'_>,
-        spare: &mut Option<Outcome>,
+        spare: &mut Option<Gathering>,
         made: &mut Made,
     ) -> Result<(), OutOfMemory>
         requires turn { asks_turns task.now ≡ true → J.turn ≡ turn_by P.Program means.now.program.now }

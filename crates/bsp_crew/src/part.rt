@@ -9,7 +9,7 @@ use bsp_deliver::Cells;
 use bsp_gate::Gate;
 use bsp_model::{OutOfMemory, Shared, TryCopy};
 use bsp_run::Views;
-use bsp_step::{Outcome, OutcomeRows, Outcomes, Program};
+use bsp_step::{Gathering, OutcomeRows, Outcomes, Program};
 use std::alloc::Global;
 
 /// Processes in a row in the list of a superstep, whose turns are to be taken, or to which deliveries are to be made.
@@ -93,12 +93,12 @@ pub struct Means<'a, P, G> {
 }
 
 impl<'a, P: Program, G: Gate> Means<'a, P, G> {
-    /// Works a part, and adds its turns or deliveries to `made`. The spare outcome that is there lends its lists to turns.
+    /// Works a part, and adds its turns or deliveries to `made`. Turns are taken in the spare lists, if there are any.
     pub(crate) fn work<J: SharedRun>(
         &self,
         task: &Task,
         part: &Part<'_>,
-        spare: &mut Option<Outcome>,
+        spare: &mut Option<Gathering>,
         made: &mut Made,
     ) -> Result<(), OutOfMemory>
         requires turn { asks_turns task.now ≡ true → J.turn ≡ turn_by P.Program self.now.program.now }

@@ -10,7 +10,7 @@ use crate::shared_run::SharedRun;
 use crate::sheet::Sheet;
 use bsp_gate::Gate;
 use bsp_model::OutOfMemory;
-use bsp_step::{Outcome, Program};
+use bsp_step::{Gathering, Program};
 use crossbeam_utils::CachePadded;
 use std::alloc::Global;
 use std::sync::atomic::AtomicU64;
@@ -69,7 +69,7 @@ impl<J: SharedRun> Seat<J> {
         }
     }
 
-    fn work<P: Program, G: Gate>(&self, means: &Means<'_, P, G>, spare: &mut Option<Outcome>)
+    fn work<P: Program, G: Gate>(&self, means: &Means<'_, P, G>, spare: &mut Option<Gathering>)
         requires { J.turn ≡ turn_by P.Program means.now.program.now }
     {
         let state: &AtomicU64 = &self.state;
@@ -134,7 +134,7 @@ impl<J: SharedRun> Seat<J> {
         task: &Task,
         part: &Part<'_>,
         patience: &mut Patience,
-        spare: &mut Option<Outcome>,
+        spare: &mut Option<Gathering>,
         made: &mut Made,
     ) -> Result<(), OutOfMemory>
         requires turn { asks_turns task.now ≡ true → J.turn ≡ turn_by P.Program means.now.program.now }

@@ -10,7 +10,7 @@ use crate::part::{Made, Means, Part, Task};
 use crate::shared_run::SharedRun;
 use bsp_gate::Gate;
 use bsp_model::OutOfMemory;
-use bsp_step::{Outcome, OutcomeRows, Program};
+use bsp_step::{Gathering, OutcomeRows, Program};
 use std::alloc::Global;
 use std::marker::PhantomData;
 
@@ -67,7 +67,7 @@ impl<J: SharedRun> Sheet<J> {
     pub fn work<P: Program, G: Gate>(
         &mut self,
         means: &Means<'_, P, G>,
-        spare: &mut Option<Outcome>,
+        spare: &mut Option<Gathering>,
     )
         requires { J.turn ≡ turn_by P.Program means.now.program.now }
     {

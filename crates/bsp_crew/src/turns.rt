@@ -10,7 +10,7 @@ use crate::shared_run::SharedRun;
 use bsp_gate::Gate;
 use bsp_model::{OutOfMemory, Shared, TryCopy};
 use bsp_run::Views;
-use bsp_step::{Outcome, OutcomeRows, Program, turn_reusing};
+use bsp_step::{Gathering, OutcomeRows, Program, add_turn};
 use std::alloc::{AllocError, Global};
 
 /// At this depth a gate is told of a session's runs: of that of the opening as 0, of those of the batches by their numbers from 1 on.
@@ -19,48 +19,49 @@ pub const DEPTH_OF_RUNS: usize = 0;
 /// At this depth a gate is told of a run's supersteps, by their numbers from 0 on.
 pub const DEPTH_OF_SUPERSTEPS: usize = 1;
 
-fn spare_of(alloc: Global, spare: &mut Option<Outcome>) -> Result<Outcome, OutOfMemory> {
+fn spare_of(alloc: Global, spare: &mut Option<Gathering>) -> Result<Gathering, OutOfMemory> {
     match spare.take() {
-        Some(outcome) => Ok(outcome),
-        None => Outcome::new(alloc),
+        Some(gathering) => Ok(gathering),
+        None => Gathering::new(alloc),
     }
 }
 
 impl<'a, P: Program, G: Gate> Means<'a, P, G> {
     /// Adds the turns of the processes of a part to `rows`, by this thread. The gate is passed before each turn, with its place in the superstep's
-    /// list. The spare outcome that is there lends its lists. After `OutOfMemory` there is none.
+    /// list. The turns are taken in the spare lists, if there are any. After `OutOfMemory` there are none.
     pub(crate) fn take_turns(
         &self,
         views: &Views,
         part: &Part<'_>,
-        spare: &mut Option<Outcome>,
+        spare: &mut Option<Gathering>,
         rows: &mut OutcomeRows,
     ) -> Result<(), OutOfMemory>
         requires { All (λ p. p < length views.now) part.now.processes.now }
         ensures { OnOk result (rows.new ≡ rows.old
             ++ turns_of (turn_by P.Program self.now.program.now) views.now part.now.processes.now) }
     {
-        let mut last = spare_of(self.alloc, spare)?;
+        let mut gathering = spare_of(self.alloc, spare)?;
+        gathering.swap(rows);
         for (place, process) in part.processes.iter().enumerate() {
             self.gate.pass(part.first.saturating_add(place));
-            last = turn_reusing(self.alloc, self.program, &views.get(*process), last)?;
-            rows.push(&mut last)?;
+            gathering = add_turn(self.alloc, self.program, &views.get(*process), gathering)?;
         }
-        spare.insert(last);
+        gathering.swap(rows);
+        spare.insert(gathering);
         Ok(())
     }
 }
 
 /// The outcomes of `rows`, and behind them the turns of some processes, in the order of the list. Where there is a crew, its workers take turns beside
 /// the calling thread. `processes` are places in `views`, which are those of superstep `step`. Whoever takes the turn at the place k of the list,
-/// counted from 0, passes the gate with k before. The spare outcome that is there lends its lists to the calling thread.
+/// counted from 0, passes the gate with k before. The calling thread takes its turns in the spare lists, if there are any.
 ///
 /// # Errors
 /// `OutOfMemory` where the calling thread is refused memory for a turn that no worker hands in, or to add the turns.
 pub fn wide_turns<J: SharedRun, P: Program, G: Gate>(
     means: &Means<'_, P, G>,
     mut rows: OutcomeRows,
-    spare: &mut Option<Outcome>,
+    spare: &mut Option<Gathering>,
     views: &Shared<Views>,
     processes: &[usize],
     step: u64,

@@ -1,11 +1,13 @@
 pub mod Appending
 pub mod BlocksOf
 pub mod Changes
+pub mod Cut
 pub mod HeadsTo
 pub mod Inputs
 pub mod Layers
 pub mod MadeAgain
 pub mod EitherWay
+pub mod OpenRows
 pub mod PagedMemories
 pub mod Pages
 pub mod PairedColumns

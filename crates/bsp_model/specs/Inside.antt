@@ -6,6 +6,8 @@ pub mod Cut
 pub mod LawfulInput
 pub mod Layers
 pub mod Memories
+pub mod OpenBlocks
+pub mod OpenRow
 pub mod Pages
 pub mod Ranges
 pub mod Rows

@@ -3,6 +3,7 @@ pub mod Input
 pub mod Limits
 pub mod LocalParts
 pub mod Memory
+pub mod Opened
 pub mod ProcessSet
 pub mod PutsTo
 pub mod Replaced

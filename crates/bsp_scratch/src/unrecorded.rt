@@ -18,15 +18,15 @@ use bsp_gate::Gate;
 use bsp_model::limits::MOST_SUPERSTEPS;
 use bsp_model::{Input, Memories, OutOfMemory, Shared};
 use bsp_run::{Phase, RunResult, Status, Views, add_memories};
-use bsp_step::{Outcome, Outcomes, Program};
+use bsp_step::{Gathering, Outcomes, Program};
 use std::alloc::Global;
 use std::mem;
 
-/// The outcomes of a superstep, and an outcome whose lists serve the turns of the next, if there is one.
+/// The outcomes of a superstep, and the lists in which the turns of the next are taken, if there are any.
 #[derive(Drop)]
 pub(crate) struct Taken {
     pub(crate) outcomes: Outcomes,
-    pub(crate) spare: Option<Outcome>,
+    pub(crate) spare: Option<Gathering>,
 }
 
 /// What is kept of a run beside the views: the numbers of the processes, what is added up so far, and the turns that were taken last.

@@ -1,15 +1,16 @@
--- The lists of a context, which lie in a box: what is written through the box is written to them.
+-- What a context has issued, which lies in a box: what is added through the box is added to it.
 use Rattle.std.proofs.Common.{◌≡◌, ap}
-use Rattle.bsp_step.specs.declared.turn_lists.TurnLists.{TurnLists}
 use Rattle.bsp_step.specs.Context.{Context}
+use Rattle.bsp_step.specs.Inside.Gathered.{Gathered}
 
-abbrev pub lists_of : Context → TurnLists
-lists_of c = record { puts = c.puts; gets = c.gets; sends = c.sends; pops = c.pops; pushes = c.pushes; lines = c.lines }
+abbrev pub issued_of : Context → Gathered
+issued_of c =
+    record { earlier = c.earlier; puts = c.puts; gets = c.gets; sends = c.sends; pops = c.pops; pushes = c.pushes; lines = c.lines }
 
-abbrev pub with_lists : Context → TurnLists → Context
-with_lists c l =
-    record c { puts = l.puts; gets = l.gets; sends = l.sends; pops = l.pops; pushes = l.pushes; lines = l.lines }
+abbrev pub with_issued : Context → Gathered → Context
+with_issued c g =
+    record c { puts = g.puts; gets = g.gets; sends = g.sends; pops = g.pops; pushes = g.pushes; lines = g.lines; earlier = g.earlier }
 
--- the lists that are read in the box are the context's
-pub same-lists : (c : Context) (l : TurnLists) → l ≡ lists_of c → with_lists c l ≡ c
-same-lists c l e = ap (with_lists c) e
+-- what is read in the box is the context's
+pub same-issued : (c : Context) (g : Gathered) → g ≡ issued_of c → with_issued c g ≡ c
+same-issued c g e = ap (with_issued c) e

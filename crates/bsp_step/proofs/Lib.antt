@@ -3,7 +3,7 @@ pub mod Running
 pub mod Ranges
 pub mod Placing
 pub mod Finding
-pub mod BothOk
+pub mod Behind
 pub mod Boxed
 pub mod Limits
 pub mod MessagesLeft
@@ -11,6 +11,7 @@ pub mod StoredLists
 pub mod Storing
 pub mod Laws
 pub mod OutcomeColumns
+pub mod Gathered
 pub mod Sorting
 pub mod Rising
 pub mod Stepping

@@ -9,21 +9,22 @@ use Rattle.bsp_model.specs.declared.request.Put.{Put}
 use Rattle.bsp_model.specs.declared.request.Get.{Get}
 use Rattle.bsp_model.specs.declared.request.Send.{Send}
 use Rattle.bsp_model.specs.declared.fault.Fault.{Fault}
+use Rattle.bsp_model.specs.declared.fault.Fault.TheVariants.{TooManyRequests}
 use Rattle.bsp_model.specs.declared.fault.End.{End}
 use Rattle.bsp_table.specs.declared.area.Area.{Area}
 use Rattle.bsp_table.specs.Table.{newest_under}
-use Rattle.bsp_step.specs.declared.turn_lists.TurnLists.{TurnLists}
+use Rattle.bsp_step.specs.Inside.Gathered.{Gathered, count_of_issued}
 use Rattle.bsp_step.specs.ViewParts.{ViewParts, IsView, IsShortMessage}
 use Rattle.bsp_step.specs.Context.{Context, fresh}
 use Rattle.bsp_step.specs.CtxInside.{IsContext}
 use Rattle.bsp_step.specs.Act.{Act, store, charge, put, get, send, move_into, push_reg, pop_reg, set_tagsize, print}
-use Rattle.bsp_step.specs.Perform.{perform, performed, perform_all, refusal, done, first_fault, fault_unless, area_fault, slot_fault, start_of, target_area, count_of_requests}
+use Rattle.bsp_step.specs.Perform.{perform, performed, perform_all, refusal, done, first_fault, fault_unless, area_fault, slot_fault, start_of, target_area, count_of_requests, request_fault}
 use Rattle.bsp_step.specs.Inside.Checks.{place_fault}
 use Rattle.bsp_step.specs.Requests.{IsAddressed, IsPlaced, IsAsked}
 use Rattle.bsp_step.specs.OutcomeParts.{IsOutcome, IsOutcomeOf, IsHaltOnFault, IsShortSend}
 use Rattle.bsp_step.specs.Turn.{closed, ended_of, abort_of, turn_of}
 use Rattle.bsp_step.proofs.Performing.{perform_all-view}
-use Rattle.bsp_step.proofs.Boxed.{lists_of, with_lists, same-lists}
+use Rattle.bsp_step.proofs.Boxed.{issued_of, with_issued}
 use Rattle.bsp_step.proofs.Placing.{ArePlaced-push, AreAsked-push}
 use Rattle.bsp_step.proofs.Finding.{AreSlots-push}
 
@@ -143,24 +144,36 @@ done-within c (print words) h e =
     printed c words h (lt_passes _ _ _ one.0) (le_passes _ _ _ one.1)
 
 -- A put that was resolved keeps them.
-pub put-within : (c d : Context) (l : TurnLists) (pid len area offset start : ℕ) (words : List ℕ) (puts : List Put) → IsContext c → c ≡ d → l ≡ lists_of c → place_fault d pid area (offset + len) ≡ None → start ≡ start_of (target_area d.view pid area) + offset → length words ≡ len → puts ≡ l.puts ++ record { target = pid; start = start; words = words } ∷ [] → IsContext (record (with_lists c l) { puts = puts })
-put-within c d l pid len area offset start words puts h same read passes at long e =
+pub put-within : (c d : Context) (l new : Gathered) (pid len area offset start : ℕ) (words : List ℕ) → IsContext c → c ≡ d → l ≡ issued_of c → place_fault d pid area (offset + len) ≡ None → start ≡ start_of (target_area d.view pid area) + offset → length words ≡ len
+    → new ≡ record l { puts = l.puts ++ record { target = pid; start = start; words = words } ∷ [] } → IsContext (with_issued c new)
+put-within c d l new pid len area offset start words h same read passes at long e =
     let passed : refusal c (put pid words area offset) ≡ None = ap (λ (x : Context). place_fault x pid area (offset + length words)) same ∙ ap (λ n. place_fault d pid area (offset + n)) long ∙ passes in
     let begins : start ≡ start_of (target_area c.view pid area) + offset = at ∙ ap (λ (x : Context). start_of (target_area x.view pid area) + offset) (sym same) in
-    let made : puts ≡ c.puts ++ record { target = pid; start = start; words = words } ∷ [] = e ∙ ap (λ (m : TurnLists). m.puts ++ record { target = pid; start = start; words = words } ∷ []) read in
-    subst (λ (x : Context). IsContext (record x { puts = puts })) (sym (same-lists c l read)) (rw (made, begins) (done-within c (put pid words area offset) h passed))
+    let made : with_issued c new ≡ record c { puts = c.puts ++ record { target = pid; start = start; words = words } ∷ [] } =
+    ap (with_issued c) (e ∙ ap (λ (m : Gathered). record m { puts = m.puts ++ record { target = pid; start = start; words = words } ∷ [] }) read) in
+    rw (made, begins) (done-within c (put pid words area offset) h passed)
 
 -- So does a get.
-pub get-within : (c d : Context) (l : TurnLists) (pid area offset into len start : ℕ) (gets : List Get) → IsContext c → c ≡ d → l ≡ lists_of c → place_fault d pid area (offset + len) ≡ None → into + len ≤ length c.memory → start ≡ start_of (target_area d.view pid area) + offset → gets ≡ l.gets ++ record { owner = pid; start = start; len = len; into = into } ∷ [] → IsContext (record (with_lists c l) { gets = gets })
-get-within c d l pid area offset into len start gets h same read passes own at e =
+pub get-within : (c d : Context) (l new : Gathered) (pid area offset into len start : ℕ) → IsContext c → c ≡ d → l ≡ issued_of c → place_fault d pid area (offset + len) ≡ None → into + len ≤ length c.memory → start ≡ start_of (target_area d.view pid area) + offset
+    → new ≡ record l { gets = l.gets ++ record { owner = pid; start = start; len = len; into = into } ∷ [] } → IsContext (with_issued c new)
+get-within c d l new pid area offset into len start h same read passes own at e =
     let passed : place_fault c pid area (offset + len) ≡ None = ap (λ (x : Context). place_fault x pid area (offset + len)) same ∙ passes in
     let begins : start ≡ start_of (target_area c.view pid area) + offset = at ∙ ap (λ (x : Context). start_of (target_area x.view pid area) + offset) (sym same) in
     let one = both_pass _ _ passed in
     let two = both_pass _ _ one.1 in
     let found = area_passes _ _ _ two.1 in
-    let made : gets ≡ c.gets ++ record { owner = pid; start = start; len = len; into = into } ∷ [] = e ∙ ap (λ (m : TurnLists). m.gets ++ record { owner = pid; start = start; len = len; into = into } ∷ []) read in
-    subst (λ (x : Context). IsContext (record x { gets = gets })) (sym (same-lists c l read))
-    (rw (made, begins) (get_done c pid area offset into len found.0 h (lt_passes _ _ _ one.0) (lt_passes _ _ _ two.0) found.1 found.2 own))
+    let made : with_issued c new ≡ record c { gets = c.gets ++ record { owner = pid; start = start; len = len; into = into } ∷ [] } =
+    ap (with_issued c) (e ∙ ap (λ (m : Gathered). record m { gets = m.gets ++ record { owner = pid; start = start; len = len; into = into } ∷ [] }) read) in
+    rw (made, begins) (get_done c pid area offset into len found.0 h (lt_passes _ _ _ one.0) (lt_passes _ _ _ two.0) found.1 found.2 own)
+
+-- Where a request is not refused for the number of requests, there is room for one more.
+pub few_issued : (c d : Context) (l : Gathered) → c ≡ d → l ≡ issued_of c → request_fault d ≡ None → count_of_issued l < most_requests
+few_issued c d l same read passes =
+    let few = lt_passes (count_of_requests d) most_requests TooManyRequests passes in
+    omega (arith, few, ap count_of_requests same, ap count_of_issued read)
+
+pub few_placed : (c d : Context) (l : Gathered) (pid area end : ℕ) → c ≡ d → l ≡ issued_of c → place_fault d pid area end ≡ None → count_of_issued l < most_requests
+few_placed c d l pid area end same read passes = few_issued c d l same read (both_pass _ _ passes).0
 
 performed-within : (f r : Option Fault) (c d : Context) → IsContext c → (r ≡ None → IsContext d) → IsContext (performed f r c d)
 performed-within (Some f) r c d h k = h

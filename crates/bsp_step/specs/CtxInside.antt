@@ -17,15 +17,16 @@ context_of c =
       memory = (own_memory c.workspace.value c.view.now.memory).memory;
       left = drop c.taken c.view.now.queue;
       stores = (own_memory c.workspace.value c.view.now.memory).stores;
-      puts = c.lists.value.puts;
-      gets = c.lists.value.gets;
-      sends = c.lists.value.sends;
-      pops = c.lists.value.pops;
-      pushes = c.lists.value.pushes;
+      puts = c.rows.value.puts;
+      gets = c.rows.value.gets;
+      sends = c.rows.value.sends;
+      pops = c.rows.value.pops;
+      pushes = c.rows.value.pushes;
       tag = c.tag;
-      lines = c.lists.value.lines;
+      lines = c.rows.value.lines;
       work = c.work;
       fault = c.fault;
+      earlier = c.rows.value.earlier;
     }
 
 -- What every context keeps (this profile).

@@ -1,5 +1,6 @@
 pub mod Checks
+pub mod Gathered
 pub mod Rows
 pub mod Outcomes
 pub mod SameOutcome
-pub mod TurnLists
+pub mod Turned

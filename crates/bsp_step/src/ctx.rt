@@ -4,6 +4,7 @@ ghost use Rattle.std.specs.Prelude.{◌≡◌, ◌≤◌, IfOk, Err, Some, lengt
 ghost use Rattle.bsp_step.specs.Context.{fresh};
 ghost use Rattle.bsp_step.specs.Perform.{count_of_requests, request_fault};
 ghost use Rattle.bsp_step.specs.Inside.Checks.{Passes};
+ghost use Rattle.bsp_step.specs.Inside.Turned.{outcome_left};
 ghost use Rattle.bsp_step.specs.OutcomeParts.{IsOutcome, IsOutcomeOf};
 ghost use Rattle.bsp_step.specs.Turn.{closed};
 
@@ -12,7 +13,9 @@ mod messages;
 mod reading;
 mod remote;
 
-use crate::{Ended, Outcome, Stop, TurnLists, View};
+use crate::outcome::Turned;
+use crate::outcome_rows::OpenRows;
+use crate::{Ended, Gathering, Outcome, Stop, View};
 use bsp_model::limits::{MOST_MEMORY_WORDS, MOST_REQUESTS};
 use bsp_model::{End, Fault, MemoryRef, OutOfMemory, Workspace};
 use std::alloc::Global;
@@ -25,7 +28,7 @@ pub struct Ctx<'v> {
     alloc: Global,
     taken: usize,
     workspace: Box<Workspace>,
-    lists: Box<TurnLists>,
+    rows: Box<OpenRows>,
     tag: Option<u64>,
     work: u64,
     fault: Option<Fault>,
@@ -48,31 +51,29 @@ impl<'v> Ctx<'v> {
     pub fn open(alloc: Global, view: &'v View<'v>) -> Result<Ctx<'v>, OutOfMemory>
         ensures { IfOk result (λ c. c ≡ fresh view.now) }
     {
-        Ctx::open_reusing(alloc, view, Outcome::new(alloc)?)
+        Ctx::open_behind(alloc, view, Gathering::new(alloc)?)
     }
 
-    /// The context in which the turn of a view begins, in the lists of an outcome that is no longer needed, of which nothing is left. Or `OutOfMemory`.
+    /// The context in which the turn of a view begins, behind the outcomes of earlier turns. Or `OutOfMemory`.
     #[inline(always)]
-    pub fn open_reusing(
+    pub(crate) fn open_behind(
         alloc: Global,
         view: &'v View<'v>,
-        spare: Outcome,
+        gathering: Gathering,
     ) -> Result<Ctx<'v>, OutOfMemory>
-        ensures { IfOk result (λ c. c ≡ fresh view.now) }
+        ensures { IfOk result (λ c. c ≡ record (fresh view.now) { earlier = gathering }) }
     {
-        let Outcome {
+        let Gathering {
+            rows,
             mut workspace,
-            mut lists,
-            ..
-        } = spare;
-        lists.clear();
+        } = gathering;
         workspace.begin(&view.memory)?;
         Ok(Ctx {
             view,
             alloc,
             taken: 0,
             workspace,
-            lists,
+            rows,
             tag: None,
             work: 0,
             fault: None,
@@ -101,12 +102,7 @@ impl<'v> Ctx<'v> {
     fn count_of_requests(&self) -> usize
         ensures { result ≡ count_of_requests self.now }
     {
-        let lists: &TurnLists = &self.lists;
-        lists.puts.len()
-            + lists.gets.len()
-            + lists.sends.len()
-            + lists.pops.len()
-            + lists.pushes.len()
+        self.rows.count_of_requests()
     }
 
     fn begin_request(&mut self) -> Result<(), Stop>
@@ -121,12 +117,13 @@ impl<'v> Ctx<'v> {
         Ok(())
     }
 
-    /// What the turn leaves, where its step answered `how`. It takes no memory.
+    /// What the turn leaves behind the outcomes of earlier turns, where its step answered `how`.
     #[inline(always)]
-    pub fn close(mut self, how: End) -> Outcome
-        ensures closed { result ≡ closed self.entry how }
-        ensures limits { IsOutcome result }
-        ensures issued { IsOutcomeOf self.entry.view result }
+    pub(crate) fn turned(mut self, how: End) -> Turned
+        ensures closed { outcome_left result ≡ closed self.entry how }
+        ensures earlier { result.rows.value.earlier ≡ self.entry.earlier }
+        ensures limits { IsOutcome (outcome_left result) }
+        ensures issued { IsOutcomeOf self.entry.view (outcome_left result) }
     {
         let view = self.view;
         self.workspace.load(&view.memory);
@@ -139,13 +136,24 @@ impl<'v> Ctx<'v> {
             (None, End::Sync) => Ended::Sync,
             _ => Ended::Halt,
         };
-        Outcome {
+        Turned {
             fault,
             ended,
             workspace: self.workspace,
-            lists: self.lists,
+            rows: self.rows,
             tag: self.tag,
             work: self.work,
+        }
+    }
+
+    /// What the turn leaves, where its step answered `how`. It takes no memory.
+    pub fn close(self, how: End) -> Outcome
+        ensures closed { result ≡ closed self.entry how }
+        ensures limits { IsOutcome result }
+        ensures issued { IsOutcomeOf self.entry.view result }
+    {
+        Outcome {
+            turned: self.turned(how),
         }
     }
 }

@@ -2,13 +2,12 @@
 
 ghost use Rattle.std.specs.Prelude.{◌≡◌, ◌≤◌, ◌<◌, ◌+◌, ◌-◌, ℕ, OnOk};
 ghost use Rattle.std.specs.Bool.{OnTrue};
-ghost use Rattle.bsp_step.specs.OutcomeParts.{no_outcome};
 ghost use Rattle.bsp_step.specs.Inside.Outcomes.{IsWithoutColumn, first_at, AreSameLists, HasLists, HasRareLists};
 
-use crate::{Ended, ListKind, Outcome, OutcomeRef, TurnLists};
+use crate::{Ended, ListKind, OutcomeRef};
 use bsp_model::{
     BlockColumn, Column, Fault, Get, LineColumn, MemoryRef, OutOfMemory, Put, Send, Share,
-    StoreColumn, Workspace,
+    StoreColumn,
 };
 use bsp_table::Area;
 use std::alloc::Global;
@@ -105,22 +104,6 @@ impl Lists {
         self.lines.clear();
     }
 
-    #[inline(always)]
-    fn cut_rare(&mut self, place: usize)
-        ensures stores { self.new.stores ≡ self.old.stores }
-        ensures puts { self.new.puts ≡ self.old.puts }
-        ensures before { (k : ℕ) → k < place → AreSameLists self.old k self.new k }
-        ensures there { HasRareLists self.new place no_outcome }
-    {
-        self.faults.cut(place);
-        self.gets.cut(place);
-        self.sends.cut(place);
-        self.pops.cut(place);
-        self.pushes.cut(place);
-        self.tags.cut(place);
-        self.lines.cut(place);
-    }
-
     /// Puts copies of the lists that few turns fill.
     #[inline(always)]
     fn put_rare(&mut self, place: usize, outcome: &OutcomeRef<'_>) -> Result<(), OutOfMemory>
@@ -138,17 +121,6 @@ impl Lists {
         done.and(self.lines.put(place, &outcome.lines))
     }
 
-    /// The same for an outcome that a turn has just left. It is not inlined, so that the other turns do not gather the parts of their outcomes.
-    #[inline(never)]
-    fn put_rare_of(&mut self, place: usize, outcome: &Outcome) -> Result<(), OutOfMemory>
-        ensures stores { self.new.stores ≡ self.old.stores }
-        ensures puts { self.new.puts ≡ self.old.puts }
-        ensures before { (k : ℕ) → k < place → AreSameLists self.old k self.new k }
-        ensures there { OnOk result (HasRareLists self.new place outcome.now) }
-    {
-        self.put_rare(place, &outcome.as_ref())
-    }
-
     /// Puts copies of an outcome's lists. The stores are kept beside the memory that is kept of the process.
     #[inline(always)]
     pub(crate) fn put(
@@ -163,23 +135,6 @@ impl Lists {
         let done = self.stores.put(place, &outcome.stores, memory);
         let done = done.and(self.puts.put(place, &outcome.puts));
         done.and(self.put_rare(place, outcome))
-    }
-
-    /// The same for an outcome that a turn has just left. Few turns leave more than a memory, stores and puts.
-    #[inline(always)]
-    pub(crate) fn put_turn(&mut self, place: usize, outcome: &Outcome) -> Result<(), OutOfMemory>
-        ensures before { (k : ℕ) → k < place → AreSameLists self.old k self.new k }
-        ensures there { OnOk result (HasLists self.new place outcome.now.memory outcome.now) }
-    {
-        let lists: &TurnLists = &outcome.lists;
-        let workspace: &Workspace = &outcome.workspace;
-        let done = self.stores.put_local(place, &workspace.local);
-        let done = done.and(self.puts.put(place, &lists.puts.as_ref()));
-        if !outcome.is_plain() {
-            return done.and(self.put_rare_of(place, outcome));
-        }
-        self.cut_rare(place);
-        done
     }
 
     #[inline(always)]

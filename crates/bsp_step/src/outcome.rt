@@ -1,17 +1,13 @@
 //! What a turn leaves.
 
-ghost use Rattle.std.specs.Prelude.{◌≡◌, ◌↔◌, IfOk, IsTrue};
-ghost use Rattle.std.specs.Bool.{OnTrue};
-ghost use Rattle.bsp_step.specs.OutcomeParts.{no_outcome};
-ghost use Rattle.bsp_step.specs.Inside.Outcomes.{IsPlain};
+ghost use Rattle.std.specs.Prelude.{◌≡◌, ◌↔◌, IsTrue};
 
-use crate::TurnLists;
+use crate::outcome_rows::OpenRows;
 use bsp_model::{
-    Fault, Get, LocalMemory, MemoryRef, OutOfMemory, PrintedLinesRef, PutsRef, Same, SendsRef,
-    StoresRef, TryCopy, Workspace, are_same,
+    Fault, Get, MemoryRef, OutOfMemory, PrintedLinesRef, PutsRef, Same, SendsRef, StoresRef,
+    TryCopy, Workspace, are_same,
 };
 use bsp_table::Area;
-use std::alloc::Global;
 use std::marker::Model;
 
 /// How a turn ended.
@@ -22,18 +18,24 @@ pub enum Ended {
     Halt,
 }
 
-/// What a turn leaves (Hill et al. 1998; stores, lines, work and faults are this profile's).
+/// What a turn has left. What it issued stands in a row behind the outcomes of earlier turns.
+#[derive(Drop)]
+pub(crate) struct Turned {
+    pub(crate) fault: Option<Fault>,
+    /// How the turn ended; `Halt` where there is a fault.
+    pub(crate) ended: Ended,
+    /// The memory after computing, and the stores that were made, in order.
+    pub(crate) workspace: Box<Workspace>,
+    pub(crate) rows: Box<OpenRows>,
+    /// The choice of the next tag size, if one was made.
+    pub(crate) tag: Option<u64>,
+    pub(crate) work: u64,
+}
+
+/// What a turn leaves (Hill et al. 1998; stores, lines, work and faults are this profile's). It is read through `as_ref`.
 #[derive(Drop)]
 pub struct Outcome {
-    pub fault: Option<Fault>,
-    /// How the turn ended; `Halt` where there is a fault.
-    pub ended: Ended,
-    /// The memory after computing, and the stores that were made, in order.
-    pub workspace: Box<Workspace>,
-    pub lists: Box<TurnLists>,
-    /// The choice of the next tag size, if one was made.
-    pub tag: Option<u64>,
-    pub work: u64,
+    pub(crate) turned: Turned,
 }
 
 impl Model for Outcome {
@@ -49,71 +51,44 @@ impl Model for Outcome {
 }
 
 impl Outcome {
-    /// What a process has left that has done nothing: no words, no requests, no lines. Or `OutOfMemory`.
-    pub fn new(alloc: Global) -> Result<Outcome, OutOfMemory>
-        ensures { IfOk result (λ o. o ≡ no_outcome) }
-    {
-        Ok(Outcome {
-            fault: None,
-            ended: Ended::Halt,
-            workspace: Box::new(alloc, Workspace::of(alloc, LocalMemory::new(alloc)))?,
-            lists: Box::new(alloc, TurnLists::new(alloc))?,
-            tag: None,
-            work: 0,
-        })
-    }
-
-    /// Whether the turn left nothing but its memory, its stores, puts and work.
-    #[inline(always)]
-    pub(crate) fn is_plain(&self) -> bool
-        ensures { OnTrue result (IsPlain self.now) }
-    {
-        let lists: &TurnLists = &self.lists;
-        self.fault.is_none()
-            && lists.gets.as_slice().is_empty()
-            && lists.sends.as_ref().is_empty()
-            && lists.pops.as_slice().is_empty()
-            && lists.pushes.as_slice().is_empty()
-            && self.tag.is_none()
-            && lists.lines.as_ref().is_empty()
-    }
-
     /// This outcome, to be read where it lies.
-    #[inline(always)]
     pub fn as_ref(&self) -> OutcomeRef<'_>
         ensures { result ≡ self.now }
     {
-        let lists: &TurnLists = &self.lists;
-        let workspace: &Workspace = &self.workspace;
+        let turned = &self.turned;
+        let workspace: &Workspace = &turned.workspace;
+        let rows: &OpenRows = &turned.rows;
         OutcomeRef {
-            fault: self.fault,
-            ended: self.ended,
+            fault: turned.fault,
+            ended: turned.ended,
             memory: workspace.local.memory(),
             stores: workspace.local.stores(),
-            puts: lists.puts.as_ref(),
-            gets: lists.gets.as_slice(),
-            sends: lists.sends.as_ref(),
-            pops: lists.pops.as_slice(),
-            pushes: lists.pushes.as_slice(),
-            tag: self.tag,
-            lines: lists.lines.as_ref(),
-            work: self.work,
+            puts: rows.puts(),
+            gets: rows.gets(),
+            sends: rows.sends(),
+            pops: rows.pops(),
+            pushes: rows.pushes(),
+            tag: turned.tag,
+            lines: rows.lines(),
+            work: turned.work,
         }
     }
 }
 
 impl TryCopy for Outcome {
     fn copy(&self) -> Result<Outcome, OutOfMemory> {
-        let lists: &TurnLists = &self.lists;
-        let workspace: &Workspace = &self.workspace;
-        let alloc = lists.gets.allocator();
+        let turned = &self.turned;
+        let workspace: &Workspace = &turned.workspace;
+        let alloc = turned.rows.allocator();
         Ok(Outcome {
-            fault: self.fault,
-            ended: self.ended,
-            workspace: Box::new(alloc, Workspace::of(alloc, workspace.local.copy()?))?,
-            lists: Box::new(alloc, lists.copy()?)?,
-            tag: self.tag,
-            work: self.work,
+            turned: Turned {
+                fault: turned.fault,
+                ended: turned.ended,
+                workspace: Box::new(alloc, Workspace::of(alloc, workspace.local.copy()?))?,
+                rows: Box::new(alloc, turned.rows.copy_turn()?)?,
+                tag: turned.tag,
+                work: turned.work,
+            },
         })
     }
 }

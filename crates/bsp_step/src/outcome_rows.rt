@@ -8,13 +8,13 @@ ghost use Rattle.bsp_model.specs.Replaced.{replaced, IsAscending};
 ghost use Rattle.bsp_step.specs.OutcomeParts.{outcome_of};
 ghost use Rattle.bsp_step.specs.ListKind.{IsWithout};
 
+mod open_rows;
 mod put_rows;
 
 use crate::lists::{Lists, TurnEnd, first};
-use crate::{ListKind, Outcome, OutcomeRef};
-use bsp_model::{
-    ByProcess, LineColumn, Memories, Memory, OutOfMemory, ProcessSet, Share, Workspace,
-};
+use crate::{ListKind, OutcomeRef};
+use bsp_model::{ByProcess, LineColumn, Memories, Memory, OutOfMemory, ProcessSet, Share};
+pub(crate) use open_rows::OpenRows;
 pub use put_rows::PutRows;
 use std::alloc::{AllocError, Global};
 use std::marker::Model;
@@ -163,24 +163,6 @@ impl OutcomeRows {
             Some(next) => next,
             None => self.len(),
         }
-    }
-
-    /// Adds what the turn of one process more left. The lists of `outcome` may serve again. After `OutOfMemory` these outcomes have not changed.
-    #[inline(always)]
-    pub fn push(&mut self, outcome: &mut Outcome) -> Result<(), OutOfMemory>
-        ensures ok { OnOk result (self.new ≡ self.old ++ outcome.old ∷ []) }
-        ensures err { OnErr result (self.new ≡ self.old) }
-    {
-        let end = TurnEnd {
-            ended: outcome.ended,
-            work: outcome.work as u32,
-        };
-        let put = self.lists.put_turn(self.ends.len(), outcome);
-        put.and(self.ends.reserve(1))?;
-        let workspace: &mut Workspace = &mut outcome.workspace;
-        workspace.local.move_to(&mut self.memories)?;
-        self.ends.push_reserved(end);
-        Ok(())
     }
 
     /// Adds an outcome with another memory of as many words, which are taken out of `memory`. After `OutOfMemory` these outcomes have not changed.

@@ -1,10 +1,10 @@
 //! Programs, and their turns.
 
-ghost use Rattle.std.specs.Prelude.{◌≡◌, IfOk};
+ghost use Rattle.std.specs.Prelude.{◌≡◌, ◌++◌, ◌∷◌, [], IfOk};
 ghost use Rattle.bsp_step.specs.OutcomeParts.{IsOutcome, IsOutcomeOf};
 ghost use Rattle.bsp_step.specs.Turn.{turn_of};
 
-use crate::{Ctx, Outcome, View};
+use crate::{Ctx, Gathering, Outcome, View};
 use bsp_model::{End, OutOfMemory};
 use std::alloc::Global;
 
@@ -17,7 +17,7 @@ pub trait Program: Sync {
     ghost use Rattle.std.specs.Prelude.{List, ℕ, Bool, ◌≡◌, IfOk};
     ghost use Rattle.bsp_model.specs.declared.fault.End.{End};
     ghost use Rattle.bsp_step.specs.ViewParts.{ViewParts};
-    ghost use Rattle.bsp_step.specs.Context.{fresh};
+    ghost use Rattle.bsp_step.specs.Context.{IsFresh};
     ghost use Rattle.bsp_step.specs.Act.{Act};
     ghost use Rattle.bsp_step.specs.Turn.{Follows};
     ghost use Rattle.bsp_step.specs.Footprint.{IsFootprint};
@@ -37,7 +37,7 @@ pub trait Program: Sync {
 
     /// Takes the turn of a process, by the calls of its context. It may stop at its first fault, since later acts do nothing.
     fn step(&self, alloc: Global, ctx: &mut Ctx<'_>) -> Result<End, OutOfMemory>
-        ensures { ctx.old ≡ fresh ctx.old.view → IfOk result (λ how. Follows ctx.old
+        ensures { IsFresh ctx.old → IfOk result (λ how. Follows ctx.old
             (acts self.now ctx.old.view) (ending self.now ctx.old.view) ctx.new how) };
 
     /// What the program looks at is a footprint.
@@ -50,23 +50,23 @@ pub fn turn<P: Program>(alloc: Global, program: &P, view: &View<'_>) -> Result<O
     ensures limits { IfOk result (λ o. IsOutcome o) }
     ensures issued { IfOk result (λ o. IsOutcomeOf view.now o) }
 {
-    turn_reusing(alloc, program, view, Outcome::new(alloc)?)
+    let mut ctx = Ctx::open(alloc, view)?;
+    let how = program.step(alloc, &mut ctx)?;
+    Ok(ctx.close(how))
 }
 
-/// The turn of a program at a view, as `turn` takes it, in the lists of an outcome that is no longer needed. The turn does not depend on that outcome.
-/// Or `OutOfMemory`.
+/// The outcomes that are gathered, and behind them that of the turn of a program at a view. Or `OutOfMemory`.
 #[inline(always)]
-pub fn turn_reusing<P: Program>(
+pub fn add_turn<P: Program>(
     alloc: Global,
     program: &P,
     view: &View<'_>,
-    spare: Outcome,
-) -> Result<Outcome, OutOfMemory>
-    ensures turn { IfOk result (λ o. o ≡ turn_of (P.acts program.now) (P.ending program.now) view.now) }
-    ensures limits { IfOk result (λ o. IsOutcome o) }
-    ensures issued { IfOk result (λ o. IsOutcomeOf view.now o) }
+    gathering: Gathering,
+) -> Result<Gathering, OutOfMemory>
+    ensures { IfOk result (λ g. g
+        ≡ gathering ++ turn_of (P.acts program.now) (P.ending program.now) view.now ∷ []) }
 {
-    let mut ctx = Ctx::open_reusing(alloc, view, spare)?;
+    let mut ctx = Ctx::open_behind(alloc, view, gathering)?;
     let how = program.step(alloc, &mut ctx)?;
-    Ok(ctx.close(how))
+    Gathering::with_turn(ctx.turned(how))
 }

@@ -6,7 +6,7 @@ ghost use Rattle.bsp_incr.specs.declared.compare.known_table.KnownTable.TheVaria
 use crate::Update;
 use crate::compare::KnownTable;
 use bsp_model::ProcessSet;
-use bsp_step::Outcome;
+use bsp_step::Gathering;
 use std::alloc::Global;
 
 /// An update under way, between two supersteps of the run that is made again.
@@ -19,7 +19,7 @@ pub struct UnderWay {
     /// What was done again so far.
     pub update: Update,
     /// An outcome whose lists serve the next turn, if there is one.
-    pub spare: Option<Outcome>,
+    pub spare: Option<Gathering>,
 }
 
 impl UnderWay {

@@ -19,7 +19,7 @@ use crate::superstep::reuse::add_reused_turn;
 use bsp_crew::{Crew, SharedRun, wide_turns};
 use bsp_gate::Gate;
 use bsp_model::{ByProcess, OutOfMemory, ProcessSet, Seq};
-use bsp_step::{Outcome, OutcomeRows, Outcomes, Program};
+use bsp_step::{Gathering, OutcomeRows, Outcomes, Program};
 
 /// Whether the turn of a process has to be taken, which may be asked of the dirty processes alone. The tables are not compared where all processes are known
 /// to see the same.
@@ -81,12 +81,12 @@ fn renewed_turns<P: Program, G>(
     Ok(renewed)
 }
 
-/// The turns of these processes, which the workers take, in the lists of the spare outcome.
+/// The turns of these processes, which the workers take, in the spare lists.
 fn taken_turns<P: Program, J: SharedRun, G: Gate>(
     given: &Given<'_, P, G>,
     superstep: &OpenSuperstep<'_, '_>,
     processes: &[usize],
-    spare: &mut Option<Outcome>,
+    spare: &mut Option<Gathering>,
     crew: Option<&Crew<J>>,
 ) -> Result<OutcomeRows, OutOfMemory>
     requires crew { IfSome crew (λ _. AreOfRun (turn_by P.Program given.now.program) given.now.input J.turn J.views) }
@@ -164,7 +164,7 @@ pub fn turns_again<P: Program, J: SharedRun, G: Gate>(
     superstep: &OpenSuperstep<'_, '_>,
     dirty: &Dirty,
     executed: &mut Seq<Place>,
-    spare: &mut Option<Outcome>,
+    spare: &mut Option<Gathering>,
     crew: Option<&Crew<J>>,
 ) -> Result<Outcomes, OutOfMemory>
     requires crew { IfSome crew (λ _. AreOfRun (turn_by P.Program given.now.program) given.now.input J.turn J.views) }

@@ -2,7 +2,6 @@
 
 ghost use Rattle.std.specs.Prelude.{◌≡◌, ◌<◌, ◌++◌, ◌∷◌, [], length, Some, OnErr, OnOk, slice_get, slice_index_or};
 
-use crate::block::{PutHead, SendHead};
 use crate::{Blocks, BlocksRef, Message, OutOfMemory, Put, Send, Words};
 
 /// A put that stands in a list of puts.
@@ -11,18 +10,6 @@ pub struct PutView<'a> {
     pub target: u64,
     pub start: u64,
     pub words: &'a [u64],
-}
-
-impl Blocks<Put> {
-    /// Adds a put. After `OutOfMemory` nothing has changed.
-    #[inline]
-    pub fn push(&mut self, target: u64, start: u64, words: &[u64]) -> Result<(), OutOfMemory>
-        ensures ok { OnOk result (self.new ≡ self.old ++ record { target = target; start = start; words = words.now }
-            ∷ []) }
-        ensures err { OnErr result (self.new ≡ self.old) }
-    {
-        self.add(PutHead { target, start }, &[], words)
-    }
 }
 
 impl<'a> BlocksRef<'a, Put> {
@@ -48,19 +35,6 @@ pub struct SendView<'a> {
     pub target: u64,
     pub tag: &'a [u64],
     pub words: &'a [u64],
-}
-
-impl Blocks<Send> {
-    /// Adds a message. After `OutOfMemory` nothing has changed.
-    #[inline]
-    pub fn push(&mut self, target: u64, tag: &[u64], words: &[u64]) -> Result<(), OutOfMemory>
-        ensures ok { OnOk result (self.new ≡ self.old ++ record { target = target; tag = tag.now; words = words.now }
-            ∷ []) }
-        ensures err { OnErr result (self.new ≡ self.old) }
-    {
-        let tag_len = tag.len();
-        self.add(SendHead { target, tag_len }, tag, words)
-    }
 }
 
 impl<'a> BlocksRef<'a, Send> {

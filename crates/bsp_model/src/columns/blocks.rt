@@ -14,7 +14,7 @@ use std::marker::Model;
 
 /// For each process, by its number, blocks in order; all lie in four lists. A process at which no blocks were put has none.
 pub struct BlockColumn<X: Block> {
-    pairs: Pairs<(X::Head, usize), u64>,
+    pub(super) pairs: Pairs<(X::Head, usize), u64>,
 }
 
 impl<X: Block> Drop for BlockColumn<X> {

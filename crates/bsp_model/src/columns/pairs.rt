@@ -14,7 +14,7 @@ use std::marker::Model;
 /// For each process, by its number, two rows, whose items lie in two lists.
 pub struct Pairs<A, B> {
     pub(crate) firsts: Column<A>,
-    seconds: Column<B>,
+    pub(crate) seconds: Column<B>,
 }
 
 impl<A: Drop, B: Drop> Drop for Pairs<A, B> {
@@ -176,6 +176,7 @@ impl Pairs<Range, u64> {
     #[inline(always)]
     pub fn put_local(&mut self, place: usize, local: &LocalMemory) -> Result<(), OutOfMemory>
         ensures before { (k : ℕ) → k < place → pair_at self.new k ≡ pair_at self.old k }
+        ensures behind { (k : ℕ) → place < k → pair_at self.new k ≡ ([], []) }
         ensures beside { OnOk result (AreBeside self.new place local.now.memory) }
         ensures there { OnOk result (stores_beside self.new place local.now.memory ≡ local.now.stores) }
     {

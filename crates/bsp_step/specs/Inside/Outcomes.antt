@@ -1,5 +1,5 @@
 -- What several outcomes leave, in columns.
-use Rattle.std.specs.Prelude.{ℕ, List, [], Option, None, ◌≡◌, ◌<◌, length, map, slice_get, slice_index_or}
+use Rattle.std.specs.Prelude.{ℕ, List, [], Option, ◌≡◌, ◌<◌, length, map, slice_get, slice_index_or}
 use Rattle.std.specs.List.{range_with_len}
 use Rattle.bsp_model.specs.Columns.{row_at}
 use Rattle.bsp_model.specs.Inside.Beside.{stores_beside, AreBeside}
@@ -66,16 +66,6 @@ pub record HasRareLists (lists : Lists) (k : ℕ) (o : OutcomeParts) : Type 0 wh
   pub pushes : row_at lists.pushes k ≡ o.pushes
   pub tags : first_at lists.tags k ≡ o.tag
   pub lines : row_at lists.lines k ≡ o.lines
-
--- An outcome has none of them.
-pub record IsPlain (o : OutcomeParts) : Type 0 where
-  pub fault : o.fault ≡ None
-  pub gets : o.gets ≡ []
-  pub sends : o.sends ≡ []
-  pub pops : o.pops ≡ []
-  pub pushes : o.pushes ≡ []
-  pub tag : o.tag ≡ None
-  pub lines : o.lines ≡ []
 
 -- The lists have those of this outcome as the rows of a process, its stores beside this memory.
 pub record HasLists (lists : Lists) (k : ℕ) (memory : List ℕ) (o : OutcomeParts) : Type 0 where

@@ -48,13 +48,13 @@ impl<'v> Ctx<'v> {
         if let Some(fault) = self.fault {
             return Err(Stop::Fault(fault));
         }
-        if self.lists.lines.len() >= MOST_LINES {
+        if self.rows.lines().len() >= MOST_LINES {
             return self.refuse(Fault::LineLimit);
         }
         if words.len() > MOST_LINE_WORDS {
             return self.refuse(Fault::TooLong);
         }
-        self.lists.lines.push(words)?;
+        self.rows.add_line(words)?;
         Ok(())
     }
 
@@ -121,7 +121,7 @@ impl<'v> Ctx<'v> {
         let start = self.resolve(pid, area, offset, len)?;
         let mut words = vec![in self.alloc; 0; len as usize]?;
         self.memory().read(from, words.as_mut_slice());
-        self.lists.puts.push(pid, start, words.as_slice())?;
+        self.rows.add_put(pid, start, words.as_slice())?;
         Ok(Some(()))
     }
 

@@ -71,7 +71,7 @@ impl<'v> Ctx<'v> {
         if words.len() > MOST_PAYLOAD_WORDS {
             return self.refuse(Fault::TooLong);
         }
-        self.lists.sends.push(pid, tag, words)?;
+        self.rows.add_send(pid, tag, words)?;
         Ok(())
     }
 

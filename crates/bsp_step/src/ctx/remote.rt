@@ -54,7 +54,7 @@ impl<'v> Ctx<'v> {
         ensures { Performs self.old (act.put pid words.now area offset) self.new result }
     {
         let start = self.resolve(pid, area, offset, words.len() as u64)?;
-        self.lists.puts.push(pid, start, words)?;
+        self.rows.add_put(pid, start, words)?;
         Ok(())
     }
 
@@ -69,7 +69,7 @@ impl<'v> Ctx<'v> {
         if into > own || len > own - into {
             return self.refuse(Fault::BadLocal);
         }
-        self.lists.gets.push(Get {
+        self.rows.add_get(Get {
             owner: pid,
             start,
             len,
@@ -88,7 +88,7 @@ impl<'v> Ctx<'v> {
         if start > words || len > words - start {
             return self.refuse(Fault::BadLocal);
         }
-        self.lists.pushes.push(Area { start, len })?;
+        self.rows.add_push(Area { start, len })?;
         Ok(())
     }
 
@@ -99,11 +99,11 @@ impl<'v> Ctx<'v> {
     {
         self.begin_request()?;
         let view = self.view;
-        let popped = self.lists.pops.as_slice();
+        let popped = self.rows.pops();
         let Some(slot) = view.table.find_under(view.pid, start, popped) else {
             return self.refuse(Fault::NotRegistered(start));
         };
-        self.lists.pops.push(slot)?;
+        self.rows.add_pop(slot)?;
         Ok(())
     }
 }

@@ -6,4 +6,4 @@ use Rattle.bsp_crew.proofs.part.Means.take_turns.Given as goal
 -- the turns so far
 abbrev pub invariant-loop-place : goal.invariant-loop-place
 invariant-loop-place g l =
-    l.rows ≡ l.initial.rows ++ turns_of (turn_by g.P.Program l.self.program.now) l.views (take l.place l.part.processes.now)
+    l.gathering ≡ l.initial.gathering ++ turns_of (turn_by g.P.Program l.self.program.now) l.views (take l.place l.part.processes.now)

@@ -8,7 +8,7 @@ use Rattle.bsp_run.specs.Run.{Run}
 use Rattle.bsp_run.specs.Condition.{IsInPhase, IsAtLimit}
 use Rattle.bsp_run.specs.Result.{cost_of_end}
 use Rattle.bsp_scratch.specs.Inside.IsUnrecorded.{HasEnded}
-use Rattle.bsp_step.proofs.BothOk.{both_ok}
+use Rattle.bsp_model.proofs.EitherWay.{both_ok}
 use Rattle.bsp_run.proofs.Conditions.{count_of_outcomes}
 use Rattle.bsp_scratch.proofs.UnrecordedRuns.{ended_so, ended_result, limit_result, rows_are}
 use Rattle.bsp_scratch.proofs.unrecorded.Unrecorded.result.Goals as goal

@@ -1,6 +1,6 @@
 use Rattle.std.proofs.Common.{length, refl, ap, subst, arith}
 use Rattle.bsp_step.specs.OutcomeParts.{IsOutcome}
-use Rattle.bsp_step.proofs.BothOk.{both_ok}
+use Rattle.bsp_model.proofs.EitherWay.{both_ok}
 use Rattle.bsp_step.proofs.OutcomeColumns.{outcomes-push, lawful-push, end_of, same_below, unchanged-below, has_there, on_err}
 use Rattle.bsp_step.proofs.outcome_rows.OutcomeRows.push_over.Goals as goal
 

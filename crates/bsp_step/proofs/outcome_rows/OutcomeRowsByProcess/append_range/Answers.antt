@@ -3,7 +3,7 @@ use Rattle.std.specs.Prelude.{IsOk, is_ok, slice_range}
 use Rattle.bsp_step.specs.declared.outcome_rows.OutcomeRows.TheInside.{Inside}
 use Rattle.bsp_step.specs.OutcomeParts.{OutcomeParts}
 use Rattle.bsp_step.specs.Inside.Outcomes.{outcomes_of}
-use Rattle.bsp_step.proofs.BothOk.{both_ok}
+use Rattle.bsp_model.proofs.EitherWay.{both_ok}
 use Rattle.bsp_step.proofs.OutcomeColumns.{length-outcomes_of, outcomes-range, lawful-range, same_below, taken_behind, unchanged-below, on_err}
 use Rattle.bsp_step.proofs.outcome_rows.OutcomeRowsByProcess.append_range.Goals as goal
 

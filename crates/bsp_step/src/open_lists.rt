@@ -1,0 +1,141 @@
+//! The lists that several outcomes have, in columns, and behind them those of the turn under way.
+
+ghost use Rattle.std.specs.Prelude.{◌≡◌, ◌<◌, ℕ, IfOk, OnOk};
+ghost use Rattle.bsp_step.specs.Inside.Outcomes.{AreSameLists};
+ghost use Rattle.bsp_step.specs.Inside.Gathered.{rows_in, no_lists, only_issued, AreBefore, HasNothing, IsEnded};
+
+use crate::lists::Lists;
+use bsp_model::{
+    Column, Fault, Get, LocalMemory, OpenBlocks, OpenRow, OutOfMemory, Put, Send, StoreColumn,
+    Words,
+};
+use bsp_table::Area;
+use std::alloc::Global;
+use std::mem;
+
+/// The lists of several outcomes, each kind in a column of its own. Behind the rows of the outcomes stands what the turn under way has issued. Its fault,
+/// its stores and its choice of a tag size are put at its end alone.
+pub(crate) struct OpenLists {
+    faults: Column<Fault>,
+    stores: StoreColumn,
+    tags: Column<u64>,
+    pub(crate) puts: OpenBlocks<Put>,
+    pub(crate) gets: OpenRow<Get>,
+    pub(crate) sends: OpenBlocks<Send>,
+    pub(crate) pops: OpenRow<usize>,
+    pub(crate) pushes: OpenRow<Area>,
+    pub(crate) lines: OpenBlocks<Words>,
+}
+
+impl Drop for OpenLists {
+    fn drop(self) {
+        let Self {
+            faults,
+            stores,
+            tags,
+            puts,
+            gets,
+            sends,
+            pops,
+            pushes,
+            lines,
+        } = self;
+    }
+}
+
+impl OpenLists {
+    pub(crate) fn new(alloc: Global) -> OpenLists
+        ensures { result ≡ no_lists }
+    {
+        OpenLists {
+            faults: Column::new(alloc),
+            stores: StoreColumn::new(alloc),
+            tags: Column::new(alloc),
+            puts: OpenBlocks::new(alloc),
+            gets: OpenRow::new(alloc),
+            sends: OpenBlocks::new(alloc),
+            pops: OpenRow::new(alloc),
+            pushes: OpenRow::new(alloc),
+            lines: OpenBlocks::new(alloc),
+        }
+    }
+
+    /// A copy of what the turn under way has issued, behind no rows.
+    pub(crate) fn copy_turn(&self, alloc: Global) -> Result<OpenLists, OutOfMemory>
+        ensures { IfOk result (λ lists. lists ≡ only_issued self.now) }
+    {
+        Ok(OpenLists {
+            faults: Column::new(alloc),
+            stores: StoreColumn::new(alloc),
+            tags: Column::new(alloc),
+            puts: self.puts.copy_last()?,
+            gets: self.gets.copy_last()?,
+            sends: self.sends.copy_last()?,
+            pops: self.pops.copy_last()?,
+            pushes: self.pushes.copy_last()?,
+            lines: self.lines.copy_last()?,
+        })
+    }
+
+    /// Exchanges the rows with others, of which those of the processes before a place are taken. What the turn under way has issued is gone.
+    pub(crate) fn swap(&mut self, lists: &mut Lists, place: usize)
+        ensures given { lists.new ≡ rows_in self.old }
+        ensures taken { (k : ℕ) → k < place → AreSameLists lists.old k (rows_in self.new) k }
+        ensures before { AreBefore (rows_in self.new) place }
+        ensures nothing { HasNothing self.new }
+    {
+        mem::swap(&mut self.faults, &mut lists.faults);
+        mem::swap(&mut self.stores, &mut lists.stores);
+        mem::swap(&mut self.tags, &mut lists.tags);
+        self.faults.cut(place);
+        self.stores.cut(place);
+        self.tags.cut(place);
+        self.puts.swap(&mut lists.puts, place);
+        self.gets.swap(&mut lists.gets, place);
+        self.sends.swap(&mut lists.sends, place);
+        self.pops.swap(&mut lists.pops, place);
+        self.pushes.swap(&mut lists.pushes, place);
+        self.lines.swap(&mut lists.lines, place);
+    }
+
+    /// Leaves out the rows of the processes from a place on, and what the turn under way has issued.
+    pub(crate) fn cut(&mut self, place: usize)
+        ensures same { (k : ℕ) → k < place → AreSameLists (rows_in self.old) k (rows_in self.new) k }
+        ensures before { AreBefore (rows_in self.new) place }
+        ensures nothing { HasNothing self.new }
+    {
+        self.faults.cut(place);
+        self.stores.cut(place);
+        self.tags.cut(place);
+        self.puts.cut_rows(place);
+        self.gets.cut_rows(place);
+        self.sends.cut_rows(place);
+        self.pops.cut_rows(place);
+        self.pushes.cut_rows(place);
+        self.lines.cut_rows(place);
+    }
+
+    /// Makes what the turn under way has issued the rows of a process, and puts there what is known of a turn at its end alone.
+    #[inline(always)]
+    pub(crate) fn end_turn(
+        &mut self,
+        place: usize,
+        fault: Option<Fault>,
+        tag: Option<u64>,
+        local: &LocalMemory,
+    ) -> Result<(), OutOfMemory>
+        requires { AreBefore (rows_in self.old) place }
+        ensures ended { OnOk result (IsEnded self.old place fault tag local.now self.new) }
+        ensures same { (k : ℕ) → k < place → AreSameLists (rows_in self.old) k (rows_in self.new) k }
+    {
+        self.stores.put_local(place, local)?;
+        self.puts.end_row(place)?;
+        self.gets.end_row(place)?;
+        self.sends.end_row(place)?;
+        self.pops.end_row(place)?;
+        self.pushes.end_row(place)?;
+        self.lines.end_row(place)?;
+        self.faults.put(place, fault.as_slice())?;
+        self.tags.put(place, tag.as_slice())
+    }
+}
