@@ -1,9 +1,9 @@
 -- The tests at the end of a superstep, one after the other.
-use Rattle.std.proofs.Common.{◌≡◌, ℕ, ◌≤◌, ◌<◌, ◌&&◌, Bool, true, false, Option, None, Some, List, All, map, length, not, if◌then◌else◌, refl, sym, ap, ◌∙◌, get_or, arith}
+use Rattle.std.proofs.Common.{◌≡◌, ℕ, ◌≤◌, ◌&&◌, Bool, true, false, Option, None, Some, List, All, map, length, not, if◌then◌else◌, refl, sym, ap, ◌∙◌, get_or}
 use Rattle.std.specs.List.{list_all}
 use Rattle.std.proofs.Math.Bool.{and-false}
 use Rattle.std.proofs.lemmas.Bool.{eq-eqb, false≢true}
-use Rattle.std.proofs.lemmas.List.Folds.{list_any_at, list_any_none}
+use Rattle.std.proofs.lemmas.List.Folds.{list_any_none}
 use Rattle.bsp_model.specs.declared.fault.SyncFault.{SyncFault}
 use Rattle.bsp_model.specs.declared.fault.SyncFault.TheVariants.{MixedEnd, TagMismatch}
 use Rattle.bsp_table.specs.declared.area.Area.{Area}
@@ -11,7 +11,7 @@ use Rattle.bsp_table.specs.NextTable.{are_alike, table_fault}
 use Rattle.bsp_table.proofs.NextTables.{are_alike-map}
 use Rattle.bsp_step.specs.declared.outcome.Ended.{Ended}
 use Rattle.bsp_step.specs.declared.outcome.Ended.TheVariants.{Sync, Halt}
-use Rattle.bsp_step.specs.OutcomeParts.{OutcomeParts, no_outcome, outcome_of}
+use Rattle.bsp_step.specs.OutcomeParts.{OutcomeParts}
 use Rattle.bsp_deliver.specs.SyncFault.{is_sync, some_sync, some_halt, same_tag, sync_fault}
 
 same_tag_itself : (tag : Option ℕ) → same_tag tag tag ≡ true

@@ -42,6 +42,13 @@ impl Cells {
         }
     }
 
+    /// From now on a memory in one piece keeps a list of its own, unless it is short.
+    pub fn keep_lists(&mut self)
+        ensures { self.new ≡ self.old }
+    {
+        self.memories.keep_lists();
+    }
+
     /// Makes room for so many processes more. For none it takes no memory.
     pub fn reserve(&mut self, count: usize) -> Result<(), OutOfMemory>
         ensures { self.new ≡ self.old }

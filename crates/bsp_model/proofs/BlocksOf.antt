@@ -1,11 +1,11 @@
 -- What stands for heads, each with the place where its words end, and the words.
 use Rattle.std.proofs.Common.{◌≡◌, ◌<◌, ◌+◌, ℕ, zero, suc, List, [], ◌∷◌, ◌++◌, length, get_or, map, refl, sym, ap, ◌∙◌, subst, arith, Some, All}
 use Rattle.std.specs.Prelude.{slice_get, slice_range, option_map}
-use Rattle.std.proofs.lemmas.List.{map-append, length-map, length-append}
+use Rattle.std.proofs.lemmas.List.{map-append, length-map}
 use Rattle.std.proofs.lemmas.List.Elements.{All-append, All-head, All-tail}
 use Rattle.std.proofs.lemmas.Option.{slice_get-map}
-use Rattle.bsp_model.specs.Inside.Blocks.{rows_from, AreEnds, start_at, behind, blocks_of, AreBlocks}
-use Rattle.bsp_model.proofs.RowRanges.{length-rows_from, get_or-rows_from, row_at as row_there, rows_from-append, rows_from-push, AreEnds-append, AreEnds-push, same_rows}
+use Rattle.bsp_model.specs.Inside.Blocks.{rows_from, AreEnds, start_at, blocks_of, AreBlocks}
+use Rattle.bsp_model.proofs.RowRanges.{length-rows_from, get_or-rows_from, row_at as row_there, rows_from-push, AreEnds-push, same_rows}
 
 -- nothing stands for no heads
 
@@ -50,20 +50,6 @@ pub blocks-push : {H X : Type 0} (of : H × (List ℕ) → X) (heads : List (H �
     → blocks_of of (heads ++ (head, len) ∷ []) (words ++ row) ≡ blocks ++ of (head, row) ∷ []
 blocks-push of heads words row blocks head len is ends long =
     ap (map of) (rows_from-push 0 heads words row head len ends long) ∙ map-append of (rows_from 0 heads words) ((head, row) ∷ []) ∙ ap (λ bs. bs ++ of (head, row) ∷ []) is
-
--- more blocks behind
-
-pub AreBlocks-append : {H : Type 0} (IsKept : H × (List ℕ) → Type 0) (heads others : List (H × ℕ)) (words more : List ℕ) → AreBlocks IsKept heads words → AreBlocks IsKept others more
-    → AreBlocks IsKept (heads ++ behind (length words) others) (words ++ more)
-AreBlocks-append IsKept heads others words more are are' = (
-  subst (AreEnds 0 (heads ++ behind (length words) others)) (sym (length-append words more)) (AreEnds-append 0 heads others (length words) (length more) are.0 are'.0),
-  subst (All IsKept) (sym (rows_from-append 0 heads others words more are.0)) (All-append IsKept (rows_from 0 heads words) (rows_from 0 others more) are.1 are'.1),
-)
-
-pub blocks-append : {H X : Type 0} (of : H × (List ℕ) → X) (heads others : List (H × ℕ)) (words more : List ℕ) → AreEnds 0 heads (length words)
-    → blocks_of of (heads ++ behind (length words) others) (words ++ more) ≡ blocks_of of heads words ++ blocks_of of others more
-blocks-append of heads others words more ends =
-    ap (map of) (rows_from-append 0 heads others words more ends) ∙ map-append of (rows_from 0 heads words) (rows_from 0 others more)
 
 -- what can be told from blocks
 

@@ -1,10 +1,10 @@
 -- Rows of words that lie in one list, each with a head.
-use Rattle.std.proofs.Common.{◌≡◌, ◌≤◌, ◌<◌, ℕ, zero, suc, ◌+◌, ◌-◌, List, [], ◌∷◌, ◌++◌, length, get_or, drop, refl, sym, ap, ◌∙◌, arith, subst, Some, add-zero}
+use Rattle.std.proofs.Common.{◌≡◌, ◌≤◌, ◌<◌, ℕ, zero, suc, ◌+◌, ◌-◌, List, [], ◌∷◌, ◌++◌, length, get_or, drop, refl, sym, ap, ◌∙◌, arith, subst, Some}
 use Rattle.std.specs.Prelude.{slice_range, slice_get}
 use Rattle.std.proofs.lemmas.List.{take_all, drop_all, drop-drop, take-append-drop}
 use Rattle.std.proofs.lemmas.List.Edits.{length-between}
 use Rattle.std.proofs.lemmas.Option.{slice_get-get_or}
-use Rattle.bsp_model.specs.Inside.Blocks.{rows_from, AreEnds, start_at, behind}
+use Rattle.bsp_model.specs.Inside.Blocks.{rows_from, AreEnds, start_at}
 use Rattle.bsp_model.proofs.RowsOf.{range-before, range-behind}
 
 pub length-rows_from : {H : Type 0} (start : ℕ) (heads : List (H × ℕ)) (words : List ℕ) → length (rows_from start heads words) ≡ length heads
@@ -52,34 +52,6 @@ end_below i start [] len head a l e = absurd (omega (arith, l))
 end_below zero start (first ∷ later) len head a l e = omega (arith, first_end first.1 later len a.1, ap (λ h. h.1) e)
 end_below (suc i) start (first ∷ later) len head a l e = end_below i first.1 later len head a.1 (omega (arith, l)) e
 
--- more rows behind
-
-rows_from-behind : {H : Type 0} (start : ℕ) (heads : List (H × ℕ)) (words more : List ℕ) → rows_from (length words + start) (behind (length words) heads) (words ++ more) ≡ rows_from start heads more
-unfolding rows_from
-rows_from-behind start [] words more = refl
-rows_from-behind start (head ∷ later) words more =
-    ap (λ r. (head.0, r) ∷ rows_from (length words + head.1) (behind (length words) later) (words ++ more)) (range-behind words more start head.1)
-    ∙ ap (λ rs. (head.0, slice_range more start head.1) ∷ rs) (rows_from-behind head.1 later words more)
-
-pub rows_from-append : {H : Type 0} (start : ℕ) (heads others : List (H × ℕ)) (words more : List ℕ) → AreEnds start heads (length words)
-    → rows_from start (heads ++ behind (length words) others) (words ++ more) ≡ rows_from start heads words ++ rows_from 0 others more
-unfolding rows_from
-rows_from-append start [] others words more are =
-    ap (λ (k : ℕ). rows_from k (behind (length words) others) (words ++ more)) (are ∙ sym (add-zero (length words))) ∙ rows_from-behind 0 others words more
-rows_from-append start (head ∷ later) others words more are =
-    ap (λ r. (head.0, r) ∷ rows_from head.1 (later ++ behind (length words) others) (words ++ more)) (range-before words more start head.1 (first_end head.1 later _ are.1))
-    ∙ ap (λ rs. (head.0, slice_range words start head.1) ∷ rs) (rows_from-append head.1 later others words more are.1)
-
-AreEnds-behind : {H : Type 0} (start : ℕ) (heads : List (H × ℕ)) (before count : ℕ) → AreEnds start heads count → AreEnds (before + start) (behind before heads) (before + count)
-AreEnds-behind start [] before count are = ap (λ (k : ℕ). before + k) are
-AreEnds-behind start (head ∷ later) before count are = (omega (arith, are.0), AreEnds-behind head.1 later before count are.1)
-
-pub AreEnds-append : {H : Type 0} (start : ℕ) (heads others : List (H × ℕ)) (before count : ℕ) → AreEnds start heads before → AreEnds 0 others count
-    → AreEnds start (heads ++ behind before others) (before + count)
-AreEnds-append start [] others before count are more =
-    let from : before + 0 ≡ start = omega (arith, are) in rw (← from) (AreEnds-behind 0 others before count more)
-AreEnds-append start (head ∷ later) others before count are more = (are.0, AreEnds-append head.1 later others before count are.1 more)
-
 -- a row more
 
 pub AreEnds-push : {H : Type 0} (start : ℕ) (heads : List (H × ℕ)) (head : H × ℕ) (len : ℕ) → AreEnds start heads len → len ≤ head.1 → AreEnds start (heads ++ head ∷ []) head.1
@@ -89,10 +61,14 @@ AreEnds-push start (first ∷ later) head len a more = (a.0, AreEnds-push first.
 pub rows_from-push : {H : Type 0} (start : ℕ) (heads : List (H × ℕ)) (words row : List ℕ) (head : H) (len : ℕ) → AreEnds start heads (length words) → len ≡ length words + length row
     → rows_from start (heads ++ (head, len) ∷ []) (words ++ row) ≡ rows_from start heads words ++ (head, row) ∷ []
 unfolding rows_from
-rows_from-push start heads words row head len are e =
-    ap (λ n. rows_from start (heads ++ (head, n) ∷ []) (words ++ row)) e
-    ∙ rows_from-append start heads ((head, length row) ∷ []) words row are
-    ∙ ap (λ r. rows_from start heads words ++ (head, r) ∷ []) (take_all (length row - 0) row (omega arith))
+rows_from-push start [] words row head len are e =
+    let from : start ≡ length words + 0 = omega (arith, are) in
+    ap (λ (k : ℕ). rows_from k ((head, len) ∷ []) (words ++ row)) from
+    ∙ ap (λ n. (head, slice_range (words ++ row) (length words + 0) n) ∷ []) e
+    ∙ ap (λ r. (head, r) ∷ []) (range-behind words row 0 (length row) ∙ take_all (length row - 0) row (omega arith))
+rows_from-push start (first ∷ later) words row head len are e =
+    ap (λ r. (first.0, r) ∷ rows_from first.1 (later ++ (head, len) ∷ []) (words ++ row)) (range-before words row start first.1 (first_end first.1 later _ are.1))
+    ∙ ap (λ rs. (first.0, slice_range words start first.1) ∷ rs) (rows_from-push first.1 later words row head len are.1 e)
 
 -- rows that are equal
 

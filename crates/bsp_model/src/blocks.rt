@@ -1,40 +1,30 @@
-//! Blocks in two lists.
+//! Blocks in two lists: the heads, and the words of all blocks one behind the other.
 
-ghost use Rattle.std.specs.Prelude.{◌≡◌, ◌<◌, ◌≤◌, ◌+◌, ◌^◌, ◌++◌, ◌∷◌, [], ℕ, length, Some, EachIndex, IsTrue, ◌↔◌, OnErr, OnOk, nat_eq, slice_get, slice_index_or, vec_capacity, vec_len};
-ghost use Rattle.bsp_model.specs.Inside.Blocks.{AreEnds, behind, start_at};
+ghost use Rattle.std.specs.Prelude.{◌≡◌, ◌<◌, ◌≤◌, [], length, Some, IsTrue, ◌↔◌, nat_eq, slice_get, slice_index_or};
+ghost use Rattle.bsp_model.specs.Inside.Blocks.{AreEnds, start_at};
 
 mod kinds;
 
 use crate::block::Block;
-use crate::seq::{append_items, are_same, are_same_words};
-use crate::{OutOfMemory, Same, TryCopy};
+use crate::seq::{are_same, are_same_words};
+use crate::{OpenBlocks, OutOfMemory, Same, TryCopy};
 pub use kinds::{MessageView, PutView, SendView};
 use std::alloc::Global;
 use std::marker::Model;
 
-/// Blocks in order, kept in two lists: the heads, and the words of all blocks one behind the other.
+/// Blocks in order.
+#[derive(Drop)]
 pub struct Blocks<X: Block> {
-    /// The heads, each with the place where the words of its block end.
-    heads: Vec<(X::Head, usize)>,
-    /// The words of the first block, then those of the second, and so on.
-    words: Vec<u64>,
-}
-
-impl<X: Block> Drop for Blocks<X> {
-    fn drop(self) {
-        let Self { heads, words } = self;
-    }
+    /// They are its open row; no row is closed.
+    row: OpenBlocks<X>,
 }
 
 impl<X: Block> Model for Blocks<X> {
     ghost use Rattle.std.specs.Prelude.{List};
-    ghost use Rattle.bsp_model.specs.Inside.Blocks.{blocks_of, AreBlocks};
 
     ghost Value = { List X };
 
-    ghost view = { λ b. blocks_of X.of b.heads.items b.words.items };
-
-    ghost invariant = { λ b. AreBlocks X.IsKept b.heads.items b.words.items };
+    ghost view = { λ b. b.row.last };
 }
 
 /// Blocks in order, read where they lie.
@@ -68,24 +58,13 @@ fn bounds<H>(heads: &[(H, usize)], count: usize, place: usize) -> (usize, usize)
     (start, heads[place].1)
 }
 
-fn add_heads<H: Copy>(heads: &mut Vec<(H, usize)>, before: usize, more: &[(H, usize)])
-    requires room { vec_len heads.old + length more.now ≤ vec_capacity heads.old }
-    requires fits { EachIndex more.now (λ k. (head : H × ℕ) → before + (slice_index_or more.now k head).1 < 2 ^ 64) }
-    ensures { heads.new.items ≡ heads.old.items ++ behind before more.now }
-{
-    for (head, end) in more {
-        heads.push_reserved((*head, before + *end));
-    }
-}
-
 impl<X: Block> Blocks<X> {
     /// No blocks, which take no memory.
     pub fn new(alloc: Global) -> Blocks<X>
         ensures { result ≡ [] }
     {
         Blocks {
-            heads: Vec::new(alloc),
-            words: Vec::new(alloc),
+            row: OpenBlocks::new(alloc),
         }
     }
 
@@ -94,7 +73,7 @@ impl<X: Block> Blocks<X> {
     pub fn len(&self) -> usize
         ensures { result ≡ length self.now }
     {
-        self.heads.len()
+        self.row.len()
     }
 
     /// All blocks, to be read where they lie.
@@ -102,55 +81,21 @@ impl<X: Block> Blocks<X> {
     pub fn as_ref(&self) -> BlocksRef<'_, X>
         ensures { result ≡ self.now }
     {
-        BlocksRef {
-            heads: self.heads.as_slice(),
-            words: self.words.as_slice(),
-        }
-    }
-
-    /// Takes all blocks away. Their room stays.
-    #[inline(always)]
-    pub fn clear(&mut self)
-        ensures { self.new ≡ [] }
-    {
-        if self.heads.is_empty() {
-            return;
-        }
-        self.heads.clear();
-        self.words.clear();
-    }
-
-    #[inline]
-    fn add(&mut self, head: X::Head, front: &[u64], back: &[u64]) -> Result<(), OutOfMemory>
-        requires { X.IsKept (head, front.now ++ back.now) }
-        ensures ok { OnOk result (self.new ≡ self.old ++ X.of (head, front.now ++ back.now) ∷ []) }
-        ensures err { OnErr result (self.new ≡ self.old) }
-    {
-        self.heads.reserve(1)?;
-        let before = self.words.len();
-        append_items(&mut self.words, front)?;
-        if let Err(error) = append_items(&mut self.words, back) {
-            self.words.truncate(before);
-            return Err(error);
-        }
-        self.heads.push_reserved((head, self.words.len()));
-        Ok(())
-    }
-
-    /// Adds copies of the blocks of `more`, in order. After `OutOfMemory` nothing has changed.
-    pub fn append(&mut self, more: &BlocksRef<'_, X>) -> Result<(), OutOfMemory>
-        ensures ok { OnOk result (self.new ≡ self.old ++ more.now) }
-        ensures err { OnErr result (self.new ≡ self.old) }
-    {
-        self.heads.reserve(more.heads.len())?;
-        let before = self.words.len();
-        self.words.extend_from_slice(more.words)?;
-        add_heads(&mut self.heads, before, more.heads);
-        Ok(())
+        self.row.last()
     }
 }
 
 impl<'a, X: Block> BlocksRef<'a, X> {
+    /// No blocks.
+    pub fn none() -> BlocksRef<'a, X>
+        ensures { result ≡ [] }
+    {
+        BlocksRef {
+            heads: &[],
+            words: &[],
+        }
+    }
+
     /// The number of blocks.
     #[inline(always)]
     pub fn len(&self) -> usize
@@ -168,7 +113,7 @@ impl<'a, X: Block> BlocksRef<'a, X> {
     }
 
     #[inline]
-    fn parts(&self, place: usize) -> (&'a X::Head, &'a [u64])
+    pub(crate) fn parts(&self, place: usize) -> (&'a X::Head, &'a [u64])
         requires { place < length self.now }
         ensures is { slice_get self.now place ≡ Some (X.of (result.0.now, result.1.now)) }
         ensures kept { X.IsKept (result.0.now, result.1.now) }
@@ -198,9 +143,9 @@ impl<'a, X: Block> Same for BlocksRef<'a, X> {
 
 impl<X: Block> TryCopy for Blocks<X> {
     fn copy(&self) -> Result<Blocks<X>, OutOfMemory> {
-        let mut copy = Blocks::new(*self.words.allocator());
-        copy.append(&self.as_ref())?;
-        Ok(copy)
+        Ok(Blocks {
+            row: self.row.copy_last()?,
+        })
     }
 }
 

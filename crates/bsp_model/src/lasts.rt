@@ -17,6 +17,8 @@ pub(crate) struct Lasts {
     own: Vec<Words>,
     /// How many processes have lists of their own.
     count: usize,
+    /// How many words are enough for a list of their own.
+    least: usize,
     /// The words of the processes behind those.
     rows: Rows<u64>,
 }
@@ -59,8 +61,16 @@ impl Lasts {
         Lasts {
             own: Vec::new(alloc),
             count: 0,
+            least: WORDS_OF_A_PAGE,
             rows: Rows::new(alloc),
         }
+    }
+
+    /// From now on so many words are enough for a list of their own.
+    pub fn keep_lists(&mut self, least: usize)
+        ensures { self.new ≡ self.old }
+    {
+        self.least = least;
     }
 
     pub fn clear(&mut self)
@@ -109,7 +119,7 @@ impl Lasts {
         self.rows.push(words)
     }
 
-    /// Takes the list itself where its words are as many as a page has, so that they are a memory in one piece. `words` then has any words, but no more.
+    /// Takes the list itself where its words are enough for a list of their own. `words` then has any words, but no more.
     #[inline(always)]
     pub fn push_from(&mut self, words: &mut Vec<u64>) -> Result<(), OutOfMemory>
         ensures ok { OnOk result (self.new ≡ self.old ++ words.old.items ∷ []) }
@@ -117,7 +127,7 @@ impl Lasts {
         ensures err { OnErr result (self.new ≡ self.old) }
         ensures err_words { OnErr result (words.new.items ≡ words.old.items) }
     {
-        if words.len() < WORDS_OF_A_PAGE || !self.rows.is_empty() {
+        if words.len() < self.least || !self.rows.is_empty() {
             return self.rows.push(words.as_slice());
         }
         put_list(&mut self.own, self.count, words)?;

@@ -59,7 +59,7 @@ pub use share::Share;
 pub use shared::{Shared, SharedSeq};
 pub use std::alloc::AllocError as OutOfMemory;
 pub use stores_ref::StoresRef;
-pub use workspace::Workspace;
+pub use workspace::{WORDS_WORTH_A_LOOK, Workspace};
 
 /// A list of 64-bit words.
 pub type Words = Seq<u64>;
@@ -75,9 +75,6 @@ pub type MessagesRef<'a> = BlocksRef<'a, Message>;
 
 /// For each process the messages of its queue.
 pub type MessageColumn = BlockColumn<Message>;
-
-/// Printed lines, in order.
-pub type PrintedLines = Blocks<Words>;
 
 /// Printed lines, read where they lie.
 pub type PrintedLinesRef<'a> = BlocksRef<'a, Words>;

@@ -7,7 +7,10 @@ ghost use Rattle.bsp_model.specs.Memory.{memory_written};
 use crate::lasts::Lasts;
 use crate::page::{Page, WORDS_OF_A_PAGE};
 use crate::paging::{copied_pages, cut_write, is_within, write_row};
-use crate::{ByProcess, Memory, MemoryRef, OutOfMemory, Share, SharedColumn, SharedSeq, TryCopy};
+use crate::{
+    ByProcess, Memory, MemoryRef, OutOfMemory, Share, SharedColumn, SharedSeq, TryCopy,
+    WORDS_WORTH_A_LOOK,
+};
 use std::alloc::{AllocError, Global};
 use std::marker::Model;
 use std::mem;
@@ -50,6 +53,17 @@ fn take_full(pages: &mut Vec<Page>) -> Result<SharedSeq<Page>, OutOfMemory>
     SharedSeq::from_vec(mem::replace(pages, none))
 }
 
+/// Copies of the full pages of a memory, of which there may be none.
+#[inline(always)]
+fn shared_copies(alloc: Global, pages: &[Page]) -> Result<SharedSeq<Page>, OutOfMemory>
+    ensures { IfOk result (λ full. full ≡ pages.now) }
+{
+    if pages.is_empty() {
+        return Ok(SharedSeq::new());
+    }
+    SharedSeq::from_vec(copied_pages(alloc, pages)?)
+}
+
 impl Memories {
     /// No memories, which take no memory.
     pub fn new(alloc: Global) -> Memories
@@ -59,6 +73,13 @@ impl Memories {
             pages: SharedColumn::new(alloc),
             lasts: Lasts::new(alloc),
         }
+    }
+
+    /// From now on a memory in one piece keeps a list of its own, unless it is short. Such lists are handed on and not copied.
+    pub fn keep_lists(&mut self)
+        ensures { self.new ≡ self.old }
+    {
+        self.lasts.keep_lists(WORDS_WORTH_A_LOOK);
     }
 
     /// Takes all memories away. Their room stays.
@@ -138,7 +159,7 @@ impl Memories {
         ensures ok { OnOk result (self.new ≡ self.old ++ memory.now ∷ []) }
         ensures err { OnErr result (self.new ≡ self.old) }
     {
-        let full = SharedSeq::from_vec(copied_pages(self.pages.allocator(), memory.pages)?)?;
+        let full = shared_copies(self.pages.allocator(), memory.pages)?;
         self.pages.put(self.lasts.len(), full)?;
         self.lasts.push(memory.last)
     }

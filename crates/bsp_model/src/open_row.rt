@@ -66,6 +66,14 @@ impl<T> OpenRow<T> {
 }
 
 impl<T: Copy> OpenRow<T> {
+    /// Makes room for so many rows more, of one item each.
+    pub fn reserve(&mut self, rows: usize) -> Result<(), OutOfMemory>
+        ensures { self.new ≡ self.old }
+    {
+        let items = self.items.reserve(rows);
+        items.and(self.ends.reserve(rows))
+    }
+
     /// Adds an item to the open row. After `OutOfMemory` nothing has changed.
     #[inline(always)]
     pub fn push(&mut self, item: T) -> Result<(), OutOfMemory>
@@ -145,8 +153,9 @@ impl<T: Copy> OpenRow<T> {
     {
         rows.truncate(place);
         self.items.truncate(self.start);
-        // Most columns have no row, and stay where they are.
-        if self.ends.is_empty() && rows.is_empty() {
+        // Most columns have no row, and stay where they are, unless there is room to be had.
+        let has_room = self.items.capacity() >= rows.items.capacity();
+        if has_room && self.ends.is_empty() && rows.is_empty() {
             return;
         }
         mem::swap(&mut self.items, &mut rows.items);

@@ -189,7 +189,10 @@ pub(crate) fn append_items<T: Copy>(items: &mut Vec<T>, more: &[T]) -> Result<()
 {
     match more {
         [] => {}
-        [item] => items.push(*item)?,
+        [item] => {
+            items.reserve(1)?;
+            items.push_reserved(*item);
+        }
         [first, second] => {
             items.reserve(2)?;
             items.push_reserved(*first);

@@ -10,7 +10,7 @@ use crate::{Change, LocalMemory, MemoryRef, OutOfMemory};
 use std::alloc::Global;
 
 /// A memory of fewer words is copied as the turn begins. That takes less time than to ask at each call where the words are.
-const WORDS_WORTH_A_LOOK: usize = 16;
+pub const WORDS_WORTH_A_LOOK: usize = 16;
 
 /// The memory of a process in its turn, and the stores that were made in it. A memory in one piece is read where it lay before the turn, until words
 /// are stored. A change of many words then goes over them once: it reads them there, and writes those that it makes where they stay.

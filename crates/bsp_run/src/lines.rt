@@ -2,6 +2,7 @@
 
 ghost use Rattle.std.specs.Prelude.{◌≡◌, ℕ, [], ◌+◌, ◌≤◌, ◌<◌, ◌++◌, length, map, option_map, option_to_list, slice_index_or, take, true, false, IfOk, IfSome, OnOk};
 ghost use Rattle.std.specs.Bool.{OnFalse, OnTrue};
+ghost use Rattle.bsp_model.specs.Columns.{row_at, IsPut};
 ghost use Rattle.bsp_deliver.specs.Requests.{each_below};
 ghost use Rattle.bsp_step.specs.OutcomeParts.{outcome_of};
 ghost use Rattle.bsp_run.specs.Supersteps.{outcomes_of};
@@ -9,7 +10,9 @@ ghost use Rattle.bsp_run.specs.Result.{lines_of_process};
 ghost use Rattle.bsp_run.specs.Inside.Lines.{is_taken, lines_from, AreGathered, AreLinesUnlessMarked};
 
 use crate::{Lines, Superstep};
-use bsp_model::{LineColumn, OutOfMemory, PrintedLines, ProcessSet, Shared, SharedSeq, TryCopy};
+use bsp_model::{
+    LineColumn, OpenBlocks, OutOfMemory, ProcessSet, Shared, SharedSeq, TryCopy, Words,
+};
 use bsp_step::{ListKind, Outcomes};
 use std::alloc::Global;
 
@@ -23,25 +26,38 @@ fn may_have_lines(outcomes: &Outcomes, pid: usize) -> bool
 }
 
 #[inline]
-fn add_lines(lines: &mut PrintedLines, outcomes: &Outcomes, pid: usize) -> Result<(), OutOfMemory>
-    ensures { OnOk result (lines.new ≡ lines.old ++ (outcome_of outcomes.now pid).lines) }
+fn add_lines(
+    all: &mut OpenBlocks<Words>,
+    outcomes: &Outcomes,
+    pid: usize,
+) -> Result<(), OutOfMemory>
+    ensures { OnOk result
+        (all.new ≡ record all.old { last = all.old.last ++ (outcome_of outcomes.now pid).lines }) }
 {
     if !may_have_lines(outcomes, pid) {
         return Ok(());
     }
     let own = outcomes.lines(pid);
-    lines.append(&own)
+    all.extend(&own)
 }
 
-/// Puts the lines of a process, superstep by superstep, in the place of the former rows.
-fn take_lines(lines: &mut PrintedLines, turns: &[&Outcomes], pid: usize) -> Result<(), OutOfMemory>
-    ensures { OnOk result (lines.new ≡ lines_of_process (map (λ o. o.now) turns.now) pid) }
+/// Makes the lines of a process, superstep by superstep, its row.
+fn take_lines(
+    all: &mut OpenBlocks<Words>,
+    turns: &[&Outcomes],
+    pid: usize,
+) -> Result<(), OutOfMemory>
+    requires below { length all.old.rows ≤ pid }
+    requires none { all.old.last ≡ [] }
+    ensures put { OnOk result (IsPut [] (row_at all.old.rows) pid
+        (lines_of_process (map (λ o. o.now) turns.now) pid) (row_at all.new.rows)) }
+    ensures few { OnOk result (length all.new.rows ≤ pid + 1) }
+    ensures none { OnOk result (all.new.last ≡ []) }
 {
-    lines.clear();
     for outcomes in turns {
-        add_lines(lines, outcomes, pid)?;
+        add_lines(all, outcomes, pid)?;
     }
-    Ok(())
+    all.end_row(pid)
 }
 
 /// Whether a process is marked; one that the set doesn't tell of is.
@@ -73,6 +89,24 @@ fn is_taken(before: &[Lines], marks: &ProcessSet, pid: usize) -> bool
     pid < before.len() && !is_marked(marks, pid)
 }
 
+fn add_all_lines(
+    all: &mut OpenBlocks<Words>,
+    before: &[Lines],
+    marks: &ProcessSet,
+    turns: &[&Outcomes],
+    nprocs: usize,
+) -> Result<(), OutOfMemory>
+    requires { all.old ≡ record { rows = []; last = [] } }
+    ensures { OnOk result (AreGathered before.now marks.now (map (λ o. o.now) turns.now) nprocs all.new.rows) }
+{
+    for pid in 0..nprocs {
+        if !is_taken(before, marks, pid) {
+            take_lines(all, turns, pid)?;
+        }
+    }
+    Ok(())
+}
+
 fn gather(
     alloc: Global,
     all: &mut LineColumn,
@@ -83,14 +117,11 @@ fn gather(
 ) -> Result<(), OutOfMemory>
     ensures { OnOk result (AreGathered before.now marks.now (map (λ o. o.now) turns.now) nprocs all.new) }
 {
-    let mut lines = PrintedLines::new(alloc);
-    for pid in 0..nprocs {
-        if !is_taken(before, marks, pid) {
-            take_lines(&mut lines, turns, pid)?;
-            all.put(pid, &lines.as_ref())?;
-        }
-    }
-    Ok(())
+    let mut gathered = OpenBlocks::new(alloc);
+    let reserved = gathered.reserve(nprocs);
+    let added = add_all_lines(&mut gathered, before, marks, turns, nprocs);
+    gathered.swap(all, 0);
+    reserved.and(added)
 }
 
 /// The lines of a process: those of a previous run, or else those in a column.

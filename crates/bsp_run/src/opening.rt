@@ -5,34 +5,30 @@ ghost use Rattle.bsp_run.specs.State.{first_cell};
 
 use crate::Arguments;
 use bsp_deliver::Cells;
-use bsp_model::{Memory, OutOfMemory, Seq, SharedSeq, TryCopy, Words};
-use bsp_step::Queue;
-use std::alloc::Global;
+use bsp_model::{
+    Memory, MessagesRef, OutOfMemory, Seq, SharedSeq, TryCopy, WORDS_WORTH_A_LOOK, Words,
+};
 
 /// Whether the supersteps of a run are recorded.
 #[derive(Clone, Copy)]
 pub enum Recording {
     /// The record keeps the memories of each superstep, which share their pages.
     Kept,
-    /// No superstep is kept, and each memory lies in one piece.
+    /// No superstep is kept. Each memory lies in one piece, and in a list of its own unless it is short.
     None,
 }
 
-/// Adds a copy of the memory and the queue of one process more.
-fn push_first(
-    cells: &mut Cells,
-    memory: &Memory,
-    queue: &Queue,
-    recording: Recording,
-) -> Result<(), OutOfMemory>
-    ensures { OnOk result (cells.new ≡ cells.old ++ (memory.now, queue.now) ∷ []) }
+/// Adds a copy of the memory of one process more, whose queue is empty.
+fn push_first(cells: &mut Cells, memory: &Memory, recording: Recording) -> Result<(), OutOfMemory>
+    ensures { OnOk result (cells.new ≡ cells.old ++ (memory.now, []) ∷ []) }
 {
     let given = memory.as_ref();
+    let queue = MessagesRef::none();
     match recording {
-        Recording::None if given.has_pages() => {
-            cells.push(&mut given.to_one_piece()?, &queue.as_ref())
+        Recording::None if given.len() >= WORDS_WORTH_A_LOOK => {
+            cells.push(&mut given.to_one_piece()?, &queue)
         }
-        _ => cells.push_copy(&given, &queue.as_ref()),
+        _ => cells.push_copy(&given, &queue),
     }
 }
 
@@ -49,7 +45,6 @@ pub fn shared_args(args: &Seq<Words>) -> Result<Arguments, OutOfMemory>
 
 /// Adds the memories of some processes in the first superstep, and their queues.
 pub fn add_first_cells(
-    alloc: Global,
     cells: &mut Cells,
     mems: &[Memory],
     processes: &[usize],
@@ -60,9 +55,11 @@ pub fn add_first_cells(
     ensures { OnOk result (cells.new ≡ map (first_cell mems.now) processes.now) }
 {
     cells.reserve(processes.len())?;
-    let none = Queue::new(alloc);
+    if let Recording::None = recording {
+        cells.keep_lists();
+    }
     for process in processes {
-        push_first(cells, &mems[*process], &none, recording)?;
+        push_first(cells, &mems[*process], recording)?;
     }
     Ok(())
 }

@@ -92,7 +92,7 @@ impl Tape {
         let setting = Setting::first(alloc, args, mems.len())?;
         let mut cells = Cells::new(alloc);
         let marked = processes.as_slice();
-        add_first_cells(alloc, &mut cells, mems, marked, Recording::Kept)?;
+        add_first_cells(&mut cells, mems, marked, Recording::Kept)?;
         let views = like.replaced(alloc, setting, processes, cells)?;
         Tape::open_with(alloc, input, views)
     }

@@ -81,7 +81,7 @@ impl Views {
         let mut cells = Cells::new(alloc);
         let mems = input.mems.as_slice();
         let processes = numbers(mems.len());
-        add_first_cells(alloc, &mut cells, mems, processes, recording)?;
+        add_first_cells(&mut cells, mems, processes, recording)?;
         Views::open(alloc, setting, cells)
     }
 

@@ -1,40 +1,42 @@
 //! The lines of a run of which no record is kept.
 
-ghost use Rattle.std.specs.Prelude.{◌≡◌, ◌<◌, ℕ, IfOk, OnOk};
-ghost use Rattle.bsp_model.specs.Columns.{row_at};
+ghost use Rattle.std.specs.Prelude.{◌≡◌, ◌+◌, ◌≤◌, ◌<◌, [], ℕ, IfOk, OnOk, length};
+ghost use Rattle.bsp_model.specs.Columns.{row_at, IsPut};
 ghost use Rattle.bsp_deliver.specs.Requests.{each_below};
 ghost use Rattle.bsp_scratch.specs.Inside.Printed.{lines_in};
 
-use bsp_model::{LineColumn, OutOfMemory, PrintedLines, ProcessSet, Shared, SharedSeq};
+use bsp_model::{LineColumn, OpenBlocks, OutOfMemory, ProcessSet, Shared, SharedSeq, Words};
 use bsp_run::{Lines, each_lines};
 use std::alloc::Global;
 
+/// Makes the lines of a process, superstep by superstep, its row.
 fn take_printed(
-    lines: &mut PrintedLines,
+    all: &mut OpenBlocks<Words>,
     printed: &[LineColumn],
     pid: usize,
 ) -> Result<(), OutOfMemory>
-    ensures { OnOk result (lines.new ≡ lines_in printed.now pid) }
+    requires below { length all.old.rows ≤ pid }
+    requires none { all.old.last ≡ [] }
+    ensures put { OnOk result (IsPut [] (row_at all.old.rows) pid (lines_in printed.now pid) (row_at all.new.rows)) }
+    ensures few { OnOk result (length all.new.rows ≤ pid + 1) }
+    ensures none { OnOk result (all.new.last ≡ []) }
 {
-    lines.clear();
     for superstep in printed {
-        lines.append(&superstep.get(pid))?;
+        all.extend(&superstep.get(pid))?;
     }
-    Ok(())
+    all.end_row(pid)
 }
 
 fn gather(
-    alloc: Global,
-    all: &mut LineColumn,
+    all: &mut OpenBlocks<Words>,
     printed: &[LineColumn],
     nprocs: usize,
 ) -> Result<(), OutOfMemory>
-    ensures { OnOk result ((p : ℕ) → p < nprocs → row_at all.new p ≡ lines_in printed.now p) }
+    requires { all.old ≡ record { rows = []; last = [] } }
+    ensures { OnOk result ((p : ℕ) → p < nprocs → row_at all.new.rows p ≡ lines_in printed.now p) }
 {
-    let mut lines = PrintedLines::new(alloc);
     for pid in 0..nprocs {
-        take_printed(&mut lines, printed, pid)?;
-        all.put(pid, &lines.as_ref())?;
+        take_printed(all, printed, pid)?;
     }
     Ok(())
 }
@@ -48,9 +50,11 @@ fn in_one_column(
     ensures { IfOk result (λ all. (p : ℕ) → p < nprocs → row_at all p ≡ lines_in printed.old.items p) }
 {
     if printed.len() > 1 {
+        let mut gathered = OpenBlocks::new(alloc);
+        let added = gather(&mut gathered, printed.as_slice(), nprocs);
         let mut all = LineColumn::new(alloc);
-        let gathered = gather(alloc, &mut all, printed.as_slice(), nprocs);
-        return gathered.and(Ok(all));
+        gathered.swap(&mut all, 0);
+        return added.and(Ok(all));
     }
     match printed.pop() {
         Some(superstep) => Ok(superstep),

@@ -56,7 +56,8 @@ pub(crate) fn all_turns<J: SharedRun, P: Program, G: Gate>(
     ensures { OnOk result (taken.new.outcomes ≡ map (turn_by P.Program means.now.program.now) views.now) }
 {
     let before = mem::replace(&mut taken.outcomes, Outcomes::new());
-    let rows = before.into_room(means.alloc, views.len())?;
+    let mut rows = before.into_room(means.alloc, views.len())?;
+    rows.keep_lists();
     let turns = wide_turns(means, rows, &mut taken.spare, views, processes, step, crew)?;
     drop(mem::replace(&mut taken.outcomes, turns.share()?));
     Ok(())

@@ -1,8 +1,9 @@
 //! The lists that several outcomes have, in columns, and behind them those of the turn under way.
 
-ghost use Rattle.std.specs.Prelude.{◌≡◌, ◌<◌, ℕ, IfOk, OnOk};
+ghost use Rattle.std.specs.Prelude.{◌≡◌, ◌<◌, ℕ, [], IfOk, OnOk};
+ghost use Rattle.std.specs.Bool.{OnTrue};
 ghost use Rattle.bsp_step.specs.Inside.Outcomes.{AreSameLists};
-ghost use Rattle.bsp_step.specs.Inside.Gathered.{rows_in, no_lists, only_issued, AreBefore, HasNothing, IsEnded};
+ghost use Rattle.bsp_step.specs.Inside.Gathered.{count_of_issued, gathered_in, rows_in, no_lists, only_issued, AreBefore, HasNothing, HasOnlyPuts, IsEnded};
 
 use crate::lists::Lists;
 use bsp_model::{
@@ -115,21 +116,36 @@ impl OpenLists {
         self.lines.cut_rows(place);
     }
 
+    /// Whether the turn under way has issued puts alone, has no fault and chose no tag size. Of most turns that is so.
+    #[inline(always)]
+    fn has_only_puts(&self, requests: usize, fault: Option<Fault>, tag: Option<u64>) -> bool
+        requires { requests ≡ count_of_issued (gathered_in [] [] self.now) }
+        ensures { OnTrue result (HasOnlyPuts self.now fault tag) }
+    {
+        self.puts.len() == requests && self.lines.len() == 0 && fault.is_none() && tag.is_none()
+    }
+
     /// Makes what the turn under way has issued the rows of a process, and puts there what is known of a turn at its end alone.
     #[inline(always)]
     pub(crate) fn end_turn(
         &mut self,
         place: usize,
+        requests: usize,
         fault: Option<Fault>,
         tag: Option<u64>,
         local: &LocalMemory,
     ) -> Result<(), OutOfMemory>
-        requires { AreBefore (rows_in self.old) place }
+        requires before { AreBefore (rows_in self.old) place }
+        requires count { requests ≡ count_of_issued (gathered_in [] [] self.old) }
         ensures ended { OnOk result (IsEnded self.old place fault tag local.now self.new) }
         ensures same { (k : ℕ) → k < place → AreSameLists (rows_in self.old) k (rows_in self.new) k }
     {
+        let only_puts = self.has_only_puts(requests, fault, tag);
         self.stores.put_local(place, local)?;
         self.puts.end_row(place)?;
+        if only_puts {
+            return Ok(());
+        }
         self.gets.end_row(place)?;
         self.sends.end_row(place)?;
         self.pops.end_row(place)?;

@@ -93,6 +93,13 @@ impl OutcomeRows {
         reserved.and(Ok(room))
     }
 
+    /// From now on a memory in one piece keeps a list of its own, unless it is short.
+    pub fn keep_lists(&mut self)
+        ensures { self.new ≡ self.old }
+    {
+        self.memories.keep_lists();
+    }
+
     pub(crate) fn clear(&mut self)
         ensures { self.new ≡ [] }
     {

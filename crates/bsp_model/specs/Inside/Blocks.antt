@@ -1,5 +1,5 @@
 -- Blocks that are kept as heads, each with the place where its words end, and the words of all in one list.
-use Rattle.std.specs.Prelude.{ℕ, zero, suc, ◌+◌, ◌≡◌, ◌≤◌, List, [], ◌∷◌, All, length, map, slice_range}
+use Rattle.std.specs.Prelude.{ℕ, zero, suc, ◌≡◌, ◌≤◌, List, [], ◌∷◌, All, length, map, slice_range}
 
 -- the rows whose words begin at this place of the list, each to the end that stands beside its head
 unfoldable pub rows_from : {H : Type 0} → ℕ → List (H × ℕ) → List ℕ → List (H × (List ℕ))
@@ -16,10 +16,6 @@ abbrev pub start_at : {H : Type 0} → ℕ → ℕ → List (H × ℕ) → ℕ
 start_at zero start heads = start
 start_at (suc i) start [] = start
 start_at (suc i) start (head ∷ later) = start_at i head.1 later
-
--- the heads, where so many words more lie before theirs
-abbrev pub behind : {H : Type 0} → ℕ → List (H × ℕ) → List (H × ℕ)
-behind before heads = map (λ head. (head.0, before + head.1)) heads
 
 -- what each head and its words stand for
 abbrev pub blocks_of : {H X : Type 0} → (H × (List ℕ) → X) → List (H × ℕ) → List ℕ → List X

@@ -69,7 +69,7 @@ impl Blocks<Message> {
         ensures ok { OnOk result (self.new ≡ self.old ++ record { tag = tag.now; words = words.now } ∷ []) }
         ensures err { OnErr result (self.new ≡ self.old) }
     {
-        self.add(tag.len(), tag, words)
+        self.row.add(tag, words)
     }
 }
 
@@ -93,7 +93,7 @@ impl Blocks<Words> {
         ensures ok { OnOk result (self.new ≡ self.old ++ words.now ∷ []) }
         ensures err { OnErr result (self.new ≡ self.old) }
     {
-        self.add((), &[], words)
+        self.row.add(words)
     }
 }
 

@@ -5,7 +5,7 @@ ghost use Rattle.bsp_model.specs.Columns.{row_at, AreCut, IsPut};
 
 use super::BlockColumn;
 use crate::block::{Block, PutHead, SendHead};
-use crate::{BlocksRef, OpenRow, OutOfMemory, Put, Send, Words};
+use crate::{BlocksRef, Message, OpenRow, OutOfMemory, Put, Send, Words};
 use std::alloc::Global;
 use std::marker::Model;
 
@@ -54,6 +54,14 @@ impl<X: Block> OpenBlocks<X> {
         self.heads.len()
     }
 
+    /// Makes room for the blocks of so many processes more, of one word each.
+    pub fn reserve(&mut self, processes: usize) -> Result<(), OutOfMemory>
+        ensures { self.new ≡ self.old }
+    {
+        let heads = self.heads.reserve(processes);
+        heads.and(self.words.reserve(processes))
+    }
+
     /// The blocks of the open row, to be read where they lie.
     pub fn last(&self) -> BlocksRef<'_, X>
         ensures { result ≡ self.now.last }
@@ -82,6 +90,17 @@ impl<X: Block> OpenBlocks<X> {
         if let Err(error) = self.heads.push((head, end)) {
             self.words.cut(before);
             return Err(error);
+        }
+        Ok(())
+    }
+
+    /// Adds copies of blocks to the open row. After `OutOfMemory` some of them are there.
+    pub fn extend(&mut self, more: &BlocksRef<'_, X>) -> Result<(), OutOfMemory>
+        ensures { OnOk result (self.new ≡ record self.old { last = self.old.last ++ more.now }) }
+    {
+        for place in 0..more.len() {
+            let (head, words) = more.parts(place);
+            self.add_block(*head, &[], words)?;
         }
         Ok(())
     }
@@ -159,6 +178,19 @@ impl OpenBlocks<Send> {
     {
         let tag_len = tag.len();
         self.add_block(SendHead { target, tag_len }, tag, words)
+    }
+}
+
+impl OpenBlocks<Message> {
+    /// Adds a message of a queue to the open row. After `OutOfMemory` nothing has changed.
+    #[inline(always)]
+    pub fn add(&mut self, tag: &[u64], words: &[u64]) -> Result<(), OutOfMemory>
+        ensures ok { OnOk result (self.new ≡ record self.old {
+          last = self.old.last ++ record { tag = tag.now; words = words.now } ∷ [];
+        }) }
+        ensures err { OnErr result (self.new ≡ self.old) }
+    {
+        self.add_block(tag.len(), tag, words)
     }
 }
 

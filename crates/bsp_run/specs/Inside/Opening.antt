@@ -3,7 +3,7 @@ use Rattle.std.specs.Prelude.{◌≡◌, ◌≤◌, ℕ, List, map, length, All}
 use Rattle.bsp_model.specs.Limits.{most_arguments, most_memory_words, most_processes, most_tag_words}
 use Rattle.bsp_model.specs.declared.request.Message.{Message}
 use Rattle.bsp_table.specs.declared.area.Area.{Area}
-use Rattle.bsp_step.specs.ViewParts.{ViewParts, IsQueue, IsTableFor}
+use Rattle.bsp_step.specs.ViewParts.{IsQueue, IsTableFor}
 use Rattle.bsp_run.specs.State.{State}
 
 -- the state of these memories and queues

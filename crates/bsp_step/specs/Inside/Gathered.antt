@@ -1,5 +1,5 @@
 -- Outcomes that are being gathered, and behind them what the turn that is under way has issued so far.
-use Rattle.std.specs.Prelude.{ℕ, List, [], Option, ◌≡◌, ◌≤◌, ◌+◌, length}
+use Rattle.std.specs.Prelude.{ℕ, List, [], Option, None, ◌≡◌, ◌≤◌, ◌+◌, length}
 use Rattle.bsp_model.specs.LocalParts.{LocalParts}
 use Rattle.bsp_model.specs.Columns.{row_at}
 use Rattle.bsp_model.specs.Inside.Columns.{pair_at}
@@ -133,6 +133,16 @@ pub record HasNothing (l : OpenLists) : Type 0 where
   pub pops : l.pops.last ≡ []
   pub pushes : l.pushes.last ≡ []
   pub lines : l.lines.last ≡ []
+
+-- The turn under way has issued puts alone, has no fault, and chose no tag size.
+pub record HasOnlyPuts (l : OpenLists) (fault : Option Fault) (tag : Option ℕ) : Type 0 where
+  pub gets : l.gets.last ≡ []
+  pub sends : l.sends.last ≡ []
+  pub pops : l.pops.last ≡ []
+  pub pushes : l.pushes.last ≡ []
+  pub lines : l.lines.last ≡ []
+  pub no_fault : fault ≡ None
+  pub no_tag : tag ≡ None
 
 -- The rows of the outcomes alone have items. The fault, the stores and the choice of a tag size of the turn under way are put at its end.
 pub record IsGathered (ends : List TurnEnd) (memories : List (List ℕ)) (l : OpenLists) (requests : ℕ) : Type 0 where

@@ -195,7 +195,9 @@ impl OpenRows {
             ≡ begun (self.old.earlier ++ outcome_by self.old end fault tag workspace.old.local ∷ [])) }
     {
         let place = self.ends.len();
-        let ended = self.lists.end_turn(place, fault, tag, &workspace.local);
+        let ended = self
+            .lists
+            .end_turn(place, self.requests, fault, tag, &workspace.local);
         self.requests = 0;
         if let Err(error) = ended.and(self.ends.reserve(1)) {
             self.lists.cut(place);

@@ -17,4 +17,4 @@ returns g c =
     let turn = turn_by g.P.Program c.args.means.now.program.now in
     let views = c.args.views.now in
     let taken : List OutcomeParts = turns_of turn views (range_with_len 0 (length views)) in
-    c.replace.ensures.after ∙ c.in_ok-share.ensures ∙ c.in_ok-turns.ensures ∙ (λ i. c.in_ok-rows.ensures i ++ turns_of turn views (c.requires.processes i)) ∙ turns_of-all turn views
+    c.replace.ensures.after ∙ c.in_ok-share.ensures ∙ c.in_ok-turns.ensures ∙ (λ i. (c.keep_lists.ensures ∙ c.in_ok-rows.ensures) i ++ turns_of turn views (c.requires.processes i)) ∙ turns_of-all turn views

@@ -22,7 +22,7 @@ returns-clause-err c =
 
 pub invariant_of-self-2 : goal.invariant_of-self-2
 invariant_of-self-2 c =
-    let put : IsPut [] (row_at c.self.inside.pages) (length c.self.inside.lasts) c.memory.inside.pages.now (row_at c.put.new.self) = rw (c.len.ensures, c.in_ok-full.ensures, c.in_ok-copied_pages.ensures) at c.in_ok-put.ensures.ok in
+    let put : IsPut [] (row_at c.self.inside.pages) (length c.self.inside.lasts) c.memory.inside.pages.now (row_at c.put.new.self) = rw (c.len.ensures, c.in_ok-full.ensures) at c.in_ok-put.ensures.ok in
     in_both _
     (λ (more : c.push.new.self ≡ c.self.inside.lasts ++ c.memory.inside.last.now ∷ []). rw more
     (ArePaged-push c.self.inside.pages c.put.new.self c.self.inside.lasts c.memory.inside.pages.now c.memory.inside.last.now c.memory.inside.len c.self.invariant put c.memory.invariant))
@@ -31,7 +31,7 @@ invariant_of-self-2 c =
 
 pub returns-clause-ok : goal.returns-clause-ok
 returns-clause-ok c =
-    let put : IsPut [] (row_at c.self.inside.pages) (length c.self.inside.lasts) c.memory.inside.pages.now (row_at c.put.new.self) = rw (c.len.ensures, c.in_ok-full.ensures, c.in_ok-copied_pages.ensures) at c.in_ok-put.ensures.ok in
+    let put : IsPut [] (row_at c.self.inside.pages) (length c.self.inside.lasts) c.memory.inside.pages.now (row_at c.put.new.self) = rw (c.len.ensures, c.in_ok-full.ensures) at c.in_ok-put.ensures.ok in
     on_ok_weaker _
     (λ (more : c.push.new.self ≡ c.self.inside.lasts ++ c.memory.inside.last.now ∷ []). rw more
     (memories_of-push c.self.inside.pages c.put.new.self c.self.inside.lasts c.args.self.now c.memory.inside.pages.now c.memory.inside.last.now _ c.memory.inside.len c.self.view_is put c.memory.invariant c.memory.view_is))
