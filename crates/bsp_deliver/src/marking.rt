@@ -1,14 +1,13 @@
 //! Marks of the processes to which a sender's requests have changed.
 
 ghost use Rattle.std.specs.Prelude.{◌≡◌, ℕ, ◌<◌, ◌≤◌, ◌==◌, filter, map, take, drop, length, All};
-ghost use Rattle.bsp_step.specs.OutcomeParts.{outcome_of};
 ghost use Rattle.bsp_deliver.specs.Inside.Comparison.{HasSameParcel};
 ghost use Rattle.bsp_deliver.specs.Inside.Marks.{AreMarkedUnless, AreToKnown};
 
 use crate::addressed::Addressed;
 use crate::same::are_same_to;
 use bsp_model::{BlocksRef, ProcessSet};
-use bsp_step::Outcomes;
+use bsp_step::OutcomeRef;
 
 /// Marks the processes to which the requests at the first places differ, as far as the requests at each place are to one process in both
 /// lists. Returns how far that is.
@@ -75,14 +74,12 @@ fn mark_changes<R: Addressed>(
     mark_unaligned(marks, old, new, aligned);
 }
 
-/// Marks the processes to which a process brings other puts or messages than before.
+/// Marks the processes to which one sender brings other puts or messages than before.
 #[inline(always)]
-pub fn mark_parcels(marks: &mut ProcessSet, old: &Outcomes, new: &Outcomes, p: usize)
-    requires in_old { p < length old.now }
-    requires in_new { p < length new.now }
-    requires known { AreToKnown (length marks.old) (outcome_of old.now p) }
-    ensures { AreMarkedUnless (λ d. HasSameParcel d (outcome_of old.now p) (outcome_of new.now p)) marks.old marks.new }
+pub fn mark_parcels(marks: &mut ProcessSet, old: &OutcomeRef<'_>, new: &OutcomeRef<'_>)
+    requires { AreToKnown (length marks.old) old.now }
+    ensures { AreMarkedUnless (λ d. HasSameParcel d old.now new.now) marks.old marks.new }
 {
-    mark_changes(marks, &old.puts(p), &new.puts(p));
-    mark_changes(marks, &old.sends(p), &new.sends(p));
+    mark_changes(marks, &old.puts, &new.puts);
+    mark_changes(marks, &old.sends, &new.sends);
 }

@@ -66,10 +66,9 @@ fn add_memory(memories: &mut Memories, d: usize, outcomes: &Outcomes) -> Result<
     ensures { OnOk result (memories.new ≡ memories.old ++ overlay (delivery_parts outcomes.now d).memory
         (map get_write (delivery_parts outcomes.now d).gets) ∷ []) }
 {
-    let own = outcomes.get(d);
     let place = memories.len();
-    memories.push_copy(&own.memory)?;
-    write_gets(memories, place, own.gets, outcomes)
+    memories.push_copy(&outcomes.memory(d))?;
+    write_gets(memories, place, outcomes.gets(d), outcomes)
 }
 
 /// The memory of process `d`, counted from 0, after computing, with the words over it that its gets read: the last get that covers a word wins.

@@ -48,7 +48,7 @@ fn mark_changes_of(marks: &mut ProcessSet, old: &Outcomes, new: &Outcomes, p: us
     requires before { AreDeliverable old.now }
     ensures { AreMarkedUnless (BringsSame old.now new.now p) marks.old marks.new }
 {
-    mark_parcels(marks, old, new, p);
+    mark_parcels(marks, &old.get(p), &new.get(p));
     if !have_same_memory_and_gets(old, new, p) {
         marks.insert(p);
     }

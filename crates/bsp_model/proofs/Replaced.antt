@@ -145,6 +145,18 @@ map-all_places f items none ps known ascending count =
     ∙ ap g (all_places ps k (λ j d l. omega (arith, known j d l, count)) ascending below)
     ∙ sym (get_or-map f items k none (f none) (omega (arith, below, count))))
 
+-- new items of all places are the list
+pub all_replaced : {X : Type 0} (items : List X) (ps : List ℕ) (xs : List X) → All (λ p. p < length items) ps → IsAscending ps → length ps ≡ length items → length xs ≡ length ps → xs ≡ replaced items ps xs
+all_replaced [] [] [] known ascending count new = refl
+all_replaced [] [] (x ∷ xs) known ascending count new = absurd (omega (arith, new))
+all_replaced [] (p ∷ ps) xs known ascending count new = absurd (omega (arith, count))
+all_replaced (i ∷ items) ps xs known ascending count new =
+    ext_get_or i xs (replaced (i ∷ items) ps xs) (sym (length-replaced (i ∷ items) ps xs ∙ sym count ∙ sym new))
+    (λ k inside.
+    let below : k < length ps = omega (arith, inside, new) in
+    let place = all_places ps k (λ j d l. omega (arith, known j d l, count)) ascending below in
+    sym (ap (λ n. get_or (replaced (i ∷ items) ps xs) n i) (sym place) ∙ replaced-there (i ∷ items) ps xs k i ascending below (omega (arith, inside)) (omega (arith, place, below, count))))
+
 -- what holds of all items and of all new ones
 pub All-replaced : {X : Type 0} (P : X → Type 0) (items : List X) (ps : List ℕ) (xs : List X) → All P items → All P xs → All P (replaced items ps xs)
 All-replaced P items [] xs before new = before

@@ -111,6 +111,7 @@ impl<T: ByProcess + Drop> Layered<T> {
     }
 
     /// These items, but for new ones of these processes, which are in ascending order. Where they are few, the new items lie apart. Or `OutOfMemory`.
+    #[tactic(auto, using(crate::proofs::Replaced::all_replaced))]
     pub fn replaced(
         &self,
         alloc: Global,
@@ -124,6 +125,9 @@ impl<T: ByProcess + Drop> Layered<T> {
     {
         if processes.is_empty() {
             return self.copy();
+        }
+        if processes.len() == self.len() {
+            return Layered::new(alloc, new);
         }
         let base = self.below(alloc, processes.as_slice())?;
         if !are_few(processes.len(), base.count()) {

@@ -1,24 +1,23 @@
 //! The places of processes in a superstep.
 
 ghost use Rattle.std.specs.Prelude.{◌≡◌, ◌++◌, OnOk};
-ghost use Rattle.bsp_model.specs.ProcessSet.{processes_in};
 ghost use Rattle.bsp_incr.specs.Inside.Changes.{places_of};
 
 use crate::Place;
-use bsp_model::{OutOfMemory, ProcessSet, Seq};
+use bsp_model::{OutOfMemory, Seq};
 
 /// Adds the places of these processes in a superstep.
 pub fn add_places(
     places: &mut Seq<Place>,
     step: u64,
-    processes: &ProcessSet,
+    processes: &[usize],
 ) -> Result<(), OutOfMemory>
-    ensures { OnOk result (places.new ≡ places.old ++ places_of step (processes_in processes.now)) }
+    ensures { OnOk result (places.new ≡ places.old ++ places_of step processes.now) }
 {
-    for process in processes.iter() {
+    for process in processes {
         places.push(Place {
             step,
-            pid: process as u64,
+            pid: *process as u64,
         })?;
     }
     Ok(())

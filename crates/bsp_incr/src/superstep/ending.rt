@@ -168,9 +168,9 @@ fn deliveries_among<P: Program, J: SharedRun, G: Gate>(
         ≡ redelivered.old ++ places_of (length tape.now.past) (processes_in touched.now)) }
 {
     let step = tape.step() as u64;
-    add_places(redelivered, step, touched)?;
     let processes = touched.members(given.alloc)?;
     let asked = processes.as_slice();
+    add_places(redelivered, step, asked)?;
     let cells = wide_deliveries(&given.means(), tape.outcomes(), asked, step, crew)?;
     Ok(Deliveries { processes, cells })
 }

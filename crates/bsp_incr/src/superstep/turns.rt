@@ -179,9 +179,10 @@ pub fn turns_again<P: Program, J: SharedRun, G: Gate>(
         ++ differ_in (P.looks given.now.program) superstep.now.step superstep.now.old_views superstep.now.views.now) }
 {
     let needed = needed_among(given, superstep, dirty);
-    add_places(executed, superstep.step, &needed)?;
     let processes = needed.members(given.alloc)?;
-    let taken = taken_turns(given, superstep, processes.as_slice(), spare, crew)?;
+    let asked = processes.as_slice();
+    add_places(executed, superstep.step, asked)?;
+    let taken = taken_turns(given, superstep, asked, spare, crew)?;
     drop(processes);
     match superstep.old_outcomes {
         Some(old) => over_recorded(given, superstep, old, &dirty.processes, &needed, taken),

@@ -1,7 +1,7 @@
-use Rattle.std.proofs.Common.{◌≡◌, ◌==◌, ℕ, Bool, List, filter, subst}
+use Rattle.std.proofs.Common.{◌≡◌, ◌==◌, ℕ, Bool, List, ap, filter, subst}
 use Rattle.bsp_model.specs.declared.request.Put.{Put}
 use Rattle.bsp_model.specs.declared.request.Send.{Send}
-use Rattle.bsp_step.specs.OutcomeParts.{outcome_of}
+use Rattle.bsp_step.specs.OutcomeParts.{OutcomeParts}
 use Rattle.bsp_deliver.specs.Inside.Comparison.{HasSameParcel}
 use Rattle.bsp_deliver.specs.Inside.Marks.{AreMarkedUnless}
 use Rattle.bsp_deliver.proofs.Unmarked.{marked_twice}
@@ -16,11 +16,13 @@ differ_alike to before after old new old' new' is_old is_new marked =
 
 pub returns : goal.returns
 returns c =
-    let o = outcome_of c.args.old.now c.args.p in
-    let u = outcome_of c.args.new.now c.args.p in
+    let o : OutcomeParts = c.args.old.now in
+    let u : OutcomeParts = c.args.new.now in
     marked_twice (λ d. filter (λ (p : Put). p.target == d) o.puts ≡ filter (λ (p : Put). p.target == d) u.puts)
     (λ d. filter (λ (m : Send). m.target == d) o.sends ≡ filter (λ (m : Send). m.target == d) u.sends)
     (λ d. HasSameParcel d o u) c.args.marks.now c.mark_changes.new.marks c.mark_changes-2.new.marks
-    (differ_alike (λ (p : Put). p.target) c.args.marks.now c.mark_changes.new.marks c.puts.result c.puts-2.result o.puts u.puts c.puts.ensures c.puts-2.ensures c.mark_changes.ensures)
-    (differ_alike (λ (m : Send). m.target) c.mark_changes.new.marks c.mark_changes-2.new.marks c.sends.result c.sends-2.result o.sends u.sends c.sends.ensures.sends c.sends-2.ensures.sends c.mark_changes-2.ensures)
+    (differ_alike (λ (p : Put). p.target) c.args.marks.now c.mark_changes.new.marks c.old.inside.puts c.new.inside.puts o.puts u.puts
+    (ap (λ (o : OutcomeParts). o.puts) c.old.view_is) (ap (λ (o : OutcomeParts). o.puts) c.new.view_is) c.mark_changes.ensures)
+    (differ_alike (λ (m : Send). m.target) c.mark_changes.new.marks c.mark_changes-2.new.marks c.old.inside.sends c.new.inside.sends o.sends u.sends
+    (ap (λ (o : OutcomeParts). o.sends) c.old.view_is) (ap (λ (o : OutcomeParts). o.sends) c.new.view_is) c.mark_changes-2.ensures)
     (λ d f. (λ same. (same.puts, same.sends), λ same. record { puts = same.0; sends = same.1 }))
