@@ -1,10 +1,10 @@
 //! The memory of a process while it computes.
 
-ghost use Rattle.std.specs.Prelude.{◌≡◌, ◌+◌, ◌-◌, ◌^◌, ◌<◌, ◌≤◌, ◌++◌, ◌∷◌, [], true, false, ℕ, List, length, take, drop, IfOk, OnOk, OnErr};
+ghost use Rattle.std.specs.Prelude.{◌≡◌, ◌+◌, ◌-◌, ◌^◌, ◌<◌, ◌≤◌, ◌++◌, ◌∷◌, [], true, false, ℕ, List, length, take, drop, IfOk, IfSome, OnOk, OnErr};
 ghost use Rattle.std.specs.Bool.{OnTrue};
 ghost use Rattle.bsp_model.specs.Memory.{memory_written};
 ghost use Rattle.bsp_model.specs.Stores.{records};
-ghost use Rattle.bsp_model.specs.Inside.Beside.{words_beside};
+ghost use Rattle.bsp_model.specs.Inside.Beside.{stores_in, words_beside, HaveWords};
 ghost use Rattle.bsp_model.specs.Inside.Ranges.{longer, AreRanges, GoOn};
 
 use crate::range::{Range, add_words};
@@ -13,8 +13,7 @@ use crate::{Change, Memories, Memory, MemoryRef, OutOfMemory, StoresRef, TryCopy
 use std::alloc::Global;
 use std::marker::Model;
 
-/// The memory of a process while it computes, and the stores that were made in it, in order. Stores of words one behind the other are kept as one
-/// range, with no address for each word. Where there is one range alone, its words are not kept either: they stand in the memory.
+/// The memory of a process while it computes, and its stores, in order, as ranges. The words of one range alone stand in the memory.
 pub struct LocalMemory {
     memory: Memory,
     /// The ranges, in order. None of them goes on where the one before it ended.
@@ -194,7 +193,6 @@ impl LocalMemory {
         self.memory.as_ref()
     }
 
-    /// The stores that were made.
     #[inline(always)]
     pub fn stores(&self) -> StoresRef<'_>
         ensures { result ≡ self.now.stores }
@@ -205,6 +203,15 @@ impl LocalMemory {
             values: self.values.as_slice(),
             memory: memory.reborrow(),
         }
+    }
+
+    /// The stores, where they are one range, whose words stand in the memory. It is for speed: `None` is right for all stores.
+    #[inline(always)]
+    pub fn one_range(&self) -> Option<Range>
+        ensures { IfSome result (λ r. HaveWords (r ∷ [], []) self.now.memory
+            × (stores_in (r ∷ [], []) self.now.memory ≡ self.now.stores)) }
+    {
+        range_beside(self.ranges.as_slice(), self.values.as_slice())
     }
 
     /// Makes `words` the words from `start` on, or no words, and keeps these stores. After `OutOfMemory` nothing has changed.

@@ -3,7 +3,7 @@
 ghost use Rattle.std.specs.Prelude.{◌≡◌, ◌+◌, ◌^◌, ◌<◌, ◌≤◌, ◌∷◌, ◌↔◌, [], ℕ, List, length, take, drop, IfOk, IsTrue, MatchOption, OnOk};
 ghost use Rattle.bsp_model.specs.StoredRanges.{ranges_stored};
 ghost use Rattle.bsp_model.specs.Stores.{records, made_again, words_stored};
-ghost use Rattle.bsp_model.specs.Inside.Beside.{words_beside};
+ghost use Rattle.bsp_model.specs.Inside.Beside.{stores_in, words_beside, HaveWords};
 ghost use Rattle.bsp_model.specs.Inside.Ranges.{stores_of, AreRanges};
 
 use crate::paging::is_within;
@@ -12,6 +12,7 @@ use crate::seq::are_same;
 use crate::{Memory, MemoryRef, OutOfMemory, Same};
 use std::alloc::Global;
 use std::marker::Model;
+use std::slice;
 
 /// Stores in the order in which they were made, read where they lie.
 #[derive(Drop)]
@@ -89,6 +90,19 @@ fn write_ranges(memory: &mut Memory, ranges: &[Range], values: &[u64]) -> Result
 }
 
 impl<'a> StoresRef<'a> {
+    /// Stores of one range, whose words stand in a memory.
+    #[inline(always)]
+    pub fn of_range(range: &'a Range, memory: &MemoryRef<'a>) -> StoresRef<'a>
+        requires { HaveWords (range.now ∷ [], []) memory.now }
+        ensures { result ≡ stores_in (range.now ∷ [], []) memory.now }
+    {
+        StoresRef {
+            ranges: slice::from_ref(range),
+            values: &[],
+            memory: memory.reborrow(),
+        }
+    }
+
     /// How many they are.
     #[inline(always)]
     pub fn len(&self) -> usize

@@ -33,16 +33,16 @@ begun_behind ends memories old new same nothing =
 
 -- The turn under way ends, and leaves one outcome more; behind it a turn begins.
 pub turn_ended : (ends : List TurnEnd) (memories : List (List ℕ)) (l new : OpenLists) (now : Gathered) (place requests : ℕ) (end : TurnEnd) (fault : Option Fault) (tag : Option ℕ) (local : LocalParts) → IsGathered ends memories l requests → gathered_in ends memories l ≡ now → place ≡ length ends
-    → IsEnded l place fault tag local new → ((k : ℕ) → k < place → AreSameLists (rows_in l) k (rows_in new) k) → IsOutcome (outcome_by now end fault tag local)
+    → IsEnded l place end.stored fault tag local new → ((k : ℕ) → k < place → AreSameLists (rows_in l) k (rows_in new) k) → IsOutcome (outcome_by now end fault tag local)
     → IsGathered (ends ++ end ∷ []) (memories ++ local.memory ∷ []) new 0 × (gathered_in (ends ++ end ∷ []) (memories ++ local.memory ∷ []) new ≡ begun (now.earlier ++ outcome_by now end fault tag local ∷ []))
 turn_ended ends memories l new now place requests end fault tag local are is there at_end before lawful =
     let n = length ends in
     let more = length (ends ++ end ∷ []) in
     let one : more ≡ n + 1 = length_push ends end in
     let o = outcome_by (gathered_in ends memories l) end fault tag local in
-    let ended : IsEnded l n fault tag local new = subst (λ (p : ℕ). IsEnded l p fault tag local new) there at_end in
+    let ended : IsEnded l n end.stored fault tag local new = subst (λ (p : ℕ). IsEnded l p end.stored fault tag local new) there at_end in
     let same : (k : ℕ) → k < n → AreSameLists (rows_in l) k (rows_in new) k = λ k below. before k (omega (arith, below, there)) in
-    let has : HasLists (rows_in new) n local.memory o =
+    let has : HasLists end.stored (rows_in new) n local.memory o =
     record {
       beside = ended.beside;
       stores = ended.stores;
@@ -52,10 +52,10 @@ turn_ended ends memories l new now place requests end fault tag local are is the
     let kept : IsOutcome o = subst (λ (g : Gathered). IsOutcome (outcome_by g end fault tag local)) (sym is) lawful in
     let nothing = ended.nothing in
     let made : gathered_in (ends ++ end ∷ []) (memories ++ local.memory ∷ []) new ≡ begun (outcomes_of ends memories (rows_in l) ++ o ∷ []) =
-    let outcomes = outcomes-push ends memories (rows_in l) (rows_in new) end local.memory o are.outcomes.count same has refl in
+    let outcomes = outcomes-push ends memories (rows_in l) (rows_in new) end local.memory end.stored o are.outcomes.count same has refl in
     λ i. record { earlier = outcomes i; puts = nothing.puts i; gets = nothing.gets i; sends = nothing.sends i; pops = nothing.pops i; pushes = nothing.pushes i; lines = nothing.lines i } in (
       record {
-        outcomes = lawful-push ends memories (rows_in l) (rows_in new) end local.memory o are.outcomes same has refl kept kept.short_memory;
+        outcomes = lawful-push ends memories (rows_in l) (rows_in new) end local.memory end.stored o are.outcomes same has refl kept kept.short_memory;
         before = subst (AreBefore (rows_in new)) (sym one) ended.behind;
         count = ap count_of_issued (sym made);
       },

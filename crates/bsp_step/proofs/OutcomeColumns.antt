@@ -1,6 +1,6 @@
 -- Outcomes in columns: one more, and a range of others.
 use Rattle.std.proofs.Common.{◌≡◌, ◌≤◌, ◌<◌, ℕ, ◌+◌, ◌-◌, List, [], ◌∷◌, ◌++◌, length, map, get_or, refl, sym, ap, ◌∙◌, subst, arith, inl, inr, Result, Ok, Err, OnErr}
-use Rattle.std.specs.Prelude.{slice_get, slice_range, All, Bool, None, true, false}
+use Rattle.std.specs.Prelude.{slice_get, slice_range, All, Bool, Option, None, true, false}
 use Rattle.std.specs.Bool.{OnTrue}
 use Rattle.bsp_model.specs.Columns.{row_at}
 use Rattle.std.proofs.Math.Nat.{eq-or-lt_of_le}
@@ -10,9 +10,8 @@ use Rattle.std.proofs.lemmas.List.{ext_get_or, length-map, get_or-map, same_list
 use Rattle.std.proofs.lemmas.List.FromFn.{length-map-range_with_len, get_or-map-range_with_len}
 use Rattle.std.proofs.lemmas.List.Edits.{length-between, get_or-between}
 use Rattle.bsp_model.specs.Limits.{most_memory_words}
-use Rattle.bsp_model.specs.Inside.Beside.{stores_beside, words_beside, AreBeside}
+use Rattle.bsp_model.specs.Inside.Beside.{stores_in, HaveWords}
 use Rattle.bsp_model.specs.Inside.Columns.{pair_at}
-use Rattle.bsp_model.specs.Inside.Ranges.{stores_of, AreRanges}
 use Rattle.bsp_model.specs.declared.range.Range.{Range}
 use Rattle.bsp_step.specs.declared.list_kind.ListKind.{ListKind}
 use Rattle.bsp_step.specs.declared.list_kind.ListKind.TheVariants.{Faults, Gets, Sends, Pops, Pushes, Tags, Lines}
@@ -20,7 +19,7 @@ use Rattle.bsp_step.specs.declared.lists.Lists.{Lists}
 use Rattle.bsp_step.specs.declared.lists.TurnEnd.{TurnEnd}
 use Rattle.bsp_step.specs.OutcomeParts.{OutcomeParts, IsOutcome, no_outcome}
 use Rattle.bsp_step.specs.ListKind.{IsWithout}
-use Rattle.bsp_step.specs.Inside.Outcomes.{first_at, IsWithoutColumn, no_end, outcome_in, outcome_at, outcomes_of, AreOutcomes, HasLists, AreSameLists}
+use Rattle.bsp_step.specs.Inside.Outcomes.{first_at, kept_beside, IsWithoutColumn, no_end, outcome_in, outcome_at, outcomes_of, AreOutcomes, HasLists, AreSameLists}
 
 -- the outcomes of a list, one by one
 
@@ -64,11 +63,13 @@ pub without : (kind : ListKind) (ends : List TurnEnd) (memories : List (List ℕ
 without kind ends memories lists false none = tt
 without kind ends memories lists true none = without_column kind ends memories lists none
 
--- the same two rows of a process, beside the same memory, have their words as well
-same_beside : (old new : (List (List Range)) × (List (List ℕ))) (j k : ℕ) (memory memory' : List ℕ) → pair_at new k ≡ pair_at old j → memory' ≡ memory → AreBeside old j memory → AreBeside new k memory'
-same_beside old new j k memory memory' rows ms beside =
-    let rows_have : (List Range) × (List ℕ) → List ℕ → Type 0 = λ pair m. AreRanges pair.0 (words_beside pair.0 pair.1 m) in
-    subst (λ (pair : (List Range) × (List ℕ)). rows_have pair memory') (sym rows) (subst (rows_have (pair_at old j)) (sym ms) beside)
+-- the same two rows of a process, beside the same end and the same memory, have their words as well
+same_beside : (old new : (List (List Range)) × (List (List ℕ))) (j k : ℕ) (end end' : TurnEnd) (memory memory' : List ℕ) → pair_at new k ≡ pair_at old j → end' ≡ end → memory' ≡ memory
+    → HaveWords (kept_beside end.stored (pair_at old j)) memory → HaveWords (kept_beside end'.stored (pair_at new k)) memory'
+same_beside old new j k end end' memory memory' rows es ms beside =
+    subst (λ (pair : (List Range) × (List ℕ)). HaveWords (kept_beside end'.stored pair) memory') (sym rows)
+    (subst (λ (e : TurnEnd). HaveWords (kept_beside e.stored (pair_at old j)) memory') (sym es)
+    (subst (HaveWords (kept_beside end.stored (pair_at old j))) (sym ms) beside))
 
 -- what an outcome is made of is the same
 same_outcome : (end end' : TurnEnd) (memory memory' : List ℕ) (lists lists' : Lists) (j k : ℕ) → end' ≡ end → memory' ≡ memory → AreSameLists lists j lists' k → outcome_in end' memory' lists' k ≡ outcome_in end memory lists j
@@ -77,7 +78,7 @@ same_outcome end end' memory memory' lists lists' j k es ms ls =
       fault = slice_get (ls.faults i) 0;
       ended = (es i).ended;
       memory = ms i;
-      stores = stores_of (ls.stores i).0 (words_beside (ls.stores i).0 (ls.stores i).1 (ms i));
+      stores = stores_in (kept_beside (es i).stored (ls.stores i)) (ms i);
       puts = ls.puts i;
       gets = ls.gets i;
       sends = ls.sends i;
@@ -90,22 +91,27 @@ same_outcome end end' memory memory' lists lists' j k es ms ls =
 
 -- one more
 
+-- how the turn of an outcome ended, with the range that is kept beside that
+abbrev pub end_of : Option Range → OutcomeParts → TurnEnd
+end_of stored o = record { ended = o.ended; work = o.work; stored = stored }
+
 before_push : (ends : List TurnEnd) (memories : List (List ℕ)) (lists lists' : Lists) (end : TurnEnd) (memory : List ℕ) → length memories ≡ length ends → ((k : ℕ) → k < length ends → AreSameLists lists k lists' k)
     → (k : ℕ) → k < length ends → outcome_at (ends ++ end ∷ []) (memories ++ memory ∷ []) lists' k ≡ outcome_at ends memories lists k
 before_push ends memories lists lists' end memory count same k below =
     same_outcome (get_or ends k no_end) (get_or (ends ++ end ∷ []) k no_end) (get_or memories k []) (get_or (memories ++ memory ∷ []) k []) lists lists' k k
     (get_or_append_left ends (end ∷ []) no_end k below) (get_or_append_left memories (memory ∷ []) [] k (omega (arith, below, count))) (same k below)
 
-at_push : (ends : List TurnEnd) (memories : List (List ℕ)) (lists : Lists) (end : TurnEnd) (memory : List ℕ) (o : OutcomeParts) → length memories ≡ length ends → HasLists lists (length ends) memory o
-    → end ≡ record { ended = o.ended; work = o.work } → outcome_at (ends ++ end ∷ []) (memories ++ memory ∷ []) lists (length ends) ≡ record o { memory = memory }
-at_push ends memories lists end memory o count has is =
-    let es : get_or (ends ++ end ∷ []) (length ends) no_end ≡ record { ended = o.ended; work = o.work } = get_or_push ends end no_end (length ends) refl ∙ is in
+at_push : (ends : List TurnEnd) (memories : List (List ℕ)) (lists : Lists) (end : TurnEnd) (memory : List ℕ) (stored : Option Range) (o : OutcomeParts) → length memories ≡ length ends
+    → HasLists stored lists (length ends) memory o → end ≡ end_of stored o → outcome_at (ends ++ end ∷ []) (memories ++ memory ∷ []) lists (length ends) ≡ record o { memory = memory }
+at_push ends memories lists end memory stored o count has is =
+    let es : get_or (ends ++ end ∷ []) (length ends) no_end ≡ end_of stored o = get_or_push ends end no_end (length ends) refl ∙ is in
     let ms : get_or (memories ++ memory ∷ []) (length ends) [] ≡ memory = get_or_push memories memory [] (length ends) count in
     λ i. record {
       fault = has.rare.faults i;
       ended = (es i).ended;
       memory = ms i;
-      stores = (ap (stores_beside lists.stores (length ends)) ms ∙ has.stores) i;
+      stores = (ap (λ (e : TurnEnd). stores_in (kept_beside e.stored (pair_at lists.stores (length ends))) (get_or (memories ++ memory ∷ []) (length ends) [])) es
+          ∙ ap (stores_in (kept_beside stored (pair_at lists.stores (length ends)))) ms ∙ has.stores) i;
       puts = has.puts i;
       gets = has.rare.gets i;
       sends = has.rare.sends i;
@@ -137,10 +143,10 @@ each_push P n k within before last =
       | inr below ↦ before k below
     ]
 
-pub outcomes-push : (ends : List TurnEnd) (memories : List (List ℕ)) (lists lists' : Lists) (end : TurnEnd) (memory : List ℕ) (o : OutcomeParts) → length memories ≡ length ends
-    → ((k : ℕ) → k < length ends → AreSameLists lists k lists' k) → HasLists lists' (length ends) memory o → end ≡ record { ended = o.ended; work = o.work }
+pub outcomes-push : (ends : List TurnEnd) (memories : List (List ℕ)) (lists lists' : Lists) (end : TurnEnd) (memory : List ℕ) (stored : Option Range) (o : OutcomeParts) → length memories ≡ length ends
+    → ((k : ℕ) → k < length ends → AreSameLists lists k lists' k) → HasLists stored lists' (length ends) memory o → end ≡ end_of stored o
     → outcomes_of (ends ++ end ∷ []) (memories ++ memory ∷ []) lists' ≡ outcomes_of ends memories lists ++ record o { memory = memory } ∷ []
-outcomes-push ends memories lists lists' end memory o count same has is =
+outcomes-push ends memories lists lists' end memory stored o count same has is =
     let n = length ends in
     let all = outcomes_of (ends ++ end ∷ []) (memories ++ memory ∷ []) lists' in
     let front = outcomes_of ends memories lists in
@@ -153,24 +159,27 @@ outcomes-push ends memories lists lists' end memory o count same has is =
     ∙ sym (outcome-outcomes_of ends memories lists j d below)
     ∙ sym (get_or_append_left front (record o { memory = memory } ∷ []) d j (omega (arith, below, long))))
     (outcome-outcomes_of (ends ++ end ∷ []) (memories ++ memory ∷ []) lists' n d (omega (arith, more))
-    ∙ at_push ends memories lists' end memory o count has is
+    ∙ at_push ends memories lists' end memory stored o count has is
     ∙ sym (get_or_push front (record o { memory = memory }) d n long)) in
     same_lists _ _ (length-outcomes_of _ _ lists' ∙ more ∙ sym (length_push front (record o { memory = memory }) ∙ ap (λ (m : ℕ). m + 1) long))
     (λ k d within. alike k d (omega (arith, within, length-outcomes_of (ends ++ end ∷ []) (memories ++ memory ∷ []) lists', more)))
 
-pub lawful-push : (ends : List TurnEnd) (memories : List (List ℕ)) (lists lists' : Lists) (end : TurnEnd) (memory : List ℕ) (o : OutcomeParts) → AreOutcomes ends memories lists
-    → ((k : ℕ) → k < length ends → AreSameLists lists k lists' k) → HasLists lists' (length ends) memory o → end ≡ record { ended = o.ended; work = o.work } → IsOutcome o → length memory ≤ most_memory_words
+pub lawful-push : (ends : List TurnEnd) (memories : List (List ℕ)) (lists lists' : Lists) (end : TurnEnd) (memory : List ℕ) (stored : Option Range) (o : OutcomeParts) → AreOutcomes ends memories lists
+    → ((k : ℕ) → k < length ends → AreSameLists lists k lists' k) → HasLists stored lists' (length ends) memory o → end ≡ end_of stored o → IsOutcome o → length memory ≤ most_memory_words
     → AreOutcomes (ends ++ end ∷ []) (memories ++ memory ∷ []) lists'
-lawful-push ends memories lists lists' end memory o are same has is lawful short =
+lawful-push ends memories lists lists' end memory stored o are same has is lawful short =
+    let kept : ℕ → Type 0 = λ j. HaveWords (kept_beside (get_or (ends ++ end ∷ []) j no_end).stored (pair_at lists'.stores j)) (get_or (memories ++ memory ∷ []) j []) in
+    let last : get_or (ends ++ end ∷ []) (length ends) no_end ≡ end_of stored o = get_or_push ends end no_end (length ends) refl ∙ is in
     record {
       count = length_push memories memory ∙ ap (λ (m : ℕ). m + 1) are.count ∙ sym (length_push ends end);
-      beside = λ k within. each_push (λ j. AreBeside lists'.stores j (get_or (memories ++ memory ∷ []) j [])) (length ends) k (omega (arith, within, length_push ends end))
-          (λ j below. same_beside lists.stores lists'.stores j j (get_or memories j []) (get_or (memories ++ memory ∷ []) j []) (same j below).stores
-          (get_or_append_left memories (memory ∷ []) [] j (omega (arith, below, are.count))) (are.beside j below))
-          (subst (AreBeside lists'.stores (length ends)) (sym (get_or_push memories memory [] (length ends) are.count)) has.beside);
+      beside = λ k within. each_push kept (length ends) k (omega (arith, within, length_push ends end))
+          (λ j below. same_beside lists.stores lists'.stores j j (get_or ends j no_end) (get_or (ends ++ end ∷ []) j no_end) (get_or memories j []) (get_or (memories ++ memory ∷ []) j []) (same j below).stores
+          (get_or_append_left ends (end ∷ []) no_end j below) (get_or_append_left memories (memory ∷ []) [] j (omega (arith, below, are.count))) (are.beside j below))
+          (subst (λ (e : TurnEnd). HaveWords (kept_beside e.stored (pair_at lists'.stores (length ends))) (get_or (memories ++ memory ∷ []) (length ends) [])) (sym last)
+          (subst (HaveWords (kept_beside stored (pair_at lists'.stores (length ends)))) (sym (get_or_push memories memory [] (length ends) are.count)) has.beside));
       lawful = λ k within. each_push (λ j. IsOutcome (outcome_at (ends ++ end ∷ []) (memories ++ memory ∷ []) lists' j)) (length ends) k (omega (arith, within, length_push ends end))
           (λ j below. subst IsOutcome (sym (before_push ends memories lists lists' end memory are.count same j below)) (are.lawful j below))
-          (subst IsOutcome (sym (at_push ends memories lists' end memory o are.count has is)) (with_memory o memory lawful short));
+          (subst IsOutcome (sym (at_push ends memories lists' end memory stored o are.count has is)) (with_memory o memory lawful short));
     }
 
 -- other lists that the processes have alike
@@ -184,10 +193,6 @@ same-outcomes ends memories lists lists' same =
     ∙ sym (outcome-outcomes_of ends memories lists k d below))
 
 -- One more outcome, at the names that its parts have where it is put.
-
--- how the turn of an outcome ended
-abbrev pub end_of : OutcomeParts → TurnEnd
-end_of o = record { ended = o.ended; work = o.work }
 
 -- the processes before have the lists that they had
 pub same_below : (l old new : Lists) (len n : ℕ) → l ≡ old → len ≡ n → ((k : ℕ) → k < len → AreSameLists l k new k) → (k : ℕ) → k < n → AreSameLists old k new k
@@ -205,9 +210,9 @@ pub unchanged-below : (ends : List TurnEnd) (memories : List (List ℕ)) (l old 
 unchanged-below ends memories l old new len outcomes is long same before = same-outcomes ends memories old new (same_below l old new len (length ends) is long same) ∙ before
 
 -- the lists of a process
-pub has_there : (lists : Lists) (len n : ℕ) (m memory : List ℕ) (o outcome : OutcomeParts) → len ≡ n → m ≡ memory → o ≡ outcome → HasLists lists len m o → HasLists lists n memory outcome
-has_there lists len n m memory o outcome place is same has =
-    subst (λ (k : ℕ). HasLists lists k memory outcome) place (subst (λ (ws : List ℕ). HasLists lists len ws outcome) is (subst (HasLists lists len m) same has))
+pub has_there : (stored : Option Range) (lists : Lists) (len n : ℕ) (m memory : List ℕ) (o outcome : OutcomeParts) → len ≡ n → m ≡ memory → o ≡ outcome → HasLists stored lists len m o → HasLists stored lists n memory outcome
+has_there stored lists len n m memory o outcome place is same has =
+    subst (λ (k : ℕ). HasLists stored lists k memory outcome) place (subst (λ (ws : List ℕ). HasLists stored lists len ws outcome) is (subst (HasLists stored lists len m) same has))
 
 -- a range of others
 
@@ -269,18 +274,19 @@ pub lawful-range : (ends more_ends : List TurnEnd) (memories more_memories : Lis
     → AreOutcomes (ends ++ slice_range more_ends from to) (memories ++ slice_range more_memories from to) lists'
 lawful-range ends more_ends memories more_memories lists more lists' from to are others within before taken =
     let n = length ends in
+    let all_ends = ends ++ slice_range more_ends from to in
     let all_memories = memories ++ slice_range more_memories from to in
     let many : length (ends ++ slice_range more_ends from to) ≡ n + (to - from) = omega (arith, length-append ends (slice_range more_ends from to), length-between more_ends from to within) in
     let at = at_range ends more_ends memories more_memories lists more lists' from to are.count before taken in
     record {
       count = omega (arith, many, are.count, length-append memories (slice_range more_memories from to), length-between more_memories from to (omega (arith, within, others.count)));
-      beside = λ k l. each_range (λ j. AreBeside lists'.stores j (get_or all_memories j [])) n (n + (to - from)) k (omega (arith, l, many))
-          (λ j below. same_beside lists.stores lists'.stores j j (get_or memories j []) (get_or all_memories j []) (before j below).stores
-          (get_or_append_left memories (slice_range more_memories from to) [] j (omega (arith, below, are.count))) (are.beside j below))
+      beside = λ k l. each_range (λ j. HaveWords (kept_beside (get_or all_ends j no_end).stored (pair_at lists'.stores j)) (get_or all_memories j [])) n (n + (to - from)) k (omega (arith, l, many))
+          (λ j below. same_beside lists.stores lists'.stores j j (get_or ends j no_end) (get_or all_ends j no_end) (get_or memories j []) (get_or all_memories j []) (before j below).stores
+          (get_or_append_left ends (slice_range more_ends from to) no_end j below) (get_or_append_left memories (slice_range more_memories from to) [] j (omega (arith, below, are.count))) (are.beside j below))
           (λ j above below.
           let there = from + (j - n) in
-          same_beside more.stores lists'.stores there j (get_or more_memories there []) (get_or all_memories j []) (taken j above below).stores
-          (behind memories more_memories [] j from to are.count above below) (others.beside there (omega (arith, above, below, within))));
+          same_beside more.stores lists'.stores there j (get_or more_ends there no_end) (get_or all_ends j no_end) (get_or more_memories there []) (get_or all_memories j []) (taken j above below).stores
+          (behind ends more_ends no_end j from to refl above below) (behind memories more_memories [] j from to are.count above below) (others.beside there (omega (arith, above, below, within))));
       lawful = λ k l. each_range (λ j. IsOutcome (outcome_at (ends ++ slice_range more_ends from to) (memories ++ slice_range more_memories from to) lists' j)) n (n + (to - from)) k (omega (arith, l, many))
           (λ j below. subst IsOutcome (sym (at.0 j below)) (are.lawful j below))
           (λ j above below. subst IsOutcome (sym (at.1 j above below)) (others.lawful (from + (j - n)) (omega (arith, above, below, within))));

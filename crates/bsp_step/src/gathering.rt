@@ -67,6 +67,7 @@ impl Gathering {
         let end = TurnEnd {
             ended,
             work: work as u32,
+            stored: workspace.local.one_range(),
         };
         rows.end_turn(end, fault, tag, &mut workspace)?;
         Ok(Gathering { rows, workspace })

@@ -1,12 +1,12 @@
 //! The lists that several outcomes have, in columns.
 
-ghost use Rattle.std.specs.Prelude.{◌≡◌, ◌≤◌, ◌<◌, ◌+◌, ◌-◌, ℕ, OnOk};
+ghost use Rattle.std.specs.Prelude.{◌≡◌, ◌≤◌, ◌<◌, ◌+◌, ◌-◌, ℕ, None, OnOk};
 ghost use Rattle.std.specs.Bool.{OnTrue};
 ghost use Rattle.bsp_step.specs.Inside.Outcomes.{IsWithoutColumn, first_at, AreSameLists, HasLists, HasRareLists};
 
 use crate::{Ended, ListKind, OutcomeRef};
 use bsp_model::{
-    BlockColumn, Column, Fault, Get, LineColumn, MemoryRef, OutOfMemory, Put, Send, Share,
+    BlockColumn, Column, Fault, Get, LineColumn, MemoryRef, OutOfMemory, Put, Range, Send, Share,
     StoreColumn,
 };
 use bsp_table::Area;
@@ -17,6 +17,8 @@ use std::alloc::Global;
 pub(crate) struct TurnEnd {
     pub(crate) ended: Ended,
     pub(crate) work: u32,
+    /// The stores of most turns: one range, whose words stand in the memory. Other stores are rows of a column.
+    pub(crate) stored: Option<Range>,
 }
 
 /// The lists of several outcomes, each kind in a column of its own. A fault and a choice of a tag size are rows of at most one item.
@@ -70,12 +72,11 @@ impl Lists {
         }
     }
 
-    /// Makes room for one put and one range of stores of each of so many turns. Few turns leave anything in the other lists.
+    /// Makes room for one put of each of so many turns. Few turns leave anything in the other lists.
     pub(crate) fn reserve(&mut self, turns: usize) -> Result<(), OutOfMemory>
         ensures { self.new ≡ self.old }
     {
-        let stores = self.stores.reserve(turns);
-        stores.and(self.puts.reserve(turns))
+        self.puts.reserve(turns)
     }
 
     pub(crate) fn reserve_like(&mut self, like: &Lists, share: Share) -> Result<(), OutOfMemory>
@@ -130,7 +131,7 @@ impl Lists {
         memory: &MemoryRef<'_>,
     ) -> Result<(), OutOfMemory>
         ensures before { (k : ℕ) → k < place → AreSameLists self.old k self.new k }
-        ensures there { OnOk result (HasLists self.new place memory.now outcome.now) }
+        ensures there { OnOk result (HasLists None self.new place memory.now outcome.now) }
     {
         let done = self.stores.put(place, &outcome.stores, memory);
         let done = done.and(self.puts.put(place, &outcome.puts));

@@ -1,14 +1,16 @@
 //! The lists that several outcomes have, in columns, and behind them those of the turn under way.
 
-ghost use Rattle.std.specs.Prelude.{◌≡◌, ◌<◌, ℕ, [], IfOk, OnOk};
+ghost use Rattle.std.specs.Prelude.{◌≡◌, ◌<◌, ◌≤◌, ℕ, [], IfOk, OnOk};
 ghost use Rattle.std.specs.Bool.{OnTrue};
-ghost use Rattle.bsp_step.specs.Inside.Outcomes.{AreSameLists};
-ghost use Rattle.bsp_step.specs.Inside.Gathered.{count_of_issued, gathered_in, rows_in, no_lists, only_issued, AreBefore, HasNothing, HasOnlyPuts, IsEnded};
+ghost use Rattle.bsp_model.specs.Inside.Beside.{stores_in, HaveWords};
+ghost use Rattle.bsp_model.specs.Inside.Columns.{pair_at};
+ghost use Rattle.bsp_step.specs.Inside.Outcomes.{kept_beside, AreSameLists};
+ghost use Rattle.bsp_step.specs.Inside.Gathered.{count_of_issued, gathered_in, rows_in, no_lists, only_issued, AreBefore, HasNothing, HasOnlyPuts, IsEnded, IsStored};
 
 use crate::lists::Lists;
 use bsp_model::{
-    Column, Fault, Get, LocalMemory, OpenBlocks, OpenRow, OutOfMemory, Put, Send, StoreColumn,
-    Words,
+    Column, Fault, Get, LocalMemory, OpenBlocks, OpenRow, OutOfMemory, Put, Range, Send,
+    StoreColumn, Words,
 };
 use bsp_table::Area;
 use std::alloc::Global;
@@ -41,6 +43,28 @@ impl Drop for OpenLists {
             pushes,
             lines,
         } = self;
+    }
+}
+
+/// Puts the stores of a turn, unless they are kept beside how it ended.
+#[inline(always)]
+fn put_stores(
+    stores: &mut StoreColumn,
+    place: usize,
+    stored: Option<Range>,
+    local: &LocalMemory,
+) -> Result<(), OutOfMemory>
+    requires stored { IsStored stored local.now }
+    requires none { (k : ℕ) → place ≤ k → pair_at stores.old k ≡ ([], []) }
+    ensures before { (k : ℕ) → k < place → pair_at stores.new k ≡ pair_at stores.old k }
+    ensures behind { (k : ℕ) → place < k → pair_at stores.new k ≡ ([], []) }
+    ensures beside { OnOk result (HaveWords (kept_beside stored (pair_at stores.new place)) local.now.memory) }
+    ensures there { OnOk result
+        (stores_in (kept_beside stored (pair_at stores.new place)) local.now.memory ≡ local.now.stores) }
+{
+    match stored {
+        Some(_range) => Ok(()),
+        None => stores.put_local(place, local),
     }
 }
 
@@ -131,17 +155,19 @@ impl OpenLists {
         &mut self,
         place: usize,
         requests: usize,
+        stored: Option<Range>,
         fault: Option<Fault>,
         tag: Option<u64>,
         local: &LocalMemory,
     ) -> Result<(), OutOfMemory>
         requires before { AreBefore (rows_in self.old) place }
+        requires stored { IsStored stored local.now }
         requires count { requests ≡ count_of_issued (gathered_in [] [] self.old) }
-        ensures ended { OnOk result (IsEnded self.old place fault tag local.now self.new) }
+        ensures ended { OnOk result (IsEnded self.old place stored fault tag local.now self.new) }
         ensures same { (k : ℕ) → k < place → AreSameLists (rows_in self.old) k (rows_in self.new) k }
     {
         let only_puts = self.has_only_puts(requests, fault, tag);
-        self.stores.put_local(place, local)?;
+        put_stores(&mut self.stores, place, stored, local)?;
         self.puts.end_row(place)?;
         if only_puts {
             return Ok(());

@@ -3,17 +3,22 @@
 ghost use Rattle.std.specs.Prelude.{◌≡◌, ◌≤◌, ◌<◌, ℕ, ◌++◌, ◌∷◌, [], All, length, map, IfOk, OnErr, OnOk, slice_range};
 ghost use Rattle.std.specs.Bool.{OnTrue};
 ghost use Rattle.bsp_model.specs.Columns.{row_at};
+ghost use Rattle.bsp_model.specs.Inside.Beside.{stores_in, HaveWords};
+ghost use Rattle.bsp_model.specs.Inside.Columns.{pair_at};
 ghost use Rattle.bsp_model.specs.PutsTo.{AreToNone};
 ghost use Rattle.bsp_model.specs.Replaced.{replaced, IsAscending};
 ghost use Rattle.bsp_step.specs.OutcomeParts.{outcome_of};
 ghost use Rattle.bsp_step.specs.ListKind.{IsWithout};
+ghost use Rattle.bsp_step.specs.Inside.Outcomes.{kept_beside};
 
 mod open_rows;
 mod put_rows;
 
 use crate::lists::{Lists, TurnEnd, first};
 use crate::{ListKind, OutcomeRef};
-use bsp_model::{ByProcess, LineColumn, Memories, Memory, OutOfMemory, ProcessSet, Share};
+use bsp_model::{
+    ByProcess, LineColumn, Memories, Memory, MemoryRef, OutOfMemory, ProcessSet, Share, StoresRef,
+};
 pub(crate) use open_rows::OpenRows;
 pub use put_rows::PutRows;
 use std::alloc::{AllocError, Global};
@@ -37,6 +42,23 @@ impl Model for OutcomeRows {
     ghost view = { λ r. outcomes_of r.ends.items r.memories r.lists.value };
 
     ghost invariant = { λ r. AreOutcomes r.ends.items r.memories r.lists.value };
+}
+
+/// The stores of a process: those beside how its turn ended, or else its rows of the column.
+#[inline(always)]
+fn stores<'a>(
+    end: &'a TurnEnd,
+    lists: &'a Lists,
+    pid: usize,
+    memory: &MemoryRef<'a>,
+) -> StoresRef<'a>
+    requires { HaveWords (kept_beside end.now.stored (pair_at lists.now.stores pid)) memory.now }
+    ensures { result ≡ stores_in (kept_beside end.now.stored (pair_at lists.now.stores pid)) memory.now }
+{
+    match &end.stored {
+        Some(range) => StoresRef::of_range(range, memory),
+        None => lists.stores.get(pid, memory),
+    }
 }
 
 impl OutcomeRows {
@@ -133,13 +155,13 @@ impl OutcomeRows {
         requires { pid < length self.now }
         ensures { result ≡ outcome_of self.now pid }
     {
-        let end = self.ends[pid];
+        let end = &self.ends[pid];
         let lists: &Lists = &self.lists;
         let memory = self.memories.get(pid);
         OutcomeRef {
             fault: first(&lists.faults, pid),
             ended: end.ended,
-            stores: lists.stores.get(pid, &memory),
+            stores: stores(end, lists, pid, &memory),
             memory,
             puts: lists.puts.get(pid),
             gets: lists.gets.row(pid),
@@ -185,6 +207,7 @@ impl OutcomeRows {
         let end = TurnEnd {
             ended: outcome.ended,
             work: outcome.work as u32,
+            stored: None,
         };
         let put = self.lists.put(self.ends.len(), outcome, &memory.as_ref());
         put.and(self.ends.reserve(1))?;

@@ -11,10 +11,18 @@ abbrev pub words_beside : List Range → List ℕ → List ℕ → List ℕ
 words_beside (r ∷ []) [] memory = take r.len (drop r.start memory)
 words_beside ranges values memory = values
 
+-- the stores beside a memory, from their ranges and the words that are kept
+abbrev pub stores_in : (List Range) × (List ℕ) → List ℕ → List Store
+stores_in kept memory = stores_of kept.0 (words_beside kept.0 kept.1 memory)
+
+-- The ranges have all their words beside the memory.
+abbrev pub HaveWords : (List Range) × (List ℕ) → List ℕ → Type 0
+HaveWords kept memory = AreRanges kept.0 (words_beside kept.0 kept.1 memory)
+
 -- the stores of a process beside its memory, from the ranges of all and the words that are kept
 abbrev pub stores_beside : (List (List Range)) × (List (List ℕ)) → ℕ → List ℕ → List Store
-stores_beside rows k memory = stores_of (row_at rows.0 k) (words_beside (row_at rows.0 k) (row_at rows.1 k) memory)
+stores_beside rows k memory = stores_in (row_at rows.0 k, row_at rows.1 k) memory
 
 -- The ranges of a process have all their words beside its memory.
 abbrev pub AreBeside : (List (List Range)) × (List (List ℕ)) → ℕ → List ℕ → Type 0
-AreBeside rows k memory = AreRanges (row_at rows.0 k) (words_beside (row_at rows.0 k) (row_at rows.1 k) memory)
+AreBeside rows k memory = HaveWords (row_at rows.0 k, row_at rows.1 k) memory

@@ -1,19 +1,20 @@
 -- Outcomes that are being gathered, and behind them what the turn that is under way has issued so far.
-use Rattle.std.specs.Prelude.{ℕ, List, [], Option, None, ◌≡◌, ◌≤◌, ◌+◌, length}
+use Rattle.std.specs.Prelude.{ℕ, List, [], ◌∷◌, Option, None, IfSome, ◌≡◌, ◌≤◌, ◌+◌, length}
 use Rattle.bsp_model.specs.LocalParts.{LocalParts}
 use Rattle.bsp_model.specs.Columns.{row_at}
 use Rattle.bsp_model.specs.Inside.Columns.{pair_at}
-use Rattle.bsp_model.specs.Inside.Beside.{stores_beside, AreBeside}
+use Rattle.bsp_model.specs.Inside.Beside.{stores_in, HaveWords}
 use Rattle.bsp_model.specs.declared.request.Put.{Put}
 use Rattle.bsp_model.specs.declared.request.Get.{Get}
 use Rattle.bsp_model.specs.declared.request.Send.{Send}
 use Rattle.bsp_model.specs.declared.fault.Fault.{Fault}
+use Rattle.bsp_model.specs.declared.range.Range.{Range}
 use Rattle.bsp_table.specs.declared.area.Area.{Area}
 use Rattle.bsp_step.specs.declared.lists.Lists.{Lists}
 use Rattle.bsp_step.specs.declared.open_lists.OpenLists.{OpenLists}
 use Rattle.bsp_step.specs.declared.lists.TurnEnd.{TurnEnd}
 use Rattle.bsp_step.specs.OutcomeParts.{OutcomeParts}
-use Rattle.bsp_step.specs.Inside.Outcomes.{outcomes_of, AreOutcomes, first_at}
+use Rattle.bsp_step.specs.Inside.Outcomes.{outcomes_of, AreOutcomes, first_at, kept_beside}
 
 pub record Gathered : Type 0 where
   pub earlier : List OutcomeParts
@@ -150,10 +151,14 @@ pub record IsGathered (ends : List TurnEnd) (memories : List (List ℕ)) (l : Op
   pub before : AreBefore (rows_in l) (length ends)
   pub count : requests ≡ count_of_issued (gathered_in ends memories l)
 
+-- A range, where there is one, is all stores of a turn, whose words stand in its memory.
+abbrev pub IsStored : Option Range → LocalParts → Type 0
+IsStored stored local = IfSome stored (λ r. HaveWords (r ∷ [], []) local.memory × (stores_in (r ∷ [], []) local.memory ≡ local.stores))
+
 -- What a turn issued, its fault, its choice of a tag size, and its stores beside its memory are the rows of a process, and nothing stands behind them.
-pub record IsEnded (old : OpenLists) (place : ℕ) (fault : Option Fault) (tag : Option ℕ) (local : LocalParts) (new : OpenLists) : Type 0 where
-  pub beside : AreBeside new.stores place local.memory
-  pub stores : stores_beside new.stores place local.memory ≡ local.stores
+pub record IsEnded (old : OpenLists) (place : ℕ) (stored : Option Range) (fault : Option Fault) (tag : Option ℕ) (local : LocalParts) (new : OpenLists) : Type 0 where
+  pub beside : HaveWords (kept_beside stored (pair_at new.stores place)) local.memory
+  pub stores : stores_in (kept_beside stored (pair_at new.stores place)) local.memory ≡ local.stores
   pub faults : first_at new.faults place ≡ fault
   pub tags : first_at new.tags place ≡ tag
   pub puts : row_at new.puts.rows place ≡ old.puts.last

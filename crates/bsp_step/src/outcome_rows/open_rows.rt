@@ -2,7 +2,7 @@
 
 ghost use Rattle.std.specs.Prelude.{◌≡◌, ◌<◌, ◌++◌, ◌∷◌, [], IfOk, OnErr, OnOk};
 ghost use Rattle.bsp_step.specs.OutcomeParts.{IsOutcome};
-ghost use Rattle.bsp_step.specs.Inside.Gathered.{begun, count_of_issued, outcome_by};
+ghost use Rattle.bsp_step.specs.Inside.Gathered.{begun, count_of_issued, outcome_by, IsStored};
 
 use super::OutcomeRows;
 use crate::lists::TurnEnd;
@@ -190,14 +190,20 @@ impl OpenRows {
         tag: Option<u64>,
         workspace: &mut Workspace,
     ) -> Result<(), OutOfMemory>
-        requires { IsOutcome (outcome_by self.old end fault tag workspace.old.local) }
+        requires limits { IsOutcome (outcome_by self.old end fault tag workspace.old.local) }
+        requires stored { IsStored end.stored workspace.old.local }
         ensures { OnOk result (self.new
             ≡ begun (self.old.earlier ++ outcome_by self.old end fault tag workspace.old.local ∷ [])) }
     {
         let place = self.ends.len();
-        let ended = self
-            .lists
-            .end_turn(place, self.requests, fault, tag, &workspace.local);
+        let ended = self.lists.end_turn(
+            place,
+            self.requests,
+            end.stored,
+            fault,
+            tag,
+            &workspace.local,
+        );
         self.requests = 0;
         if let Err(error) = ended.and(self.ends.reserve(1)) {
             self.lists.cut(place);

@@ -112,7 +112,7 @@ impl Outcomes {
         memories.clear();
         memories.reserve(processes.len())?;
         for process in processes {
-            memories.push_copy(&self.get(*process).memory)?;
+            memories.push_copy(&self.memory(*process))?;
         }
         Ok(())
     }
