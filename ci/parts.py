@@ -27,6 +27,6 @@ LAST = (
     Part(("ci/threads",), 3),
     Part(("ci/tried",), 1),
     Part(("ci/count_allocations",), 6),
-    Part(("ci/refuse_allocations",), 35_000),
+    Part(("ci/refuse_allocations",), 32_000),
 )
 LAST_QUICK = (DOCUMENTS, live(10))  # of ./check --quick
