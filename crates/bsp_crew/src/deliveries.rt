@@ -1,6 +1,6 @@
 //! The deliveries of a superstep, by the calling thread or by a crew beside it.
 
-ghost use Rattle.std.specs.Prelude.{◌≡◌, ◌<◌, ◌++◌, All, IfOk, IfSome, OnOk, length, map};
+ghost use Rattle.std.specs.Prelude.{◌≡◌, ◌<◌, ◌++◌, [], All, IfOk, IfSome, OnOk, length, map};
 ghost use Rattle.bsp_deliver.specs.Condition.{AreDeliverable};
 ghost use Rattle.bsp_model.specs.Replaced.{IsAscending};
 ghost use Rattle.bsp_run.specs.Shares.{deliveries_to};
@@ -40,15 +40,18 @@ impl<'a, P, G: Gate> Means<'a, P, G> {
         for place in 0..part.processes.len() {
             self.gate.pass(part.first.saturating_add(place));
         }
+        if cells.len() == 0 {
+            return deliver_some(self.alloc, outcomes, part.processes, cells);
+        }
         let mut more = Cells::new(self.alloc);
         deliver_some(self.alloc, outcomes, part.processes, &mut more)?;
-        add_cells(cells, more)
+        cells.append(&mut more)
     }
 }
 
 /// The next memory and queue of some processes, in the order of the list: where there is a crew, by its workers beside the calling thread. `processes`
 /// are places in `outcomes`, which all turns of superstep `step` left. They ascend. Whoever makes the delivery at the place k of the list, counted from
-/// 0, passes the gate with k before.
+/// 0, passes the gate with k before. They are made in the room of `cells`.
 ///
 /// # Errors
 /// `OutOfMemory` where the calling thread is refused memory for a delivery that no worker hands in, or to add the deliveries.
@@ -57,8 +60,10 @@ pub fn wide_deliveries<J: SharedRun, P: Program, G: Gate>(
     outcomes: &Outcomes,
     processes: &[usize],
     step: u64,
+    mut cells: Cells,
     crew: Option<&Crew<J>>,
 ) -> Result<Cells, OutOfMemory>
+    requires none { cells ≡ [] }
     requires deliverable { AreDeliverable outcomes.now }
     requires processes { All (λ d. d < length outcomes.now) processes.now }
     requires ascending { IsAscending processes.now }
@@ -73,7 +78,7 @@ pub fn wide_deliveries<J: SharedRun, P: Program, G: Gate>(
     match crew {
         Some(crew) if processes.len() > 1 => {
             let task = Task::Deliveries(outcomes.copy()?);
-            let mut made = Made::Delivered(Cells::new(means.alloc));
+            let mut made = Made::Delivered(cells);
             let worked = crew.work_parts(means, &task, &whole, &mut None, &mut made);
             drop(task);
             match made {
@@ -82,7 +87,6 @@ pub fn wide_deliveries<J: SharedRun, P: Program, G: Gate>(
             }
         }
         _ => {
-            let mut cells = Cells::new(means.alloc);
             let delivered = means.make_deliveries(outcomes, &whole, &mut cells);
             delivered.and(Ok(cells))
         }

@@ -146,6 +146,15 @@ impl ByProcess for Cells {
         reserved.and(Ok(room))
     }
 
+    fn capacity(&self) -> usize {
+        self.memories.capacity()
+    }
+
+    fn into_room(mut self) -> Cells {
+        self.clear();
+        self
+    }
+
     fn append_range(&mut self, more: &Cells, from: usize, to: usize) -> Result<(), OutOfMemory> {
         self.queues
             .take_range(self.memories.len(), &more.queues, from, to)?;

@@ -27,6 +27,8 @@ pub struct Live<P: Program> {
     pub(crate) detail: Detail,
     /// For each accepted batch that still stands the batch that takes it back, the newest first.
     pub(crate) undos: VecDeque<Batch>,
+    /// The history that the last batch replaced, whose lists serve the next batch as room.
+    pub(crate) replaced: Option<History>,
 }
 
 impl<P: Program> Model for Live<P> {
@@ -75,11 +77,12 @@ pub(crate) fn open<P: Program + Drop, R: Threads + Sync, G: Gate>(
         session,
         detail,
         undos: VecDeque::new(workers.alloc),
+        replaced: None,
     };
     Ok((live, update))
 }
 
-/// Applies an accepted batch of edits. The history that it replaced, if it replaced one, goes to `before`.
+/// Applies an accepted batch of edits. The history that it replaced, if it replaced one, goes to `before`. A history that stood there is used up.
 pub(crate) fn apply<P: Program + Drop, R: Threads + Sync, G: Gate>(
     workers: &Workers<'_, R, G>,
     session: &mut Session<P>,

@@ -96,7 +96,7 @@ fn apply_and_tell<P: Program + Drop, R: Threads + Sync, G: Gate>(
         ++ reply_lines live.old.detail.places (last_result P.acts P.ending live.old)
         (live_reply P.acts P.ending P.looks live.old batch.now)) }
 {
-    let mut before = None;
+    let mut before = live.replaced.take();
     let update = match apply(workers, &mut live.session, batch, &mut before) {
         Ok(update) => update,
         Err(error) => {
@@ -111,7 +111,7 @@ fn apply_and_tell<P: Program + Drop, R: Threads + Sync, G: Gate>(
     let old = before.as_ref().unwrap_or(new);
     let pushed = push_accepted(text, detail, program, nprocs, old, new, batch, &update);
     drop(update);
-    drop(before);
+    live.replaced = before;
     pushed
 }
 

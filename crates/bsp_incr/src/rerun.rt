@@ -25,7 +25,7 @@ use crate::{Edit, Update};
 use bsp_crew::Workers;
 use bsp_gate::Gate;
 use bsp_model::{Input, OutOfMemory};
-use bsp_run::History;
+use bsp_run::{Discarded, History};
 use bsp_step::Program;
 pub use given::Given;
 use std::alloc::Global;
@@ -35,12 +35,14 @@ pub use under_way::UnderWay;
 
 /// The run of a program on a lawful input, made against the previous run, if there was one. Both runs are of one program and of as many processes.
 /// A turn is taken only where the recorded turn does not serve. A delivery is made only where it depends on something else than in the previous run.
-pub fn rerun<P: Program, G: Gate, R: Threads + Sync>(
+/// The lists of `discarded` serve as room.
+fn rerun<P: Program, G: Gate, R: Threads + Sync>(
     workers: &Workers<'_, R, G>,
     program: &P,
     old: Option<&History>,
     input: &Input,
     marks: Marks,
+    discarded: Discarded,
 ) -> Result<(History, Update), OutOfMemory>
     requires lawful { input_fault input.now ≡ None }
     requires args { AreArgsMarked (option_map (λ k. k.now) old) input.now marks.args }
@@ -60,7 +62,7 @@ pub fn rerun<P: Program, G: Gate, R: Threads + Sync>(
         other_args: &args,
     };
     let tape = opened(&given, &first)?;
-    let Remade { tape, update } = remake_all(workers, given, tape, first)?;
+    let Remade { tape, update } = remake_all(workers, given, tape, first, discarded)?;
     let history = finished(old, tape, input.mems.len(), update.executed.as_slice())?;
     Ok((history, update))
 }
@@ -75,7 +77,8 @@ pub fn recorded_run<P: Program, G: Gate, R: Threads + Sync>(
     ensures run { IfOk result (λ r. r.0 ≡ run (turn_by P.Program program.now) input.now) }
     ensures update { IfOk result (λ r. r.1 ≡ update_of (P.looks program.now) None r.0) }
 {
-    rerun(workers, program, None, input, all_marks(input))
+    let discarded = Discarded::none(workers.alloc);
+    rerun(workers, program, None, input, all_marks(input), discarded)
 }
 
 fn rerun_alone<P: Program, G: Gate>(
@@ -102,7 +105,9 @@ fn rerun_alone<P: Program, G: Gate>(
         other_args: &args,
     };
     let tape = opened(&given, &first)?;
-    remake_alone(&given, tape, first)?.tape.finish()
+    remake_alone(&given, tape, first, Discarded::none(alloc))?
+        .tape
+        .finish()
 }
 
 /// The run of a program on a lawful input, by the calling thread.
@@ -118,7 +123,15 @@ pub fn recorded_alone<P: Program, G: Gate>(
     rerun_alone(alloc, program, None, input, all_marks(input), gate)
 }
 
-/// Edits an input and makes its run again, against the run of the input as it was, which goes to `before`. After `OutOfMemory` nothing has changed.
+fn discarded_of(alloc: Global, before: Option<History>) -> Discarded {
+    match before {
+        Some(history) => Discarded::of(history),
+        None => Discarded::none(alloc),
+    }
+}
+
+/// Edits an input and makes its run again, against the run of the input as it was, which goes to `before`. The lists of the history that stood there serve
+/// as room. After `OutOfMemory` the input and the history have not changed.
 pub fn rerun_edited<P: Program, G: Gate, R: Threads + Sync>(
     workers: &Workers<'_, R, G>,
     program: &P,
@@ -141,7 +154,8 @@ pub fn rerun_edited<P: Program, G: Gate, R: Threads + Sync>(
 {
     let formers = make_edits(workers.alloc, input, edits)?;
     let marks = marks_of_edits(history, input, edits);
-    match rerun(workers, program, Some(&*history), input, marks) {
+    let discarded = discarded_of(workers.alloc, before.take());
+    match rerun(workers, program, Some(&*history), input, marks, discarded) {
         Ok((made, update)) => {
             drop(formers);
             before.insert(replace(history, made));

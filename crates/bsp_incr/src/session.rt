@@ -154,7 +154,8 @@ impl<P: Program + Drop> Session<P> {
     }
 
     /// Applies a batch that is accepted, as `apply` does, and hands out the history that the batch replaced: `before` is `None` where the batch left
-    /// the history as it was. After `OutOfMemory` nothing has changed.
+    /// the history as it was. A history that stood there, as an earlier batch replaced it, is used up: its lists serve as room. After `OutOfMemory` the
+    /// session has not changed.
     pub fn apply_accepted<R: Threads + Sync, G: Gate>(
         &mut self,
         workers: &Workers<'_, R, G>,
@@ -171,8 +172,8 @@ impl<P: Program + Drop> Session<P> {
         ensures before { OnOk result (unwrap_or before.new self.new.history ≡ self.old.history) }
         ensures err { OnErr result (self.new ≡ self.old) }
     {
-        drop(before.take());
         if are_there(&self.input, edits) {
+            drop(before.take());
             return Ok(Update::none(workers.alloc));
         }
         let update = rerun_edited(

@@ -27,6 +27,13 @@ pub trait ByProcess: Sized {
     fn room_like(&self, alloc: Global) -> Result<Self, OutOfMemory>
         ensures { IfOk result (λ room. items room ≡ []) };
 
+    /// For how many items there is room. It is for speed alone, and may be any number.
+    fn capacity(&self) -> usize;
+
+    /// Nothing, in the room of these items.
+    fn into_room(self) -> Self
+        ensures { items result ≡ [] };
+
     /// Adds the items of `more` from `from` on, and before `to`. Full pages of memories are shared. After `OutOfMemory` nothing has changed.
     fn append_range(&mut self, more: &Self, from: usize, to: usize) -> Result<(), OutOfMemory>
         requires order { from ≤ to }

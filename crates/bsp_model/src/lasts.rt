@@ -86,6 +86,11 @@ impl Lasts {
         self.rows.reserve(count)
     }
 
+    /// For how many processes there is room.
+    pub fn capacity(&self) -> usize {
+        self.own.capacity().max(self.rows.capacity())
+    }
+
     pub fn reserve_like(&mut self, like: &Lasts, share: Share) -> Result<(), OutOfMemory>
         ensures { self.new ≡ self.old }
     {

@@ -1,12 +1,12 @@
 //! What several processes have, of which that of a few lies apart, so that copies share the rest.
 
-ghost use Rattle.std.specs.Prelude.{◌≡◌, ◌<◌, All, IfErr, IfNone, IfOk, IfSome, length, slice_index_or};
+ghost use Rattle.std.specs.Prelude.{◌≡◌, ◌<◌, [], All, IfErr, IfNone, IfOk, IfSome, length, slice_index_or};
 ghost use Rattle.bsp_model.specs.Inside.Layers.{AreApart, IsBelow};
 ghost use Rattle.bsp_model.specs.Replaced.{replaced, IsAscending};
 
 use crate::by_process::{ByProcess, with_replaced};
 use crate::places::{are_among, are_few, place_among};
-use crate::{OutOfMemory, Shared, TryCopy};
+use crate::{OutOfMemory, Shared, TryCopy, is_worth_room};
 use std::alloc::Global;
 use std::marker::Model;
 
@@ -38,6 +38,30 @@ impl<T: ByProcess> Model for Layered<T> {
     ghost view = { λ l. layered T.lay l.base l.apart };
 
     ghost invariant = { λ l. HasApart T.items l.base l.apart };
+}
+
+/// Nothing, in the room of items that are needed no more, where it is for as many as are asked for, and not for many times more.
+fn fitting_room<T: ByProcess + Drop>(items: T, count: usize) -> Option<T>
+    ensures { IfSome result (λ room. T.items room ≡ []) }
+{
+    if is_worth_room(count, items.capacity()) {
+        return Some(items.into_room());
+    }
+    None
+}
+
+/// The same of items that lie apart, where there are any and no copy shares them.
+fn apart_room<T: ByProcess + Drop>(apart: Option<Shared<Apart<T>>>, count: usize) -> Option<T>
+    ensures { IfSome result (λ room. T.items room ≡ []) }
+{
+    match apart?.try_unwrap() {
+        Ok(apart) => {
+            let Apart { processes, items } = apart;
+            drop(processes);
+            fitting_room(items, count)
+        }
+        Err(_) => None,
+    }
 }
 
 impl<T: ByProcess + Drop> Layered<T> {
@@ -140,6 +164,22 @@ impl<T: ByProcess + Drop> Layered<T> {
             base,
             apart: Some(apart),
         })
+    }
+
+    /// Nothing, in the room of the items that lie apart, or else of those of all: of a list that no copy shares, with room for as many items as are asked
+    /// for, and not for many times more.
+    pub fn into_room(self, count: usize) -> Option<T>
+        ensures { IfSome result (λ room. T.items room ≡ []) }
+    {
+        let Layered { base, apart } = self;
+        if let Some(room) = apart_room(apart, count) {
+            drop(base);
+            return Some(room);
+        }
+        match base.try_unwrap() {
+            Ok(all) => fitting_room(all, count),
+            Err(_) => None,
+        }
     }
 
     /// The items of all, where no copy shares them and none lies apart. Else nothing has changed.

@@ -55,7 +55,7 @@ pub use request::{Get, Message, Put, Send, Store};
 pub use rows::Column;
 pub(crate) use rows::Rows;
 pub use seq::{Seq, are_same, are_same_words};
-pub use share::Share;
+pub use share::{Share, is_worth_room};
 pub use shared::{Shared, SharedSeq};
 pub use std::alloc::AllocError as OutOfMemory;
 pub use stores_ref::StoresRef;

@@ -245,6 +245,15 @@ impl ByProcess for Memories {
         reserved.and(Ok(room))
     }
 
+    fn capacity(&self) -> usize {
+        self.lasts.capacity()
+    }
+
+    fn into_room(mut self) -> Memories {
+        self.clear();
+        self
+    }
+
     fn append_range(&mut self, more: &Memories, from: usize, to: usize) -> Result<(), OutOfMemory> {
         if from == to {
             return Ok(());

@@ -5,7 +5,7 @@ ghost use Rattle.std.specs.Iterator.{YieldsFirst, item_count};
 ghost use Rattle.bsp_model.specs.ProcessSet.{processes_from, processes_in, union};
 
 use crate::limits::MOST_PROCESSES;
-use crate::{OutOfMemory, numbers};
+use crate::{OutOfMemory, Same, numbers};
 use std::alloc::Global;
 use std::marker::Model;
 
@@ -150,6 +150,12 @@ impl ProcessSet {
             members.push(process)?;
         }
         Ok(members)
+    }
+}
+
+impl Same for ProcessSet {
+    fn same(&self, other: &ProcessSet) -> bool {
+        self.count == other.count && self.bits == other.bits
     }
 }
 

@@ -153,6 +153,11 @@ impl<T: Copy> Rows<T> {
         items.and(self.ends.reserve(rows))
     }
 
+    /// For how many rows there is room.
+    pub fn capacity(&self) -> usize {
+        self.ends.capacity()
+    }
+
     /// Makes room for a share of the rows that others have, and of their items.
     pub fn reserve_like(&mut self, like: &Rows<T>, share: Share) -> Result<(), OutOfMemory>
         ensures { self.new ≡ self.old }

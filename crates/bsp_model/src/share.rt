@@ -1,5 +1,11 @@
 //! How much of the room that all processes take some of them get.
 
+/// Whether lists for so many of `all` processes begin with their share of the room, or in the whole of it. For very few it is cheaper that the lists that
+/// are used grow.
+pub fn is_worth_room(count: usize, all: usize) -> bool {
+    count <= all && all < count.saturating_mul(16)
+}
+
 /// Some of several processes, by their numbers.
 #[derive(Clone, Copy)]
 pub struct Share {

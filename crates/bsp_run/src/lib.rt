@@ -3,6 +3,7 @@
 
 mod copying;
 mod costs;
+mod discarded;
 mod ending;
 mod extent;
 mod history;
@@ -22,6 +23,7 @@ mod views;
 
 pub use copying::copied;
 pub use costs::{cost_of_delivery, cost_of_end, total_of};
+pub use discarded::Discarded;
 pub use history::{History, add_memories};
 pub use lines::each_lines;
 pub use opening::Recording;

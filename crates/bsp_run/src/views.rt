@@ -15,7 +15,7 @@ use crate::ending::end_of;
 use crate::opening::{Recording, add_first_cells, shared_args};
 use crate::{Arguments, Setting, Status};
 use bsp_deliver::{Cells, next_tag_size};
-use bsp_model::{Input, Layered, OutOfMemory, TryCopy, numbers};
+use bsp_model::{Input, Layered, OutOfMemory, Shared, TryCopy, numbers};
 use bsp_step::{Outcomes, View};
 use std::alloc::Global;
 use std::marker::Model;
@@ -117,16 +117,17 @@ impl Views {
         end_of(alloc, setting.step, &setting.table, outcomes)
     }
 
-    /// No cells, in the room of these where no copy shares it.
-    pub fn into_room(self, alloc: Global) -> Cells
+    /// No cells, in the room of views that are needed no more, where no copy shares them and their room fits so many processes.
+    pub fn room_of(alloc: Global, views: Shared<Views>, count: usize) -> Cells
         ensures { result ≡ [] }
     {
-        match self.cells.try_unwrap() {
-            Ok(mut cells) => {
-                cells.clear();
-                cells
-            }
-            Err(_) => Cells::new(alloc),
+        let Ok(Views { setting, cells }) = views.try_unwrap() else {
+            return Cells::new(alloc);
+        };
+        drop(setting);
+        match cells.into_room(count) {
+            Some(cells) => cells,
+            None => Cells::new(alloc),
         }
     }
 

@@ -13,7 +13,7 @@ ghost use Rattle.bsp_scratch.specs.Inside.IsUnrecorded.{IsUnrecorded, IsUnrecord
 
 use crate::tally::Tally;
 use bsp_crew::{Crew, Means, SharedRun, wide_turns};
-use bsp_deliver::{Cells, deliver_moving};
+use bsp_deliver::deliver_moving;
 use bsp_gate::Gate;
 use bsp_model::limits::MOST_SUPERSTEPS;
 use bsp_model::{Input, Memories, OutOfMemory, Shared};
@@ -63,16 +63,6 @@ pub(crate) fn all_turns<J: SharedRun, P: Program, G: Gate>(
     Ok(())
 }
 
-/// The room of views that are needed no more, unless a copy shares it.
-fn room_of(alloc: Global, views: Shared<Views>) -> Cells
-    ensures { result ≡ [] }
-{
-    match views.try_unwrap() {
-        Ok(views) => views.into_room(alloc),
-        Err(_) => Cells::new(alloc),
-    }
-}
-
 /// The views of the next superstep, gathered in the room of the present ones. What is left of the outcomes serves the next turns as room. Messages that
 /// nobody took are discarded here.
 fn next_views(
@@ -86,7 +76,7 @@ fn next_views(
     ensures { (r : Run) → AreTurned r views outcomes.old → IfOk result (λ next. next ≡ next_views r) }
 {
     let setting = views.next_setting(outcomes)?;
-    let mut cells = room_of(alloc, views);
+    let mut cells = Views::room_of(alloc, views, processes.len());
     deliver_moving(alloc, outcomes, processes, &mut cells)?;
     Shared::new(alloc, Views::open(alloc, setting, cells)?)
 }

@@ -258,6 +258,15 @@ impl ByProcess for OutcomeRows {
         self.room_of(alloc, Share::whole())
     }
 
+    fn capacity(&self) -> usize {
+        self.ends.capacity()
+    }
+
+    fn into_room(mut self) -> OutcomeRows {
+        self.clear();
+        self
+    }
+
     fn append_range(
         &mut self,
         more: &OutcomeRows,

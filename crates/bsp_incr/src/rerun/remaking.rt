@@ -14,7 +14,7 @@ use crate::superstep::advance;
 use bsp_crew::{Crew, Pace, SharedRun, Workers, calls_workers};
 use bsp_gate::Gate;
 use bsp_model::{OutOfMemory, ProcessSet};
-use bsp_run::{Recording, Tape};
+use bsp_run::{Discarded, Recording, Tape};
 use bsp_step::Program;
 use std::marker::Brand;
 use std::thread::{Threads, join};
@@ -61,8 +61,14 @@ fn finish<P: Program, J: SharedRun, G: Gate>(
 {
     match supersteps(given, &mut tape, &mut under_way, None, crew) {
         Ok(()) => {
-            let UnderWay { update, spare, .. } = under_way;
+            let UnderWay {
+                update,
+                spare,
+                discarded,
+                ..
+            } = under_way;
             drop(spare);
+            drop(discarded);
             Ok(Remade { tape, update })
         }
         Err(error) => {
@@ -121,27 +127,30 @@ fn by_crew<P: Program, J: SharedRun, G: Gate, R: Threads + Sync>(
     beside_crew(rt, given, tape, under_way, &crew)
 }
 
-/// The run that has just been opened, made again by the calling thread. The processes in `first` begin with something else than in the previous run.
+/// The run that has just been opened, made again by the calling thread. The processes in `first` begin with something else than in the previous run. The lists of
+/// `discarded` serve as room.
 pub fn remake_alone<P: Program, G: Gate>(
     given: &Given<'_, P, G>,
     tape: Tape,
     first: ProcessSet,
+    discarded: Discarded,
 ) -> Result<Remade, OutOfMemory>
     requires started { tape ≡ start given.now.input }
     requires first { AreFirstMarked given.now.before given.now.input first }
     ensures { IfOk result (λ r. IsRemade P.Program given.now r) }
 {
-    let under_way = UnderWay::new(given.alloc, first);
+    let under_way = UnderWay::new(given.alloc, first, discarded);
     finish::<P, Brand, G>(given, tape, under_way, None)
 }
 
-/// The run that has just been opened, made again by 1 to 16 workers, the calling thread among them. It goes on alone until workers are worth their
-/// start. Where the gate tells no time they start at once.
+/// The same by 1 to 16 workers, the calling thread among them. It goes on alone until workers are worth their start. Where the gate tells no time they
+/// start at once.
 pub fn remake_all<P: Program, G: Gate, R: Threads + Sync>(
     workers: &Workers<'_, R, G>,
     given: Given<'_, P, G>,
     mut tape: Tape,
     first: ProcessSet,
+    discarded: Discarded,
 ) -> Result<Remade, OutOfMemory>
     requires started { tape ≡ start given.input }
     requires first { AreFirstMarked given.before given.input first }
@@ -149,9 +158,9 @@ pub fn remake_all<P: Program, G: Gate, R: Threads + Sync>(
 {
     let useful = workers.useful(given.input.mems.len());
     if useful < 2 {
-        return remake_alone(&given, tape, first);
+        return remake_alone(&given, tape, first, discarded);
     }
-    let mut under_way = UnderWay::new(given.alloc, first);
+    let mut under_way = UnderWay::new(given.alloc, first, discarded);
     let pace = Some(Pace::new(given.gate, Recording::Kept));
     let alone = supersteps::<P, Brand, G>(&given, &mut tape, &mut under_way, pace, None);
     match alone {

@@ -6,6 +6,7 @@ ghost use Rattle.bsp_incr.specs.declared.compare.known_table.KnownTable.TheVaria
 use crate::Update;
 use crate::compare::KnownTable;
 use bsp_model::ProcessSet;
+use bsp_run::Discarded;
 use bsp_step::Gathering;
 use std::alloc::Global;
 
@@ -20,11 +21,13 @@ pub struct UnderWay {
     pub update: Update,
     /// An outcome whose lists serve the next turn, if there is one.
     pub spare: Option<Gathering>,
+    /// What is left of a history that is needed no more.
+    pub discarded: Discarded,
 }
 
 impl UnderWay {
     /// Nothing is done yet, and nothing is known of the table.
-    pub fn new(alloc: Global, marks: ProcessSet) -> UnderWay
+    pub fn new(alloc: Global, marks: ProcessSet, discarded: Discarded) -> UnderWay
         ensures marks { result.marks ≡ marks }
         ensures table { result.table ≡ Unknown }
         ensures executed { result.update.executed ≡ [] }
@@ -35,6 +38,7 @@ impl UnderWay {
             table: KnownTable::Unknown,
             update: Update::none(alloc),
             spare: None,
+            discarded,
         }
     }
 }

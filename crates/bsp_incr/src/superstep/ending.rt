@@ -1,6 +1,6 @@
 //! How a superstep of a run that is made again ends: its deliveries, and the opening of the next.
 
-ghost use Rattle.std.specs.Prelude.{◌≡◌, ◌≤◌, ◌<◌, ◌++◌, IfOk, IfSome, OnOk, length, map, true};
+ghost use Rattle.std.specs.Prelude.{◌≡◌, ◌≤◌, ◌<◌, ◌++◌, [], IfOk, IfSome, OnOk, length, map, true};
 ghost use Rattle.bsp_model.specs.ProcessSet.{processes_in, union, processes_where};
 ghost use Rattle.bsp_deliver.specs.Requests.{each_below};
 ghost use Rattle.bsp_run.specs.Run.{after_delivery, open_views};
@@ -23,9 +23,10 @@ use crate::rerun::{Given, UnderWay};
 use bsp_crew::{Crew, SharedRun, wide_deliveries};
 use bsp_deliver::{Cells, touched_by_changes};
 use bsp_gate::Gate;
-use bsp_model::{CostRow, OutOfMemory, ProcessSet, Seq};
+use bsp_model::{CostRow, OutOfMemory, ProcessSet, Seq, Shared};
 use bsp_run::{Phase, Setting, Tape, Views};
 use bsp_step::Program;
+use std::alloc::Global;
 
 #[derive(Drop)]
 struct Deliveries {
@@ -149,12 +150,23 @@ fn open_next<P: Program, G>(
     }
 }
 
-/// The deliveries of the superstep whose turns are taken to the processes of a set, which the workers make. Their places are added.
+fn room_of(alloc: Global, discarded: Option<Shared<Views>>, count: usize) -> Cells
+    ensures { result ≡ [] }
+{
+    match discarded {
+        Some(views) => Views::room_of(alloc, views, count),
+        None => Cells::new(alloc),
+    }
+}
+
+/// The deliveries of the superstep whose turns are taken to the processes of a set, which the workers make. Their places are added. The lists of
+/// `discarded` serve as room.
 fn deliveries_among<P: Program, J: SharedRun, G: Gate>(
     given: &Given<'_, P, G>,
     tape: &Tape,
     touched: &ProcessSet,
     redelivered: &mut Seq<Place>,
+    discarded: Option<Shared<Views>>,
     crew: Option<&Crew<J>>,
 ) -> Result<Deliveries, OutOfMemory>
     requires crew { IfSome crew (λ _. AreOfRun (turn_by P.Program given.now.program) given.now.input J.turn J.views) }
@@ -171,17 +183,19 @@ fn deliveries_among<P: Program, J: SharedRun, G: Gate>(
     let processes = touched.members(given.alloc)?;
     let asked = processes.as_slice();
     add_places(redelivered, step, asked)?;
-    let cells = wide_deliveries(&given.means(), tape.outcomes(), asked, step, crew)?;
+    let room = room_of(given.alloc, discarded, asked.len());
+    let cells = wide_deliveries(&given.means(), tape.outcomes(), asked, step, room, crew)?;
     Ok(Deliveries { processes, cells })
 }
 
-/// The deliveries of the superstep whose turns are taken, and the marks of the next.
+/// The deliveries of the superstep whose turns are taken, and the marks of the next. The lists of `discarded` serve as room.
 pub fn make_deliveries<P: Program, J: SharedRun, G: Gate>(
     given: &Given<'_, P, G>,
     tape: &mut Tape,
     dirty: &ProcessSet,
     is_same_cost: bool,
     under_way: &mut UnderWay,
+    discarded: Option<Shared<Views>>,
     crew: Option<&Crew<J>>,
 ) -> Result<(), OutOfMemory>
     requires crew { IfSome crew (λ _. AreOfRun (turn_by P.Program given.now.program) given.now.input J.turn J.views) }
@@ -203,6 +217,6 @@ pub fn make_deliveries<P: Program, J: SharedRun, G: Gate>(
     let touched = touched_beside(given, tape, dirty);
     under_way.marks = touched.union(given.other_args);
     let redelivered = &mut under_way.update.redelivered;
-    let deliveries = deliveries_among(given, tape, &touched, redelivered, crew)?;
+    let deliveries = deliveries_among(given, tape, &touched, redelivered, discarded, crew)?;
     open_next(given, tape, is_same_cost, deliveries, &mut under_way.table)
 }

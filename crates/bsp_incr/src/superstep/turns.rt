@@ -18,7 +18,7 @@ use crate::rerun::Given;
 use crate::superstep::reuse::add_reused_turn;
 use bsp_crew::{Crew, SharedRun, wide_turns};
 use bsp_gate::Gate;
-use bsp_model::{ByProcess, OutOfMemory, ProcessSet, Seq};
+use bsp_model::{ByProcess, OutOfMemory, ProcessSet, Same, Seq};
 use bsp_step::{Gathering, OutcomeRows, Outcomes, Program};
 
 /// Whether the turn of a process has to be taken, which may be asked of the dirty processes alone. The tables are not compared where all processes are known
@@ -44,49 +44,45 @@ fn needs_turn<P: Program>(
     )
 }
 
-/// The turns of dirty processes, in order: those that had to be taken, and of the other processes the recorded turns, whose stores are replayed.
-fn renewed_turns<P: Program, G>(
+/// Adds the turns of dirty processes, in order: those that had to be taken, and of the other processes the recorded turns, whose stores are replayed.
+fn add_renewed<P: Program, G>(
+    renewed: &mut OutcomeRows,
     given: &Given<'_, P, G>,
     superstep: &OpenSuperstep<'_, '_>,
     old_outcomes: &Outcomes,
     processes: &[usize],
     needed: &ProcessSet,
     taken: &OutcomeRows,
-) -> Result<OutcomeRows, OutOfMemory>
+) -> Result<(), OutOfMemory>
+    requires none { renewed.old ≡ [] }
     requires known { All (λ p. p < length superstep.now.views.now) processes.now }
     requires recorded { old_outcomes.now ≡ map (turn_by P.Program given.now.program) superstep.now.old_views }
     requires needed { needed.now ≡ each_below (length superstep.now.views.now)
         (differs_now (P.looks given.now.program) superstep.now) }
     requires taken { taken.now ≡ turns_of (turn_by P.Program given.now.program) superstep.now.views.now
         (filter (differs_now (P.looks given.now.program) superstep.now) processes.now) }
-    ensures { IfOk result (λ all. all
+    ensures { OnOk result (renewed.new
         ≡ turns_of (turn_by P.Program given.now.program) superstep.now.views.now processes.now) }
 {
-    let mut renewed = OutcomeRows::with_capacity(given.alloc, processes.len())?;
     let mut at = 0;
     for process in processes {
         if needed.contains(*process) {
             renewed.append_range(taken, at, at + 1)?;
             at += 1;
         } else {
-            add_reused_turn(
-                &mut renewed,
-                given.program,
-                superstep,
-                old_outcomes,
-                *process,
-            )?;
+            add_reused_turn(renewed, given.program, superstep, old_outcomes, *process)?;
         }
     }
-    Ok(renewed)
+    Ok(())
 }
 
-/// The turns of these processes, which the workers take, in the spare lists.
+/// The turns of these processes, which the workers take, in the spare lists. The lists of `discarded` serve as room.
 fn taken_turns<P: Program, J: SharedRun, G: Gate>(
     given: &Given<'_, P, G>,
     superstep: &OpenSuperstep<'_, '_>,
     processes: &[usize],
     spare: &mut Option<Gathering>,
+    discarded: Outcomes,
     crew: Option<&Crew<J>>,
 ) -> Result<OutcomeRows, OutOfMemory>
     requires crew { IfSome crew (λ _. AreOfRun (turn_by P.Program given.now.program) given.now.input J.turn J.views) }
@@ -96,7 +92,8 @@ fn taken_turns<P: Program, J: SharedRun, G: Gate>(
     ensures { IfOk result (λ all. all
         ≡ turns_of (turn_by P.Program given.now.program) superstep.now.views.now processes.now) }
 {
-    let rows = superstep.like.room_for(given.alloc, processes.len())?;
+    let like = superstep.like;
+    let rows = like.room_for(given.alloc, processes.len(), discarded)?;
     wide_turns(
         &given.means(),
         rows,
@@ -130,14 +127,35 @@ fn needed_among<P: Program, G>(
     needed
 }
 
-/// The recorded outcomes, with new ones of the dirty processes. Where all of these took their turns, the outcomes are those that were taken.
+/// The recorded outcomes, with new ones of the dirty processes.
 fn over_recorded<P: Program, G>(
+    given: &Given<'_, P, G>,
+    superstep: &OpenSuperstep<'_, '_>,
+    old_outcomes: &Outcomes,
+    dirty: &ProcessSet,
+    processes: Vec<usize>,
+    new: OutcomeRows,
+) -> Result<Outcomes, OutOfMemory>
+    requires some { 0 < length superstep.now.old_views }
+    requires recorded { old_outcomes.now ≡ map (turn_by P.Program given.now.program) superstep.now.old_views }
+    requires dirty { ViewsDifferAtMost superstep.now.old_views superstep.now.views.now dirty.now }
+    requires processes { processes.items ≡ processes_in dirty.now }
+    requires turns { new
+        ≡ turns_of (turn_by P.Program given.now.program) superstep.now.views.now (processes_in dirty.now) }
+    ensures { IfOk result (λ all. all ≡ map (turn_by P.Program given.now.program) superstep.now.views.now) }
+{
+    old_outcomes.replaced(given.alloc, processes, new)
+}
+
+/// The same where some of these processes took their turns. The lists of `discarded` serve as room.
+fn over_renewed<P: Program, G>(
     given: &Given<'_, P, G>,
     superstep: &OpenSuperstep<'_, '_>,
     old_outcomes: &Outcomes,
     dirty: &ProcessSet,
     needed: &ProcessSet,
     taken: OutcomeRows,
+    discarded: Outcomes,
 ) -> Result<Outcomes, OutOfMemory>
     requires some { 0 < length superstep.now.old_views }
     requires recorded { old_outcomes.now ≡ map (turn_by P.Program given.now.program) superstep.now.old_views }
@@ -149,22 +167,37 @@ fn over_recorded<P: Program, G>(
     ensures { IfOk result (λ all. all ≡ map (turn_by P.Program given.now.program) superstep.now.views.now) }
 {
     let processes = dirty.members(given.alloc)?;
-    if taken.count() == processes.len() {
-        return old_outcomes.replaced(given.alloc, processes, taken);
-    }
     let asked = processes.as_slice();
-    let renewed = renewed_turns(given, superstep, old_outcomes, asked, needed, &taken)?;
+    let mut renewed = old_outcomes.room_for(given.alloc, asked.len(), discarded)?;
+    add_renewed(
+        &mut renewed,
+        given,
+        superstep,
+        old_outcomes,
+        asked,
+        needed,
+        &taken,
+    )?;
     drop(taken);
-    old_outcomes.replaced(given.alloc, processes, renewed)
+    over_recorded(given, superstep, old_outcomes, dirty, processes, renewed)
 }
 
-/// The turns of a superstep: the workers take those that have to be taken, and their places are added.
+/// The discarded outcomes in whose lists turns are taken, and those in whose lists they are put among reused turns. These stay, where there are any.
+fn dealt(discarded: Outcomes, are_all_taken: bool) -> (Outcomes, Outcomes) {
+    if are_all_taken {
+        return (discarded, Outcomes::new());
+    }
+    (Outcomes::new(), discarded)
+}
+
+/// The turns of a superstep: the workers take those that have to be taken, and their places are added. The lists of `discarded` serve as room.
 pub fn turns_again<P: Program, J: SharedRun, G: Gate>(
     given: &Given<'_, P, G>,
     superstep: &OpenSuperstep<'_, '_>,
     dirty: &Dirty,
     executed: &mut Seq<Place>,
     spare: &mut Option<Gathering>,
+    discarded: Outcomes,
     crew: Option<&Crew<J>>,
 ) -> Result<Outcomes, OutOfMemory>
     requires crew { IfSome crew (λ _. AreOfRun (turn_by P.Program given.now.program) given.now.input J.turn J.views) }
@@ -182,10 +215,16 @@ pub fn turns_again<P: Program, J: SharedRun, G: Gate>(
     let processes = needed.members(given.alloc)?;
     let asked = processes.as_slice();
     add_places(executed, superstep.step, asked)?;
-    let taken = taken_turns(given, superstep, asked, spare, crew)?;
-    drop(processes);
+    let are_all_taken = needed.same(&dirty.processes);
+    let (room, renewed_room) = dealt(discarded, are_all_taken);
+    let taken = taken_turns(given, superstep, asked, spare, room, crew)?;
+    let dirty = &dirty.processes;
     match superstep.old_outcomes {
-        Some(old) => over_recorded(given, superstep, old, &dirty.processes, &needed, taken),
+        Some(old) if are_all_taken => {
+            drop(renewed_room);
+            over_recorded(given, superstep, old, dirty, processes, taken)
+        }
+        Some(old) => over_renewed(given, superstep, old, dirty, &needed, taken, renewed_room),
         None => taken.share(),
     }
 }

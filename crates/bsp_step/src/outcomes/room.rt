@@ -6,20 +6,30 @@ ghost use Rattle.bsp_model.specs.Replaced.{IsAscending};
 ghost use Rattle.bsp_step.specs.OutcomeParts.{outcome_of};
 
 use crate::{OutcomeRows, Outcomes, PutRows};
-use bsp_model::{LineColumn, Memories, OutOfMemory, Share, add_replaced};
+use bsp_model::{LineColumn, Memories, OutOfMemory, Share, add_replaced, is_worth_room};
 use std::alloc::Global;
 
-/// Whether lists for so many of all processes begin with their share of room. For very few it is cheaper that the lists that are used grow.
-fn is_worth_room(count: usize, all: usize) -> bool {
-    count <= all && all < count.saturating_mul(16)
-}
-
 impl Outcomes {
-    /// Lists for so many outcomes. Where these are as many, or not many times more, there is room for the share that so many of them have. Where
-    /// there is no outcome, there is room for the lists that most turns fill.
-    pub fn room_for(&self, alloc: Global, count: usize) -> Result<OutcomeRows, OutOfMemory>
+    /// No outcomes, in the lists of these, which are needed no more. None where copies share the lists, and where their room does not fit so many.
+    fn fitting_room(self, count: usize) -> Option<OutcomeRows>
+        ensures { IfSome result (λ o. o ≡ []) }
+    {
+        self.rows?.into_room(count)
+    }
+
+    /// Lists for so many outcomes: those of `former`, which are needed no more, where their room fits. Else, where these outcomes are as many, or not many
+    /// times more, there is room for the share that so many of them have. Where there is no outcome, there is room for the lists that most turns fill.
+    pub fn room_for(
+        &self,
+        alloc: Global,
+        count: usize,
+        former: Outcomes,
+    ) -> Result<OutcomeRows, OutOfMemory>
         ensures { IfOk result (λ o. o ≡ []) }
     {
+        if let Some(room) = former.fitting_room(count) {
+            return Ok(room);
+        }
         match &self.rows {
             Some(rows) if is_worth_room(count, rows.len()) => {
                 rows.layers().0.room_of(alloc, Share::of(count, rows.len()))
@@ -36,12 +46,9 @@ impl Outcomes {
         let Some(rows) = self.rows else {
             return OutcomeRows::with_room(alloc, count);
         };
-        match rows.try_unwrap() {
-            Ok(mut rows) => {
-                rows.clear();
-                Ok(rows)
-            }
-            Err(_) => OutcomeRows::with_capacity(alloc, count),
+        match rows.into_room(count) {
+            Some(room) => Ok(room),
+            None => OutcomeRows::with_capacity(alloc, count),
         }
     }
 

@@ -35,3 +35,10 @@ returns-in-None g c =
       turns = subst (λ (os : List OutcomeParts). IfOk c.share.result (λ all. all ≡ os)) turns c.share.ensures;
       executed = on_ok c.share.result (c.in_ok-add_places.ensures ∙ ap (λ ps. c.args.executed.now ++ places_of superstep.step ps) (c.as_slice-asked.ensures.value ∙ c.in_ok-processes.ensures ∙ needed));
     }
+
+pub returns-in-Some-2-clause-executed : goal.returns-in-Some-2-clause-executed
+returns-in-Some-2-clause-executed g c =
+    let superstep = c.args.superstep.now in
+    let goes = differs_now (g.P.Program.looks c.args.given.now.program) superstep in
+    let processes = processes_where-each_below (length superstep.views.now) goes c.needed_among-needed.result c.needed_among-needed.ensures in
+    on_ok c.over_renewed.result (c.in_ok-add_places.ensures ∙ ap (λ ps. c.args.executed.now ++ places_of superstep.step ps) (c.as_slice-asked.ensures.value ∙ c.in_ok-processes.ensures ∙ processes))

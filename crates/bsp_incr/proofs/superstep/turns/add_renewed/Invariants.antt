@@ -3,7 +3,7 @@ use Rattle.std.specs.Prelude.{filter}
 use Rattle.bsp_run.specs.Shares.{turns_of}
 use Rattle.bsp_run.specs.TurnBy.{turn_by}
 use Rattle.bsp_incr.specs.Inside.OpenSuperstep.{differs_now}
-use Rattle.bsp_incr.proofs.superstep.turns.renewed_turns.Given as goal
+use Rattle.bsp_incr.proofs.superstep.turns.add_renewed.Given as goal
 
 -- the turns so far, and how many of them were taken
 abbrev pub invariant-loop-process : goal.invariant-loop-process

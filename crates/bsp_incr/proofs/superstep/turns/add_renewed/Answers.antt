@@ -8,8 +8,8 @@ use Rattle.bsp_incr.specs.Inside.Given.{Making}
 use Rattle.bsp_incr.specs.Inside.OpenSuperstep.{differs_now}
 use Rattle.bsp_deliver.proofs.Senders.{filter_more_no, filter_more_yes}
 use Rattle.bsp_incr.proofs.Retaking.{needed_there, next_passes, one_of}
-use Rattle.bsp_incr.proofs.superstep.turns.renewed_turns.Goals.{then-contains+in_ok-append_range, else-contains+in_ok-add_reused_turn}
-use Rattle.bsp_incr.proofs.superstep.turns.renewed_turns.Goals as goal
+use Rattle.bsp_incr.proofs.superstep.turns.add_renewed.Goals.{then-contains+in_ok-append_range, else-contains+in_ok-add_reused_turn}
+use Rattle.bsp_incr.proofs.superstep.turns.add_renewed.Goals as goal
 
 pub append_range-requires-clause-inside : goal.append_range-requires-clause-inside
 append_range-requires-clause-inside g c =
