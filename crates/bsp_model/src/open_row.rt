@@ -151,13 +151,13 @@ impl<T: Copy> OpenRow<T> {
         ensures taken { self.new ≡ record { rows = take place rows.old; last = [] } }
         ensures given { rows.new ≡ self.old.rows }
     {
-        rows.truncate(place);
         self.items.truncate(self.start);
         // Most columns have no row, and stay where they are, unless there is room to be had.
         let has_room = self.items.capacity() >= rows.items.capacity();
         if has_room && self.ends.is_empty() && rows.is_empty() {
             return;
         }
+        rows.truncate(place);
         mem::swap(&mut self.items, &mut rows.items);
         mem::swap(&mut self.ends, &mut rows.ends);
         self.start = self.items.len();

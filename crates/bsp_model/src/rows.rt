@@ -8,6 +8,7 @@ use crate::seq::{append_items, replace_items};
 use crate::{OutOfMemory, Share};
 use std::alloc::Global;
 use std::marker::Model;
+use std::mem;
 
 /// For each process, by its number, a row of items. A process that nothing was put at has the empty row.
 pub type Column<T> = Rows<T>;
@@ -185,6 +186,18 @@ impl<T: Copy> Rows<T> {
             self.items.truncate(start_of(self.ends.as_slice(), count));
             self.ends.truncate(count);
         }
+    }
+
+    /// Exchanges all rows with others. Lists without a row stay where they are.
+    #[inline(always)]
+    pub fn swap(&mut self, other: &mut Rows<T>)
+        ensures taken { self.new ≡ other.old }
+        ensures given { other.new ≡ self.old }
+    {
+        if self.ends.is_empty() && other.ends.is_empty() {
+            return;
+        }
+        mem::swap(self, other);
     }
 
     /// Leaves out the rows from a place on.

@@ -14,7 +14,6 @@ use bsp_model::{
 };
 use bsp_table::Area;
 use std::alloc::Global;
-use std::mem;
 
 /// The lists of several outcomes, each kind in a column of its own. Behind the rows of the outcomes stands what the turn under way has issued. Its fault,
 /// its stores and its choice of a tag size are put at its end alone.
@@ -109,9 +108,9 @@ impl OpenLists {
         ensures before { AreBefore (rows_in self.new) place }
         ensures nothing { HasNothing self.new }
     {
-        mem::swap(&mut self.faults, &mut lists.faults);
-        mem::swap(&mut self.stores, &mut lists.stores);
-        mem::swap(&mut self.tags, &mut lists.tags);
+        self.faults.swap(&mut lists.faults);
+        self.stores.swap(&mut lists.stores);
+        self.tags.swap(&mut lists.tags);
         self.faults.cut(place);
         self.stores.cut(place);
         self.tags.cut(place);

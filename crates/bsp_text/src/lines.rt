@@ -19,6 +19,7 @@ const FEWER: usize = 4;
 const FRAME: usize = 17;
 
 /// Writes numbers into a room, each after a space, so that the last ends at `end`. Answers where they begin.
+#[inline(always)]
 fn write_fields(room: &mut [u8], end: usize, numbers: &[u64]) -> usize
     requires inside { end ≤ length room.old }
     requires fits { 21 * length numbers.now ≤ end }

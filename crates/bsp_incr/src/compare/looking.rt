@@ -75,11 +75,18 @@ fn is_alike_where_looked_at<P: Program>(program: &P, old: &View<'_>, new: &View<
     true
 }
 
-/// Whether the turn of the first view serves for the second. It takes no memory. The tables are not compared where they are known to be the same.
+/// Whether the turn of the first view serves for the second. It takes no memory. The tables are not compared where they are known to be the same. Most views
+/// that do not serve differ in a word, so the words are compared first.
 #[inline(always)]
 pub fn serves<P: Program>(program: &P, old: &View<'_>, new: &View<'_>, same_table: bool) -> bool
     requires { same_table ≡ true → old.now.table ≡ new.now.table }
     ensures { result ≡ serves (P.looks program.now) old.now new.now }
 {
-    is_alike_but_for_words(old, new, same_table) && is_alike_where_looked_at(program, old, new)
+    if old.memory.len() != new.memory.len() {
+        return false;
+    }
+    if !is_alike_where_looked_at(program, old, new) {
+        return false;
+    }
+    is_alike_but_for_words(old, new, same_table)
 }

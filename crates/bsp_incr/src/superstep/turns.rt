@@ -76,7 +76,7 @@ fn add_renewed<P: Program, G>(
     Ok(())
 }
 
-/// The turns of these processes, which the workers take, in the spare lists. The lists of `discarded` serve as room.
+/// The turns of these processes, if there are any, which the workers take, in the spare lists. The lists of `discarded` serve as room.
 fn taken_turns<P: Program, J: SharedRun, G: Gate>(
     given: &Given<'_, P, G>,
     superstep: &OpenSuperstep<'_, '_>,
@@ -92,6 +92,9 @@ fn taken_turns<P: Program, J: SharedRun, G: Gate>(
     ensures { IfOk result (λ all. all
         ≡ turns_of (turn_by P.Program given.now.program) superstep.now.views.now processes.now) }
 {
+    if processes.is_empty() {
+        return OutcomeRows::new(given.alloc);
+    }
     let like = superstep.like;
     let rows = like.room_for(given.alloc, processes.len(), discarded)?;
     wide_turns(

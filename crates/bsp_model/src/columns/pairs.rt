@@ -82,6 +82,16 @@ impl<A: Copy, B: Copy> Pairs<A, B> {
         self.seconds.truncate(place);
     }
 
+    /// Exchanges all rows with others. Columns without a row stay where they are.
+    #[inline(always)]
+    pub fn swap(&mut self, other: &mut Self)
+        ensures taken { self.new ≡ other.old }
+        ensures given { other.new ≡ self.old }
+    {
+        self.firsts.swap(&mut other.firsts);
+        self.seconds.swap(&mut other.seconds);
+    }
+
     /// Takes all rows away. Their room stays.
     pub fn clear(&mut self)
         ensures { self.new ≡ ([], []) }

@@ -1,17 +1,39 @@
-use Rattle.std.proofs.Common.{ap, sym, ◌∙◌, ◌&&◌}
+use Rattle.std.proofs.Common.{◌≡◌, ◌∙◌, ◌&&◌, Bool, true, false, ap, length, refl, sym}
+use Rattle.std.proofs.lemmas.Bool.{and_right}
+use Rattle.std.specs.Bool.{Decides}
 use Rattle.std.proofs.lemmas.Bool.Decides.{same_from_decides}
+use Rattle.bsp_step.specs.Footprint.{AreAlikeButForWords}
+use Rattle.bsp_step.specs.ViewParts.{ViewParts}
 use Rattle.bsp_incr.specs.Inside.Reuse.{same_but_for_words, same_where_looked_at}
 use Rattle.bsp_incr.proofs.Serving.{Decides-but_for_words}
 use Rattle.bsp_incr.proofs.compare.looking.serves.Goals as goal
 
-pub returns-then-is_alike_but_for_words : goal.returns-then-is_alike_but_for_words
-returns-then-is_alike_but_for_words g c =
-    let v = c.args.old.now in let w = c.args.new.now in
-    let same = same_from_decides c.is_alike_but_for_words.result (same_but_for_words v w) c.is_alike_but_for_words.ensures (Decides-but_for_words v w) in
-    c.is_alike_where_looked_at.ensures ∙ ap (λ b. b && same_where_looked_at (g.P.Program.looks c.args.program.now v) v.memory w.memory) (sym c.if-is_alike_but_for_words.true ∙ same)
+and_true : (a b : Bool) → b ≡ true → (a && b) ≡ a
+and_true true b e = e
+and_true false b e = refl
 
-pub returns-else-is_alike_but_for_words : goal.returns-else-is_alike_but_for_words
-returns-else-is_alike_but_for_words g c =
-    let v = c.args.old.now in let w = c.args.new.now in
-    let same = same_from_decides c.is_alike_but_for_words.result (same_but_for_words v w) c.is_alike_but_for_words.ensures (Decides-but_for_words v w) in
-    c.if-is_alike_but_for_words.false ∙ ap (λ b. b && same_where_looked_at (g.P.Program.looks c.args.program.now v) v.memory w.memory) (sym c.if-is_alike_but_for_words.false ∙ same)
+false_if : {P : Type 0} → (b : Bool) → Decides b P → (P → ⊥) → b ≡ false
+false_if true decides none = absurd (none (decides.0 refl))
+false_if false decides none = refl
+
+pub returns-then-len : goal.returns-then-len
+returns-then-len g c =
+    let v = c.args.old.now in
+    let w = c.args.new.now in
+    let old = c.len.ensures ∙ ap (λ (x : ViewParts). length x.memory) c.old.view_is in
+    let new = c.len-2.ensures ∙ ap (λ (x : ViewParts). length x.memory) c.new.view_is in
+    ap (λ b. b && same_where_looked_at (g.P.Program.looks c.args.program.now v) v.memory w.memory)
+    (sym (false_if (same_but_for_words v w) (Decides-but_for_words v w) (λ (alike : AreAlikeButForWords v w). c.if-len.true (old ∙ alike.same_length ∙ sym new))))
+
+pub returns-then-not-is_alike_where_looked_at : goal.returns-then-not-is_alike_where_looked_at
+returns-then-not-is_alike_where_looked_at g c =
+    let v = c.args.old.now in
+    let w = c.args.new.now in
+    sym (and_right (same_but_for_words v w) (same_where_looked_at (g.P.Program.looks c.args.program.now v) v.memory w.memory) (sym c.is_alike_where_looked_at.ensures ∙ c.if-not-is_alike_where_looked_at.true))
+
+pub returns : goal.returns
+returns g c =
+    let v = c.args.old.now in
+    let w = c.args.new.now in
+    same_from_decides c.is_alike_but_for_words.result (same_but_for_words v w) c.is_alike_but_for_words.ensures (Decides-but_for_words v w)
+    ∙ sym (and_true (same_but_for_words v w) (same_where_looked_at (g.P.Program.looks c.args.program.now v) v.memory w.memory) (sym c.is_alike_where_looked_at.ensures ∙ c.if-not-is_alike_where_looked_at.false))
