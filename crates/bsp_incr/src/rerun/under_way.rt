@@ -21,7 +21,7 @@ pub struct UnderWay {
     pub update: Update,
     /// An outcome whose lists serve the next turn, if there is one.
     pub spare: Option<Gathering>,
-    /// What is left of a history that is needed no more.
+    /// The supersteps of a history that is needed no more, as far as they are not used up.
     pub discarded: Discarded,
 }
 

@@ -150,7 +150,7 @@ fn over_recorded<P: Program, G>(
     old_outcomes.replaced(given.alloc, processes, new)
 }
 
-/// The same where some of these processes took their turns. The lists of `discarded` serve as room.
+/// The same where some dirty processes took their turns, and the recorded turns of the rest serve. The lists of `discarded` serve as room.
 fn over_renewed<P: Program, G>(
     given: &Given<'_, P, G>,
     superstep: &OpenSuperstep<'_, '_>,
@@ -185,7 +185,8 @@ fn over_renewed<P: Program, G>(
     over_recorded(given, superstep, old_outcomes, dirty, processes, renewed)
 }
 
-/// The discarded outcomes in whose lists turns are taken, and those in whose lists they are put among reused turns. These stay, where there are any.
+/// The discarded outcomes whose lists serve the turns that are taken, and those whose lists serve a mix with reused turns. The lists that the record will
+/// keep get the room.
 fn dealt(discarded: Outcomes, are_all_taken: bool) -> (Outcomes, Outcomes) {
     if are_all_taken {
         return (discarded, Outcomes::new());
