@@ -31,7 +31,7 @@ pub use given::Given;
 use std::alloc::Global;
 use std::mem::replace;
 use std::thread::Threads;
-pub use under_way::UnderWay;
+pub use under_way::{Room, UnderWay};
 
 /// The run of a program on a lawful input, made against the previous run, if there was one. Both runs are of one program and of as many processes.
 /// A turn is taken only where the recorded turn does not serve. A delivery is made only where it depends on something else than in the previous run.

@@ -19,8 +19,8 @@ use crate::superstep::ending::make_deliveries;
 use crate::superstep::turns::turns_again;
 use bsp_crew::{Crew, SharedRun};
 use bsp_gate::Gate;
-use bsp_model::{OutOfMemory, Shared};
-use bsp_run::{Phase, Superstep, Tape, Views};
+use bsp_model::OutOfMemory;
+use bsp_run::{Phase, Tape};
 use bsp_step::{Outcomes, Program};
 
 /// Takes the outcomes of the open superstep. True where it ends by delivery, which is asked only where it is not known; else the run has ended.
@@ -38,21 +38,12 @@ fn end_turns(tape: &mut Tape, outcomes: Outcomes, is_delivery: bool) -> Result<b
     tape.turned(outcomes)
 }
 
-fn parts_of(discarded: Option<Superstep>) -> (Option<Shared<Views>>, Outcomes) {
-    match discarded {
-        Some(Superstep { views, outcomes }) => (Some(views), outcomes),
-        None => (None, Outcomes::new()),
-    }
-}
-
-/// Takes the turns of the open superstep, and makes its deliveries. A process that is not dirty sees in it what it saw in the previous run. The lists of
-/// `discarded` serve as room.
+/// Takes the turns of the open superstep, and makes its deliveries. A process that is not dirty sees in it what it saw in the previous run.
 fn remake_superstep<P: Program, J: SharedRun, G: Gate>(
     given: &Given<'_, P, G>,
     tape: &mut Tape,
     dirty: &Dirty,
     under_way: &mut UnderWay,
-    discarded: Option<Superstep>,
     crew: Option<&Crew<J>>,
 ) -> Result<(), OutOfMemory>
     requires crew { IfSome crew (λ _. AreOfRun (turn_by P.Program given.now.program) given.now.input J.turn J.views) }
@@ -65,33 +56,17 @@ fn remake_superstep<P: Program, J: SharedRun, G: Gate>(
     ensures under_way { OnOk result (IsMidway P.Program given.now tape.new under_way.new) }
     ensures table { OnOk result (KnowsTable given.now.before tape.new under_way.new.table) }
 {
-    let (views, outcomes) = parts_of(discarded);
     let superstep = open_superstep(given, tape);
     let executed = &mut under_way.update.executed;
-    let outcomes = turns_again(
-        given,
-        &superstep,
-        dirty,
-        executed,
-        &mut under_way.spare,
-        outcomes,
-        crew,
-    )?;
+    let room = &mut under_way.room;
+    let outcomes = turns_again(given, &superstep, dirty, executed, room, crew)?;
     let alike = alike_beside(given, tape, dirty, &outcomes);
     under_way.table = alike.next_table();
     let goes_on = end_turns(tape, outcomes, alike.ends)?;
     if !goes_on {
         return Ok(());
     }
-    make_deliveries(
-        given,
-        tape,
-        &dirty.processes,
-        alike.costs,
-        under_way,
-        views,
-        crew,
-    )?;
+    make_deliveries(given, tape, &dirty.processes, alike.costs, under_way, crew)?;
     Ok(())
 }
 
@@ -110,17 +85,16 @@ pub fn advance<P: Program, J: SharedRun, G: Gate>(
     ensures under_way { OnOk result (IsMidway P.Program given.now tape.new under_way.new) }
     ensures table { OnOk result (KnowsTable given.now.before tape.new under_way.new.table) }
 {
-    let discarded = under_way.discarded.take_next();
+    under_way.room.discarded.go_on();
     let marks = &under_way.marks;
     let dirty = Dirty::among(&open_superstep(given, tape), marks, under_way.table);
     match given.old {
         Some(history) if tape.step() < history.past().len() && dirty.processes.is_empty() => {
-            drop(discarded);
             tape.take_over(history)?;
             under_way.marks = dirty.processes;
             under_way.table = KnownTable::AsBefore;
             Ok(())
         }
-        _ => remake_superstep(given, tape, &dirty, under_way, discarded, crew),
+        _ => remake_superstep(given, tape, &dirty, under_way, crew),
     }
 }

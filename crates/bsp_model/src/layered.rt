@@ -41,6 +41,7 @@ impl<T: ByProcess> Model for Layered<T> {
 }
 
 /// Nothing, in the room of items that are needed no more, where it is for as many as are asked for, and not for many times more.
+#[inline(always)]
 fn fitting_room<T: ByProcess + Drop>(items: T, count: usize) -> Option<T>
     ensures { IfSome result (λ room. T.items room ≡ []) }
 {
@@ -51,6 +52,7 @@ fn fitting_room<T: ByProcess + Drop>(items: T, count: usize) -> Option<T>
 }
 
 /// The same of items that lie apart, where there are any and no copy shares them.
+#[inline(always)]
 fn apart_room<T: ByProcess + Drop>(apart: Option<Shared<Apart<T>>>, count: usize) -> Option<T>
     ensures { IfSome result (λ room. T.items room ≡ []) }
 {
@@ -168,6 +170,7 @@ impl<T: ByProcess + Drop> Layered<T> {
 
     /// Nothing, in the room of the items that lie apart, or else of those of all: of a list that no copy shares, with room for as many items as are asked
     /// for, and not for many times more.
+    #[inline(always)]
     pub fn into_room(self, count: usize) -> Option<T>
         ensures { IfSome result (λ room. T.items room ≡ []) }
     {

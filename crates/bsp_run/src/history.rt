@@ -29,10 +29,16 @@ struct Sums {
 }
 
 /// A run that has ended, with the record of every view and outcome.
-#[derive(Drop)]
 pub struct History {
     pub(crate) run: Tape,
     sums: Sums,
+}
+
+// A crate above proves it as one call.
+impl Drop for History {
+    fn drop(self) {
+        let Self { run, sums } = self;
+    }
 }
 
 impl Model for History {
@@ -161,6 +167,13 @@ impl History {
         ensures { result ≡ total_of (costs_of self.now) }
     {
         self.sums.total
+    }
+
+    /// The supersteps that ended by delivery, and the one behind them.
+    pub(crate) fn into_supersteps(self) -> (Vec<Superstep>, Superstep) {
+        let History { run, sums } = self;
+        drop(sums);
+        run.into_supersteps()
     }
 }
 

@@ -35,7 +35,6 @@ pub enum Status {
 }
 
 /// What a run gives to its user.
-#[derive(Drop)]
 pub struct RunResult {
     /// How it ended.
     pub status: Status,
@@ -47,6 +46,19 @@ pub struct RunResult {
     pub costs: SharedSeq<CostRow>,
     /// The sum of the costs.
     pub total: u64,
+}
+
+// A crate above proves it as one call.
+impl Drop for RunResult {
+    fn drop(self) {
+        let Self {
+            status,
+            memories,
+            lines,
+            costs,
+            total,
+        } = self;
+    }
 }
 
 /// Why a run gave nothing.

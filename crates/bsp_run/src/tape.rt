@@ -25,7 +25,6 @@ use std::alloc::Global;
 use std::marker::Model;
 
 /// A run while it is recorded: the turns and the deliveries are handed in, superstep by superstep.
-#[derive(Drop)]
 pub struct Tape {
     pub(crate) limit: u64,
     pub(crate) g: u64,
@@ -35,6 +34,22 @@ pub struct Tape {
     pub(crate) views: Shared<Views>,
     pub(crate) outcomes: Outcomes,
     pub(crate) phase: Phase,
+}
+
+// A crate above proves it as one call.
+impl Drop for Tape {
+    fn drop(self) {
+        let Self {
+            limit,
+            g,
+            l,
+            past,
+            costs,
+            views,
+            outcomes,
+            phase,
+        } = self;
+    }
 }
 
 impl Model for Tape {
@@ -235,6 +250,23 @@ impl Tape {
         ensures { result ≡ length self.now.past }
     {
         self.past.len()
+    }
+
+    /// The supersteps that ended by delivery, and the one behind them.
+    pub(crate) fn into_supersteps(self) -> (Vec<Superstep>, Superstep) {
+        let Tape {
+            limit,
+            g,
+            l,
+            past,
+            costs,
+            views,
+            outcomes,
+            phase,
+        } = self;
+        drop(costs);
+        drop(phase);
+        (past, Superstep { views, outcomes })
     }
 
     /// Whether a superstep is open, without outcomes.

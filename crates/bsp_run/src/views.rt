@@ -21,10 +21,16 @@ use std::alloc::Global;
 use std::marker::Model;
 
 /// The views of the processes in a superstep, by process. The memories lie in flat lists. The parts that all processes see alike are kept once.
-#[derive(Drop)]
 pub struct Views {
     setting: Setting,
     cells: Layered<Cells>,
+}
+
+// A crate above proves it as one call.
+impl Drop for Views {
+    fn drop(self) {
+        let Self { setting, cells } = self;
+    }
 }
 
 impl Model for Views {
@@ -117,15 +123,20 @@ impl Views {
         end_of(alloc, setting.step, &setting.table, outcomes)
     }
 
+    fn into_cells(self) -> Layered<Cells> {
+        let Views { setting, cells } = self;
+        drop(setting);
+        cells
+    }
+
     /// No cells, in the room of views that are needed no more, where no copy shares them and their room fits so many processes.
     pub fn room_of(alloc: Global, views: Shared<Views>, count: usize) -> Cells
         ensures { result ≡ [] }
     {
-        let Ok(Views { setting, cells }) = views.try_unwrap() else {
+        let Ok(views) = views.try_unwrap() else {
             return Cells::new(alloc);
         };
-        drop(setting);
-        match cells.into_room(count) {
+        match views.into_cells().into_room(count) {
             Some(cells) => cells,
             None => Cells::new(alloc),
         }

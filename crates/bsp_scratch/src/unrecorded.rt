@@ -30,7 +30,6 @@ pub(crate) struct Taken {
 }
 
 /// What is kept of a run beside the views: the numbers of the processes, what is added up so far, and the turns that were taken last.
-#[derive(Drop)]
 pub(crate) struct Unrecorded {
     pub(crate) processes: &'static [usize],
     /// The number of supersteps that ended by delivery.
@@ -39,6 +38,18 @@ pub(crate) struct Unrecorded {
     pub(crate) taken: Taken,
     /// How these turns ended the run, if they did.
     pub(crate) end: Option<Status>,
+}
+
+impl Drop for Unrecorded {
+    fn drop(self) {
+        let Self {
+            processes,
+            step,
+            tally,
+            taken,
+            end,
+        } = self;
+    }
 }
 
 /// The turns of all processes, gathered in the room of the turns that were taken before.

@@ -25,11 +25,21 @@ use std::alloc::{AllocError, Global};
 use std::marker::Model;
 
 /// What the turns of several processes leave, by process, as it is gathered. All lists of a kind lie in one list, and so do all memories.
-#[derive(Drop)]
 pub struct OutcomeRows {
     pub(crate) ends: Vec<TurnEnd>,
     memories: Memories,
     lists: Box<Lists>,
+}
+
+// A crate above proves it as one call.
+impl Drop for OutcomeRows {
+    fn drop(self) {
+        let Self {
+            ends,
+            memories,
+            lists,
+        } = self;
+    }
 }
 
 impl Model for OutcomeRows {

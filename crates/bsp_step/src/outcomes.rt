@@ -18,10 +18,16 @@ use std::alloc::Global;
 use std::marker::Model;
 
 /// The outcomes of the turns of several processes, by process. They stay as they are. Copies share them, and take no memory.
-#[derive(Drop)]
 pub struct Outcomes {
     /// None where there is no process.
     rows: Option<Layered<OutcomeRows>>,
+}
+
+// A crate above proves it as one call.
+impl Drop for Outcomes {
+    fn drop(self) {
+        let Self { rows } = self;
+    }
 }
 
 impl Model for Outcomes {

@@ -1,9 +1,9 @@
 //! What the outcomes of a superstep have in common with those of the previous run.
 
-ghost use Rattle.std.specs.Prelude.{◌≡◌, ◌<◌, if◌then◌else◌, length, true};
+ghost use Rattle.std.specs.Prelude.{◌≡◌, ◌<◌, if◌then◌else◌, length, true, All};
 ghost use Rattle.bsp_incr.specs.declared.compare.known_table.KnownTable.TheVariants.{AsBefore, Unknown};
 ghost use Rattle.bsp_step.specs.OutcomeParts.{outcome_of};
-ghost use Rattle.bsp_incr.specs.Inside.Alike.{AllCostAlike, AllEndAlike, CostsAlike, EndsAlike};
+ghost use Rattle.bsp_incr.specs.Inside.Alike.{AllCostAlike, AllEndAlike, CostsAlike, EndsAlike, LeftOnlyPuts};
 ghost use Rattle.bsp_incr.specs.Inside.Given.{delivered_beside};
 ghost use Rattle.bsp_incr.specs.Inside.Marks.{OutcomesDifferAtMost};
 
@@ -14,24 +14,53 @@ use crate::compare::moving::{gets_move_alike, puts_move_alike, sends_move_alike}
 use crate::rerun::Given;
 use bsp_model::are_same;
 use bsp_run::Tape;
-use bsp_step::{OutcomeRef, Outcomes, Program};
+use bsp_step::{ListKind, OutcomeRef, Outcomes, Program};
+
+/// True only where the turns left puts alone, as most do.
+fn left_only_puts(outcomes: &Outcomes) -> bool
+    ensures { result ≡ true → All LeftOnlyPuts outcomes.now }
+{
+    outcomes.is_without(ListKind::Faults)
+        && outcomes.is_without(ListKind::Tags)
+        && outcomes.is_without(ListKind::Pops)
+        && outcomes.is_without(ListKind::Pushes)
+        && outcomes.is_without(ListKind::Gets)
+        && outcomes.is_without(ListKind::Sends)
+}
+
+/// The same of the turns of two supersteps.
+fn both_left_only_puts(old: &Outcomes, new: &Outcomes) -> bool
+    ensures { result ≡ true → All LeftOnlyPuts old.now × All LeftOnlyPuts new.now }
+{
+    left_only_puts(old) && left_only_puts(new)
+}
 
 /// Whether two turns charged the same work, and moved as many words between the same processes.
-fn costs_alike(old: &OutcomeRef<'_>, new: &OutcomeRef<'_>) -> bool
+fn costs_alike(old: &OutcomeRef<'_>, new: &OutcomeRef<'_>, only_puts: bool) -> bool
+    requires { only_puts ≡ true → LeftOnlyPuts old.now × LeftOnlyPuts new.now }
     ensures { result ≡ true → CostsAlike old.now new.now }
 {
-    old.work == new.work
-        && puts_move_alike(&old.puts, &new.puts)
-        && gets_move_alike(old.gets, new.gets)
-        && sends_move_alike(&old.sends, &new.sends)
+    if old.work != new.work || !puts_move_alike(&old.puts, &new.puts) {
+        return false;
+    }
+    if only_puts {
+        return true;
+    }
+    gets_move_alike(old.gets, new.gets) && sends_move_alike(&old.sends, &new.sends)
 }
 
 /// Whether two turns ended alike, and asked for the same table and tag size.
-fn ends_alike(old: &OutcomeRef<'_>, new: &OutcomeRef<'_>) -> bool
+fn ends_alike(old: &OutcomeRef<'_>, new: &OutcomeRef<'_>, only_puts: bool) -> bool
+    requires { only_puts ≡ true → LeftOnlyPuts old.now × LeftOnlyPuts new.now }
     ensures { result ≡ true → EndsAlike old.now new.now }
 {
+    if old.ended != new.ended {
+        return false;
+    }
+    if only_puts {
+        return true;
+    }
     old.fault == new.fault
-        && old.ended == new.ended
         && old.tag == new.tag
         && are_same(old.pops, new.pops)
         && are_same(old.pushes, new.pushes)
@@ -48,9 +77,10 @@ pub struct Alike {
 }
 
 impl Alike {
-    fn look_at(&mut self, old: &Outcomes, new: &Outcomes, p: usize)
+    fn look_at(&mut self, old: &Outcomes, new: &Outcomes, only_puts: bool, p: usize)
         requires old { p < length old.now }
         requires new { p < length new.now }
+        requires only_puts { only_puts ≡ true → All LeftOnlyPuts old.now × All LeftOnlyPuts new.now }
         ensures ends { self.new.ends ≡ true → (self.old.ends ≡ true)
             × EndsAlike (outcome_of old.now p) (outcome_of new.now p) }
         ensures costs { self.new.costs ≡ true → (self.old.costs ≡ true)
@@ -58,8 +88,8 @@ impl Alike {
     {
         let before = old.get(p);
         let after = new.get(p);
-        self.ends = self.ends && ends_alike(&before, &after);
-        self.costs = self.costs && costs_alike(&before, &after);
+        self.ends = self.ends && ends_alike(&before, &after, only_puts);
+        self.costs = self.costs && costs_alike(&before, &after, only_puts);
     }
 
     /// What is the same of these turns. Only those of dirty processes are looked at.
@@ -75,8 +105,9 @@ impl Alike {
             ends: dirty.same_table,
             costs: true,
         };
+        let only_puts = both_left_only_puts(old, new);
         for process in dirty.processes.iter() {
-            alike.look_at(old, new, process);
+            alike.look_at(old, new, only_puts, process);
         }
         alike
     }

@@ -61,14 +61,7 @@ fn finish<P: Program, J: SharedRun, G: Gate>(
 {
     match supersteps(given, &mut tape, &mut under_way, None, crew) {
         Ok(()) => {
-            let UnderWay {
-                update,
-                spare,
-                discarded,
-                ..
-            } = under_way;
-            drop(spare);
-            drop(discarded);
+            let update = under_way.into_update();
             Ok(Remade { tape, update })
         }
         Err(error) => {
@@ -127,8 +120,8 @@ fn by_crew<P: Program, J: SharedRun, G: Gate, R: Threads + Sync>(
     beside_crew(rt, given, tape, under_way, &crew)
 }
 
-/// The run that has just been opened, made again by the calling thread. The processes in `first` begin with something else than in the previous run. The lists of
-/// `discarded` serve as room.
+/// The run that has just been opened, made again by the calling thread. The processes in `first` begin with something else than in the previous run. The
+/// lists of `discarded` serve as room.
 pub fn remake_alone<P: Program, G: Gate>(
     given: &Given<'_, P, G>,
     tape: Tape,

@@ -10,8 +10,16 @@ use bsp_run::Discarded;
 use bsp_step::Gathering;
 use std::alloc::Global;
 
-/// An update under way, between two supersteps of the run that is made again.
+/// Lists that serve a run which is made again as room.
 #[derive(Drop)]
+pub struct Room {
+    /// Those in which the next turns are taken, if there are any.
+    pub spare: Option<Gathering>,
+    /// Those of a history that is needed no more.
+    pub discarded: Discarded,
+}
+
+/// An update under way, between two supersteps of the run that is made again.
 pub struct UnderWay {
     /// The processes whose memory, queue or arguments may differ in the open superstep from the previous run.
     pub marks: ProcessSet,
@@ -19,10 +27,18 @@ pub struct UnderWay {
     pub table: KnownTable,
     /// What was done again so far.
     pub update: Update,
-    /// An outcome whose lists serve the next turn, if there is one.
-    pub spare: Option<Gathering>,
-    /// The supersteps of a history that is needed no more, as far as they are not used up.
-    pub discarded: Discarded,
+    pub room: Room,
+}
+
+impl Drop for UnderWay {
+    fn drop(self) {
+        let Self {
+            marks,
+            table,
+            update,
+            room,
+        } = self;
+    }
 }
 
 impl UnderWay {
@@ -37,8 +53,23 @@ impl UnderWay {
             marks,
             table: KnownTable::Unknown,
             update: Update::none(alloc),
-            spare: None,
-            discarded,
+            room: Room {
+                spare: None,
+                discarded,
+            },
         }
+    }
+
+    pub fn into_update(self) -> Update
+        ensures { result ≡ self.update }
+    {
+        let UnderWay {
+            marks,
+            table,
+            update,
+            room,
+        } = self;
+        drop(room);
+        update
     }
 }

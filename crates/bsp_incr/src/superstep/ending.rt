@@ -23,10 +23,9 @@ use crate::rerun::{Given, UnderWay};
 use bsp_crew::{Crew, SharedRun, wide_deliveries};
 use bsp_deliver::{Cells, touched_by_changes};
 use bsp_gate::Gate;
-use bsp_model::{CostRow, OutOfMemory, ProcessSet, Seq, Shared};
-use bsp_run::{Phase, Setting, Tape, Views};
+use bsp_model::{CostRow, OutOfMemory, ProcessSet, Seq};
+use bsp_run::{Discarded, Phase, Setting, Tape, Views};
 use bsp_step::Program;
-use std::alloc::Global;
 
 #[derive(Drop)]
 struct Deliveries {
@@ -150,15 +149,6 @@ fn open_next<P: Program, G>(
     }
 }
 
-fn room_of(alloc: Global, discarded: Option<Shared<Views>>, count: usize) -> Cells
-    ensures { result ≡ [] }
-{
-    match discarded {
-        Some(views) => Views::room_of(alloc, views, count),
-        None => Cells::new(alloc),
-    }
-}
-
 /// The deliveries of the superstep whose turns are taken to the processes of a set, which the workers make. Their places are added. The lists of
 /// `discarded` serve as room.
 fn deliveries_among<P: Program, J: SharedRun, G: Gate>(
@@ -166,7 +156,7 @@ fn deliveries_among<P: Program, J: SharedRun, G: Gate>(
     tape: &Tape,
     touched: &ProcessSet,
     redelivered: &mut Seq<Place>,
-    discarded: Option<Shared<Views>>,
+    discarded: &mut Discarded,
     crew: Option<&Crew<J>>,
 ) -> Result<Deliveries, OutOfMemory>
     requires crew { IfSome crew (λ _. AreOfRun (turn_by P.Program given.now.program) given.now.input J.turn J.views) }
@@ -183,19 +173,18 @@ fn deliveries_among<P: Program, J: SharedRun, G: Gate>(
     let processes = touched.members(given.alloc)?;
     let asked = processes.as_slice();
     add_places(redelivered, step, asked)?;
-    let room = room_of(given.alloc, discarded, asked.len());
+    let room = discarded.take_cells(given.alloc, asked.len());
     let cells = wide_deliveries(&given.means(), tape.outcomes(), asked, step, room, crew)?;
     Ok(Deliveries { processes, cells })
 }
 
-/// The deliveries of the superstep whose turns are taken, and the marks of the next. The lists of `discarded` serve as room.
+/// The deliveries of the superstep whose turns are taken, and the marks of the next.
 pub fn make_deliveries<P: Program, J: SharedRun, G: Gate>(
     given: &Given<'_, P, G>,
     tape: &mut Tape,
     dirty: &ProcessSet,
     is_same_cost: bool,
     under_way: &mut UnderWay,
-    discarded: Option<Shared<Views>>,
     crew: Option<&Crew<J>>,
 ) -> Result<(), OutOfMemory>
     requires crew { IfSome crew (λ _. AreOfRun (turn_by P.Program given.now.program) given.now.input J.turn J.views) }
@@ -217,6 +206,7 @@ pub fn make_deliveries<P: Program, J: SharedRun, G: Gate>(
     let touched = touched_beside(given, tape, dirty);
     under_way.marks = touched.union(given.other_args);
     let redelivered = &mut under_way.update.redelivered;
+    let discarded = &mut under_way.room.discarded;
     let deliveries = deliveries_among(given, tape, &touched, redelivered, discarded, crew)?;
     open_next(given, tape, is_same_cost, deliveries, &mut under_way.table)
 }

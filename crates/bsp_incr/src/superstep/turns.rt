@@ -14,7 +14,7 @@ ghost use Rattle.bsp_incr.specs.Inside.OpenSuperstep.{differs_now};
 
 use crate::Place;
 use crate::compare::{Dirty, OpenSuperstep, add_places, serves};
-use crate::rerun::Given;
+use crate::rerun::{Given, Room};
 use crate::superstep::reuse::add_reused_turn;
 use bsp_crew::{Crew, SharedRun, wide_turns};
 use bsp_gate::Gate;
@@ -185,23 +185,22 @@ fn over_renewed<P: Program, G>(
     over_recorded(given, superstep, old_outcomes, dirty, processes, renewed)
 }
 
-/// The discarded outcomes whose lists serve the turns that are taken, and those whose lists serve a mix with reused turns. The lists that the record will
-/// keep get the room.
-fn dealt(discarded: Outcomes, are_all_taken: bool) -> (Outcomes, Outcomes) {
+/// The discarded outcomes whose lists serve the turns that are taken. Where these are mixed with reused turns, the lists of the mix get the room instead,
+/// since the record keeps them.
+fn discarded_for_taken(room: &mut Room, are_all_taken: bool) -> Outcomes {
     if are_all_taken {
-        return (discarded, Outcomes::new());
+        return room.discarded.take_outcomes();
     }
-    (Outcomes::new(), discarded)
+    Outcomes::new()
 }
 
-/// The turns of a superstep: the workers take those that have to be taken, and their places are added. The lists of `discarded` serve as room.
+/// The turns of a superstep: the workers take those that have to be taken, and their places are added.
 pub fn turns_again<P: Program, J: SharedRun, G: Gate>(
     given: &Given<'_, P, G>,
     superstep: &OpenSuperstep<'_, '_>,
     dirty: &Dirty,
     executed: &mut Seq<Place>,
-    spare: &mut Option<Gathering>,
-    discarded: Outcomes,
+    room: &mut Room,
     crew: Option<&Crew<J>>,
 ) -> Result<Outcomes, OutOfMemory>
     requires crew { IfSome crew (λ _. AreOfRun (turn_by P.Program given.now.program) given.now.input J.turn J.views) }
@@ -220,15 +219,18 @@ pub fn turns_again<P: Program, J: SharedRun, G: Gate>(
     let asked = processes.as_slice();
     add_places(executed, superstep.step, asked)?;
     let are_all_taken = needed.same(&dirty.processes);
-    let (room, renewed_room) = dealt(discarded, are_all_taken);
-    let taken = taken_turns(given, superstep, asked, spare, room, crew)?;
+    let discarded = discarded_for_taken(room, are_all_taken);
+    let spare = &mut room.spare;
+    let taken = taken_turns(given, superstep, asked, spare, discarded, crew)?;
     let dirty = &dirty.processes;
     match superstep.old_outcomes {
         Some(old) if are_all_taken => {
-            drop(renewed_room);
             over_recorded(given, superstep, old, dirty, processes, taken)
         }
-        Some(old) => over_renewed(given, superstep, old, dirty, &needed, taken, renewed_room),
+        Some(old) => {
+            let discarded = room.discarded.take_outcomes();
+            over_renewed(given, superstep, old, dirty, &needed, taken, discarded)
+        }
         None => taken.share(),
     }
 }

@@ -14,20 +14,21 @@ impl Outcomes {
     fn fitting_room(self, count: usize) -> Option<OutcomeRows>
         ensures { IfSome result (λ o. o ≡ []) }
     {
-        self.rows?.into_room(count)
+        let Outcomes { rows } = self;
+        rows?.into_room(count)
     }
 
-    /// Lists for so many outcomes: those of `former`, which are needed no more, where their room fits. Else, where these outcomes are as many, or not many
+    /// Lists for so many outcomes: those of `discarded`, which are needed no more, where their room fits. Else, where these outcomes are as many, or not many
     /// times more, there is room for the share that so many of them have. Where there is no outcome, there is room for the lists that most turns fill.
     pub fn room_for(
         &self,
         alloc: Global,
         count: usize,
-        former: Outcomes,
+        discarded: Outcomes,
     ) -> Result<OutcomeRows, OutOfMemory>
         ensures { IfOk result (λ o. o ≡ []) }
     {
-        if let Some(room) = former.fitting_room(count) {
+        if let Some(room) = discarded.fitting_room(count) {
             return Ok(room);
         }
         match &self.rows {
@@ -43,7 +44,8 @@ impl Outcomes {
     pub fn into_room(self, alloc: Global, count: usize) -> Result<OutcomeRows, OutOfMemory>
         ensures { IfOk result (λ o. o ≡ []) }
     {
-        let Some(rows) = self.rows else {
+        let Outcomes { rows } = self;
+        let Some(rows) = rows else {
             return OutcomeRows::with_room(alloc, count);
         };
         match rows.into_room(count) {

@@ -31,7 +31,7 @@ cost_at-row-requires-clause-small_row c =
     let rows = row_for_each c.run.inside.past.items c.run.inside.costs.items c.run.inside.g c.run.inside.l c.run.invariant.costs in
     subst IsSmall (sym c.index-2.ensures) (c.run.invariant.small c.len-step.result c.index-2.result.now (omega (arith, steps, past, there, rows)))
 
-taken : (c : goal.Joined-outcomes-2) → AreTaken (run_of c.self.inside) (outcomes_there c.args.other.now (run_of c.self.inside)) c.keep_superstep.new.past.items c.keep_superstep.new.views (c.len-step.result + 1) c.phase_at.result
+taken : (c : goal.After-drop-outcomes-2) → AreTaken (run_of c.self.inside) (outcomes_there c.args.other.now (run_of c.self.inside)) c.keep_superstep.new.past.items c.keep_superstep.new.views (c.len-step.result + 1) c.phase_at.result
 taken c =
     let r : Run = run_of c.self.inside in
     let other = c.args.other.now in
@@ -52,7 +52,7 @@ taken c =
     }
 
 -- the fields make the run after the superstep
-is_after : (c : goal.Joined-outcomes-2)
+is_after : (c : goal.After-drop-outcomes-2)
     → run_of (record c.self.inside { past = c.keep_superstep.new.past; costs = c.keep_superstep.new.costs; views = c.keep_superstep.new.views; phase = c.phase_at.result })
     ≡ after_delivery (after_turns (run_of c.self.inside) (outcomes_there c.args.other.now (run_of c.self.inside)))
 is_after c =
@@ -63,7 +63,7 @@ is_after c =
     (λ i. record { args = args_in views; limit = r.limit; g = r.g; l = r.l; past = all; state = state_in views; outcomes = none i; phase = c.phase_at.result })
     ∙ taken_over r (outcomes_there c.args.other.now r) all views (c.len-step.result + 1) c.phase_at.result c.self.invariant.run (taken c)
 
-row_of : (c : goal.Joined-outcomes-2) → c.cost_at-row.result ≡ cost_of_delivery c.self.inside.g c.self.inside.l (outcomes_there c.args.other.now (run_of c.self.inside))
+row_of : (c : goal.After-drop-outcomes-2) → c.cost_at-row.result ≡ cost_of_delivery c.self.inside.g c.self.inside.l (outcomes_there c.args.other.now (run_of c.self.inside))
 row_of c =
     let r : Run = run_of c.self.inside in
     let other = c.args.other.now in
