@@ -6,6 +6,7 @@ use Rattle.std.specs.Prelude.{slice_index_or}
 use Rattle.bsp_step.specs.ViewParts.{ViewParts}
 use Rattle.bsp_step.specs.OutcomeParts.{OutcomeParts}
 use Rattle.bsp_model.specs.Replaced.{IsAscending}
+use Rattle.bsp_deliver.specs.Condition.{CanDeliver}
 use Rattle.bsp_deliver.specs.Delivery.{delivery_parts, next_memory, next_queue}
 use Rattle.bsp_run.specs.Condition.{no_view}
 use Rattle.bsp_crew.specs.declared.part.Part.{Part}
@@ -13,7 +14,7 @@ use Rattle.bsp_crew.specs.declared.part.Task.{Task}
 use Rattle.bsp_crew.specs.declared.part.Task.TheVariants.{Turns, Deliveries}
 use Rattle.bsp_crew.specs.declared.part.Made.{Made}
 use Rattle.bsp_crew.specs.declared.part.Made.TheVariants.{Taken, Delivered}
-use Rattle.bsp_crew.specs.Parts.{AreParts, CanDeliver, IsPart, with_part}
+use Rattle.bsp_crew.specs.Parts.{AreParts, IsPart, with_part}
 
 all_of_both : {X : Type 0} (P : X → Type 0) (xs ys : List X) → All P (xs ++ ys) → All P xs × All P ys
 all_of_both P xs ys all =

@@ -4,8 +4,7 @@ use Rattle.bsp_model.specs.declared.input.Input.{Input}
 use Rattle.bsp_model.specs.declared.request.Message.{Message}
 use Rattle.bsp_step.specs.ViewParts.{ViewParts}
 use Rattle.bsp_step.specs.OutcomeParts.{OutcomeParts}
-use Rattle.bsp_deliver.specs.Condition.{AreDeliverable}
-use Rattle.bsp_model.specs.Replaced.{IsAscending}
+use Rattle.bsp_deliver.specs.Condition.{CanDeliver}
 use Rattle.bsp_run.specs.Law.{views_in}
 use Rattle.bsp_run.specs.Shares.{turns_of, deliveries_to}
 use Rattle.bsp_crew.specs.declared.part.Part.{Part}
@@ -18,12 +17,6 @@ use Rattle.bsp_crew.specs.declared.part.Made.TheVariants.{Taken, Delivered}
 pub record AreOfRun (turn : ViewParts → OutcomeParts) (input : Input) (named : ViewParts → OutcomeParts) (views : ℕ → List ViewParts) : Type 0 where
   pub same_turn : named ≡ turn
   pub same_views : (step : ℕ) → views step ≡ views_in turn input step
-
--- Deliveries to these processes can be made.
-pub record CanDeliver (os : List OutcomeParts) (ds : List ℕ) : Type 0 where
-  pub deliverable : AreDeliverable os
-  pub known : All (λ d. d < length os) ds
-  pub ascending : IsAscending ds
 
 -- Processes of a superstep are cut in two.
 pub record AreParts (part rest whole : Part) : Type 0 where

@@ -1,10 +1,8 @@
 //! The deliveries of a superstep, by the calling thread or by a crew beside it.
 
-ghost use Rattle.std.specs.Prelude.{◌≡◌, ◌<◌, ◌++◌, [], All, IfOk, IfSome, OnOk, length, map};
-ghost use Rattle.bsp_deliver.specs.Condition.{AreDeliverable};
-ghost use Rattle.bsp_model.specs.Replaced.{IsAscending};
+ghost use Rattle.std.specs.Prelude.{◌≡◌, ◌++◌, [], IfOk, IfSome, OnOk, map};
+ghost use Rattle.bsp_deliver.specs.Condition.{CanDeliver};
 ghost use Rattle.bsp_run.specs.Shares.{deliveries_to};
-ghost use Rattle.bsp_crew.specs.Parts.{CanDeliver};
 
 use crate::crew::Crew;
 use crate::part::{Made, Means, Part, Task};
@@ -64,9 +62,7 @@ pub fn wide_deliveries<J: SharedRun, P: Program, G: Gate>(
     crew: Option<&Crew<J>>,
 ) -> Result<Cells, OutOfMemory>
     requires none { cells ≡ [] }
-    requires deliverable { AreDeliverable outcomes.now }
-    requires processes { All (λ d. d < length outcomes.now) processes.now }
-    requires ascending { IsAscending processes.now }
+    requires can { CanDeliver outcomes.now processes.now }
     requires made { IfSome crew (λ _. outcomes.now ≡ map J.turn (J.views step)) }
     ensures { IfOk result (λ cells. cells ≡ deliveries_to outcomes.now processes.now) }
 {

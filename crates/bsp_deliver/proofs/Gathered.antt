@@ -1,7 +1,8 @@
 -- One pass over all requests leaves at each place what the requests to it alone would.
 use Rattle.std.proofs.Common.{◌≡◌, ℕ, zero, suc, ◌+◌, ◌<◌, ◌≤◌, ◌==◌, Bool, cond, List, [], ◌∷◌, ◌++◌, map, filter, fold, take, length, set, All, refl, sym, ◌∙◌, ap, arith, get_or, subst, inl, inr, ◌⊎◌}
+use Rattle.std.specs.Prelude.{◌↔◌}
 use Rattle.std.proofs.lemmas.Bool.{eq-eqb, ne_eqb, cases_eq}
-use Rattle.std.proofs.lemmas.List.{length-set, length-map, length-take-le, take_more, map-append, get_or-map, get_or-set_same, get_or-set_other, ext_get_or}
+use Rattle.std.proofs.lemmas.List.{length-set, length-map, length-take-le, get_or-take, take_more, map-append, get_or-map, get_or-set_same, get_or-set_other, ext_get_or}
 use Rattle.std.proofs.lemmas.List.Elements.{All-head, All-tail}
 use Rattle.std.proofs.lemmas.Grind.{fold-append}
 use Rattle.std.proofs.lemmas.List.Folds.{fold-map}
@@ -167,6 +168,13 @@ placed_all n i ps places l h = record {
         ],
     λ e. subst (λ x. get_or places x 0 ≡ k) e (h.here k (omega (arith, lk, l))),
   );
+}
+
+-- the places of fewer processes
+pub fewer_places : (n most : ℕ) (ps places : List ℕ) → n ≤ most → ArePlaces most ps places → ArePlaces n ps (take n places)
+fewer_places n most ps places few are = record {
+  count = length-take-le n places (omega (arith, few, are.count));
+  each = λ d k l inside. subst (λ x. (x ≡ k) ↔ (get_or ps k 0 ≡ d)) (sym (get_or-take n places d 0 l)) (are.each d k (omega (arith, l, few)) inside);
 }
 
 -- where nobody reads anything, the memories after computing stay as they are

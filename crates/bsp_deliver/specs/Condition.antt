@@ -1,6 +1,7 @@
 -- What the end of a superstep asks of the outcomes.
 use Rattle.std.specs.Prelude.{ℕ, ◌+◌, ◌<◌, ◌≤◌, All, List, map, length, slice_index}
 use Rattle.bsp_model.specs.Limits.{most_memory_words, most_processes}
+use Rattle.bsp_model.specs.Replaced.{IsAscending}
 use Rattle.bsp_model.specs.declared.request.Put.{Put}
 use Rattle.bsp_model.specs.declared.request.Get.{Get}
 use Rattle.bsp_step.specs.OutcomeParts.{OutcomeParts}
@@ -31,3 +32,9 @@ pub record AreDeliverable (os : List OutcomeParts) : Type 0 where
   pub few : length os ≤ most_processes
   pub short : All (λ o. length o.memory ≤ most_memory_words) os
   pub inside : All (AreRequestsInside (sizes_of os)) os
+
+-- Deliveries to these processes can be made, of which each stands once in the list, in ascending order.
+pub record CanDeliver (os : List OutcomeParts) (ds : List ℕ) : Type 0 where
+  pub deliverable : AreDeliverable os
+  pub known : All (λ d. d < length os) ds
+  pub ascending : IsAscending ds

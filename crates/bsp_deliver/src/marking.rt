@@ -1,6 +1,6 @@
 //! Marks of the processes to which a sender's requests have changed.
 
-ghost use Rattle.std.specs.Prelude.{◌≡◌, ℕ, ◌<◌, ◌≤◌, ◌==◌, filter, map, take, drop, length, All};
+ghost use Rattle.std.specs.Prelude.{◌≡◌, ℕ, ◌<◌, ◌≤◌, ◌==◌, [], filter, map, take, drop, length, true, All};
 ghost use Rattle.bsp_deliver.specs.Inside.Comparison.{HasSameParcel};
 ghost use Rattle.bsp_deliver.specs.Inside.Marks.{AreMarkedUnless, AreToKnown};
 
@@ -74,12 +74,21 @@ fn mark_changes<R: Addressed>(
     mark_unaligned(marks, old, new, aligned);
 }
 
-/// Marks the processes to which one sender brings other puts or messages than before.
+/// Marks the processes to which one sender brings other puts or messages than before. Messages are not looked for where it is known to send none.
 #[inline(always)]
-pub fn mark_parcels(marks: &mut ProcessSet, old: &OutcomeRef<'_>, new: &OutcomeRef<'_>)
-    requires { AreToKnown (length marks.old) old.now }
+pub fn mark_parcels(
+    marks: &mut ProcessSet,
+    old: &OutcomeRef<'_>,
+    new: &OutcomeRef<'_>,
+    sends_none: bool,
+)
+    requires known { AreToKnown (length marks.old) old.now }
+    requires none { sends_none ≡ true → (old.now.sends ≡ []) × (new.now.sends ≡ []) }
     ensures { AreMarkedUnless (λ d. HasSameParcel d old.now new.now) marks.old marks.new }
 {
     mark_changes(marks, &old.puts, &new.puts);
+    if sends_none {
+        return;
+    }
     mark_changes(marks, &old.sends, &new.sends);
 }

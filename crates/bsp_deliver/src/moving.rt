@@ -29,7 +29,6 @@ fn write_rows(memories: &mut Memories, places: &[usize], rows: &PutRows) -> Resu
 
 /// Makes `memories` those of all processes after delivery, where nobody gets a word, out of those that the turns left.
 fn move_memories(
-    alloc: Global,
     outcomes: &mut Outcomes,
     processes: &[usize],
     memories: &mut Memories,
@@ -46,7 +45,7 @@ fn move_memories(
             let kept = puts.keep_room(room, outcomes);
             written.and(kept)
         }
-        None => memories_after(alloc, outcomes, processes, memories),
+        None => memories_after(outcomes, processes, memories),
     }
 }
 
@@ -71,5 +70,5 @@ pub fn deliver_moving(
         return deliver_some(alloc, outcomes, processes, cells);
     }
     queues_after(alloc, outcomes, processes, &mut cells.queues)?;
-    move_memories(alloc, outcomes, processes, &mut cells.memories)
+    move_memories(outcomes, processes, &mut cells.memories)
 }

@@ -4,7 +4,7 @@ ghost use Rattle.std.specs.Prelude.{◌≡◌, ◌+◌, ◌<◌, ◌≤◌, ◌+
 ghost use Rattle.bsp_deliver.specs.Requests.{all_puts, each_below, words_read};
 ghost use Rattle.bsp_deliver.specs.Delivery.{get_write, written, delivery_parts, next_memory};
 ghost use Rattle.bsp_deliver.specs.Inside.Gathering.{overlay, put_at, ArePlaces, AreTargets};
-ghost use Rattle.bsp_deliver.specs.Condition.{AreDeliverable, AreRequestsInside, IsGetInside, sizes_of};
+ghost use Rattle.bsp_deliver.specs.Condition.{AreDeliverable, AreRequestsInside, CanDeliver, IsGetInside, sizes_of};
 ghost use Rattle.bsp_model.specs.Replaced.{IsAscending};
 
 use bsp_model::limits::{MOST_MEMORY_WORDS, MOST_PROCESSES};
@@ -93,9 +93,7 @@ fn load_memories(
     processes: &[usize],
     memories: &mut Memories,
 ) -> Result<(), OutOfMemory>
-    requires deliverable { AreDeliverable outcomes.now }
-    requires known { All (λ d. d < length outcomes.now) processes.now }
-    requires ascending { IsAscending processes.now }
+    requires { CanDeliver outcomes.now processes.now }
     ensures { OnOk result (memories.new ≡ map (λ d. overlay (delivery_parts outcomes.now d).memory (map get_write
         (delivery_parts outcomes.now d).gets)) processes.now) }
 {
@@ -182,54 +180,50 @@ fn set_of(count: usize, processes: &[usize]) -> ProcessSet
     set
 }
 
-/// Where each of so many processes stands in the list. A process that is not in the list stands past its end.
-fn places_of(alloc: Global, count: usize, processes: &[usize]) -> Result<Vec<usize>, OutOfMemory>
-    requires known { All (λ d. d < count) processes.now }
+/// Where each process stands in the list. A process that is not in the list stands past its end.
+#[inline(always)]
+fn places_of(processes: &[usize]) -> [usize; MOST_PROCESSES]
+    requires known { All (λ d. d < MOST_PROCESSES) processes.now }
     requires ascending { IsAscending processes.now }
-    ensures { IfOk result (λ places. ArePlaces count processes.now places.items) }
+    ensures { ArePlaces MOST_PROCESSES processes.now result }
 {
-    let mut places = vec![in alloc; processes.len(); count]?;
+    let mut places = [processes.len(); MOST_PROCESSES];
     for place in 0..processes.len() {
         places[processes[place]] = place;
     }
-    Ok(places)
+    places
 }
 
 /// Writes the puts to some processes, each to the memory at its target's place. A sender that puts nothing to them is passed over.
 fn write_some(
-    alloc: Global,
     memories: &mut Memories,
     processes: &[usize],
     outcomes: &Outcomes,
 ) -> Result<(), OutOfMemory>
-    requires deliverable { AreDeliverable outcomes.now }
-    requires known { All (λ d. d < length outcomes.now) processes.now }
-    requires ascending { IsAscending processes.now }
+    requires can { CanDeliver outcomes.now processes.now }
     requires count { length memories.old ≡ length processes.now }
     ensures { OnOk result ((places : _) × (ArePlaces (length outcomes.now) processes.now places)
         × (memories.new ≡ fold (λ ms s. put_at places ms s.1) memories.old (all_puts outcomes.now))) }
 {
-    let places = places_of(alloc, outcomes.len(), processes)?;
-    let targets = set_of(outcomes.len(), processes);
-    write_puts_to(memories, places.as_slice(), &targets, outcomes)
+    let count = outcomes.len();
+    let places = places_of(processes);
+    let targets = set_of(count, processes);
+    write_puts_to(memories, &places[..count], &targets, outcomes)
 }
 
 /// Makes `memories` the next memory of each of some processes. All gets read the owners' memories as they are after computing. Then all puts are
 /// written, so a put wins over a get (Hill et al. 1998).
 pub(crate) fn memories_after(
-    alloc: Global,
     outcomes: &Outcomes,
     processes: &[usize],
     memories: &mut Memories,
 ) -> Result<(), OutOfMemory>
-    requires deliverable { AreDeliverable outcomes.now }
-    requires known { All (λ d. d < length outcomes.now) processes.now }
-    requires ascending { IsAscending processes.now }
+    requires { CanDeliver outcomes.now processes.now }
     ensures { OnOk result (memories.new ≡ map (λ d. next_memory (delivery_parts outcomes.now d)) processes.now) }
 {
     load_memories(outcomes, processes, memories)?;
     if processes.len() == outcomes.len() {
         return write_all_puts(memories, processes, outcomes);
     }
-    write_some(alloc, memories, processes, outcomes)
+    write_some(memories, processes, outcomes)
 }

@@ -1,6 +1,8 @@
 //! To which processes a delivery depends on something else, where some outcomes have changed.
 
-ghost use Rattle.std.specs.Prelude.{◌≡◌, ◌<◌, ◌↔◌, IsTrue, All, length, map};
+ghost use Rattle.std.specs.Prelude.{◌≡◌, ◌<◌, ◌↔◌, IsTrue, All, length, map, true};
+ghost use Rattle.bsp_step.specs.ListKind.{IsWithout};
+ghost use Rattle.bsp_step.specs.declared.list_kind.ListKind.TheVariants.{Sends};
 ghost use Rattle.bsp_deliver.specs.Requests.{words_read};
 ghost use Rattle.bsp_deliver.specs.Delivery.{delivery_parts};
 ghost use Rattle.bsp_deliver.specs.Condition.{AreDeliverable};
@@ -30,6 +32,13 @@ fn read_same_words(old: &Outcomes, new: &Outcomes, changed: &ProcessSet, gets: &
     true
 }
 
+/// True only where no turn of either superstep left anything of a kind.
+fn both_are_without(kind: ListKind, old: &Outcomes, new: &Outcomes) -> bool
+    ensures { result ≡ true → All (IsWithout kind) old.now × All (IsWithout kind) new.now }
+{
+    old.is_without(kind) && new.is_without(kind)
+}
+
 #[inline(always)]
 fn have_same_memory_and_gets(old: &Outcomes, new: &Outcomes, p: usize) -> bool
     requires in_old { p < length old.now }
@@ -41,14 +50,21 @@ fn have_same_memory_and_gets(old: &Outcomes, new: &Outcomes, p: usize) -> bool
 
 /// Marks the processes to which a process brings other puts or messages than before, and the process itself where its memory or its gets are others.
 #[inline(always)]
-fn mark_changes_of(marks: &mut ProcessSet, old: &Outcomes, new: &Outcomes, p: usize)
+fn mark_changes_of(
+    marks: &mut ProcessSet,
+    old: &Outcomes,
+    new: &Outcomes,
+    sends_none: bool,
+    p: usize,
+)
     requires as_many { length marks.old ≡ length new.now }
     requires count { length old.now ≡ length new.now }
     requires known { p < length new.now }
     requires before { AreDeliverable old.now }
+    requires none { sends_none ≡ true → All (IsWithout Sends) old.now × All (IsWithout Sends) new.now }
     ensures { AreMarkedUnless (BringsSame old.now new.now p) marks.old marks.new }
 {
-    mark_parcels(marks, &old.get(p), &new.get(p));
+    mark_parcels(marks, &old.get(p), &new.get(p), sends_none);
     if !have_same_memory_and_gets(old, new, p) {
         marks.insert(p);
     }
@@ -68,8 +84,9 @@ fn mark_changes<'a>(
     requires unchanged { AreSameUnlessMarked old.now new.now changed.now }
     ensures { AreMarkedUnless (AllBringSame old.now new.now) marks.old marks.new }
 {
+    let sends_none = both_are_without(ListKind::Sends, old, new);
     for p in changed.iter() {
-        mark_changes_of(marks, old, new, p);
+        mark_changes_of(marks, old, new, sends_none, p);
     }
 }
 

@@ -56,6 +56,16 @@ Decides-where_looked_at looks m n =
     (λ (h : (a : ℕ) → a < length m → fact a). λ k d l. let here : k < length m = omega arith in let at : get_or range k d ≡ k = get_or-range_with_len 0 (length m) k d here ∙ omega arith in subst fact (sym at) (h k here))
     (Decides-by_and test fact (list_all test) (λ a. one_word (looks a) (get_or m a 0 == get_or n a 0) (Decides-eqb (get_or m a 0) (get_or n a 0))) refl (λ _ _. refl) range)
 
+-- the same test, made of the words wherever they lie
+pub all_looked_at : (looks : ℕ → Bool) (m n before after : List ℕ) (same : Bool) → before ≡ m → after ≡ n → Decides same ((i : ℕ) → i < length before → looks (0 + i) ≡ true → get_or before i 0 ≡ get_or after i 0) → same ≡ same_where_looked_at looks m n
+all_looked_at looks m n before after same is_m is_n decides =
+    let at : (i : ℕ) → 0 + i ≡ i = λ i. omega arith in
+    subst (λ ys. same ≡ same_where_looked_at looks m ys) is_n
+    (subst (λ xs. same ≡ same_where_looked_at looks xs after) is_m
+    (same_from_decides same (same_where_looked_at looks before after)
+    (λ t i l k. decides.0 t i l (ap looks (at i) ∙ k), λ h. decides.1 (λ i l k. h i l (ap looks (sym (at i)) ∙ k)))
+    (Decides-where_looked_at looks before after)))
+
 index_get : (m n : List ℕ) (a : ℕ) → a < length m → length m ≡ length n → get_or m a 0 ≡ get_or n a 0 → slice_get m a ≡ slice_get n a
 index_get m n a l e h = slice_get-get_or m a 0 l ∙ ap (λ (x : ℕ). Some x) h ∙ sym (slice_get-get_or n a 0 (omega arith))
 

@@ -1,6 +1,6 @@
 //! A memory that is read where it lies.
 
-ghost use Rattle.std.specs.Prelude.{◌≡◌, ◌+◌, ◌-◌, ◌^◌, ◌<◌, ◌≤◌, ◌↔◌, length, IfOk, IsTrue, nat_le, slice_get, take, drop};
+ghost use Rattle.std.specs.Prelude.{◌≡◌, ◌+◌, ◌-◌, ◌^◌, ◌<◌, ◌≤◌, ◌↔◌, length, IfOk, IfSome, IsTrue, nat_le, slice_get, take, drop};
 ghost use Rattle.std.specs.Bool.{OnTrue, OnFalse};
 ghost use Rattle.bsp_model.specs.Memory.{rest_of_page};
 
@@ -121,10 +121,15 @@ impl<'a> MemoryRef<'a> {
         &words[..words.len().min(most)]
     }
 
-    /// Whether some of the words lie in pages. It is for speed.
+    /// All words, where none lies in a page. It is for speed: `None` is right for all memories.
     #[inline(always)]
-    pub fn has_pages(&self) -> bool {
-        !self.pages.is_empty()
+    pub fn in_one_piece(&self) -> Option<&'a [u64]>
+        ensures { IfSome result (λ words. words.now ≡ self.now) }
+    {
+        if self.pages.is_empty() {
+            return Some(self.last);
+        }
+        None
     }
 
     /// How many words from `address` on lie in one piece: at least those up to the end of the page. Memories of the same words may differ in it.

@@ -33,12 +33,22 @@ impl Drop for Workspace {
     }
 }
 
-/// It is not inlined, so that no call for a word chooses between two places for each part of a memory.
+/// It is not inlined, so that no call for a word asks of each part of a memory where it lies.
 #[inline(never)]
-fn word_before(before: &MemoryRef<'_>, address: u64) -> Option<u64>
+fn word_in_pages(before: &MemoryRef<'_>, address: u64) -> Option<u64>
     ensures { result ≡ slice_get before.now address }
 {
     before.load(address)
+}
+
+#[inline(always)]
+fn word_before(before: &MemoryRef<'_>, address: u64) -> Option<u64>
+    ensures { result ≡ slice_get before.now address }
+{
+    match before.in_one_piece() {
+        Some(words) => words.get(address as usize).copied(),
+        None => word_in_pages(before, address),
+    }
 }
 
 impl Workspace {
@@ -59,7 +69,7 @@ impl Workspace {
     pub fn begin(&mut self, before: &MemoryRef<'_>) -> Result<(), OutOfMemory>
         ensures { OnOk result (own_memory self.new before.now ≡ record { memory = before.now; stores = [] }) }
     {
-        self.is_loaded = before.has_pages() || before.len() < WORDS_WORTH_A_LOOK;
+        self.is_loaded = before.in_one_piece().is_none() || before.len() < WORDS_WORTH_A_LOOK;
         if self.is_loaded {
             return self.local.begin(before);
         }

@@ -15,7 +15,7 @@ use crate::ending::end_of;
 use crate::opening::{Recording, add_first_cells, shared_args};
 use crate::{Arguments, Setting, Status};
 use bsp_deliver::{Cells, next_tag_size};
-use bsp_model::{Input, Layered, OutOfMemory, Shared, TryCopy, numbers};
+use bsp_model::{Input, Layered, MemoryRef, OutOfMemory, Shared, TryCopy, numbers};
 use bsp_step::{Outcomes, View};
 use std::alloc::Global;
 use std::marker::Model;
@@ -175,6 +175,15 @@ impl Views {
             tag_size: setting.tag_size,
             queue: cells.queue(place),
         }
+    }
+
+    /// The memory that a process sees. Where little of a view is asked for, this is cheaper than `get`.
+    #[inline(always)]
+    pub fn memory(&self, pid: usize) -> MemoryRef<'_>
+        requires { pid < length self.now }
+        ensures { result ≡ (slice_index_or self.now pid no_view).memory }
+    {
+        self.get(pid).memory
     }
 
     /// These views, to be read where they lie.

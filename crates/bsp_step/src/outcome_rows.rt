@@ -125,6 +125,20 @@ impl OutcomeRows {
         reserved.and(Ok(room))
     }
 
+    /// The same with room for their ends and their memories alone: of very few outcomes it is cheaper that the lists grow which are used.
+    pub(crate) fn room_of_memories(
+        &self,
+        alloc: Global,
+        share: Share,
+    ) -> Result<OutcomeRows, OutOfMemory>
+        ensures { IfOk result (λ o. o ≡ []) }
+    {
+        let mut room = OutcomeRows::new(alloc)?;
+        let ends = room.ends.reserve(share.part(self.ends.len()));
+        let memories = room.memories.reserve_like(&self.memories, share);
+        ends.and(memories).and(Ok(room))
+    }
+
     /// From now on a memory in one piece keeps a list of its own, unless it is short.
     pub fn keep_lists(&mut self)
         ensures { self.new ≡ self.old }

@@ -36,34 +36,44 @@ fn both_left_only_puts(old: &Outcomes, new: &Outcomes) -> bool
 }
 
 /// Whether two turns charged the same work, and moved as many words between the same processes.
-fn costs_alike(old: &OutcomeRef<'_>, new: &OutcomeRef<'_>, only_puts: bool) -> bool
-    requires { only_puts ≡ true → LeftOnlyPuts old.now × LeftOnlyPuts new.now }
+fn costs_alike(old: &OutcomeRef<'_>, new: &OutcomeRef<'_>) -> bool
     ensures { result ≡ true → CostsAlike old.now new.now }
 {
-    if old.work != new.work || !puts_move_alike(&old.puts, &new.puts) {
-        return false;
-    }
-    if only_puts {
-        return true;
-    }
-    gets_move_alike(old.gets, new.gets) && sends_move_alike(&old.sends, &new.sends)
+    old.work == new.work
+        && puts_move_alike(&old.puts, &new.puts)
+        && gets_move_alike(old.gets, new.gets)
+        && sends_move_alike(&old.sends, &new.sends)
+}
+
+/// The same of turns that left puts alone.
+#[inline(always)]
+fn puts_cost_alike(old: &OutcomeRef<'_>, new: &OutcomeRef<'_>) -> bool
+    requires old { LeftOnlyPuts old.now }
+    requires new { LeftOnlyPuts new.now }
+    ensures { result ≡ true → CostsAlike old.now new.now }
+{
+    old.work == new.work && puts_move_alike(&old.puts, &new.puts)
 }
 
 /// Whether two turns ended alike, and asked for the same table and tag size.
-fn ends_alike(old: &OutcomeRef<'_>, new: &OutcomeRef<'_>, only_puts: bool) -> bool
-    requires { only_puts ≡ true → LeftOnlyPuts old.now × LeftOnlyPuts new.now }
+fn ends_alike(old: &OutcomeRef<'_>, new: &OutcomeRef<'_>) -> bool
     ensures { result ≡ true → EndsAlike old.now new.now }
 {
-    if old.ended != new.ended {
-        return false;
-    }
-    if only_puts {
-        return true;
-    }
     old.fault == new.fault
+        && old.ended == new.ended
         && old.tag == new.tag
         && are_same(old.pops, new.pops)
         && are_same(old.pushes, new.pushes)
+}
+
+/// The same of turns that left puts alone.
+#[inline(always)]
+fn puts_end_alike(old: &OutcomeRef<'_>, new: &OutcomeRef<'_>) -> bool
+    requires old { LeftOnlyPuts old.now }
+    requires new { LeftOnlyPuts new.now }
+    ensures { result ≡ true → EndsAlike old.now new.now }
+{
+    old.ended == new.ended
 }
 
 /// What is the same of all turns of a superstep as in the previous run, which ended that superstep by delivery.
@@ -86,10 +96,15 @@ impl Alike {
         ensures costs { self.new.costs ≡ true → (self.old.costs ≡ true)
             × CostsAlike (outcome_of old.now p) (outcome_of new.now p) }
     {
-        let before = old.get(p);
-        let after = new.get(p);
-        self.ends = self.ends && ends_alike(&before, &after, only_puts);
-        self.costs = self.costs && costs_alike(&before, &after, only_puts);
+        if only_puts {
+            let (before, after) = (old.get(p), new.get(p));
+            self.ends = self.ends && puts_end_alike(&before, &after);
+            self.costs = self.costs && puts_cost_alike(&before, &after);
+            return;
+        }
+        let (before, after) = (old.get(p), new.get(p));
+        self.ends = self.ends && ends_alike(&before, &after);
+        self.costs = self.costs && costs_alike(&before, &after);
     }
 
     /// What is the same of these turns. Only those of dirty processes are looked at.

@@ -1,13 +1,18 @@
 //! Whether the recorded turn of a view serves for another view.
 
-ghost use Rattle.std.specs.Prelude.{◌≡◌, ℕ, ◌+◌, ◌≤◌, ◌<◌, ◌↔◌, IsTrue, true, length, slice_index};
+ghost use Rattle.std.specs.Prelude.{◌≡◌, ℕ, ◌+◌, ◌≤◌, ◌<◌, ◌↔◌, IsTrue, true, length, slice_index, slice_index_or};
 ghost use Rattle.bsp_step.specs.Footprint.{AreAlikeButForWords};
+ghost use Rattle.bsp_run.specs.Condition.{no_view};
 ghost use Rattle.bsp_incr.specs.Inside.Reuse.{same_where_looked_at, serves};
 
 use bsp_model::limits::MOST_MEMORY_WORDS;
-use bsp_model::{Same, are_same_words};
+use bsp_model::{MemoryRef, Same, are_same_words};
+use bsp_run::Views;
 use bsp_step::{Program, View};
 use bsp_table::Table;
+
+/// Fewer words are compared one by one.
+const WORDS_WORTH_A_LOOK: usize = 16;
 
 /// Whether a view has this table and this tag size.
 pub fn has_table(view: &View<'_>, table: &Table, tag_size: u64) -> bool
@@ -46,7 +51,7 @@ fn are_alike_from<P: Program>(
     ensures { IsTrue result ↔ ((i : ℕ) → i < length old.now → IsTrue (P.looks program.now view.now (first + i))
         → slice_index old.now i ≡ slice_index new.now i) }
 {
-    if are_same_words(old, new) {
+    if old.len() >= WORDS_WORTH_A_LOOK && are_same_words(old, new) {
         return true;
     }
     for i in 0..old.len() {
@@ -57,16 +62,21 @@ fn are_alike_from<P: Program>(
     true
 }
 
-/// Whether the words are equal at each address at which the program looks.
+/// Whether the words of a view are those of another memory at each address at which the program looks.
 #[inline(always)]
-fn is_alike_where_looked_at<P: Program>(program: &P, old: &View<'_>, new: &View<'_>) -> bool
-    requires { length old.now.memory ≡ length new.now.memory }
-    ensures { result ≡ same_where_looked_at (P.looks program.now old.now) old.now.memory new.now.memory }
+fn is_alike_where_looked_at<P: Program>(program: &P, old: &View<'_>, new: &MemoryRef<'_>) -> bool
+    requires { length old.now.memory ≡ length new.now }
+    ensures { result ≡ same_where_looked_at (P.looks program.now old.now) old.now.memory new.now }
 {
+    if let Some(before) = old.memory.in_one_piece()
+        && let Some(after) = new.in_one_piece()
+    {
+        return are_alike_from(program, old, 0, before, after);
+    }
     let mut address = 0;
     while address < old.memory.len() as u64 {
         let before = old.memory.words_from(address);
-        let after = new.memory.words_from(address);
+        let after = new.words_from(address);
         if !are_alike_from(program, old, address, before, after) {
             return false;
         }
@@ -75,18 +85,26 @@ fn is_alike_where_looked_at<P: Program>(program: &P, old: &View<'_>, new: &View<
     true
 }
 
-/// Whether the turn of the first view serves for the second. It takes no memory. The tables are not compared where they are known to be the same. Most views
-/// that do not serve differ in a word, so the words are compared first.
+/// Whether the turn of a view serves for the view of process `p`. It takes no memory. The tables are not compared where they are known to be the same. Most
+/// views that do not serve differ in a word, so the words are compared first.
 #[inline(always)]
-pub fn serves<P: Program>(program: &P, old: &View<'_>, new: &View<'_>, same_table: bool) -> bool
-    requires { same_table ≡ true → old.now.table ≡ new.now.table }
-    ensures { result ≡ serves (P.looks program.now) old.now new.now }
+pub fn serves<P: Program>(
+    program: &P,
+    old: &View<'_>,
+    views: &Views,
+    p: usize,
+    same_table: bool,
+) -> bool
+    requires place { p < length views.now }
+    requires table { same_table ≡ true → old.now.table ≡ (slice_index_or views.now p no_view).table }
+    ensures { result ≡ serves (P.looks program.now) old.now (slice_index_or views.now p no_view) }
 {
-    if old.memory.len() != new.memory.len() {
+    let memory = views.memory(p);
+    if old.memory.len() != memory.len() {
         return false;
     }
-    if !is_alike_where_looked_at(program, old, new) {
+    if !is_alike_where_looked_at(program, old, &memory) {
         return false;
     }
-    is_alike_but_for_words(old, new, same_table)
+    is_alike_but_for_words(old, &views.get(p), same_table)
 }

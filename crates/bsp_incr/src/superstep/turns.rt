@@ -36,12 +36,8 @@ fn needs_turn<P: Program>(
     if p >= superstep.old_views.len() {
         return true;
     }
-    !serves(
-        program,
-        &superstep.old_views.get(p),
-        &superstep.views.get(p),
-        dirty.same_table,
-    )
+    let old = superstep.old_views.get(p);
+    !serves(program, &old, superstep.views, p, dirty.same_table)
 }
 
 /// Adds the turns of dirty processes, in order: those that had to be taken, and of the other processes the recorded turns, whose stores are replayed.

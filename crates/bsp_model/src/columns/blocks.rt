@@ -124,6 +124,7 @@ fn head_to(heads: &[(PutHead, usize)], targets: &ProcessSet, from: usize) -> usi
     ensures there { (head : PutHead × ℕ) → result < length heads.now
         → slice_index_or targets.now (slice_index_or heads.now result head).0.target false ≡ true }
 {
+    let targets = *targets;
     for place in from..heads.len() {
         let (head, _end) = &heads[place];
         if targets.contains(head.target as usize) {

@@ -14,12 +14,18 @@ fn first_from(processes: &[usize], from: usize) -> usize
     ensures later { from ≤ result }
     ensures first { All (λ p. from ≤ p → result ≤ p) processes.now }
 {
-    for process in processes {
-        if *process >= from {
-            return *process;
-        }
+    let Some(first) = processes.first() else {
+        return usize::MAX;
+    };
+    // Not behind the place that it has in a run of consecutive numbers.
+    let mut place = from.saturating_sub(*first).min(processes.len());
+    while place > 0 && processes[place - 1] >= from {
+        place -= 1;
     }
-    usize::MAX
+    match processes.get(place) {
+        Some(process) => *process,
+        None => usize::MAX,
+    }
 }
 
 impl Outcomes {

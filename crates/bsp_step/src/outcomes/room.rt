@@ -18,8 +18,8 @@ impl Outcomes {
         rows?.into_room(count)
     }
 
-    /// Lists for so many outcomes: those of `discarded`, which are needed no more, where their room fits. Else, where these outcomes are as many, or not many
-    /// times more, there is room for the share that so many of them have. Where there is no outcome, there is room for the lists that most turns fill.
+    /// Lists for so many outcomes: those of `discarded`, which are needed no more, where their room fits. Else there is room for the share that so many of
+    /// these outcomes have, where they are very few for that of their memories. Where there is no outcome, there is room for the lists that most turns fill.
     pub fn room_for(
         &self,
         alloc: Global,
@@ -31,13 +31,14 @@ impl Outcomes {
         if let Some(room) = discarded.fitting_room(count) {
             return Ok(room);
         }
-        match &self.rows {
-            Some(rows) if is_worth_room(count, rows.len()) => {
-                rows.layers().0.room_of(alloc, Share::of(count, rows.len()))
-            }
-            Some(_) => OutcomeRows::with_capacity(alloc, count),
-            None => OutcomeRows::with_room(alloc, count),
+        let Some(rows) = &self.rows else {
+            return OutcomeRows::with_room(alloc, count);
+        };
+        let (base, share) = (rows.layers().0, Share::of(count, rows.len()));
+        if is_worth_room(count, rows.len()) {
+            return base.room_of(alloc, share);
         }
+        base.room_of_memories(alloc, share)
     }
 
     /// No outcomes, in the lists of these, which are no longer needed, unless copies share the lists. Or `OutOfMemory`.
@@ -70,7 +71,7 @@ impl Outcomes {
         }
     }
 
-    /// Takes all memories away, and makes room for so many: for the share that so many of these have, where that is worth it.
+    /// Takes all memories away, and makes room for so many: for the share that so many of these have.
     pub fn make_room_for_memories(
         &self,
         count: usize,
@@ -80,10 +81,10 @@ impl Outcomes {
     {
         memories.clear();
         match &self.rows {
-            Some(rows) if is_worth_room(count, rows.len()) => {
+            Some(rows) => {
                 memories.reserve_like(rows.layers().0.memories(), Share::of(count, rows.len()))
             }
-            _ => memories.reserve(count),
+            None => Ok(()),
         }
     }
 
@@ -118,8 +119,7 @@ impl Outcomes {
         if processes.len() == self.len() {
             return self.copy_memories(memories);
         }
-        memories.clear();
-        memories.reserve(processes.len())?;
+        self.make_room_for_memories(processes.len(), memories)?;
         for process in processes {
             memories.push_copy(&self.memory(*process))?;
         }

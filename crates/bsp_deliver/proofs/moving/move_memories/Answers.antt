@@ -1,10 +1,10 @@
-use Rattle.std.proofs.Common.{◌≡◌, ◌<◌, List, All, length, map, sym, ap, subst, ◌∙◌}
+use Rattle.std.proofs.Common.{◌≡◌, List, length, map, sym, ap, subst, ◌∙◌}
 use Rattle.std.proofs.lemmas.List.FromFn.{length-range_with_len}
 use Rattle.std.proofs.lemmas.Result.{on_ok_weaker}
 use Rattle.bsp_step.specs.OutcomeParts.{OutcomeParts}
-use Rattle.bsp_model.specs.Replaced.{IsAscending}
+use Rattle.bsp_deliver.specs.Condition.{CanDeliver}
 use Rattle.bsp_deliver.specs.Delivery.{delivery_parts, next_memory}
-use Rattle.bsp_deliver.proofs.AllProcesses.{all_known, all_ascending}
+use Rattle.bsp_deliver.proofs.AllProcesses.{can_deliver_all}
 use Rattle.bsp_deliver.proofs.BothOk.{on_first_ok}
 use Rattle.bsp_deliver.proofs.MovedMemories.{targets_all, memories_moved}
 use Rattle.bsp_deliver.proofs.moving.move_memories.Goals as goal
@@ -15,13 +15,10 @@ write_rows-written-requires c =
     let count : length c.args.processes.now ≡ length os = ap length c.requires.processes ∙ length-range_with_len 0 (length os) in
     targets_all c.args.processes.now os c.in-Some.puts c.requires.deliverable.inside count c.in-Some.ensures.puts
 
-pub memories_after-requires-clause-known : goal.memories_after-requires-clause-known
-memories_after-requires-clause-known c =
-    let n = length c.args.outcomes.now in
-    subst (λ (os : List OutcomeParts). All (λ d. d < length os) c.args.processes.now) (sym c.in-None.ensures.unchanged) (subst (All (λ d. d < n)) (sym c.requires.processes) (all_known n))
-
-pub memories_after-requires-clause-ascending : goal.memories_after-requires-clause-ascending
-memories_after-requires-clause-ascending c = subst IsAscending (sym c.requires.processes) (all_ascending (length c.args.outcomes.now))
+pub memories_after-requires : goal.memories_after-requires
+memories_after-requires c =
+    subst (λ (os : List OutcomeParts). CanDeliver os c.args.processes.now) (sym c.in-None.ensures.unchanged)
+    (can_deliver_all c.args.outcomes.now c.args.processes.now c.requires.deliverable c.requires.processes)
 
 pub returns-in-Some : goal.returns-in-Some
 returns-in-Some c =

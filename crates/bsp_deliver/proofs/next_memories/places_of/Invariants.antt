@@ -1,6 +1,7 @@
+use Rattle.bsp_model.specs.Limits.{most_processes}
 use Rattle.bsp_deliver.proofs.Gathered.{ArePlacedTo}
 use Rattle.bsp_deliver.proofs.next_memories.places_of.Given as goal
 
 -- the processes so far have their places
 abbrev pub invariant-loop-place : goal.invariant-loop-place
-invariant-loop-place l = ArePlacedTo l.count l.place l.processes l.places.items
+invariant-loop-place l = ArePlacedTo most_processes l.place l.processes l.places

@@ -11,8 +11,8 @@ use Rattle.bsp_deliver.proofs.touched.mark_changes_of.Goals as goal
 of_equal : (X : OutcomeParts → OutcomeParts → Type 0) (o o' u u' : OutcomeParts) → o ≡ o' → u ≡ u' → X o u → X o' u'
 of_equal X o o' u u' is_o is_u x = subst (λ o. X o u') is_o (subst (λ u. X o u) is_u x)
 
-pub mark_parcels-requires : goal.mark_parcels-requires
-mark_parcels-requires c =
+pub mark_parcels-requires-clause-known : goal.mark_parcels-requires-clause-known
+mark_parcels-requires-clause-known c =
     subst (λ o. AreToKnown (length c.args.marks.now) o) (sym c.get.ensures)
     (to_known c.args.old.now c.args.p (length c.args.marks.now) c.requires.before (omega (arith, c.requires.known, c.requires.count)) (omega (arith, c.requires.as_many, c.requires.count)))
 
