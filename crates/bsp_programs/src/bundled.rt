@@ -48,6 +48,8 @@ impl Program for Bundled {
 
     ghost footprint = { bundled_footprint };
 
+    // An update asks for each word that differs. Inlined, no view is written for the call.
+    #[inline(always)]
     fn looks(&self, view: &View<'_>, address: u64) -> bool {
         match self {
             Bundled::Broadcast(program) => program.looks(view, address),
