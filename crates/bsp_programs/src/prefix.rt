@@ -80,6 +80,7 @@ fn keep_sum(ctx: &mut Ctx<'_>, sum: u64) -> Result<End, Stop>
 }
 
 /// Puts the own word to the process that is as far on as this superstep reaches, if there is one; prints it where the reach is that of all processes.
+#[inline(always)]
 fn send_or_print(ctx: &mut Ctx<'_>) -> Result<End, Stop>
     ensures { let plan = prefix_sending ctx.old.view ctx.old.memory
         in Runs ctx.old plan.acts plan.ending ctx.new result }

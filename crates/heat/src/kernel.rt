@@ -169,7 +169,9 @@ fn next_cell(before: u64, own: u64, after: u64) -> u64
     before.wrapping_add(own.wrapping_mul(2)).wrapping_add(after) / 4
 }
 
-/// Puts the outer ones of the own cells to the neighbours where time steps are left; else prints the sum of all.
+/// Puts the outer ones of the own cells to the neighbours where time steps are left; else prints the sum of all. A time step of a short rod takes little
+/// more time than a call, so this and the puts are inlined.
+#[inline(always)]
 fn tell(ctx: &mut Ctx<'_>, time_steps: u64) -> Result<End, Stop>
     requires { 3 ≤ length ctx.old.memory }
     ensures { let plan = heat_telling ctx.old.view time_steps (own_cells ctx.old.memory)
@@ -184,6 +186,7 @@ fn tell(ctx: &mut Ctx<'_>, time_steps: u64) -> Result<End, Stop>
 }
 
 /// Puts the first own cell to the process below and the last to the process above, if there are such.
+#[inline(always)]
 fn put_to_neighbours(ctx: &mut Ctx<'_>) -> Result<End, Stop>
     requires { 3 ≤ length ctx.old.memory }
     ensures { Runs ctx.old (puts_to_neighbours ctx.old.view (own_cells ctx.old.memory)) End.Sync ctx.new result }
@@ -199,6 +202,7 @@ fn put_to_neighbours(ctx: &mut Ctx<'_>) -> Result<End, Stop>
 
 /// Puts the last own cell to the process above, if there is one.
 #[tactic(auto, using(crate::specs::Cells::length_of_own_cells, crate::specs::Cells::own_cell))]
+#[inline(always)]
 fn put_above(ctx: &mut Ctx<'_>) -> Result<End, Stop>
     requires { 3 ≤ length ctx.old.memory }
     ensures { Runs ctx.old (put_above ctx.old.view (own_cells ctx.old.memory)) End.Sync ctx.new result }

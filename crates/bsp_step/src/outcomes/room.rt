@@ -18,8 +18,8 @@ impl Outcomes {
         rows?.into_room(count)
     }
 
-    /// Lists for so many outcomes: those of `discarded`, which are needed no more, where their room fits. Else there is room for the share that so many of
-    /// these outcomes have, where they are very few for that of their memories. Where there is no outcome, there is room for the lists that most turns fill.
+    /// Lists for so many outcomes: those of `discarded`, which are needed no more, where their room fits. Else new lists, with room for the share that so
+    /// many of these outcomes have; of very few outcomes only the memories get it. Where there is no outcome, the lists that most turns fill get room.
     pub fn room_for(
         &self,
         alloc: Global,
