@@ -74,7 +74,7 @@ fn mark_changes<R: Addressed>(
     mark_unaligned(marks, old, new, aligned);
 }
 
-/// Marks the processes to which one sender brings other puts or messages than before. Messages are not looked for where it is known to send none.
+/// Marks the processes to which one sender brings other puts or messages than before. Messages are not looked for where the sender is known to send none.
 #[inline(always)]
 pub fn mark_parcels(
     marks: &mut ProcessSet,

@@ -32,11 +32,11 @@ fn read_same_words(old: &Outcomes, new: &Outcomes, changed: &ProcessSet, gets: &
     true
 }
 
-/// True only where no turn of either superstep left anything of a kind.
-fn both_are_without(kind: ListKind, old: &Outcomes, new: &Outcomes) -> bool
-    ensures { result ≡ true → All (IsWithout kind) old.now × All (IsWithout kind) new.now }
+/// True only where no turn of either superstep sent a message.
+fn neither_sends(old: &Outcomes, new: &Outcomes) -> bool
+    ensures { result ≡ true → All (IsWithout Sends) old.now × All (IsWithout Sends) new.now }
 {
-    old.is_without(kind) && new.is_without(kind)
+    old.is_without(ListKind::Sends) && new.is_without(ListKind::Sends)
 }
 
 #[inline(always)]
@@ -84,7 +84,7 @@ fn mark_changes<'a>(
     requires unchanged { AreSameUnlessMarked old.now new.now changed.now }
     ensures { AreMarkedUnless (AllBringSame old.now new.now) marks.old marks.new }
 {
-    let sends_none = both_are_without(ListKind::Sends, old, new);
+    let sends_none = neither_sends(old, new);
     for p in changed.iter() {
         mark_changes_of(marks, old, new, sends_none, p);
     }

@@ -169,7 +169,7 @@ impl History {
         self.sums.total
     }
 
-    /// The supersteps that ended by delivery, and the one behind them.
+    /// The supersteps that ended by delivery, and the superstep behind them.
     pub(crate) fn into_supersteps(self) -> (Vec<Superstep>, Superstep) {
         let History { run, sums } = self;
         drop(sums);

@@ -252,7 +252,7 @@ impl Tape {
         self.past.len()
     }
 
-    /// The supersteps that ended by delivery, and the one behind them.
+    /// The supersteps that ended by delivery, and the superstep behind them.
     pub(crate) fn into_supersteps(self) -> (Vec<Superstep>, Superstep) {
         let Tape {
             limit,

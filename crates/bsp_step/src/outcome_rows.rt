@@ -125,7 +125,8 @@ impl OutcomeRows {
         reserved.and(Ok(room))
     }
 
-    /// The same with room for their ends and their memories alone: of very few outcomes it is cheaper that the lists grow which are used.
+    /// Lists with room for the ends and the memories of a share of these outcomes, and none of them. For very few outcomes it is cheaper that the lists
+    /// grow which are used.
     pub(crate) fn room_of_memories(
         &self,
         alloc: Global,

@@ -16,7 +16,7 @@ use bsp_model::are_same;
 use bsp_run::Tape;
 use bsp_step::{ListKind, OutcomeRef, Outcomes, Program};
 
-/// True only where the turns left puts alone, as most do.
+/// True only where no turn left a fault, a choice of a tag size, or a request but puts. Most supersteps are such.
 fn left_only_puts(outcomes: &Outcomes) -> bool
     ensures { result ≡ true → All LeftOnlyPuts outcomes.now }
 {
@@ -28,7 +28,7 @@ fn left_only_puts(outcomes: &Outcomes) -> bool
         && outcomes.is_without(ListKind::Sends)
 }
 
-/// The same of the turns of two supersteps.
+/// True only where the turns of both supersteps left puts alone.
 fn both_left_only_puts(old: &Outcomes, new: &Outcomes) -> bool
     ensures { result ≡ true → All LeftOnlyPuts old.now × All LeftOnlyPuts new.now }
 {
@@ -45,7 +45,7 @@ fn costs_alike(old: &OutcomeRef<'_>, new: &OutcomeRef<'_>) -> bool
         && sends_move_alike(&old.sends, &new.sends)
 }
 
-/// The same of turns that left puts alone.
+/// The same of two turns that left puts alone.
 #[inline(always)]
 fn puts_cost_alike(old: &OutcomeRef<'_>, new: &OutcomeRef<'_>) -> bool
     requires old { LeftOnlyPuts old.now }
@@ -66,7 +66,7 @@ fn ends_alike(old: &OutcomeRef<'_>, new: &OutcomeRef<'_>) -> bool
         && are_same(old.pushes, new.pushes)
 }
 
-/// The same of turns that left puts alone.
+/// The same of two turns that left puts alone.
 #[inline(always)]
 fn puts_end_alike(old: &OutcomeRef<'_>, new: &OutcomeRef<'_>) -> bool
     requires old { LeftOnlyPuts old.now }

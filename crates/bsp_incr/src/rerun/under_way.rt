@@ -13,9 +13,9 @@ use std::alloc::Global;
 /// Lists that serve a run which is made again as room.
 #[derive(Drop)]
 pub struct Room {
-    /// Those in which the next turns are taken, if there are any.
+    /// Lists in which the next turns are taken, if there are any.
     pub spare: Option<Gathering>,
-    /// Those of a history that is needed no more.
+    /// Lists of a history that is needed no more.
     pub discarded: Discarded,
 }
 

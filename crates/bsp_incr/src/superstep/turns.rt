@@ -19,7 +19,7 @@ use crate::superstep::reuse::add_reused_turn;
 use bsp_crew::{Crew, SharedRun, wide_turns};
 use bsp_gate::Gate;
 use bsp_model::{ByProcess, OutOfMemory, ProcessSet, Same, Seq};
-use bsp_step::{Gathering, OutcomeRows, Outcomes, Program};
+use bsp_step::{OutcomeRows, Outcomes, Program};
 
 /// Whether the turn of a process has to be taken, which may be asked of the dirty processes alone. The tables are not compared where all processes are known
 /// to see the same.
@@ -72,13 +72,14 @@ fn add_renewed<P: Program, G>(
     Ok(())
 }
 
-/// The turns of these processes, if there are any, which the workers take, in the spare lists. The lists of `discarded` serve as room.
+/// The turns of these processes, if there are any, which the workers take, in the spare lists. Where the record keeps these turns as they are gathered,
+/// discarded lists serve as room.
 fn taken_turns<P: Program, J: SharedRun, G: Gate>(
     given: &Given<'_, P, G>,
     superstep: &OpenSuperstep<'_, '_>,
     processes: &[usize],
-    spare: &mut Option<Gathering>,
-    discarded: Outcomes,
+    room: &mut Room,
+    are_all_taken: bool,
     crew: Option<&Crew<J>>,
 ) -> Result<OutcomeRows, OutOfMemory>
     requires crew { IfSome crew (λ _. AreOfRun (turn_by P.Program given.now.program) given.now.input J.turn J.views) }
@@ -91,12 +92,13 @@ fn taken_turns<P: Program, J: SharedRun, G: Gate>(
     if processes.is_empty() {
         return OutcomeRows::new(given.alloc);
     }
+    let discarded = discarded_for_taken(room, are_all_taken);
     let like = superstep.like;
     let rows = like.room_for(given.alloc, processes.len(), discarded)?;
     wide_turns(
         &given.means(),
         rows,
-        spare,
+        &mut room.spare,
         superstep.views,
         processes,
         superstep.step,
@@ -146,7 +148,7 @@ fn over_recorded<P: Program, G>(
     old_outcomes.replaced(given.alloc, processes, new)
 }
 
-/// The same where some dirty processes took their turns, and the recorded turns of the rest serve. The lists of `discarded` serve as room.
+/// The same where some dirty processes took their turns, and the recorded turns of the rest serve. Discarded lists serve as room.
 fn over_renewed<P: Program, G>(
     given: &Given<'_, P, G>,
     superstep: &OpenSuperstep<'_, '_>,
@@ -154,7 +156,7 @@ fn over_renewed<P: Program, G>(
     dirty: &ProcessSet,
     needed: &ProcessSet,
     taken: OutcomeRows,
-    discarded: Outcomes,
+    room: &mut Room,
 ) -> Result<Outcomes, OutOfMemory>
     requires some { 0 < length superstep.now.old_views }
     requires recorded { old_outcomes.now ≡ map (turn_by P.Program given.now.program) superstep.now.old_views }
@@ -167,6 +169,7 @@ fn over_renewed<P: Program, G>(
 {
     let processes = dirty.members(given.alloc)?;
     let asked = processes.as_slice();
+    let discarded = room.discarded.take_outcomes();
     let mut renewed = old_outcomes.room_for(given.alloc, asked.len(), discarded)?;
     add_renewed(
         &mut renewed,
@@ -181,8 +184,8 @@ fn over_renewed<P: Program, G>(
     over_recorded(given, superstep, old_outcomes, dirty, processes, renewed)
 }
 
-/// The discarded outcomes whose lists serve the turns that are taken. Where these are mixed with reused turns, the lists of the mix get the room instead,
-/// since the record keeps them.
+/// The discarded outcomes whose lists serve the turns that are taken. Where taken turns are mixed with reused turns, the lists of the mix get the room
+/// instead, since the record keeps them.
 fn discarded_for_taken(room: &mut Room, are_all_taken: bool) -> Outcomes {
     if are_all_taken {
         return room.discarded.take_outcomes();
@@ -215,18 +218,13 @@ pub fn turns_again<P: Program, J: SharedRun, G: Gate>(
     let asked = processes.as_slice();
     add_places(executed, superstep.step, asked)?;
     let are_all_taken = needed.same(&dirty.processes);
-    let discarded = discarded_for_taken(room, are_all_taken);
-    let spare = &mut room.spare;
-    let taken = taken_turns(given, superstep, asked, spare, discarded, crew)?;
+    let taken = taken_turns(given, superstep, asked, room, are_all_taken, crew)?;
     let dirty = &dirty.processes;
     match superstep.old_outcomes {
         Some(old) if are_all_taken => {
             over_recorded(given, superstep, old, dirty, processes, taken)
         }
-        Some(old) => {
-            let discarded = room.discarded.take_outcomes();
-            over_renewed(given, superstep, old, dirty, &needed, taken, discarded)
-        }
+        Some(old) => over_renewed(given, superstep, old, dirty, &needed, taken, room),
         None => taken.share(),
     }
 }
