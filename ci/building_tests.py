@@ -4,6 +4,7 @@ import os
 from place import InAPlace
 
 DOCUMENT = b"limit = 1\n"
+TRIED = "run=ended status={} runners=1 races=unchecked proved=no"
 
 
 class Building(InAPlace):
@@ -53,14 +54,12 @@ class Build(Building):
 
 
 class Run(Building):
-    TRIED = "run=ended status={} runners=1 races=unchecked proved=no"
-
     def setUp(self):
         super().setUp()
         self.place.script("shell", f"cd {self.place.root}", 'eval "$1"')
 
     def test_a_program_that_was_never_built_is_compiled_without_its_proof(self):
-        self.rt('[ "$*" = "try -- --places" ] || exit 7', "cat", "echo 'fault J2' >&2", f"echo '{self.TRIED.format(3)}' >&2", "exit 3")
+        self.rt('[ "$*" = "try -- --places" ] || exit 7', "cat", "echo 'fault J2' >&2", f"echo '{TRIED.format(3)}' >&2", "exit 3")
         status, lines, error = self.run_on("tool", "--places")
         self.assertEqual((status, lines, error[1:]), (3, [DOCUMENT.decode().strip()], ["fault J2"]))
         self.assertIn("./build tool proves it", error[0])
@@ -100,13 +99,13 @@ class Try(Building):
         return self.place.run("shell", f'./try {" ".join(words)} < document')
 
     def test_the_kernel_and_what_it_names_is_compiled_over_the_small_library(self):
-        self.rt("cat src/main.rt", "cat", "sort ../../crates.txt", f"echo '{Run.TRIED.format(3)}' >&2")
+        self.rt("cat src/main.rt", "cat", "sort ../../crates.txt", f"echo '{TRIED.format(3)}' >&2")
         made = ["#![tactic(auto)]", "", "mod kernel;", "mod parts;", "", "fn main(rt: HostRuntime) -> std::process::ExitCode {"]
         made += ["    quick::run_quick(&rt, &kernel::Tool)", "}", "limit = 1", "low:", "quick: bsp_gate bsp_model bsp_step bsp_run bsp_scratch", "tool: quick low"]
         self.assertEqual(self.try_it("tool"), (3, made))
 
     def test_another_program(self):
-        self.rt("cat src/main.rt", f"echo '{Run.TRIED.format(0)}' >&2")
+        self.rt("cat src/main.rt", f"echo '{TRIED.format(0)}' >&2")
         status, lines = self.try_it("tool", "parts::Part")
         self.assertEqual((status, lines[2]), (0, "mod parts;"))
         self.assertIn("    quick::run_quick(&rt, &parts::Part)", lines)
@@ -121,7 +120,7 @@ class Try(Building):
         self.assertEqual(self.try_it("tool"), (1, ["src/kernel.rt:1:1: error", "try: there is no answer"]))
 
     def test_the_stored_block_is_compared(self):
-        self.rt("echo 'run 0'", "echo 'total 1'", f"echo '{Run.TRIED.format(0)}' >&2")
+        self.rt("echo 'run 0'", "echo 'total 1'", f"echo '{TRIED.format(0)}' >&2")
         self.place.write("crates/tool/stdin", DOCUMENT)
         self.place.write("crates/tool/stdout", b"run 0\ntotal 1\nexecuted 1 redelivered 0\nrun 1\n")
         self.assertEqual(self.place.run("ci/tried", "tool"), (0, ["1 passed, 0 failed"]))

@@ -5,10 +5,12 @@ import subprocess
 import unicodedata
 from dataclasses import dataclass, replace
 
+from modelled.limits import MOST_WORKERS
+
 ROOT = os.path.dirname(os.path.dirname(os.path.realpath(__file__)))
 EXAMPLES_OF = "bsp_tool"
 SECONDS = 120
-WORKERS = ("1", "3", "16")
+WORKERS = ("1", "3", str(MOST_WORKERS))
 # The lists of options with which a document is run besides, where the model says the report.
 OPTIONS = (
     ("--places",),

@@ -42,6 +42,13 @@ def crates_above(root, changed):
     return [crate for crate in ordered if crate in found]
 
 
+def nearest(root):
+    """Of each crate the crates of the repository on which it stands, without those on which one of them stands."""
+    own = needs(root)
+    below = {crate: {it for it in crates_by_level(root, crate) if it != crate} for crate in own}
+    return {crate: [it for it in own if it in own[crate] and not any(it in below[other] for other in own[crate] if other in own)] for crate in own}
+
+
 def changed_crates(root, commit):
     """The crates whose proofs may have changed since a commit, and those with another file changed too: the latter's edits are to be tried."""
     paths = lines_of(root, "git", "diff", "--name-only", commit)

@@ -74,7 +74,7 @@ class Progress(InAPlace):
 class Threads(InAPlace):
     def test_a_program_whose_workers_do_not_come(self):
         self.place.program("heat", "exit 0")
-        self.fails("0 passed, 3 failed", "no superstep was made", "ci/threads")
+        self.fails("0 passed, 4 failed", "no superstep was made", "ci/threads")
 
     def test_a_program_that_is_not_built(self):
         self.place.script("bin/rt", "exit 1")

@@ -2,7 +2,8 @@
 import json
 import random
 
-from drawn_scripts import draw_script
+from drawn_scripts import draw_script, flooded, lengthened
+from modelled.limits import HIGHEST_PRICE, MOST_ARGUMENTS, MOST_MEMORY_WORDS, MOST_PROCESSES, MOST_SUPERSTEPS
 
 LARGEST = 2**63 - 1
 
@@ -104,9 +105,9 @@ def draw_edit(draw, memories, args):
     """An edit of a part that mostly exists."""
     kind = draw.choice(("word",) * 6 + ("arg", "arg") * any(args) + ("limit", "prices"))
     if kind == "limit":
-        return [kind, draw.choice((0, 1025)) if draw.happens(0.05) else draw.randint(1, 9)]
+        return [kind, draw.choice((0, MOST_SUPERSTEPS + 1)) if draw.happens(0.05) else draw.randint(1, 9)]
     if kind == "prices":
-        return [kind, 1_000_001 if draw.happens(0.05) else draw.randrange(5), draw.randrange(20)]
+        return [kind, HIGHEST_PRICE + 1 if draw.happens(0.05) else draw.randrange(5), draw.randrange(20)]
     lists = memories if kind == "word" else args
     known = [pid for pid, words in enumerate(lists) if words] or [0]
     pid = len(lists) if draw.happens(0.02) else draw.choice(known)
@@ -132,7 +133,7 @@ def draw_values(draw, tool):
     for words in memories + args:
         if words and draw.happens(0.01):
             words.pop()
-    limit = draw.randint(1, 5) if draw.happens(0.3) else draw.randint(6, 1024)
+    limit = draw.randint(1, 5) if draw.happens(0.3) else draw.randint(6, MOST_SUPERSTEPS)
     values = {key: at_key, "limit": limit, "g": draw.randrange(5), "l": draw.randrange(20), "memory": memories, "args": args}
     if not any(args) and draw.happens(0.5):
         del values["args"]
@@ -181,18 +182,65 @@ def change_a_size(draw, values):
     key, value = draw.choice(
         (
             ("memory", []),
-            ("memory", [[1]] * 64),
-            ("memory", [[1]] * 65),
-            ("memory", [[1] * 4097]),
+            ("memory", [[1]] * MOST_PROCESSES),
+            ("memory", [[1]] * (MOST_PROCESSES + 1)),
+            ("memory", [[1] * MOST_MEMORY_WORDS]),
+            ("memory", [[1] * (MOST_MEMORY_WORDS + 1)]),
             ("args", []),
             ("args", values.get("args", []) + [[0]]),
-            ("args", [[1] * 65] * len(values["memory"])),
-            ("limit", draw.choice((0, 1025, -1, LARGEST))),
-            ("g", draw.choice((-1, 1_000_000, 1_000_001))),
-            ("l", draw.choice((-1, 1_000_000, 1_000_001))),
+            ("args", [[1] * (MOST_ARGUMENTS + 1)] * len(values["memory"])),
+            ("limit", draw.choice((0, MOST_SUPERSTEPS + 1, -1, LARGEST))),
+            ("g", draw.choice((-1, HIGHEST_PRICE, HIGHEST_PRICE + 1))),
+            ("l", draw.choice((-1, HIGHEST_PRICE, HIGHEST_PRICE + 1))),
         )
     )
     values[key] = value
+
+
+def most_processes(draw, values):
+    """As many processes as there may be, or nearly, with memories and arguments that are those of the first ones again."""
+    count = MOST_PROCESSES - draw.randrange(2)
+    for key in ("memory", "args"):
+        if values.get(key):
+            values[key] = (values[key] * count)[:count]
+
+
+def most_words(draw, values):
+    """A memory that is as long as may be, or nearly, or the same of all."""
+    count = MOST_MEMORY_WORDS - draw.randrange(3)
+    chosen = range(len(values["memory"])) if draw.happens(0.1) else [draw.randrange(len(values["memory"]))]
+    for pid in chosen:
+        memory = values["memory"][pid]
+        values["memory"][pid] = memory + [draw.randrange(3)] * (count - len(memory))
+
+
+def most_costs(draw, values):
+    """The highest prices and the most supersteps, or nearly."""
+    values["g"], values["l"] = HIGHEST_PRICE - draw.randrange(2), HIGHEST_PRICE - draw.randrange(2)
+    values["limit"] = MOST_SUPERSTEPS - draw.randrange(2)
+
+
+def most_steps(draw, values):
+    """A number for argument 0 of all, which some programs take as that of their supersteps."""
+    if values.get("args"):
+        steps = draw.randrange(MOST_SUPERSTEPS // 20)
+        values["args"] = [[steps, *args[1:]] for args in values["args"]]
+        values["limit"] = steps + draw.randrange(4)
+
+
+def most_arguments(draw, values):
+    count = MOST_ARGUMENTS - draw.randrange(2)
+    if values.get("args"):
+        values["args"] = [args + [0] * (count - len(args)) for args in values["args"]]
+
+
+def come_near(draw, values):
+    """Makes a part of a job nearly as large as may be."""
+    change = draw.choice((most_processes, most_words, most_words, most_costs, most_steps, most_arguments))
+    if "script" in values and values["script"] and values["script"][0] and draw.happens(0.5):
+        values["script"] = draw.choice((flooded, lengthened))(draw, values["script"])
+    else:
+        change(draw, values)
 
 
 def text_of(values):
@@ -218,10 +266,12 @@ def change_the_text(draw, text):
     )
 
 
-def drawn_document(tool, seed):
-    """The document of a seed. Most are jobs; some have another value, key or size, and some another text."""
+def drawn_document(tool, seed, is_near=False):
+    """The document of a seed. Most are jobs; some have another value, key or size, and some another text. It can be wanted near the limits."""
     draw = Draw(f"{tool} {seed}")
     values = draw_values(draw, tool)
+    if is_near:
+        come_near(draw, values)
     for change, rate in ((change_a_size, 0.08), (change_a_value, 0.1), (change_a_key, 0.05)):
         if draw.happens(rate):
             change(draw, values)

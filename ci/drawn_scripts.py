@@ -1,5 +1,16 @@
 """Random scripts, most of whose calls pass their checks, so that runs go on for several supersteps."""
 
+from modelled.limits import MOST_LINE_WORDS, MOST_LINES, MOST_PAYLOAD_WORDS, MOST_REQUESTS, MOST_SLOTS, MOST_TAG_WORDS, MOST_WORK
+
+# Calls, and how many of each may stand in a turn.
+FLOODS = (
+    (["push_reg", 0, 0], MOST_REQUESTS),
+    (["send", 0, [], []], MOST_REQUESTS),
+    (["print"], MOST_LINES),
+    (["print"], MOST_LINES),
+    (["push_reg", 0, 0], MOST_SLOTS),
+)
+
 
 class Scripter:
     """Draws a script superstep by superstep. It knows which areas are registered, how long tags are and how many messages wait, as long as no fault and
@@ -156,15 +167,15 @@ class Scripter:
                 ["send", self.nprocs, no_tag, []],
                 ["send", 0, no_tag, [1]],
                 ["send", 0, no_tag, []],
-                ["send", 0, [0] * self.tag_size, [0] * 4097],
+                ["send", 0, [0] * self.tag_size, [0] * (MOST_PAYLOAD_WORDS + 1)],
                 ["store", size, 1],
-                ["charge", 4_294_967_296],
+                ["charge", MOST_WORK + 1],
                 ["push_reg", size, 1],
                 ["pop_reg", 7],
-                ["set_tagsize", 17],
+                ["set_tagsize", MOST_TAG_WORDS + 1],
                 ["set_tagsize", 2**63 - 1],
-                ["print", *[1] * 65],
-                ["move_into", 4097, 0],
+                ["print", *[1] * (MOST_LINE_WORDS + 1)],
+                ["move_into", MOST_PAYLOAD_WORDS + 1, 0],
                 ["move_into", 3, max(size - 1, 0)],
             )
         )
@@ -173,8 +184,21 @@ class Scripter:
 def flooded(draw, script):
     """The script with more calls in a turn than a limit allows, or as many."""
     calls = draw.choice(script[0])
-    call, most = draw.choice(((["push_reg", 0, 0], 1024), (["send", 0, [], []], 1024), (["print"], 64), (["print"], 64), (["push_reg", 0, 0], 256)))
+    call, most = draw.choice(FLOODS)
     calls[0:0] = [call] * (most + draw.choice((-2, -1, 0, 1, 1)))
+    return script
+
+
+def lengthened(draw, script):
+    """The script with a call in a turn that asks for as much as a limit allows, or nearly."""
+    calls, less = draw.choice(script[0]), draw.randrange(2)
+    longest = (
+        ["send", 0, [], [draw.randrange(9)] * (MOST_PAYLOAD_WORDS - less)],
+        ["print", *[1] * (MOST_LINE_WORDS - less)],
+        ["set_tagsize", MOST_TAG_WORDS - less],
+        ["charge", MOST_WORK - less],
+    )
+    calls.insert(0, draw.choice(longest))
     return script
 
 

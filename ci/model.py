@@ -21,12 +21,11 @@ sys.dont_write_bytecode = True
 from modelled.causes import Place, why_lines  # noqa: E402
 from modelled.costs import cost_rows, update_cost_lines  # noqa: E402
 from modelled.documents import TOOLS, Job, Refused, job_of  # noqa: E402
+from modelled.limits import MOST_DOCUMENT_BYTES  # noqa: E402
 from modelled.runs import Input, Run, run  # noqa: E402
 from modelled.sessions import Edit, places_executed, places_redelivered  # noqa: E402
 from modelled.texts import line, text_of  # noqa: E402
 from modelled.turns import Program  # noqa: E402
-
-MOST_BYTES = 16_777_216  # of a document
 
 
 @dataclass(frozen=True)
@@ -162,7 +161,7 @@ class Answer:
 
 def answers(tool: str, document: bytes, options: list[Options]) -> list[Answer]:
     """The answer with each of these options, which are not refused."""
-    if len(document) > MOST_BYTES:
+    if len(document) > MOST_DOCUMENT_BYTES:
         return [Answer("", "fault long\n", 3)] * len(options)
     try:
         replies = replies_to(job_of(TOOLS[tool], document))

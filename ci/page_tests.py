@@ -1,5 +1,5 @@
-"""Shows that the pages of the repository have short sentences, name files that are there and tell updates as they are, and that wrong pages are found: tests
-of ci/test_gate."""
+"""Shows that the pages of the repository have short sentences, name files and functions that are there and tell updates as they are, and that wrong pages are
+found: tests of ci/test_gate."""
 import os
 import re
 import shutil
@@ -8,9 +8,11 @@ import tempfile
 import unittest
 
 from cases import ROOT
-from pages import MOST_WORDS, long_sentences, missing_files, text_of
+from changes import nearest
+from pages import FOREIGN, MOST_WORDS, NAME, codes_in, long_sentences, missing_files, missing_names, pages_of, text_of
 
 
+CRATE = re.compile(r"^\| `(\w+)` \| ([^|]*)\|", re.M)
 UPDATE = re.compile(r"(?:^|`)((?:turns|deliveries|why turn|why delivery|update|executed) [\w ]*\d[\w ]*)(?:$|`)", re.M)
 
 
@@ -45,6 +47,20 @@ class Pages(unittest.TestCase):
 
     def test_files_that_pages_name_are_there(self):
         self.assertEqual(list(missing_files(ROOT)), [])
+
+    def test_names_in_code_are_there(self):
+        self.assertEqual(list(missing_names(ROOT)), [])
+
+    def test_foreign_names_are_used_and_are_foreign(self):
+        used = {name for page in pages_of(ROOT) for _, code in codes_in(page) for name in NAME.findall(code)}
+        self.assertEqual(sorted(FOREIGN - used), [])
+
+    def test_crates_are_told_as_they_stand_on_one_another(self):
+        crates = text_of(f"{ROOT}/docs/architecture.md").partition("## The crates")[2].partition("\n## ")[0]
+        told = {name: re.findall(r"`(\w+)`", below) for name, below in CRATE.findall(crates)}
+        self.assertEqual(told, nearest(ROOT))
+        for place, name in enumerate(told):
+            self.assertLessEqual(set(told[name]), set(list(told)[:place]), name)
 
     def test_updates_are_told_as_in_stored_reports(self):
         """Each line of an update on docs/updates.md stands in a report that the page is about."""
@@ -89,6 +105,15 @@ class Pages(unittest.TestCase):
     def test_files_that_are_there(self):
         names = ["`ci/pages.py`", "`./check`", "`pages.py`", "`modelled/runs.py`", "`ci/modelled/`", "`ci/*.py`", "[this](page.md#part)", "[a script](../ci/live)"]
         self.assertEqual(self.lines_of(missing_files, " ".join(names)), [])
+
+    def test_a_name_that_is_not_there(self):
+        self.write("ci/pages.py", "def find_all(pages):\n    return other.method(pages)\n\nclass Page:\n    pass\n")
+        for name in ("`find_none`", "`find_none(pages)`", "`method(..)`", "`Page::method`", "`--none`", "`other.none`"):
+            with self.subTest(name=name):
+                found = self.lines_of(missing_names, f"Text.\n\nSee {name}.")
+                self.assertEqual([line.partition(": there is no ")[0] for line in found], ["docs/page.md:3"])
+        names = "`find_all` `find_all(pages)` `Page::find_all` `method` `x + y` `ci/none.py` `Beam`"
+        self.assertEqual(self.lines_of(missing_names, f"{names}\n```\nfind_none\n```"), [])
 
     def test_names_that_are_no_files(self):
         names = ["`.rt`", "`w/..`", "`NAME.toml`", "`NAME/stdin`", "`l.count`", "`a b/c.md`", "`/tmp/x.md`", "[Rattle](https://none.md)", "[above](#part)"]

@@ -1,4 +1,4 @@
-"""The pages of the repository: README.md and docs/*.md, their sentences, and the files that they name."""
+"""The pages of the repository: README.md and docs/*.md, their sentences, and the files, functions, types and options that they name."""
 import fnmatch
 import glob
 import os
@@ -14,6 +14,17 @@ END = re.compile(r"[.!?][\"')\]*_]*(?=\s|$)")
 WORD = re.compile(r"\w")
 PATH = re.compile(r"[\w.*/-]+")
 SUFFIXES = (".antt", ".c", ".edit", ".json", ".md", ".py", ".rt", ".status", ".svg", ".toml", ".txt")
+
+NAME = re.compile(r"[A-Za-z_]\w{2,}")
+CALLED = re.compile(r"([A-Za-z_]\w{2,})\(|::([A-Za-z_]\w{2,})")
+DEFINED = re.compile(r"\b(?:fn|def|macro_rules!|struct|enum|trait|type|class|record|data)\s+(\w+)|^\s*(?:pub\s+)?(\w+)\s*[{(,:=]", re.M)
+# Names of other libraries, of the toolchain's commands, messages and attributes, and examples of names: no source of the repository has them, or none defines them.
+FOREIGN = frozenset(
+    "Allgatherv Alltoallv Gatherv bsp_begin bsp_end bsp_hpget bsp_hpmove bsp_hpput bsp_init bsp_pop_reg bsp_push_reg bsp_time "
+    "BAD NOT REFUSED apt declaration orphan determined gt1 inline kernel lemma plant rli tactic tidy using xargs "
+    "dict encode get_mut min str tuple unwrap "
+    "Beam HeatProgram beam length_of_own_cells own_cell REASON".split()
+)
 
 
 def pages_of(root):
@@ -131,3 +142,40 @@ def missing_files(root):
             there = os.path.exists(name) if linked else is_there(name, tails)
             if not there:
                 yield f"{os.path.relpath(page, root)}:{number}: there is no {os.path.relpath(name, root) if linked else name}"
+
+
+def sources_of(root):
+    """The texts of the files that are no pages and no pictures."""
+    for path in files_of(root):
+        if not path.endswith((".md", ".svg", ".png")):
+            with open(f"{root}/{path}", encoding="utf-8", errors="replace") as file:
+                yield path, file.read()
+
+
+def names_of(root):
+    """The words of all sources, and those that the code defines."""
+    there, defined = set(), set()
+    for path, text in sources_of(root):
+        there |= {*NAME.findall(text), *re.split(r"[/.]", path)}
+        if not path.startswith("cases/"):
+            defined |= {name for pair in DEFINED.findall(text) for name in pair}
+    return there, defined
+
+
+def codes_in(page):
+    """The pieces of code of a page outside of code blocks, with the numbers of their lines. A file that is named is no such piece."""
+    for number, line in enumerate(without_blocks(text_of(page)), 1):
+        for code in CODE.findall(LINK.sub("link", line)):
+            if not looks_like_a_path(code.strip("`").removeprefix("./")):
+                yield number, code
+
+
+def missing_names(root):
+    """A line for each name in code that no source has, and for each call or member that none defines."""
+    there, defined = names_of(root)
+    for page in pages_of(root):
+        for number, code in codes_in(page):
+            called = {name for pair in CALLED.findall(code) for name in pair if name}
+            wrong = {name for name in NAME.findall(code) if name not in there} | {name for name in called if name not in defined}
+            for name in sorted(wrong - FOREIGN):
+                yield f"{os.path.relpath(page, root)}:{number}: there is no {name}"

@@ -16,7 +16,7 @@ def live(count):
 
 
 DOCUMENTS = Part(("ci/documents",), 9_100)
-FIRST = (Part(("ci/test_gate",), 94), Part(("ci/statement",), 2), Part(("ci/python",), 77))  # before anything is proved
+FIRST = (Part(("ci/test_gate",), 118), Part(("ci/statement",), 2), Part(("ci/python",), 77))  # before anything is proved
 PROOFS = Part(("rt", "ci"), 109)  # 29 crates and 80 must-fail edits
 LAST = (
     DOCUMENTS,
@@ -24,8 +24,9 @@ LAST = (
     live(40),
     Part(("ci/sessions",), 7),
     Part(("ci/progress",), 3),
-    Part(("ci/threads",), 3),
+    Part(("ci/threads",), 4),
     Part(("ci/tried",), 1),
+    Part(("ci/small_limits",), 3),
     Part(("ci/count_allocations",), 6),
     Part(("ci/refuse_allocations",), 32_000),
 )

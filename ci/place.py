@@ -6,6 +6,7 @@ import tempfile
 import unittest
 
 from cases import OPTIONS, ROOT, without_updates
+from limits import SOURCE
 from model import answer, reports_with
 
 JOB = b'program = "heat"\nlimit = 9\ng = 1\nl = 1\nmemory = [[0, 8, 0]]\nargs = [[1]]\nbatches = [[["word", 0, 1, 4]]]\n'
@@ -66,6 +67,8 @@ class Place:
         for script in ("build", "check", "run", "try"):
             shutil.copy(f"{ROOT}/{script}", self.root)
         self.write("crates.txt", b"")
+        os.makedirs(os.path.dirname(f"{self.root}/{SOURCE}"))
+        shutil.copy(f"{ROOT}/{SOURCE}", f"{self.root}/{SOURCE}")
         os.mkdir(f"{self.root}/cases")
         os.mkdir(f"{self.root}/examples")
         self.script("bin/rt", ":")

@@ -10,10 +10,11 @@ from drawn import Draw, drawn_document
 from judge import Judge
 from model import Options, answer
 from modelled.documents import TOOLS, job_of
+from modelled.limits import MOST_WORKERS
 from talks import Ask, draw_ask, long_lines, word_ask
 
 LINES = 14  # of a talk
-WORKERS = (1, 3, 16)
+WORKERS = (1, 3, MOST_WORKERS)
 CONFLICT = b"error: the argument '%s' cannot be used with '--scratch'\n"
 
 

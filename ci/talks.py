@@ -3,9 +3,8 @@ import json
 from dataclasses import dataclass
 
 from drawn import draw_batch
+from modelled.limits import MOST_DOCUMENT_BYTES, MOST_PROCESSES, MOST_SUPERSTEPS
 from modelled.shown import WORDS
-
-MOST_BYTES = 16_777_216  # of a line, without its end
 
 # Lines that are no batch, and why.
 UNREAD = (
@@ -100,7 +99,7 @@ def shown_ask(draw, count):
     word = draw.choice(WORDS)
     if draw.happens(0.2):
         return Ask(f"{word}{draw.choice(NO_PLACES + TOO_LARGE)}".encode(), word=word)
-    step = draw.choice((5, 64, 1023, 2**63, 2**64 - 1)) if draw.happens(0.05) else draw.randrange(5)
+    step = draw.choice((5, MOST_PROCESSES, MOST_SUPERSTEPS - 1, 2**63, 2**64 - 1)) if draw.happens(0.05) else draw.randrange(5)
     place = step, count if draw.happens(0.05) else draw.randrange(count)
     gaps = [draw.choice((" ", " ", "  ", "\t", " 0", " \t 00")) for _ in place]
     return Ask(word_text(draw, word + "".join(f"{gap}{number}" for gap, number in zip(gaps, place))), word=word, place=place)
@@ -144,6 +143,6 @@ def draw_ask(draw, memories, args, rates):
 
 def long_lines():
     """Lines that are as long as a line may be, and longer ones."""
-    longest = b"[] #".ljust(MOST_BYTES, b"x")
-    longer = b"document #".ljust(MOST_BYTES + 1, b"x")
+    longest = b"[] #".ljust(MOST_DOCUMENT_BYTES, b"x")
+    longer = b"document #".ljust(MOST_DOCUMENT_BYTES + 1, b"x")
     return [Ask(longest, []), Ask(longest + b"x", unread="long"), Ask(longer, unread="long")]

@@ -6,17 +6,15 @@ import tomllib
 from dataclasses import dataclass, field
 
 from modelled.collectives import COLLECTIVES
+from modelled.limits import HIGHEST_PRICE, MOST_ARGUMENTS, MOST_MEMORY_WORDS, MOST_PROCESSES, MOST_SUPERSTEPS
 from modelled.programs import Broadcast, Heat, MatVec, OddEven, Prefix, Rank
 from modelled.runs import Input
 from modelled.scripts import Script, is_script
-from modelled.sessions import HIGHEST_PRICE, MOST_SUPERSTEPS, Edit
+from modelled.sessions import Edit
 from modelled.shapes import is_array_of, is_integer, is_string
 from modelled.sorts import SampleSort
 from modelled.turns import Program
 
-MOST_PROCESSES = 64
-MOST_MEMORY_WORDS = 4_096
-MOST_ARGUMENTS = 64
 DEEPEST_ARRAYS = 80  # arrays in one another that `toml` reads
 
 

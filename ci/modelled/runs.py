@@ -3,9 +3,8 @@ from __future__ import annotations
 
 from dataclasses import dataclass
 
+from modelled.limits import MOST_SLOTS
 from modelled.turns import Get, Message, Outcome, Program, Put, Send, Slot, View, Words, turn
-
-MOST_SLOTS = 256
 
 
 def are_alike(items: list) -> bool:

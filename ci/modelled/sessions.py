@@ -3,11 +3,9 @@ from __future__ import annotations
 
 from dataclasses import dataclass, replace
 
+from modelled.limits import HIGHEST_PRICE, MOST_SUPERSTEPS
 from modelled.runs import Input, Run, delivery_to
 from modelled.turns import Program, View, Words
-
-MOST_SUPERSTEPS = 1_024
-HIGHEST_PRICE = 1_000_000
 
 
 @dataclass(frozen=True)

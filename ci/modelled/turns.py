@@ -3,12 +3,8 @@ from __future__ import annotations
 
 from dataclasses import dataclass
 
-MOST_REQUESTS = 1_024  # of a process in a superstep
-MOST_PAYLOAD_WORDS = 4_096
-MOST_TAG_WORDS = 16
-MOST_LINES = 64  # of a process in a superstep
-MOST_LINE_WORDS = 64
-MOST_WORK = 4_294_967_295  # of a process in a superstep
+from modelled.limits import MOST_LINE_WORDS, MOST_LINES, MOST_PAYLOAD_WORDS, MOST_REQUESTS, MOST_TAG_WORDS, MOST_WORK
+
 MODULUS = 2**64  # of sums and products of words
 
 Words = tuple[int, ...]

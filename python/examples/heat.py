@@ -2,7 +2,7 @@
 
 usage: python3 python/examples/heat.py OUT.svg [TOOL [WORD..]]
 
-TOOL is crates/heat/out/heat where it is not given; `./run heat < crates/heat/stdin` builds it.
+TOOL is crates/heat/out/heat where it is not given; `./build heat` proves and builds it.
 """
 
 from __future__ import annotations

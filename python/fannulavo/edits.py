@@ -56,7 +56,7 @@ class Argument(_Edit):
 
 @dataclass(frozen=True)
 class Limit(_Edit):
-    """The run has at most so many supersteps. Refused where that is not 1 to 1,024 (E4)."""
+    """The run has at most so many supersteps. Refused where that is 0, or more than the tool takes (E4)."""
 
     _name: ClassVar[str] = "limit"
     supersteps: int
@@ -64,7 +64,7 @@ class Limit(_Edit):
 
 @dataclass(frozen=True)
 class Prices(_Edit):
-    """A word of an h-relation costs g, and a synchronisation l. Refused where one is over 1,000,000 (E5)."""
+    """A word of an h-relation costs g, and a synchronisation l. Refused where one is more than the tool takes (E5)."""
 
     _name: ClassVar[str] = "prices"
     g: int

@@ -39,8 +39,6 @@ def _words(command: Command, path: str, options: Sequence[str]) -> list[str]:
 
 
 def _options(workers: int, why: bool, update_cost: bool) -> list[str]:
-    if not 1 <= workers <= 16:
-        raise ValueError(f"{workers} workers, and not 1 to 16")
     options = ["--workers", str(workers)]
     options += ["--why"] if why else []
     return options + (["--update-cost"] if update_cost else [])
@@ -77,7 +75,7 @@ class Session:
         """Starts a tool, and waits until it has run the document and its batches.
 
         `command` is a built tool, or the words with which it is started. `document` is the path of a document, or
-        its text as bytes. Up to `workers` threads share the work, 1 to 16. With `why` and `update_cost` the tool has
+        its text as bytes. Up to `workers` threads share the work. With `why` and `update_cost` the tool has
         these options too, and the reports have `causes` and `update_cost`. `ToolEnded` where the tool refuses the
         document, or its options; `OSError` where it can't be started.
         """

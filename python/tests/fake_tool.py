@@ -21,8 +21,9 @@ ROOT = os.path.dirname(os.path.dirname(os.path.dirname(os.path.realpath(__file__
 sys.path.insert(0, f"{ROOT}/ci")
 sys.dont_write_bytecode = True
 
-from model import MOST_BYTES, Options, Reply, answer  # noqa: E402
+from model import Options, Reply, answer  # noqa: E402
 from modelled.documents import TOOLS, Refused, job_of, tree_of  # noqa: E402
+from modelled.limits import MOST_DOCUMENT_BYTES, MOST_WORKERS  # noqa: E402
 from modelled.lines import HELP, bytes_reason, form_reason, refusal_reason, value_reason  # noqa: E402
 from modelled.runs import Input, Run, run  # noqa: E402
 from modelled.sessions import Edit  # noqa: E402
@@ -128,7 +129,7 @@ class Live:
         """The answer to a line."""
         text = text.removesuffix(b"\n")
         self.why = "edit 0: not an edit" if self.flaw == "blames" else ""
-        if len(text) > MOST_BYTES:
+        if len(text) > MOST_DOCUMENT_BYTES:
             return self.block(["unread long"])
         word = text.partition(b"#")[0].strip(b" \t\r").decode(errors="replace")
         first, *behind = re.split("[ \t\r]+", word)
@@ -222,8 +223,17 @@ def ended(error: str, status: int) -> int:
     return status
 
 
+def wrong_workers(words: list[str]) -> str | None:
+    """The number of workers in the words of the command line, if there is one that a tool refuses."""
+    number = words[words.index("--workers") + 1] if "--workers" in words else "1"
+    return None if 1 <= int(number) <= MOST_WORKERS else number
+
+
 def main(words: list[str]) -> int:
     tool, *words = words
+    wrong = wrong_workers(words)
+    if wrong is not None:
+        return ended(f"error: invalid value '{wrong}' for '--workers <N>': {wrong} is not in 1..={MOST_WORKERS}", 2)
     if "--follow" in words:
         _, *path = words[words.index("--follow") :]
         if not path or "--scratch" in words:

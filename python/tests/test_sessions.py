@@ -36,6 +36,7 @@ from fannulavo import (
     Session,
     SessionClosed,
     Store,
+    ToolEnded,
     TurnCauses,
     Unread,
     UpdateCost,
@@ -45,6 +46,7 @@ from fannulavo import (
     write_report,
 )
 from model import answer
+from modelled.limits import MOST_WORKERS
 from talking import WORKERS, drawn_asks, drawn_job
 from talks import Ask
 
@@ -286,8 +288,11 @@ class Calls(unittest.TestCase):
             self.assertEqual(session.apply(EDIT).run, 2)
 
     def test_workers(self) -> None:
-        for workers in (0, 17):
-            self.assertRaises(ValueError, Session, fake("heat"), HEAT, workers)
+        for workers in (0, MOST_WORKERS + 1):
+            with self.assertRaises(ToolEnded) as raised:
+                Session(fake("heat"), HEAT, workers)
+            self.assertEqual(raised.exception.status, 2)
+            self.assertIn("--workers", raised.exception.errors)
 
     def test_a_closed_session(self) -> None:
         session = Session(fake("heat"), HEAT)

@@ -1,6 +1,7 @@
 //! What an update costs.
 
 ghost use Rattle.std.specs.Prelude.{◌≡◌, ℕ, ◌+◌, ◌<◌, ◌≤◌, ◌^◌, [], IfOk, OnOk, false, length, slice_index_or, slice_range};
+ghost use Rattle.bsp_model.specs.Limits.{most_cost, most_work};
 ghost use Rattle.bsp_deliver.specs.Condition.{AreDeliverable};
 ghost use Rattle.bsp_run.specs.Supersteps.{supersteps_of, superstep_at};
 ghost use Rattle.bsp_incr.specs.Exact.{AreInOrder};
@@ -50,7 +51,7 @@ fn end_of(places: &[Place], from: usize, step: u64) -> usize
 
 fn work_of(outcomes: &Outcomes, places: &[Place]) -> u64
     ensures value { result ≡ work_of (processes_of places.now) outcomes.now }
-    ensures small { result < 2 ^ 32 }
+    ensures small { result ≤ most_work }
 {
     let mut most = 0;
     for place in places {
@@ -82,7 +83,7 @@ fn row_again(g: u64, l: u64, outcomes: &Outcomes, turned: &[Place], delivered: &
     requires small_l { l ≤ HIGHEST_PRICE }
     requires deliverable { AreDeliverable outcomes.now }
     ensures value { result ≡ row_again g l (processes_of turned.now) (processes_of delivered.now) outcomes.now }
-    ensures small { result.cost < 2 ^ 50 }
+    ensures small { result.cost ≤ most_cost }
 {
     let work = work_of(outcomes, turned);
     if delivered.is_empty() {
@@ -108,11 +109,11 @@ fn add_row(
     delivered: &[Place],
 ) -> Result<(), OutOfMemory>
     requires known { step < length (supersteps_of run.now) }
-    requires room { cost.old.total < 2 ^ 63 }
+    requires room { cost.old.total + most_cost < 2 ^ 64 }
     ensures rows { OnOk result (cost.new ≡ with_rows cost.old
         (row_if run.now.g run.now.l step (processes_of turned.now) (processes_of delivered.now)
         (superstep_at (supersteps_of run.now) step).outcomes)) }
-    ensures small { OnOk result (cost.new.total < cost.old.total + 2 ^ 50) }
+    ensures small { OnOk result (cost.new.total ≤ cost.old.total + most_cost) }
 {
     if turned.is_empty() && delivered.is_empty() {
         return Ok(());

@@ -6,7 +6,7 @@ use Rattle.std.proofs.lemmas.Bool.{cases_lt}
 use Rattle.std.proofs.lemmas.List.{append-nil, drop_all, length-take}
 use Rattle.std.proofs.lemmas.List.FromFn.{get_or-map-range_with_len, length-map-range_with_len}
 use Rattle.std.proofs.lemmas.List.Folds.{drop_split, flat_map-map}
-use Rattle.bsp_model.specs.Limits.{most_line_words}
+use Rattle.bsp_model.specs.Limits.{most_line_words, most_lines}
 use Rattle.bsp_collectives.specs.Halves.{block, block_size, lines}
 
 -- two functions that agree on the numbers
@@ -87,7 +87,7 @@ lines-joined words =
     ∙ blocks-split words size 0 number ∙ ap (λ j. drop j words) start
 
 -- There are not too many, where the words fit,
-pub lines-few : (words : List ℕ) → length words ≤ 64 * most_line_words → length (lines words) ≤ 64
+pub lines-few : (words : List ℕ) → length words ≤ most_lines * most_line_words → length (lines words) ≤ most_lines
 lines-few words fits =
     let count : length (lines words) ≡ block_size (length words) most_line_words = length-map-range_with_len (block words most_line_words) 0 (block_size (length words) most_line_words) in
     omega (arith, count, div-add-mod (length words + (most_line_words - 1)) most_line_words)

@@ -1,11 +1,12 @@
 -- What the sums hold after transfers, and that they do not overflow.
-use Rattle.std.proofs.Common.{◌≡◌, ℕ, suc, ◌+◌, ◌*◌, ◌^◌, ◌<◌, ◌≤◌, ◌==◌, ◌&&◌, Bool, true, false, cond, not, List, [], ◌∷◌, ◌++◌, map, take, filter, length, fold, sum_by, replicate, All, refl, sym, ◌∙◌, ap, arith, get_or, subst, inl, inr, append_assoc, append-nil}
+use Rattle.std.proofs.Common.{◌≡◌, ℕ, suc, ◌+◌, ◌*◌, ◌<◌, ◌≤◌, ◌==◌, ◌&&◌, Bool, true, false, cond, not, List, [], ◌∷◌, ◌++◌, map, take, filter, length, fold, sum_by, replicate, All, refl, sym, ◌∙◌, ap, arith, get_or, subst, inl, inr, append_assoc, append-nil}
 use Rattle.std.proofs.lemmas.Bool.{eq-eqb, ne_eqb, cases_eq, cases_lt}
 use Rattle.std.proofs.lemmas.List.{length-set, set_past, get_or-set_same, get_or-set_other, get_or-replicate, length-replicate, get_or-take, length-take-le, take_more, map-append, length-map, get_or-map}
 use Rattle.std.proofs.lemmas.List.Elements.{All-set, All-map, All-tail, All-head, All-replicate}
 use Rattle.std.proofs.lemmas.List.Sums.{sum_by-cons}
 use Rattle.std.proofs.lemmas.List.FromFn.{fill_by_all}
 use Rattle.std.proofs.lemmas.Grind.{common_steps, fold-append}
+use Rattle.bsp_model.specs.Limits.{most_h, most_memory_words, most_processes, most_request_words}
 use Rattle.bsp_model.specs.declared.request.Put.{Put}
 use Rattle.bsp_model.specs.declared.request.Get.{Get}
 use Rattle.bsp_step.specs.OutcomeParts.{OutcomeParts, IsShortSend, outcome_of}
@@ -27,16 +28,16 @@ counted_more w f s now rs i r l e h =
 -- less room is room
 pub less_room : (s : Sums) (m n : ℕ) → m ≤ n → HasRoom s n → HasRoom s m
 less_room s m n l h = record {
-  sent = λ k d i. let e : get_or s.sent k d + 4112 * n < 2 ^ 29 = h.sent k d i in omega arith;
-  received = λ k d i. let e : get_or s.received k d + 4112 * n < 2 ^ 29 = h.received k d i in omega arith;
+  sent = λ k d i. let e : get_or s.sent k d + most_request_words * n ≤ most_h = h.sent k d i in omega arith;
+  received = λ k d i. let e : get_or s.received k d + most_request_words * n ≤ most_h = h.received k d i in omega arith;
 }
 
-raised_room : (xs : List ℕ) (p k m : ℕ) → k ≤ 4112 → All (λ n. n + 4112 * suc m < 2 ^ 29) xs → All (λ n. n + 4112 * m < 2 ^ 29) (raised xs p k)
+raised_room : (xs : List ℕ) (p k m : ℕ) → k ≤ most_request_words → All (λ n. n + most_request_words * suc m ≤ most_h) xs → All (λ n. n + most_request_words * m ≤ most_h) (raised xs p k)
 raised_room xs p k m l h =
-    let P : ℕ → Type 0 = λ n. n + 4112 * m < 2 ^ 29 in
-    let old : All P xs = λ i d j. let e : get_or xs i d + 4112 * suc m < 2 ^ 29 = h i d j in omega arith in
+    let P : ℕ → Type 0 = λ n. n + most_request_words * m ≤ most_h in
+    let old : All P xs = λ i d j. let e : get_or xs i d + most_request_words * suc m ≤ most_h = h i d j in omega arith in
     elim (cases_lt p (length xs)) [
-      | inl w ↦ All-set P xs p (get_or xs p 0 + k) (let e : get_or xs p 0 + 4112 * suc m < 2 ^ 29 = h p 0 w in omega arith) old
+      | inl w ↦ All-set P xs p (get_or xs p 0 + k) (let e : get_or xs p 0 + most_request_words * suc m ≤ most_h = h p 0 w in omega arith) old
       | inr w ↦ subst (All P) (sym (set_past xs p (get_or xs p 0 + k) w)) old
     ]
 
@@ -55,10 +56,10 @@ room_after w s [] n small h = less_room s n (0 + n) (omega arith) h
 room_after w s (t ∷ ts) n small h =
     room_after w (counted_to w s t) ts n (All-tail IsSmall t ts small) (counted_to_room w s t (length ts + n) (All-head IsSmall t ts small) (less_room s (suc (length ts + n)) (suc (length ts) + n) (omega arith) h))
 
-pub no_words_room : (n : ℕ) → 4112 * n < 2 ^ 29 → HasRoom no_words n
+pub no_words_room : (n : ℕ) → most_request_words * n ≤ most_h → HasRoom no_words n
 no_words_room n h =
-    let P : ℕ → Type 0 = λ k. k + 4112 * n < 2 ^ 29 in
-    let zeros : All P (replicate 64 0) = All-replicate P 64 0 (omega arith) in
+    let P : ℕ → Type 0 = λ k. k + most_request_words * n ≤ most_h in
+    let zeros : All P (replicate most_processes 0) = All-replicate P most_processes 0 (omega arith) in
     record { sent = zeros; received = zeros }
 
 -- a sum after one transfer more
@@ -133,19 +134,19 @@ length_received_all : (s : Sums) (ts : List Transfer) → length (fold counted s
 length_received_all s [] = refl
 length_received_all s (t ∷ ts) = length_received_all (counted s t) ts ∙ length_received s t
 
-pub sent_below : (ts : List Transfer) (n : ℕ) → n ≤ 64 → take n (fold counted no_words ts).sent ≡ each_below n (count_sent ts)
+pub sent_below : (ts : List Transfer) (n : ℕ) → n ≤ most_processes → take n (fold counted no_words ts).sent ≡ each_below n (count_sent ts)
 sent_below ts n h =
     let xs = (fold counted no_words ts).sent in
-    let long : length xs ≡ 64 = length_sent_all no_words ts in
+    let long : length xs ≡ most_processes = length_sent_all no_words ts in
     fill_by_all (count_sent ts) (take n xs) n 0 (length-take-le n xs (omega arith))
-    (λ k l. get_or-take n xs k 0 l ∙ sent_all no_words ts k (omega (arith, length-replicate {A = ℕ} 64 0)) ∙ omega (arith, get_or-replicate {A = ℕ} 64 k 0 0 (omega arith)))
+    (λ k l. get_or-take n xs k 0 l ∙ sent_all no_words ts k (omega (arith, length-replicate {A = ℕ} most_processes 0)) ∙ omega (arith, get_or-replicate {A = ℕ} most_processes k 0 0 (omega arith)))
 
-pub received_below : (ts : List Transfer) (n : ℕ) → n ≤ 64 → take n (fold counted no_words ts).received ≡ each_below n (count_received ts)
+pub received_below : (ts : List Transfer) (n : ℕ) → n ≤ most_processes → take n (fold counted no_words ts).received ≡ each_below n (count_received ts)
 received_below ts n h =
     let xs = (fold counted no_words ts).received in
-    let long : length xs ≡ 64 = length_received_all no_words ts in
+    let long : length xs ≡ most_processes = length_received_all no_words ts in
     fill_by_all (count_received ts) (take n xs) n 0 (length-take-le n xs (omega arith))
-    (λ k l. get_or-take n xs k 0 l ∙ received_all no_words ts k (omega (arith, length-replicate {A = ℕ} 64 0)) ∙ omega (arith, get_or-replicate {A = ℕ} 64 k 0 0 (omega arith)))
+    (λ k l. get_or-take n xs k 0 l ∙ received_all no_words ts k (omega (arith, length-replicate {A = ℕ} most_processes 0)) ∙ omega (arith, get_or-replicate {A = ℕ} most_processes k 0 0 (omega arith)))
 
 -- one process more
 transfers_from-append : (n m : ℕ) (os : List OutcomeParts) (o : OutcomeParts) → m ≡ n + length os → transfers_from n (os ++ o ∷ []) ≡ transfers_from n os ++ transfers_of m o
@@ -170,10 +171,10 @@ pub room_at : {R : Type 0} (w : ℕ → Bool) (f : R → Transfer) (xs : List R)
 room_at w f xs s after m n e small l h = subst (λ (x : Sums). HasRoom x n) (sym e) (room_next w f xs s m n small l h)
 
 -- the requests of a process are small
-size_at : (os : List OutcomeParts) (q : ℕ) → AreDeliverable os → q < length (sizes_of os) → get_or (sizes_of os) q 0 ≤ 4096
+size_at : (os : List OutcomeParts) (q : ℕ) → AreDeliverable os → q < length (sizes_of os) → get_or (sizes_of os) q 0 ≤ most_memory_words
 size_at os q h l =
     let known : q < length os = omega (arith, length-sizes_of os) in
-    subst (λ n. n ≤ 4096) (sym (get_or-map (λ (o : OutcomeParts). length o.memory) os q (outcome_of os q) 0 known)) (h.short q (outcome_of os q) known)
+    subst (λ n. n ≤ most_memory_words) (sym (get_or-map (λ (o : OutcomeParts). length o.memory) os q (outcome_of os q) 0 known)) (h.short q (outcome_of os q) known)
 
 pub small_puts : (os : List OutcomeParts) (p : ℕ) (o : OutcomeParts) → AreDeliverable os → p < length os → o ≡ get_or os p o → All (λ x. IsSmall (put_transfer p x)) o.puts
 small_puts os p o h l e =

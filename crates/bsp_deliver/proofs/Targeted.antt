@@ -3,6 +3,7 @@ use Rattle.std.proofs.Common.{◌≡◌, ℕ, ◌+◌, ◌≤◌, ◌==◌, ◌&
 use Rattle.std.proofs.lemmas.List.{map-append}
 use Rattle.std.proofs.lemmas.List.Elements.{filter-append}
 use Rattle.std.proofs.lemmas.List.Sums.{sum_by-cons, sum_by-append}
+use Rattle.bsp_model.specs.Limits.{most_processes}
 use Rattle.bsp_model.specs.declared.request.Put.{Put}
 use Rattle.bsp_model.specs.declared.request.Get.{Get}
 use Rattle.bsp_model.specs.declared.request.Send.{Send}
@@ -83,7 +84,7 @@ counted_to_all w s (t ∷ ts) =
     ]
 
 -- the largest sums are the h-relation
-pub most-is : (w : ℕ → Bool) (os : List OutcomeParts) (s : Sums) → length os ≤ 64 → s ≡ fold (counted_to w) no_words (transfers_from 0 os)
+pub most-is : (w : ℕ → Bool) (os : List OutcomeParts) (s : Sums) → length os ≤ most_processes → s ≡ fold (counted_to w) no_words (transfers_from 0 os)
     → max (largest (take (length os) s.sent)) (largest (take (length os) s.received)) ≡ h_relation_to w os
 unfolding h_relation_to
 most-is w os s few e =

@@ -1,7 +1,8 @@
 //! The h-relation of a superstep.
 
-ghost use Rattle.std.specs.Prelude.{◌≡◌, ℕ, ◌+◌, ◌^◌, ◌<◌, ◌≤◌, length, map, fold, take, max, false, All, slice_index_or};
+ghost use Rattle.std.specs.Prelude.{◌≡◌, ℕ, ◌+◌, ◌<◌, ◌≤◌, length, map, fold, take, max, false, All, slice_index_or};
 ghost use Rattle.std.specs.Bool.{OnTrue};
+ghost use Rattle.bsp_model.specs.Limits.{most_h};
 ghost use Rattle.bsp_step.specs.OutcomeParts.{outcome_of};
 ghost use Rattle.bsp_deliver.specs.Inside.Puts.{HasPutsAlone};
 ghost use Rattle.bsp_deliver.specs.Condition.{AreDeliverable};
@@ -147,7 +148,7 @@ impl Sums {
         requires few { nprocs ≤ MOST_PROCESSES }
         requires room { HasRoom self.now 0 }
         ensures value { result ≡ max (largest (take nprocs self.now.sent)) (largest (take nprocs self.now.received)) }
-        ensures small { result < 2 ^ 29 }
+        ensures small { result ≤ most_h }
     {
         let sent = largest(&self.sent[..nprocs]);
         let received = largest(&self.received[..nprocs]);
@@ -172,7 +173,7 @@ fn largest(numbers: &[u64]) -> u64
 pub fn h_of(outcomes: &Outcomes) -> u64
     requires { AreDeliverable outcomes.now }
     ensures value { result ≡ h_relation outcomes.now }
-    ensures small { result < 2 ^ 29 }
+    ensures small { result ≤ most_h }
 {
     let sums = Sums::of(&Targets::Everyone, outcomes);
     sums.most(outcomes.len())
@@ -183,7 +184,7 @@ pub fn h_of(outcomes: &Outcomes) -> u64
 pub fn h_to(outcomes: &Outcomes, targets: &ProcessSet) -> u64
     requires { AreDeliverable outcomes.now }
     ensures value { result ≡ h_relation_to (λ p. slice_index_or targets.now p false) outcomes.now }
-    ensures small { result < 2 ^ 29 }
+    ensures small { result ≤ most_h }
 {
     let sums = Sums::of(&Targets::Members(*targets), outcomes);
     sums.most(outcomes.len())

@@ -1,6 +1,7 @@
 -- What is answered to a document, by its report. `report` is what a document's bytes have as theirs.
 use Rattle.std.proofs.Common.{◌≡◌, ◌<◌, ℕ, List, length, Option, None, Some, Result, Ok, Err, sym, ap, subst, inl, inr}
 use Rattle.std.specs.Prelude.{IfSome, IsErrAnd}
+use Rattle.bsp_model.specs.Limits.{most_document_bytes}
 use Rattle.bsp_engine.specs.declared.errors.JobError.{JobError}
 use Rattle.bsp_engine.specs.declared.errors.JobError.TheVariants.{Fault, OutOfMemory}
 use Rattle.bsp_engine.specs.declared.errors.EngineError.{EngineError}
@@ -30,12 +31,12 @@ failed : (report : List ℕ → Result (List ℕ) EngineError) (source : Option 
 failed report None old new answer failure = tt
 failed report (Some all) old new answer failure = fails (report all) old new answer failure
 
-answered_long : (report : List ℕ → Result (List ℕ) EngineError) (too_long : (all : List ℕ) → 16777216 < length all → report all ≡ Err TooLong) (source : Option (List ℕ)) (old new : Option (List ℕ)) (answer : Result (Unit {0}) EngineError) → IfSome source (λ all. 16777216 < length all) → answer ≡ Err TooLong → IfSome source (λ all. Answers (report all) old new answer)
+answered_long : (report : List ℕ → Result (List ℕ) EngineError) (too_long : (all : List ℕ) → most_document_bytes < length all → report all ≡ Err TooLong) (source : Option (List ℕ)) (old new : Option (List ℕ)) (answer : Result (Unit {0}) EngineError) → IfSome source (λ all. most_document_bytes < length all) → answer ≡ Err TooLong → IfSome source (λ all. Answers (report all) old new answer)
 answered_long report too_long None old new answer long is = tt
 answered_long report too_long (Some all) old new answer long is = answered (report all) (Err TooLong) old new answer (too_long all long) (inl is)
 
 -- where it was not read
-pub answered_read : {X : Type 0} (report : List ℕ → Result (List ℕ) EngineError) (too_long : (all : List ℕ) → 16777216 < length all → report all ≡ Err TooLong) (source : Option (List ℕ)) (r : Result X EngineError) (e : EngineError) (old new : Option (List ℕ)) (answer : Result (Unit {0}) EngineError) → r ≡ Err e → IsUnread e → (r ≡ Err TooLong → IfSome source (λ all. 16777216 < length all)) → IsErrAnd answer (λ x. x ≡ e) → IfSome source (λ all. Answers (report all) old new answer)
+pub answered_read : {X : Type 0} (report : List ℕ → Result (List ℕ) EngineError) (too_long : (all : List ℕ) → most_document_bytes < length all → report all ≡ Err TooLong) (source : Option (List ℕ)) (r : Result X EngineError) (e : EngineError) (old new : Option (List ℕ)) (answer : Result (Unit {0}) EngineError) → r ≡ Err e → IsUnread e → (r ≡ Err TooLong → IfSome source (λ all. most_document_bytes < length all)) → IsErrAnd answer (λ x. x ≡ e) → IfSome source (λ all. Answers (report all) old new answer)
 answered_read report too_long source r Read old new answer was unread long made = failed report source old new answer (inl (err_of answer Read made))
 answered_read report too_long source r TooLong old new answer was unread long made = answered_long report too_long source old new answer (long was) (err_of answer TooLong made)
 answered_read report too_long source r NoMemory old new answer was unread long made = failed report source old new answer (inr (err_of answer NoMemory made))

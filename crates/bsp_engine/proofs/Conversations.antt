@@ -3,6 +3,7 @@ use Rattle.std.proofs.Common.{◌≡◌, ℕ, ◌+◌, ◌<◌, ◌≤◌, nat_l
 use Rattle.std.proofs.lemmas.Bool.Decides.{nat_tests}
 use Rattle.std.specs.Prelude.{◌==◌, IfErr, IsErrAnd, OnErr, OnOk}
 use Rattle.std.proofs.lemmas.List.{append-nil}
+use Rattle.bsp_model.specs.Limits.{most_document_bytes}
 use Rattle.bsp_engine.specs.declared.errors.EngineError.{EngineError}
 use Rattle.bsp_engine.specs.declared.errors.EngineError.TheVariants.{Read, Write, OutOfMemory}
 use Rattle.bsp_engine.specs.Talk.{Event, failed, heard, Fails, Goes, HasFailed, HasNotWritten, heard_in, said_in, whole_lines, unless_empty, all_lines, Due, Talks, Breaks, IsBeginning, IsDueForSome, TalksUntil}
@@ -339,13 +340,13 @@ pub unattended_byte : (due : Due) (begun : List ℕ) (b : ℕ) (old new : Option
 unattended_byte due begun b old new error e refused silent = let no : (b == 10) ≡ false = grind (arith, nat_tests) in rw no (refused, silent)
 
 -- of a line that is too long already no more is kept
-pub kept_none : (begun : List ℕ) (b : ℕ) → 16777216 < length begun → kept begun b ≡ begun
+pub kept_none : (begun : List ℕ) (b : ℕ) → most_document_bytes < length begun → kept begun b ≡ begun
 unfolding kept
-kept_none begun b long = let no : nat_lt 16777216 (length begun) ≡ true = grind (arith, nat_tests) in rw no refl
+kept_none begun b long = let no : nat_lt most_document_bytes (length begun) ≡ true = grind (arith, nat_tests) in rw no refl
 
-pub kept_one : (begun : List ℕ) (b : ℕ) → length begun ≤ 16777216 → kept begun b ≡ begun ++ b ∷ []
+pub kept_one : (begun : List ℕ) (b : ℕ) → length begun ≤ most_document_bytes → kept begun b ≡ begun ++ b ∷ []
 unfolding kept
-kept_one begun b short = let no : nat_lt 16777216 (length begun) ≡ false = grind (arith, nat_tests) in rw no refl
+kept_one begun b short = let no : nat_lt most_document_bytes (length begun) ≡ false = grind (arith, nat_tests) in rw no refl
 
 -- an error that was handed on
 pub handed_on : {A : Type 0} (r : Result A EngineError) (e : EngineError) (P : EngineError → Type 0) → IsErrAnd r (λ y. y ≡ e) → P e → IfErr r P

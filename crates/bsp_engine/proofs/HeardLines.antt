@@ -4,7 +4,7 @@ use Rattle.std.specs.Prelude.{◌==◌, if◌then◌else◌}
 use Rattle.std.proofs.lemmas.Bool.{cases_lt}
 use Rattle.std.proofs.lemmas.Bool.Decides.{nat_tests}
 use Rattle.std.proofs.lemmas.List.{append-nil, length-take, length-append, take_all, take-append-le, map-append}
-use Rattle.bsp_engine.specs.Limits.{most_document_bytes}
+use Rattle.bsp_model.specs.Limits.{most_document_bytes}
 use Rattle.bsp_engine.specs.Talk.{begun_with, split, cut, whole_lines, all_lines, unless_empty}
 use Rattle.bsp_engine.specs.Inside.Talk.{kept, lines_from, rest_from}
 

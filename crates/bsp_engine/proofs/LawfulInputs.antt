@@ -5,6 +5,7 @@ use Rattle.std.proofs.lemmas.Bool.{and_parts}
 use Rattle.std.proofs.lemmas.Bool.Decides.{nat_tests}
 use Rattle.std.specs.Prelude.{Option, None, Some, pos, negsuc, ◌==◌, not, nat_le, nat_lt}
 use Rattle.std.specs.List.{list_all}
+use Rattle.bsp_model.specs.Limits.{highest_price, most_arguments, most_memory_words, most_processes, most_supersteps}
 use Rattle.toml.specs.Data.{Data, Members, get_member}
 use Rattle.bsp_model.specs.declared.fault.InputFault.{InputFault}
 use Rattle.bsp_model.specs.declared.fault.InputFault.TheVariants.{NoProcess, TooMany, LengthsDiffer, MemoryTooLong, ArgsTooLong, BadLimit, BadPrice}
@@ -66,12 +67,12 @@ between low high None h = let no : ⊥ = cc in absurd no
 between low high (Some (pos n)) h = h
 between low high (Some (negsuc n)) h = let no : ⊥ = cc in absurd no
 
-price : (z : Option ℤ) → is_between 0 1000000 z ≡ true → nat_le (natural_of z) 1000000 ≡ true
-price z h = (and_parts (nat_le 0 (natural_of z)) (nat_le (natural_of z) 1000000) (between 0 1000000 z h)).1
+price : (z : Option ℤ) → is_between 0 highest_price z ≡ true → nat_le (natural_of z) highest_price ≡ true
+price z h = (and_parts (nat_le 0 (natural_of z)) (nat_le (natural_of z) highest_price) (between 0 highest_price z h)).1
 
-prices : (g l : Option ℤ) → (is_between 0 1000000 g && is_between 0 1000000 l) ≡ true → (nat_le (natural_of g) 1000000 && nat_le (natural_of l) 1000000) ≡ true
+prices : (g l : Option ℤ) → (is_between 0 highest_price g && is_between 0 highest_price l) ≡ true → (nat_le (natural_of g) highest_price && nat_le (natural_of l) highest_price) ≡ true
 prices g l h =
-    let both = and_parts (is_between 0 1000000 g) (is_between 0 1000000 l) h in
+    let both = and_parts (is_between 0 highest_price g) (is_between 0 highest_price l) h in
     rw (price g both.0) (price l both.1)
 
 pub lawful_described : (t : Members) → described_fault t ≡ None → input_fault (input_of t) ≡ None
@@ -80,7 +81,7 @@ lawful_described t none =
     let ms = map row_of ds in
     let o = get_member (codes "args") t in
     let many : length ds ≡ length ms = sym (length-map ds row_of) in
-    faultless _ _ _ _ _ _ _ _ _ _ _ _ _ _ (ap (λ (n : ℕ). n == 0) many) (ap (λ (n : ℕ). nat_lt 64 n) many)
+    faultless _ _ _ _ _ _ _ _ _ _ _ _ _ _ (ap (λ (n : ℕ). n == 0) many) (ap (λ (n : ℕ). nat_lt most_processes n) many)
     (ap (λ (n : ℕ). count_of_args o n == n) many ∙ ap (λ (n : ℕ). n == length ms) (sym (length-args o ms)))
-    (short_rows 4096 ds) (short_args 64 o ms) (between 1 1024 (integer_at (codes "limit") t))
+    (short_rows most_memory_words ds) (short_args most_arguments o ms) (between 1 most_supersteps (integer_at (codes "limit") t))
     (prices (integer_at (codes "g") t) (integer_at (codes "l") t)) none

@@ -10,6 +10,7 @@ use Rattle.std.proofs.lemmas.Str.{IsUtf8-append, IsUtf8-from_ascii, IsUtf8-nil}
 use Rattle.std.proofs.lemmas.Fmt.{IsAscii-decimal}
 use Rattle.std.proofs.lemmas.Str.Ascii.{IsAscii-cons, IsAscii-nil}
 use Rattle.std.specs.Str.{IsAscii}
+use Rattle.bsp_model.specs.Limits.{highest_price, most_supersteps}
 use Rattle.toml_parser.specs.Lexical.{skip_blank}
 use Rattle.toml_writer.specs.Text.{key_text}
 use Rattle.toml.specs.Data.{integer, Members, depth, has_valid_dates, members_depth, get_member}
@@ -227,14 +228,14 @@ map_none : (o : Option Node) → option_map close_node o ≡ None → o ≡ None
 map_none None e = refl
 map_none (Some x) e = absurd (none-some _ (sym e))
 
-small : (n : ℕ) → n ≤ 1000000 → fits n ≡ true
+small : (n : ℕ) → n < 2 ^ 63 → fits n ≡ true
 small n h = grind (arith, nat_tests)
 
 bounds : (i : Input) → input_fault i ≡ None → (fits i.limit ≡ true) × (fits i.g ≡ true) × (fits i.l ≡ true)
 bounds i none =
     let (supersteps, prices) = last_two _ _ _ _ _ _ _ none in
-    let limit = (and_parts (nat_le 1 i.limit) (nat_le i.limit 1024) supersteps).1 in
-    let (g, l) = and_parts (nat_le i.g 1000000) (nat_le i.l 1000000) prices in
+    let limit = (and_parts (nat_le 1 i.limit) (nat_le i.limit most_supersteps) supersteps).1 in
+    let (g, l) = and_parts (nat_le i.g highest_price) (nat_le i.l highest_price) prices in
     (small i.limit (grind (arith, nat_tests)), small i.g (grind (arith, nat_tests)), small i.l (grind (arith, nat_tests)))
 
 module _ {P : Type 0} (meaning : Meaning P) (reads : ReadsOwnKeys meaning) (apart : HasKeysApart meaning) where

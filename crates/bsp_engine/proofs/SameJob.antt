@@ -5,6 +5,7 @@ use Rattle.std.proofs.lemmas.Bool.{cases_Bool, and_parts, false≢true}
 use Rattle.std.proofs.lemmas.Bool.Decides.{nat_tests}
 use Rattle.std.proofs.lemmas.List.{length-map}
 use Rattle.std.proofs.lemmas.Option.{none-some}
+use Rattle.bsp_model.specs.Limits.{highest_price, most_arguments, most_memory_words, most_processes}
 use Rattle.toml.specs.Data.{Data, integer, array, Members, no_members, member, get_member, same_key}
 use Rattle.toml.specs.View.{items_of}
 use Rattle.toml.specs.Tables.{Node, Nodes, no_nodes, node, get_node, close}
@@ -178,9 +179,9 @@ pub record HasInput (t : Members) (i : Input) : Type 0 where
   pub args : get_member (codes "args") t ≡ Some (rows_data i.args)
   pub batches : get_member (codes "batches") t ≡ None
 
-both_prices : (g l : ℕ) → (nat_le g 1000000 && nat_le l 1000000) ≡ true → ((nat_le 0 g && nat_le g 1000000) && (nat_le 0 l && nat_le l 1000000)) ≡ true
+both_prices : (g l : ℕ) → (nat_le g highest_price && nat_le l highest_price) ≡ true → ((nat_le 0 g && nat_le g highest_price) && (nat_le 0 l && nat_le l highest_price)) ≡ true
 both_prices g l h =
-    let both = and_parts (nat_le g 1000000) (nat_le l 1000000) h in
+    let both = and_parts (nat_le g highest_price) (nat_le l highest_price) h in
     let zero_g : nat_le 0 g ≡ true = grind (arith, nat_tests) in
     let zero_l : nat_le 0 l ≡ true = grind (arith, nat_tests) in
     rw (zero_g, zero_l, both.0, both.1) refl
@@ -192,9 +193,9 @@ described t i h none =
     let count : length mems ≡ length ds = sym (length-map mems words_data) in
     let args_count : length i.args ≡ length (map words_data i.args) = sym (length-map i.args words_data) in
     rw (h.memory, h.args, h.limit, h.g, h.l, elements-rows mems, elements-rows i.args)
-    (faultless _ _ _ _ _ _ _ _ _ _ _ _ _ _ (ap (λ (n : ℕ). n == 0) count) (ap (λ (n : ℕ). nat_lt 64 n) count)
+    (faultless _ _ _ _ _ _ _ _ _ _ _ _ _ _ (ap (λ (n : ℕ). n == 0) count) (ap (λ (n : ℕ). nat_lt most_processes n) count)
     (ap (λ (n : ℕ). n == length mems) args_count ∙ ap (λ (n : ℕ). length (map words_data i.args) == n) count)
-    (short_rows 4096 mems) (short_rows 64 i.args) (λ f. f) (both_prices i.g i.l) none)
+    (short_rows most_memory_words mems) (short_rows most_arguments i.args) (λ f. f) (both_prices i.g i.l) none)
 
 module _ {P : Type 0} (meaning : Meaning P) (reads : ReadsOwnKeys meaning) where
   pub same_job : (t ft : Members) (i : Input) (p : P) → AgreeOnKeys meaning t ft → HasInput t i → Accepts meaning ft p → has_known_keys meaning t ≡ true → input_fault i ≡ None

@@ -2,6 +2,7 @@
 use Rattle.std.proofs.Common.{◌≡◌, ◌<◌, ◌≤◌, ℕ, Bool, List, length, Option, None, Some, Result, Ok, Err, nat_lt, true, false, sym, ap, subst, inl, inr, arith}
 use Rattle.std.proofs.lemmas.Bool.Decides.{nat_tests}
 use Rattle.std.specs.Prelude.{IfSome, IsErrAnd, IsOkAnd}
+use Rattle.bsp_model.specs.Limits.{most_document_bytes}
 use Rattle.bsp_model.specs.declared.fault.End.{End}
 use Rattle.bsp_step.specs.ViewParts.{ViewParts}
 use Rattle.bsp_step.specs.Act.{Act}
@@ -35,11 +36,11 @@ no_job_is_no_write (Fault f) answer made is = let other : answer ≡ Err (Refuse
 no_job_is_no_write OutOfMemory answer made is = let other = err_of answer (job_error_of OutOfMemory) made in cc
 
 module _ {P : Type 0} (meaning : Meaning P) (acts : P → ViewParts → List Act) (ending : P → ViewParts → End) (looks : P → ViewParts → ℕ → Bool) (detail : Detail) where
-  admitted_if : (bytes : List ℕ) (r : Result (Job P) JobFault) → length bytes ≤ 16777216 → job_of meaning bytes ≡ r → admitted meaning bytes ≡ or_refused r
-  admitted_if bytes r short is = let fits : nat_lt 16777216 (length bytes) ≡ false = grind (arith, nat_tests) in rw fits (ap or_refused is)
+  admitted_if : (bytes : List ℕ) (r : Result (Job P) JobFault) → length bytes ≤ most_document_bytes → job_of meaning bytes ≡ r → admitted meaning bytes ≡ or_refused r
+  admitted_if bytes r short is = let fits : nat_lt most_document_bytes (length bytes) ≡ false = grind (arith, nat_tests) in rw fits (ap or_refused is)
 
-  admitted_long : (bytes : List ℕ) → 16777216 < length bytes → admitted meaning bytes ≡ Err TooLong
-  admitted_long bytes h = let long : nat_lt 16777216 (length bytes) ≡ true = grind (arith, nat_tests) in rw long
+  admitted_long : (bytes : List ℕ) → most_document_bytes < length bytes → admitted meaning bytes ≡ Err TooLong
+  admitted_long bytes h = let long : nat_lt most_document_bytes (length bytes) ≡ true = grind (arith, nat_tests) in rw long
 
   fails : (bytes : List ℕ) (r : Result (Job P) EngineError) (old new : Option (List Event)) (silent : Type 0) (answer : Result (Unit {0}) EngineError) → IsFailure answer → silent → FollowsIf acts ending looks detail bytes r old new silent answer
   fails bytes (Ok job) old new silent answer failure nothing = inl (failure, nothing)
@@ -50,7 +51,7 @@ module _ {P : Type 0} (meaning : Meaning P) (acts : P → ViewParts → List Act
       subst (λ (r : Result (Job P) EngineError). FollowsIf acts ending looks detail bytes r old new silent answer) (sym none) (inl is, nothing)
 
   -- where the bytes are no job, or memory was refused
-  pub follows_no_job : (bytes : List ℕ) (e : JobError) (old new : Option (List Event)) (silent : Type 0) (answer : Result (Unit {0}) EngineError) → length bytes ≤ 16777216
+  pub follows_no_job : (bytes : List ℕ) (e : JobError) (old new : Option (List Event)) (silent : Type 0) (answer : Result (Unit {0}) EngineError) → length bytes ≤ most_document_bytes
       → IsErrAnd answer (λ x. x ≡ job_error_of e) → IfFault e (λ f. job_of meaning bytes ≡ Err f) → silent → Follows meaning acts ending looks detail bytes old new silent answer
   follows_no_job bytes (Fault f) old new silent answer short made own nothing = refused bytes (Refused f) old new silent answer (admitted_if bytes (Err f) short own) (err_of answer (Refused f) made) nothing
   follows_no_job bytes OutOfMemory old new silent answer short made own nothing =
@@ -63,13 +64,13 @@ module _ {P : Type 0} (meaning : Meaning P) (acts : P → ViewParts → List Act
       inr (h.0, h.1, (live_replying acts ending looks, are_live_replies acts ending looks, subst (λ (d : Due). TalksUntil d old new answer) h.2 talks))
 
   -- where its session was opened
-  pub follows_job : (bytes : List ℕ) (due : Due) (old new : Option (List Event)) (silent : Type 0) (answer : Result (Unit {0}) EngineError) → length bytes ≤ 16777216
+  pub follows_job : (bytes : List ℕ) (due : Due) (old new : Option (List Event)) (silent : Type 0) (answer : Result (Unit {0}) EngineError) → length bytes ≤ most_document_bytes
       → IsOkAnd (job_of meaning bytes) (λ job. WithOwnText bytes (λ own. due ≡ due_of acts ending (live_replying acts ending looks) detail own job)) → TalksUntil due old new answer → Follows meaning acts ending looks detail bytes old new silent answer
   follows_job bytes due old new silent answer short h talks =
       subst (λ (r : Result (Job P) EngineError). FollowsIf acts ending looks detail bytes r old new silent answer) (sym (admitted_if bytes (job_of meaning bytes) short (ap (λ b. job_of meaning b) (λ k. bytes))))
       (talked_if bytes (job_of meaning bytes) due old new silent answer h talks)
 
-  too_long : (source : Option (List ℕ)) (old new : Option (List Event)) (silent : Type 0) (answer : Result (Unit {0}) EngineError) → IfSome source (λ all. 16777216 < length all) → answer ≡ Err TooLong → silent → IfSome source (λ all. Follows meaning acts ending looks detail all old new silent answer)
+  too_long : (source : Option (List ℕ)) (old new : Option (List Event)) (silent : Type 0) (answer : Result (Unit {0}) EngineError) → IfSome source (λ all. most_document_bytes < length all) → answer ≡ Err TooLong → silent → IfSome source (λ all. Follows meaning acts ending looks detail all old new silent answer)
   too_long None old new silent answer long is nothing = tt
   too_long (Some all) old new silent answer long is nothing = refused all TooLong old new silent answer (admitted_long all long) is nothing
 
@@ -79,7 +80,7 @@ module _ {P : Type 0} (meaning : Meaning P) (acts : P → ViewParts → List Act
 
   -- where the document was not read
   pub follows_unread : {X : Type 0} (source : Option (List ℕ)) (r : Result X EngineError) (e : EngineError) (old new : Option (List Event)) (silent : Type 0) (answer : Result (Unit {0}) EngineError) → r ≡ Err e → IsUnread e
-      → (r ≡ Err TooLong → IfSome source (λ all. 16777216 < length all)) → IsErrAnd answer (λ x. x ≡ e) → silent → IfSome source (λ all. Follows meaning acts ending looks detail all old new silent answer)
+      → (r ≡ Err TooLong → IfSome source (λ all. most_document_bytes < length all)) → IsErrAnd answer (λ x. x ≡ e) → silent → IfSome source (λ all. Follows meaning acts ending looks detail all old new silent answer)
   follows_unread source r Read old new silent answer was of long made nothing = unread source old new silent answer (inl (err_of answer Read made)) nothing
   follows_unread source r TooLong old new silent answer was of long made nothing = too_long source old new silent answer (long was) (err_of answer TooLong made) nothing
   follows_unread source r NoMemory old new silent answer was of long made nothing = unread source old new silent answer (inr (err_of answer NoMemory made)) nothing

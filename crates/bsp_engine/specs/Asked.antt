@@ -7,7 +7,7 @@ use Rattle.bsp_incr.specs.declared.reply.Place.{Place}
 use Rattle.bsp_engine.specs.declared.asked.Asked.{Asked}
 use Rattle.bsp_engine.specs.declared.asked.Asked.TheVariants.{Batch, Undo, Nothing}
 use Rattle.bsp_engine.specs.declared.asked.Unread.TheVariants.{NotToml, WrongType, BadWord, TooLong}
-use Rattle.bsp_engine.specs.Limits.{most_document_bytes}
+use Rattle.bsp_model.specs.Limits.{most_document_bytes}
 use Rattle.bsp_engine.specs.Tree.{tree_of}
 use Rattle.bsp_engine.specs.Keys.{is_batch}
 use Rattle.bsp_engine.specs.Signs.{has_negative_edit}

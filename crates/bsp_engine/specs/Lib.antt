@@ -12,7 +12,6 @@ pub mod Followed
 pub mod Help
 pub mod JobOf
 pub mod Keys
-pub mod Limits
 pub mod Live
 pub mod Naming
 pub mod Places

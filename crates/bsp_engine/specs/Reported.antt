@@ -14,7 +14,7 @@ use Rattle.bsp_options.specs.declared.options.Detail.{Detail}
 use Rattle.bsp_engine.specs.Answer.{Answers}
 use Rattle.bsp_engine.specs.Catalogue.{Meaning}
 use Rattle.bsp_engine.specs.JobOf.{job_of}
-use Rattle.bsp_engine.specs.Limits.{most_document_bytes}
+use Rattle.bsp_model.specs.Limits.{most_document_bytes}
 use Rattle.bsp_engine.specs.Blocks.{text_of}
 use Rattle.bsp_engine.specs.Told.{ToldReply, told_of}
 

@@ -1,6 +1,6 @@
 -- What happens at a terminal, the lines that are heard there, and whole conversations (this profile).
 use Rattle.std.specs.Prelude.{◌≡◌, ◌≢◌, ◌⊎◌, ◌+◌, ℕ, ◌==◌, List, [], ◌∷◌, ◌++◌, map, take, Option, None, Some, Result, Ok, Err, ⊤, if◌then◌else◌}
-use Rattle.bsp_engine.specs.Limits.{most_document_bytes}
+use Rattle.bsp_model.specs.Limits.{most_document_bytes}
 use Rattle.bsp_engine.specs.declared.errors.EngineError.{EngineError}
 use Rattle.bsp_engine.specs.declared.errors.EngineError.TheVariants.{Read, Write, OutOfMemory}
 

@@ -7,10 +7,10 @@ ghost use Rattle.bsp_engine.specs.Asked.{asked_at, asked_of, asked_place, asking
 
 use crate::errors::JobError;
 use crate::jobs::{ArrayOf, EditForm, fits, has_negative_edit, read_each};
-use crate::limits::MOST_DOCUMENT_BYTES;
 use crate::tree::{elements, read_tree, value_at};
 use bsp_incr::{Batch, Place};
 use bsp_model::OutOfMemory;
+use bsp_model::limits::MOST_DOCUMENT_BYTES;
 use std::alloc::{AllocError, Global};
 use toml::Table;
 

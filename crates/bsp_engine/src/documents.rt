@@ -3,7 +3,7 @@
 ghost use Rattle.std.specs.Prelude.{◌≡◌, ◌≢◌, ◌<◌, ◌≤◌, ◌+◌, ◌-◌, ◌^◌, length, IfOk, OnOk, IfErr, IfSome, Ok, Err, ◌⊎◌};
 ghost use Rattle.std.specs.Io.KnownBytes.{IsAtEnd};
 ghost use Rattle.bsp_engine.specs.Flow.{TakesAtMost};
-ghost use Rattle.bsp_engine.specs.Limits.{most_document_bytes};
+ghost use Rattle.bsp_model.specs.Limits.{most_document_bytes};
 ghost use Rattle.bsp_engine.specs.Refusal.{IfFault};
 ghost use Rattle.bsp_engine.specs.Reported.{IsAnswered};
 ghost use Rattle.bsp_engine.specs.Inside.Report.{report_of};
@@ -19,6 +19,7 @@ use crate::jobs::read_job;
 use crate::terminal::Terminal;
 use bsp_crew::Workers;
 use bsp_gate::{Gate, let_go};
+use bsp_model::limits::MOST_WORKERS;
 use bsp_options::Options;
 use std::alloc::Global;
 use std::thread::Threads;
@@ -41,11 +42,11 @@ fn put_report_of<C: Catalogue, R: Threads + Sync, G: Gate>(
     Ok(put_report(workers, options.scratch, options.detail, job, text)?)
 }
 
-/// Reads a document to its end, runs its job by 1 to 16 workers, and writes the report: all of it is made before the first write.
+/// Reads a document to its end, runs its job by `options.workers` workers, and writes the report: all of it is made before the first write.
 ///
 /// From scratch the workers run each input from its start, and the report has no updates. With places each update tells its own, and with
 /// changes each block after the first only what is another than before.
-/// At most 16,777,217 bytes are taken from the reader, and more than 16,777,216 are `TooLong`. The document is left in `document`.
+/// More than `MOST_DOCUMENT_BYTES` bytes are `TooLong`, and at most one byte more is taken from the reader. The document is left in `document`.
 /// `Job` is answered where the bytes are no job, `Read` where a read failed, `Write` where a write failed or took no byte; then a beginning of
 /// the report went out. After every other error nothing was written.
 pub fn engine<C: Catalogue, R: Threads + Sync, S: Source, K: Sink, G: Gate>(
@@ -57,7 +58,7 @@ pub fn engine<C: Catalogue, R: Threads + Sync, S: Source, K: Sink, G: Gate>(
     document: &mut Vec<u8>,
     gate: &G,
 ) -> Result<(), EngineError>
-    requires workers { (0 < options.workers) × (options.workers ≤ 16) }
+    requires workers { (0 < options.workers) × (options.workers ≤ MOST_WORKERS) }
     requires source { S.failures reader.old < 2 ^ 64 - 1 }
     requires sink { K.failures writer.old < 2 ^ 64 - 1 }
 
@@ -93,10 +94,10 @@ pub fn engine<C: Catalogue, R: Threads + Sync, S: Source, K: Sink, G: Gate>(
 }
 
 /// Reads a document to its end, says its report and a line `ready`, and then answers each line that is heard with a block, until there are no more.
-/// From 1 to 16 workers share the work.
+/// `options.workers` workers share the work.
 ///
-/// The document is left in `document`. `Job` is answered where its bytes are no job, `TooLong` where they are more than 16,777,216, `Read` where a
-/// read failed, `Write` where a write failed or took no byte; then a beginning of what is due was said. After every other error whole blocks were.
+/// The document is left in `document`. `Job` is answered where its bytes are no job, `TooLong` where they are more than `MOST_DOCUMENT_BYTES`, `Read` where
+/// a read failed, `Write` where a write failed or took no byte; then a beginning of what is due was said. After every other error whole blocks were.
 pub fn follow<C: Catalogue, R: Threads + Sync, S: Source, T: Terminal, G: Gate>(
     rt: &R,
     alloc: Global,
@@ -106,7 +107,7 @@ pub fn follow<C: Catalogue, R: Threads + Sync, S: Source, T: Terminal, G: Gate>(
     document: &mut Vec<u8>,
     gate: &G,
 ) -> Result<(), EngineError>
-    requires workers { (0 < options.workers) × (options.workers ≤ 16) }
+    requires workers { (0 < options.workers) × (options.workers ≤ MOST_WORKERS) }
     requires source { S.failures source.old < 2 ^ 64 - 1 }
 
     // The job's report was said, and then a block for each line, before more was waited for; or this broke off. A document that has no job

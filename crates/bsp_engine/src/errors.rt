@@ -5,31 +5,42 @@ ghost use Rattle.bsp_engine.specs.declared.errors.JobError.TheVariants.{OutOfMem
 ghost use Rattle.bsp_engine.specs.Faults.{fault_line, exit_status};
 ghost use Rattle.bsp_engine.specs.Inside.Refusal.{job_error_of};
 
+use bsp_model::limits::MOST_DOCUMENT_BYTES;
 use bsp_model::{InputFault, OutOfMemory};
+use thiserror::Error;
 
 /// Why a document is not a job: the first that holds, in this order (this profile).
-#[derive(Clone, Copy, PartialEq, Eq)]
+#[derive(Clone, Copy, Debug, PartialEq, Eq, Error)]
 pub enum JobFault {
     /// J1: the bytes are not a TOML document.
+    #[error("the document is not TOML")]
     NotToml,
     /// J2: a key that each document needs is absent.
+    #[error("a key that each document needs is missing")]
     MissingKey,
     /// J3: a known key has a value of another shape, as an edit of another word or length.
+    #[error("a key has a value of a wrong shape")]
     WrongType,
     /// J4: another key stands at the top.
+    #[error("a key is unknown")]
     UnknownKey,
     /// J5: no program has this name.
+    #[error("no program has this name")]
     UnknownProgram,
     /// J6: a run may not start with the input, for this reason.
+    #[error("the input is refused: {0}")]
     Input(InputFault),
     /// J7: a word, an argument or a number of an edit is negative.
+    #[error("a word is negative")]
     BadWord,
 }
 
 /// Why a document was not read as a job.
-#[derive(Clone, Copy)]
+#[derive(Clone, Copy, Debug, PartialEq, Eq, Error)]
 pub enum JobError {
+    #[error("the document is no job: {0}")]
     Fault(JobFault),
+    #[error("memory was refused")]
     OutOfMemory,
 }
 
@@ -42,17 +53,24 @@ impl From<OutOfMemory> for JobError {
 }
 
 /// Why no report was written, or not all of it.
-#[derive(Clone, Copy, PartialEq, Eq)]
+///
+/// From `engine`, nothing was written but after `Write`. From `follow`, whole blocks may have been said.
+#[derive(Clone, Copy, Debug, PartialEq, Eq, Error)]
 pub enum EngineError {
-    /// A read failed; nothing was written.
+    /// A read failed.
+    #[error("a read failed")]
     Read,
-    /// The document has more than 16,777,216 bytes; nothing was written.
+    /// The document has more than `MOST_DOCUMENT_BYTES` bytes.
+    #[error("a document has at most {most} bytes", most = MOST_DOCUMENT_BYTES)]
     TooLong,
-    /// The document is not a job; nothing was written.
+    /// The document is not a job.
+    #[error("the document is no job: {0}")]
     Job(JobFault),
-    /// A write failed or took no byte; a beginning of the report was written.
+    /// A write failed or took no byte. A beginning of the text was written.
+    #[error("a write failed")]
     Write,
-    /// Memory was refused; nothing was written.
+    /// Memory was refused.
+    #[error("memory was refused")]
     OutOfMemory,
 }
 

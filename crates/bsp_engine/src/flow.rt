@@ -5,13 +5,15 @@ ghost use Rattle.std.specs.Io.KnownBytes.{Consumes, Appends, Keeps, IsAtEnd};
 ghost use Rattle.bsp_engine.specs.Flow.{TakesAtMost, AppendsPrefix};
 ghost use Rattle.bsp_engine.specs.Inside.Flow.{Gains};
 ghost use Rattle.bsp_engine.specs.Inside.Refusal.{IsUnread};
-ghost use Rattle.bsp_engine.specs.Limits.{most_document_bytes};
+ghost use Rattle.bsp_model.specs.Limits.{most_document_bytes};
 
 use crate::errors::EngineError;
-use crate::limits::MOST_DOCUMENT_BYTES;
+use bsp_model::limits::MOST_DOCUMENT_BYTES;
+use thiserror::Error;
 
 /// A read or a write failed.
-#[derive(Clone, Copy)]
+#[derive(Clone, Copy, Debug, PartialEq, Eq, Error)]
+#[error("a read or a write failed")]
 pub struct Failed;
 
 /// Where bytes come from.

@@ -16,7 +16,6 @@ mod flow;
 mod help_text;
 mod jobs;
 mod laws;
-pub mod limits;
 mod live;
 mod live_blocks;
 mod progress;

@@ -9,10 +9,13 @@ use crate::catalogue::Catalogue;
 use crate::documents::{engine, follow};
 use crate::errors::EngineError;
 use crate::explain::{explain, explain_file};
+use crate::help_text::{FaultsHelp, NamedLimits};
 use crate::progress::{Progress, Watched};
 use crate::terminal::{Console, Counted};
 use bsp_gate::Gate;
+use bsp_model::limits::MOST_WORKERS;
 use bsp_options::{Options, Tool, read_options, words_status};
+use clap::error::ErrorKind;
 use std::alloc::Global;
 use std::env::Env;
 use std::process::ExitCode;
@@ -35,13 +38,23 @@ fn unread<R: Eprint>(rt: &R, error: &io::Error) -> ExitCode {
     ExitCode::from(2)
 }
 
+/// Prints the text of the refusal, and behind the help and the version what they say of the limits.
+fn print_refusal<R: Print + Eprint>(rt: &R, error: &clap::Error) -> io::Result<()> {
+    error.print(rt)?;
+    match error.kind() {
+        ErrorKind::DisplayHelp => print!(rt; "{FaultsHelp}"),
+        ErrorKind::DisplayVersion => print!(rt; "{NamedLimits}"),
+        _ => Ok(()),
+    }
+}
+
 /// Says why the words were refused, or what the help or the version says. Help that can't be written is a failed write, as of a report.
 fn refused<R: Print + Eprint>(rt: &R, error: &clap::Error) -> ExitCode {
     let status = words_status(error);
     if status == 1 {
         return failed(rt, EngineError::OutOfMemory);
     }
-    let printed = error.print(rt);
+    let printed = print_refusal(rt, error);
     if status == 0 && printed.is_err() {
         return failed(rt, EngineError::Write);
     }
@@ -75,7 +88,7 @@ fn follow_file<
     document: &mut Vec<u8>,
     progress: &Progress<'_, R>,
 ) -> (Result<(), EngineError>, bool)
-    requires workers { (0 < options.workers) × (options.workers ≤ 16) }
+    requires workers { (0 < options.workers) × (options.workers ≤ MOST_WORKERS) }
 {
     let Ok(file) = fs::open(rt, path) else {
         return (Err(EngineError::Read), true);
@@ -99,7 +112,7 @@ fn run_shown<
     C: Catalogue,
     R: Alloc<A = Global> + Files + Input + Print + Eprint + Watched + Threads + Clock + Sync,
 >(rt: &R, options: Options, path: Option<&str>) -> ExitCode
-    requires workers { (0 < options.workers) × (options.workers ≤ 16) }
+    requires workers { (0 < options.workers) × (options.workers ≤ MOST_WORKERS) }
 {
     let progress = Progress::new(rt, !options.quiet && rt.is_watched());
     let mut document = Vec::new(rt.alloc());

@@ -6,6 +6,7 @@ use Rattle.std.proofs.Math.ListN.{length-set}
 use Rattle.std.proofs.Math.Seq.{map-set_same}
 use Rattle.std.proofs.lemmas.List.{length-map}
 use Rattle.std.proofs.lemmas.List.Folds.{list_all-map}
+use Rattle.bsp_model.specs.Limits.{highest_price, most_arguments, most_memory_words, most_processes, most_supersteps}
 use Rattle.bsp_model.specs.declared.input.Input.{Input}
 use Rattle.bsp_model.specs.declared.fault.InputFault.{InputFault}
 use Rattle.bsp_model.specs.declared.fault.InputFault.TheVariants.{NoProcess, TooMany, LengthsDiffer, MemoryTooLong, ArgsTooLong, BadLimit, BadPrice}
@@ -42,18 +43,18 @@ last_tests false false false false false false false h = (λ u v k l. λ i. cond
 mems_same : (i : Input) (mems : List (List ℕ)) → map (λ (m : List ℕ). length m) mems ≡ map (λ (m : List ℕ). length m) i.mems → input_fault (record i { mems = mems }) ≡ input_fault i
 mems_same i mems e =
     let count : length mems ≡ length i.mems = sym (length-map mems (λ (m : List ℕ). length m)) ∙ ap (λ (ns : List ℕ). length ns) e ∙ length-map i.mems (λ (m : List ℕ). length m) in
-    let short = all_same 4096 mems i.mems e in
-    let rest : Bool → Option InputFault = λ d. chain false false false d (not (list_all (λ (a : List ℕ). nat_le (length a) 64) i.args)) (not (nat_le 1 i.limit && nat_le i.limit 1024)) (not (nat_le i.g 1000000 && nat_le i.l 1000000)) in
-    ap (λ n. cond (n == 0) (Some NoProcess) (cond (nat_lt 64 n) (Some TooMany) (cond (not (length i.args == n)) (Some LengthsDiffer) (rest (not (list_all (λ (m : List ℕ). nat_le (length m) 4096) mems)))))) count
-    ∙ ap (λ b. cond (length i.mems == 0) (Some NoProcess) (cond (nat_lt 64 (length i.mems)) (Some TooMany) (cond (not (length i.args == length i.mems)) (Some LengthsDiffer) (rest (not b))))) short
+    let short = all_same most_memory_words mems i.mems e in
+    let rest : Bool → Option InputFault = λ d. chain false false false d (not (list_all (λ (a : List ℕ). nat_le (length a) most_arguments) i.args)) (not (nat_le 1 i.limit && nat_le i.limit most_supersteps)) (not (nat_le i.g highest_price && nat_le i.l highest_price)) in
+    ap (λ n. cond (n == 0) (Some NoProcess) (cond (nat_lt most_processes n) (Some TooMany) (cond (not (length i.args == n)) (Some LengthsDiffer) (rest (not (list_all (λ (m : List ℕ). nat_le (length m) most_memory_words) mems)))))) count
+    ∙ ap (λ b. cond (length i.mems == 0) (Some NoProcess) (cond (nat_lt most_processes (length i.mems)) (Some TooMany) (cond (not (length i.args == length i.mems)) (Some LengthsDiffer) (rest (not b))))) short
 
 args_same : (i : Input) (args : List (List ℕ)) → map (λ (a : List ℕ). length a) args ≡ map (λ (a : List ℕ). length a) i.args → input_fault (record i { args = args }) ≡ input_fault i
 args_same i args e =
     let count : length args ≡ length i.args = sym (length-map args (λ (m : List ℕ). length m)) ∙ ap (λ (ns : List ℕ). length ns) e ∙ length-map i.args (λ (m : List ℕ). length m) in
-    let short = all_same 64 args i.args e in
-    let rest : Bool → Option InputFault = λ x. chain false false false (not (list_all (λ (m : List ℕ). nat_le (length m) 4096) i.mems)) (not x) (not (nat_le 1 i.limit && nat_le i.limit 1024)) (not (nat_le i.g 1000000 && nat_le i.l 1000000)) in
-    ap (λ n. cond (length i.mems == 0) (Some NoProcess) (cond (nat_lt 64 (length i.mems)) (Some TooMany) (cond (not (n == length i.mems)) (Some LengthsDiffer) (rest (list_all (λ (a : List ℕ). nat_le (length a) 64) args))))) count
-    ∙ ap (λ b. cond (length i.mems == 0) (Some NoProcess) (cond (nat_lt 64 (length i.mems)) (Some TooMany) (cond (not (length i.args == length i.mems)) (Some LengthsDiffer) (rest b)))) short
+    let short = all_same most_arguments args i.args e in
+    let rest : Bool → Option InputFault = λ x. chain false false false (not (list_all (λ (m : List ℕ). nat_le (length m) most_memory_words) i.mems)) (not x) (not (nat_le 1 i.limit && nat_le i.limit most_supersteps)) (not (nat_le i.g highest_price && nat_le i.l highest_price)) in
+    ap (λ n. cond (length i.mems == 0) (Some NoProcess) (cond (nat_lt most_processes (length i.mems)) (Some TooMany) (cond (not (n == length i.mems)) (Some LengthsDiffer) (rest (list_all (λ (a : List ℕ). nat_le (length a) most_arguments) args))))) count
+    ∙ ap (λ b. cond (length i.mems == 0) (Some NoProcess) (cond (nat_lt most_processes (length i.mems)) (Some TooMany) (cond (not (length i.args == length i.mems)) (Some LengthsDiffer) (rest b)))) short
 
 accepted : (b : Bool) (f : EditFault) → cond (not b) (Some f) None ≡ None → not b ≡ false
 accepted true f h = refl
@@ -63,15 +64,15 @@ edit_lawful : (i j : Input) (e : Edit) → edit_fault i e ≡ None → input_fau
 edit_lawful i j (Word pid addr value) h k = mems_same j (with_number j.mems pid addr value) (set_own j.mems pid addr value) ∙ k
 edit_lawful i j (Arg pid index value) h k = args_same j (with_number j.args pid index value) (set_own j.args pid index value) ∙ k
 edit_lawful i j (Limit n) h k =
-    let a = length j.mems == 0 in let b = nat_lt 64 (length j.mems) in let c = not (length j.args == length j.mems) in
-    let d = not (list_all (λ (m : List ℕ). nat_le (length m) 4096) j.mems) in let e = not (list_all (λ (a : List ℕ). nat_le (length a) 64) j.args) in
-    let x = not (nat_le 1 j.limit && nat_le j.limit 1024) in let y = not (nat_le j.g 1000000 && nat_le j.l 1000000) in
-    let rest = last_tests a b c d e x y k in rest.0 (not (nat_le 1 n && nat_le n 1024)) y (accepted (nat_le 1 n && nat_le n 1024) why.BadLimit h) rest.2
+    let a = length j.mems == 0 in let b = nat_lt most_processes (length j.mems) in let c = not (length j.args == length j.mems) in
+    let d = not (list_all (λ (m : List ℕ). nat_le (length m) most_memory_words) j.mems) in let e = not (list_all (λ (a : List ℕ). nat_le (length a) most_arguments) j.args) in
+    let x = not (nat_le 1 j.limit && nat_le j.limit most_supersteps) in let y = not (nat_le j.g highest_price && nat_le j.l highest_price) in
+    let rest = last_tests a b c d e x y k in rest.0 (not (nat_le 1 n && nat_le n most_supersteps)) y (accepted (nat_le 1 n && nat_le n most_supersteps) why.BadLimit h) rest.2
 edit_lawful i j (Prices g l) h k =
-    let a = length j.mems == 0 in let b = nat_lt 64 (length j.mems) in let c = not (length j.args == length j.mems) in
-    let d = not (list_all (λ (m : List ℕ). nat_le (length m) 4096) j.mems) in let e = not (list_all (λ (a : List ℕ). nat_le (length a) 64) j.args) in
-    let x = not (nat_le 1 j.limit && nat_le j.limit 1024) in let y = not (nat_le j.g 1000000 && nat_le j.l 1000000) in
-    let rest = last_tests a b c d e x y k in rest.0 x (not (nat_le g 1000000 && nat_le l 1000000)) rest.1 (accepted (nat_le g 1000000 && nat_le l 1000000) why.BadPrice h)
+    let a = length j.mems == 0 in let b = nat_lt most_processes (length j.mems) in let c = not (length j.args == length j.mems) in
+    let d = not (list_all (λ (m : List ℕ). nat_le (length m) most_memory_words) j.mems) in let e = not (list_all (λ (a : List ℕ). nat_le (length a) most_arguments) j.args) in
+    let x = not (nat_le 1 j.limit && nat_le j.limit most_supersteps) in let y = not (nat_le j.g highest_price && nat_le j.l highest_price) in
+    let rest = last_tests a b c d e x y k in rest.0 x (not (nat_le g highest_price && nat_le l highest_price)) rest.1 (accepted (nat_le g highest_price && nat_le l highest_price) why.BadPrice h)
 
 all_lawful : (i j : Input) (place : ℕ) (edits : List Edit) → refusal_from i place edits ≡ None → input_fault j ≡ None → input_fault (edited j edits) ≡ None
 all_lawful i j place [] h k = k

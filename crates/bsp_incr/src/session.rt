@@ -7,6 +7,7 @@ use crate::rerun::{recorded_run, rerun_edited};
 use crate::{Edit, EditError, EditRefusal, Update};
 use bsp_crew::Workers;
 use bsp_gate::Gate;
+use bsp_model::limits::MOST_WORKERS;
 use bsp_model::{Input, OutOfMemory};
 use bsp_run::{History, RunError};
 use bsp_step::Program;
@@ -44,7 +45,7 @@ impl<P: Program + Drop> Session<P> {
     ghost use Rattle.bsp_incr.specs.Exact.{IsExact};
     ghost use Rattle.bsp_incr.specs.Replies.{refusal_in};
 
-    /// A session with the run of the input, whose turns and deliveries are shared by 1 to 16 workers. The update has every process of every
+    /// A session with the run of the input, whose turns and deliveries are shared by 1 to `MOST_WORKERS` workers. The update has every process of every
     /// superstep, and every delivery. `Input(f)` exactly where the input's check answers f, or `OutOfMemory`.
     pub fn open<R: Threads + Sync, G: Gate>(
         rt: &R,
@@ -54,7 +55,7 @@ impl<P: Program + Drop> Session<P> {
         workers: usize,
         gate: &G,
     ) -> Result<(Session<P>, Update), RunError>
-        requires workers { (0 < workers) × (workers ≤ 16) }
+        requires workers { (0 < workers) × (workers ≤ MOST_WORKERS) }
         ensures program { IfOk result (λ r. r.0.program ≡ program) }
         ensures given { IfOk result (λ r. r.0.input ≡ input) }
         ensures law { IfOk result (λ r. IsBspRun (turn_of (P.acts program) (P.ending program)) input r.0.history) }
@@ -121,7 +122,7 @@ impl<P: Program + Drop> Session<P> {
         refusal_of(&self.input, edits)
     }
 
-    /// Applies a batch of edits, and makes the run again as far as it has changed: 1 to 16 workers take the turns and make the deliveries that have
+    /// Applies a batch of edits, and makes the run again as far as it has changed: 1 to `MOST_WORKERS` workers take the turns and make the deliveries that have
     /// to be. `Refused` exactly where the batch is not accepted, with the first refused edit's place and fault; else `Ok` or `OutOfMemory`.
     /// After every `Err` nothing has changed.
     pub fn apply<R: Threads + Sync, G: Gate>(
@@ -132,7 +133,7 @@ impl<P: Program + Drop> Session<P> {
         workers: usize,
         gate: &G,
     ) -> Result<Update, EditError>
-        requires workers { (0 < workers) × (workers ≤ 16) }
+        requires workers { (0 < workers) × (workers ≤ MOST_WORKERS) }
         ensures accepted { OnOk result (refusal_of self.old.input edits.now ≡ None) }
         ensures refused { IfErr result (λ e. refusal_of self.old.input edits.now ≡ refusal_in e) }
         ensures program { self.new.program ≡ self.old.program }

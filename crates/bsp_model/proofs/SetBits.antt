@@ -5,7 +5,7 @@ use Rattle.std.specs.Int.RustNames.{bit_or}
 use lib.Bits.{bit_and}
 use lib.Pow.{pow-add}
 use Rattle.std.proofs.Math.Nat.{div-div-eq-div-mul, div-le_self}
-use Rattle.std.proofs.lemmas.Bool.{cases_lt, cases_eq}
+use Rattle.std.proofs.lemmas.Bool.{cases_lt, cases_eq, false≢true}
 use Rattle.std.proofs.lemmas.List.{ext_get_or, length-set, get_or-set_same, get_or-set_other, get_or-replicate, length-replicate}
 use Rattle.std.proofs.lemmas.List.FromFn.{length-map-range_with_len, get_or-map-range_with_len}
 use Rattle.std.proofs.lemmas.Nat.Bits.{shr_and_one, bit_at-zero, bit_at-lt, bit_at_above, bit_at_or, bit_at_set_same, bit_at_set_other, bit_at_ones, bit_at_ones_above, bit_at-trailing_zeros}
@@ -135,15 +135,13 @@ first_left count word from are fits some =
     (λ p order below. in_set count word p are ∙ bit_clear word p (bit_from word from p order ∙ low.2 (p - from) (omega (arith, order, below))))
 
 -- A process that is in the set is one of so many.
-pub first_within : (count word from : ℕ) → AreBitsOf count word → word < 2 ^ 64 → (word / 2 ^ from) ≢ 0 → from + trailing_zeros w64 (word / 2 ^ from) < 64
+pub first_within : (count word from : ℕ) → AreBitsOf count word → word < 2 ^ 64 → (word / 2 ^ from) ≢ 0 → from + trailing_zeros w64 (word / 2 ^ from) < count
 first_within count word from are fits some =
     let left = word / 2 ^ from in
     let small : left < 2 ^ 64 = omega (arith, fits, div-le_self word (2 ^ from)) in
     let j = trailing_zeros w64 left in
     let low = bit_at-trailing_zeros w64 left (omega (arith, some)) small in
-    elim (cases_lt (from + j) 64) [
+    elim (cases_lt (from + j) count) [
       | inl l ↦ l
-      | inr l ↦
-          let one : 1 ≡ 0 = sym low.1 ∙ shifted word j from ∙ bit_at_above word 64 (from + j) fits l in
-          absurd (omega (arith, one))
+      | inr past ↦ absurd (false≢true (sym (are.clear (from + j) past) ∙ bit_set word (from + j) (sym (shifted word j from) ∙ low.1)))
     ]

@@ -50,7 +50,7 @@ fn take_full(pages: &mut Vec<Page>) -> Result<SharedSeq<Page>, OutOfMemory>
         return Ok(SharedSeq::new());
     }
     let none = Vec::new(*pages.allocator());
-    SharedSeq::from_vec(mem::replace(pages, none))
+    SharedSeq::try_from_vec(mem::replace(pages, none))
 }
 
 /// Copies of the full pages of a memory, of which there may be none.
@@ -61,7 +61,7 @@ fn shared_copies(alloc: Global, pages: &[Page]) -> Result<SharedSeq<Page>, OutOf
     if pages.is_empty() {
         return Ok(SharedSeq::new());
     }
-    SharedSeq::from_vec(copied_pages(alloc, pages)?)
+    SharedSeq::try_from_vec(copied_pages(alloc, pages)?)
 }
 
 impl Memories {

@@ -1,6 +1,6 @@
 //! The memory of a process.
 
-ghost use Rattle.std.specs.Prelude.{◌≡◌, ◌≤◌, ◌+◌, ◌-◌, ◌/◌, ◌++◌, [], true, false, length, IfOk, nat_lt, nat_le, slice_set, slice_get, take, drop, OnErr, OnOk};
+ghost use Rattle.std.specs.Prelude.{◌≡◌, ◌≤◌, ◌<◌, ◌↔◌, ◌+◌, ◌-◌, ◌*◌, ◌++◌, [], true, false, length, IfOk, nat_lt, nat_le, slice_set, slice_get, take, drop, OnErr, OnOk};
 ghost use Rattle.std.specs.Bool.{OnTrue, OnFalse};
 ghost use Rattle.bsp_model.specs.Memory.{memory_written};
 
@@ -161,11 +161,14 @@ impl Memory {
         self.as_ref().len()
     }
 
-    /// The number of pages in which the words stand: each has 64, the last one possibly fewer (this profile).
+    /// The number of pages that stand, of 64 words each (this profile). The words behind them count as one more, also where the whole memory lies in one
+    /// piece. So it tells how the words lie, which no contract of a list of words can.
     pub fn count_of_pages(&self) -> usize
-        ensures { result ≡ (length self.now + (WORDS_OF_A_PAGE - 1)) / WORDS_OF_A_PAGE }
+        ensures most { result * WORDS_OF_A_PAGE < length self.now + WORDS_OF_A_PAGE }
+        ensures none { result ≡ 0 ↔ length self.now ≡ 0 }
     {
-        self.len.div_ceil(WORDS_OF_A_PAGE)
+        let full = self.pages.len();
+        if self.last.is_empty() { full } else { full + 1 }
     }
 
     /// The word at `address`, if there is one.

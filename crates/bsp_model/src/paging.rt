@@ -101,7 +101,7 @@ pub fn write_row(
     }
     let mut own = copied_pages(alloc, pages.as_slice())?;
     write_pages(alloc, own.as_mut_slice(), start, words)?;
-    *pages = SharedSeq::from_vec(own)?;
+    *pages = SharedSeq::try_from_vec(own)?;
     Ok(())
 }
 

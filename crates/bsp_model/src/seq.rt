@@ -88,7 +88,7 @@ impl<T: Drop> Seq<T> {
     pub fn share(self) -> Result<SharedSeq<T>, OutOfMemory>
         ensures { IfOk result (λ s. s ≡ self) }
     {
-        SharedSeq::from_vec(self.items)
+        SharedSeq::try_from_vec(self.items)
     }
 
     /// Puts an item at the end. After `OutOfMemory` nothing has changed, and the item is dropped.

@@ -121,7 +121,7 @@ impl<T> SharedSeq<T> {
 
 impl<T: Drop> SharedSeq<T> {
     /// The list of these items, or `OutOfMemory`. The empty list takes no memory.
-    pub fn from_vec(items: Vec<T>) -> Result<SharedSeq<T>, OutOfMemory>
+    pub fn try_from_vec(items: Vec<T>) -> Result<SharedSeq<T>, OutOfMemory>
         ensures { IfOk result (λ s. s ≡ items.items) }
     {
         if items.is_empty() {

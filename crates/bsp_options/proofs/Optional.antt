@@ -9,6 +9,7 @@ use Rattle.std.specs.Char.{digit_value}
 use Rattle.clap.specs.Matches.{ReadsOne}
 use Rattle.clap.specs.ValueTests.{is_numeral}
 use Rattle.clap.specs.Words.{Text}
+use Rattle.bsp_model.specs.Limits.{most_workers}
 use Rattle.bsp_options.specs.Options.{number_of, is_workers_text, workers_of}
 use Rattle.bsp_options.specs.Inside.Options.{number_or_1}
 
@@ -39,12 +40,12 @@ passed_numeral ds h =
     let long : 0 < length ds = grind (arith, nat_tests) in
     (long, passed_digits ds both.1)
 
--- a number from 1 to 16 is one of 8 bits
+-- a number of workers is one of 8 bits
 small : (text : Text) → is_workers_text text ≡ true → IsNumeral 10 (without_leading_plus text) × (number_of text < 2 ^ 8)
 small text h =
-    let both = and_parts (is_numeral (without_leading_plus text)) (nat_le 1 (number_of text) && nat_le (number_of text) 16) h in
-    let most : nat_le (number_of text) 16 ≡ true = (and_parts (nat_le 1 (number_of text)) (nat_le (number_of text) 16) both.1).1 in
-    let below : number_of text ≤ 16 = grind (arith, nat_tests) in
+    let both = and_parts (is_numeral (without_leading_plus text)) (nat_le 1 (number_of text) && nat_le (number_of text) most_workers) h in
+    let most : nat_le (number_of text) most_workers ≡ true = (and_parts (nat_le 1 (number_of text)) (nat_le (number_of text) most_workers) both.1).1 in
+    let below : number_of text ≤ most_workers = grind (arith, nat_tests) in
     (passed_numeral (without_leading_plus text) both.0, omega arith)
 
 module _ {E : Type 0} (G : List ℕ → Result ℕ E → Type 0) (parses : (u : List ℕ) (r : Result ℕ E) → G u r → ParsesUnsigned 8 10 u r) where

@@ -6,12 +6,13 @@ use Rattle.clap.specs.ValueTests.{is_numeral}
 use Rattle.clap.specs.Words.{App, Row, Rule, Text, new_app, new_rule, one_of, with_rule}
 use Rattle.clap.specs.declared.builder.action.ArgAction.TheVariants.{SetTrue}
 use Rattle.clap.specs.declared.builder.value_parser.ValueParser.TheVariants.{Signed}
+use Rattle.bsp_model.specs.Limits.{most_workers}
 use Rattle.bsp_options.specs.declared.options.Detail.{Detail}
 use Rattle.bsp_options.specs.declared.options.Options.{Options}
 
--- `--workers N`, from 1 to 16, 1 where absent
+-- `--workers N`, from 1 to the most workers, 1 where absent
 abbrev pub workers_rule : Rule
-workers_rule = record (new_rule (codes "workers")) { long = Some (codes "workers"); value_names = 1; defaults = codes "1" ∷ []; parser = Some (Signed (pos 1) (pos 16)) }
+workers_rule = record (new_rule (codes "workers")) { long = Some (codes "workers"); value_names = 1; defaults = codes "1" ∷ []; parser = Some (Signed (pos 1) (pos most_workers)) }
 
 -- an option that is given or not
 abbrev pub flag_rule : List ℕ → Rule
@@ -62,9 +63,9 @@ tool_app name =
 abbrev pub number_of : Text → ℕ
 number_of text = digits_value 10 (without_leading_plus text)
 
--- the text writes a number from 1 to 16
+-- the text writes a number from 1 to the most workers
 abbrev pub is_workers_text : Text → Bool
-is_workers_text text = is_numeral (without_leading_plus text) && (nat_le 1 (number_of text) && nat_le (number_of text) 16)
+is_workers_text text = is_numeral (without_leading_plus text) && (nat_le 1 (number_of text) && nat_le (number_of text) most_workers)
 
 -- The number of workers that a text asks for, 1 where there is none. So counts any other text too, which the rule refuses.
 abbrev pub workers_of : Option Text → ℕ

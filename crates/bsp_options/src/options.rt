@@ -5,6 +5,7 @@ ghost use Rattle.clap.specs.Words.{FailsBy, app_of, fault_of, first_of, found_of
 ghost use Rattle.bsp_options.specs.Options.{detail_of, flag_rule, follow_rule, is_given, options_of, scratch_rule, tool_app, with_details, with_version, workers_of, workers_rule};
 ghost use Rattle.bsp_options.specs.Inside.Options.{number_or_1};
 
+use bsp_model::limits::MOST_WORKERS;
 use clap::error::ErrorKind;
 use clap::{Arg, ArgAction, ArgMatches, Command, Error, value_parser};
 use std::alloc::{AllocError, Global};
@@ -28,7 +29,7 @@ pub struct Detail {
 /// What the words ask for.
 #[derive(Clone, Copy)]
 pub struct Options {
-    /// The number of workers that share the work, 1 to 16.
+    /// The number of workers that share the work, 1 to `MOST_WORKERS`.
     pub workers: usize,
     /// Whether each input is run from its first superstep, and no record is kept.
     pub scratch: bool,
@@ -47,6 +48,11 @@ pub struct Tool {
     /// What the help says below the options: `after_help!` of the tool's keys and an example.
     pub after_help: &'static str,
 }
+
+const WORKERS_HELP: &str = "Number of workers that share the work, 1 to 16";
+
+// The most workers have to be as many as the help says.
+const _: () = prove!(MOST_WORKERS == 16);
 
 const SCRATCH_HELP: &str = "Runs each input from its first superstep, and reuses nothing";
 
@@ -68,8 +74,8 @@ fn workers_arg<'a>(alloc: Global) -> Arg<'a>
     Arg::new(alloc, "workers")
         .long("workers")
         .value_name("N")
-        .help("Number of workers that share the work, 1 to 16")
-        .value_parser(value_parser!(u8).range(1..=16))
+        .help(WORKERS_HELP)
+        .value_parser(value_parser!(u8).range(1..=MOST_WORKERS as i64))
         .default_value("1")
 }
 
@@ -113,9 +119,11 @@ fn command<'a>(alloc: Global, tool: &Tool) -> Result<Command<'a>, AllocError>
 fn number_or_1(number: Option<u8>) -> usize
     ensures { result ≡ number_or_1 number }
 {
-    match number {
-        Some(workers) if 1 <= workers && workers <= 16 => usize::from(workers),
-        _ => 1,
+    let workers = usize::from(number.unwrap_or(1));
+    if 1 <= workers && workers <= MOST_WORKERS {
+        workers
+    } else {
+        1
     }
 }
 
@@ -175,7 +183,7 @@ pub fn read_options<'a>(
     ensures follow { IfOk result (λ r. option_map (λ s. s.now) r.1
         ≡ first_of (codes "follow") (matches_of (tool_app tool.now.name.now) (map (λ w. w.now) words.entry.now))) }
     ensures least { IfOk result (λ r. 1 ≤ r.0.workers) }
-    ensures most { IfOk result (λ r. r.0.workers ≤ 16) }
+    ensures most { IfOk result (λ r. r.0.workers ≤ MOST_WORKERS) }
     ensures refused { IfErr result (λ e. takes (tool_app tool.now.name.now) (map (λ w. w.now) words.entry.now) ≡ true
         → kind_of e ≡ ErrorKind.OutOfMemory) }
     ensures kinds { FailsBy (fault_of (tool_app tool.now.name.now) (map (λ w. w.now) words.entry.now)) result }

@@ -13,6 +13,7 @@ use crate::row::Row;
 use crate::work::Work;
 use std::alloc::{AllocError, Global};
 use std::marker::Model;
+use thiserror::Error;
 
 /// What may happen in a round machine. Workers have the numbers from 0 on.
 #[derive(Clone, Copy, Debug)]
@@ -29,11 +30,13 @@ pub enum Event {
 }
 
 /// Why an event was refused. The machine is then as before.
-#[derive(Clone, Copy, Debug, PartialEq, Eq)]
+#[derive(Clone, Copy, Debug, PartialEq, Eq, Error)]
 pub enum CoreRefusal {
     /// The event isn't allowed now, or all phases are committed.
+    #[error("the event is not allowed now")]
     NotNow,
     /// The event is allowed, and memory for it was refused.
+    #[error("memory was refused")]
     OutOfMemory,
 }
 

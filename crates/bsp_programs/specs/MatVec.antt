@@ -1,6 +1,7 @@
 -- A matrix by a vector: each process has b rows of the matrix and b words of the vector, and ends with b words of the product (this profile).
 use Rattle.std.specs.Prelude.{ℕ, Bool, false, List, [], ◌∷◌, ◌++◌, Option, None, Some, ◌+◌, ◌-◌, ◌*◌, ◌%◌, ◌^◌, ◌==◌, ◌&&◌, ◌||◌, if◌then◌else◌, nat_lt, nat_le, slice_get, length, map, take, drop, sum_by}
 use Rattle.std.specs.List.{range_with_len, zip}
+use Rattle.bsp_model.specs.Limits.{most_line_words}
 use Rattle.bsp_model.specs.declared.request.Message.{Message}
 use Rattle.bsp_model.specs.declared.fault.End.TheVariants.{Sync, Halt, Abort}
 use Rattle.bsp_step.specs.ViewParts.{ViewParts}
@@ -86,16 +87,16 @@ matvec_receiving nprocs b memory (m ∷ later) =
     after (move_into b ∷ stores (vector_start nprocs b + j * b) m.words)
     (matvec_receiving nprocs b (stored memory (vector_start nprocs b + j * b) m.words) later))
 
--- the turn, where b is at most 64
+-- the turn, where a line has room for b words
 abbrev pub matvec_working : ViewParts → List ℕ → List Message → ℕ → Plan
 matvec_working v memory queue b =
     if v.step == 0 then matvec_checking v.nprocs b memory
     else (if v.step == 1 then matvec_sending v.nprocs v.pid b memory else matvec_receiving v.nprocs b memory queue)
 
--- Argument 0 is b. A b over 64 ends the turn by Abort(2) in every superstep.
+-- Argument 0 is b. A b that is more than the words of a line ends the turn by Abort(2) in every superstep.
 abbrev pub matvec_plan : ViewParts → List ℕ → List Message → Plan
 matvec_plan v memory queue =
-    given_argument (slice_get v.args 0) (λ b. if nat_lt 64 b then does [] (Abort 2) else matvec_working v memory queue b)
+    given_argument (slice_get v.args 0) (λ b. if nat_lt most_line_words b then does [] (Abort 2) else matvec_working v memory queue b)
 
 -- whether an address is one of len addresses from start on
 abbrev pub is_within : ℕ → ℕ → ℕ → Bool
@@ -104,7 +105,7 @@ is_within start len address = nat_le start address && nat_lt address (start + le
 abbrev pub matvec_looks_with : ViewParts → Option ℕ → ℕ → Bool
 matvec_looks_with v None address = false
 matvec_looks_with v (Some b) address =
-    if nat_lt 64 b then false
+    if nat_lt most_line_words b then false
     else (if v.step == 0 then false
     else (if v.step == 1 then is_within (block_start v.nprocs b) b address
     else nat_lt address (block_start v.nprocs b) || is_within (vector_start v.nprocs b) (columns v.nprocs b) address))

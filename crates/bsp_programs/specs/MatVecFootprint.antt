@@ -2,6 +2,7 @@
 use Rattle.std.proofs.Common.{◌≡◌, ℕ, ◌+◌, ◌-◌, ◌*◌, ◌<◌, ◌≤◌, Bool, true, Option, None, Some, List, [], ◌∷◌, ◌||◌, zero, suc, length, refl, sym, ap, ◌∙◌, ◌⊎◌, inl, inr, ◌==◌, nat_lt, arith}
 use Rattle.std.proofs.lemmas.Bool.Decides.{nat_tests}
 use Rattle.std.specs.List.{slice_get}
+use Rattle.bsp_model.specs.Limits.{most_line_words}
 use Rattle.bsp_model.specs.declared.request.Message.{Message}
 use Rattle.bsp_step.specs.Act.{move_into}
 use Rattle.bsp_step.specs.ViewParts.{ViewParts}
@@ -48,7 +49,7 @@ either end a other h = grind (arith, nat_tests)
 matvec_plan-alike : (v : ViewParts) (n : List ℕ) → length v.memory ≡ length n → ((a : ℕ) → matvec_looks v a ≡ true → slice_get v.memory a ≡ slice_get n a) → matvec_plan v v.memory v.queue ≡ matvec_plan v n v.queue
 matvec_plan-alike v n long same =
     given_argument-alike (slice_get v.args 0) _ _ (λ b has.
-    if-alike (nat_lt 64 b) _ _ _ _ (λ large. refl) (λ small.
+    if-alike (nat_lt most_line_words b) _ _ _ _ (λ large. refl) (λ small.
     if-alike (v.step == 0) _ _ _ _
     (λ first. if-alike (product_start v.nprocs b + b == 0) _ _ _ _ (λ nothing. refl) (λ some. given_word-there v.memory n (product_start v.nprocs b + b - 1) _ long))
     (λ later. if-alike (v.step == 1) _ _ _ _

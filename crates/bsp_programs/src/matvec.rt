@@ -21,9 +21,9 @@ const MOST_ROWS: u64 = MOST_LINE_WORDS as u64;
 
 /// The processes multiply a square matrix by a vector, modulo 2^64, and each prints its words of the product.
 ///
-/// Argument 0 is b, the number of rows of each process, at most 64; so there are n = P times b columns, with P processes. The memory has
-/// b rows of n words, the own b words of the vector, the whole vector of n words, and b words of the product. A missing argument or a b
-/// over 64 ends the turn by `Abort(2)`, a missing word by `Abort(1)`, a message that is no process's block of b words by `Abort(3)`.
+/// Argument 0 is b, the number of rows of each process, at most `MOST_LINE_WORDS`; so there are n = P times b columns, with P processes. The memory has
+/// b rows of n words, the own b words of the vector, the whole vector of n words, and b words of the product. A missing argument or a larger b ends the
+/// turn by `Abort(2)`, a missing word by `Abort(1)`, a message that is no process's block of b words by `Abort(3)`.
 #[derive(Clone, Copy)]
 pub struct MatVec;
 

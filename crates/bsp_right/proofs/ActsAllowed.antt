@@ -3,6 +3,7 @@ use Rattle.std.proofs.Common.{◌+◌, ◌++◌, ◌<◌, ◌==◌, List, None, 
 use Rattle.std.proofs.lemmas.List.{append-nil}
 use Rattle.std.proofs.lemmas.Bool.{eq-eqb, le-leb, lt-ltb}
 use Rattle.std.specs.List.{range_with_len}
+use Rattle.bsp_model.specs.Limits.{most_line_words, most_lines, most_payload_words, most_requests, most_work}
 use Rattle.bsp_model.specs.declared.fault.Fault.TheVariants.{BadLocal, BadPid, LineLimit, TagLength, TooLong, TooManyRequests, WorkLimit}
 use Rattle.bsp_model.specs.declared.request.Message.{Message}
 use Rattle.bsp_model.specs.declared.request.Send.{Send}
@@ -27,28 +28,28 @@ perform-store c address value faultless inside =
     let there : nat_lt address (length c.memory) ≡ true = lt-ltb address (length c.memory) inside in
     λ i. performed (faultless i) (fault_unless (there i) BadLocal) c (record c { memory = set c.memory address value; stores = c.stores ++ record { addr = address; value = value } ∷ [] })
 
-pub perform-charge : (c : Context) (amount : ℕ) → c.fault ≡ None → c.work + amount ≤ 4294967295 → perform c (charge amount) ≡ record c { work = c.work + amount }
+pub perform-charge : (c : Context) (amount : ℕ) → c.fault ≡ None → c.work + amount ≤ most_work → perform c (charge amount) ≡ record c { work = c.work + amount }
 perform-charge c amount faultless little =
-    let room = le-leb (c.work + amount) 4294967295 little in
+    let room = le-leb (c.work + amount) most_work little in
     λ i. performed (faultless i) (fault_unless (room i) WorkLimit) c (record c { work = c.work + amount })
 
-pub perform-print : (c : Context) (words : List ℕ) → c.fault ≡ None → length c.lines < 64 → length words ≤ 64 → perform c (print words) ≡ record c { lines = c.lines ++ words ∷ [] }
+pub perform-print : (c : Context) (words : List ℕ) → c.fault ≡ None → length c.lines < most_lines → length words ≤ most_line_words → perform c (print words) ≡ record c { lines = c.lines ++ words ∷ [] }
 perform-print c words faultless few short =
-    let room : nat_lt (length c.lines) 64 ≡ true = lt-ltb (length c.lines) 64 few in
-    let fits : nat_le (length words) 64 ≡ true = le-leb (length words) 64 short in
+    let room : nat_lt (length c.lines) most_lines ≡ true = lt-ltb (length c.lines) most_lines few in
+    let fits : nat_le (length words) most_line_words ≡ true = le-leb (length words) most_line_words short in
     λ i. performed (faultless i) (first_fault (fault_unless (room i) LineLimit) (fault_unless (fits i) TooLong)) c (record c { lines = c.lines ++ words ∷ [] })
 
 pub perform-move : (c : Context) (room : ℕ) (m : Message) (later : List Message) → c.fault ≡ None → c.left ≡ m ∷ later → perform c (move_into room) ≡ record c { left = later }
 perform-move c room m later faultless is =
     λ i. performed (faultless i) (queue_fault (is i)) c (record c { left = drop 1 (is i) })
 
-pub perform-send : (c : Context) (pid : ℕ) (tag words : List ℕ) → c.fault ≡ None → count_of_requests c < 1024 → pid < c.view.nprocs → length tag ≡ c.view.tag_size → length words ≤ 4096
+pub perform-send : (c : Context) (pid : ℕ) (tag words : List ℕ) → c.fault ≡ None → count_of_requests c < most_requests → pid < c.view.nprocs → length tag ≡ c.view.tag_size → length words ≤ most_payload_words
     → perform c (send pid tag words) ≡ record c { sends = c.sends ++ record { target = pid; tag = tag; words = words } ∷ [] }
 perform-send c pid tag words faultless few known sized short =
-    let room : nat_lt (count_of_requests c) 1024 ≡ true = lt-ltb (count_of_requests c) 1024 few in
+    let room : nat_lt (count_of_requests c) most_requests ≡ true = lt-ltb (count_of_requests c) most_requests few in
     let below : nat_lt pid c.view.nprocs ≡ true = lt-ltb pid c.view.nprocs known in
     let same : (length tag == c.view.tag_size) ≡ true = eq-eqb (length tag) c.view.tag_size sized in
-    let fits : nat_le (length words) 4096 ≡ true = le-leb (length words) 4096 short in
+    let fits : nat_le (length words) most_payload_words ≡ true = le-leb (length words) most_payload_words short in
     λ i. performed (faultless i) (first_fault (fault_unless (room i) TooManyRequests) (first_fault (fault_unless (below i) (BadPid pid)) (first_fault (fault_unless (same i) TagLength) (fault_unless (fits i) TooLong)))) c
     (record c { sends = c.sends ++ record { target = pid; tag = tag; words = words } ∷ [] })
 
@@ -57,7 +58,7 @@ abbrev pub message_to : List ℕ → List ℕ → ℕ → Send
 message_to tag words pid = record { target = pid; tag = tag; words = words }
 
 -- One message to each of the processes from k on.
-pub perform_all-sends : (tag words : List ℕ) (m k : ℕ) (c : Context) → c.fault ≡ None → count_of_requests c + m ≤ 1024 → k + m ≤ c.view.nprocs → length tag ≡ c.view.tag_size → length words ≤ 4096
+pub perform_all-sends : (tag words : List ℕ) (m k : ℕ) (c : Context) → c.fault ≡ None → count_of_requests c + m ≤ most_requests → k + m ≤ c.view.nprocs → length tag ≡ c.view.tag_size → length words ≤ most_payload_words
     → perform_all c (map (λ pid. send pid tag words) (range_with_len k m)) ≡ record c { sends = c.sends ++ map (message_to tag words) (range_with_len k m) }
 perform_all-sends tag words zero k c faultless few known sized short = ap (λ ms. record c { sends = ms }) (sym (append-nil c.sends))
 perform_all-sends tag words (suc m) k c faultless few known sized short =

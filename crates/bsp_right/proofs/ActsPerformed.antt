@@ -14,7 +14,7 @@ use Rattle.bsp_right.proofs.ActsAllowed.{perform-store}
 use Rattle.bsp_right.proofs.PutsAllowed.{perform-put}
 
 -- A put of a word to the start of an area.
-pub perform-put_at_start : (c : Context) (pid word area : ℕ) (a : Area) → c.fault ≡ None → count_of_requests c < 1024 → pid < c.view.nprocs → target_area c.view pid area ≡ Some a → 1 ≤ a.len
+pub perform-put_at_start : (c : Context) (pid word area : ℕ) (a : Area) → c.fault ≡ None → count_of_requests c < most_requests → pid < c.view.nprocs → target_area c.view pid area ≡ Some a → 1 ≤ a.len
     → perform c (put pid (word ∷ []) area 0) ≡ record c { puts = c.puts ++ record { target = pid; start = a.start; words = word ∷ [] } ∷ [] }
 perform-put_at_start c pid word area a faultless few known at some =
     let start : a.start + 0 ≡ a.start = omega arith in
@@ -22,10 +22,10 @@ perform-put_at_start c pid word area a faultless few known at some =
     ∙ ap (λ s. record c { puts = c.puts ++ record { target = pid; start = s; words = word ∷ [] } ∷ [] }) start
 
 -- A registration within the memory.
-pub perform-push_reg : (c : Context) (start len : ℕ) → c.fault ≡ None → count_of_requests c < 1024 → start + len ≤ length c.memory
+pub perform-push_reg : (c : Context) (start len : ℕ) → c.fault ≡ None → count_of_requests c < most_requests → start + len ≤ length c.memory
     → perform c (push_reg start len) ≡ record c { pushes = c.pushes ++ record { start = start; len = len } ∷ [] }
 perform-push_reg c start len faultless few inside =
-    let room : nat_lt (count_of_requests c) most_requests ≡ true = lt-ltb (count_of_requests c) 1024 few in
+    let room : nat_lt (count_of_requests c) most_requests ≡ true = lt-ltb (count_of_requests c) most_requests few in
     let fits : nat_le (start + len) (length c.memory) ≡ true = le-leb (start + len) (length c.memory) inside in
     λ i. performed (faultless i) (first_fault (fault_unless (room i) TooManyRequests) (fault_unless (fits i) BadLocal)) c (record c { pushes = c.pushes ++ record { start = start; len = len } ∷ [] })
 

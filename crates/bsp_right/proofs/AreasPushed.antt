@@ -6,6 +6,7 @@ use Rattle.std.proofs.lemmas.Bool.{cases_lt}
 use Rattle.std.proofs.lemmas.Bool.Decides.{nat_tests}
 use Rattle.std.proofs.lemmas.List.FromFn.{get_or-map-range_with_len, length-map-range_with_len}
 use Rattle.std.proofs.lemmas.Option.{slice_get-get_or}
+use Rattle.bsp_model.specs.Limits.{most_slots}
 use Rattle.bsp_model.specs.declared.input.Input.{Input}
 use Rattle.bsp_model.specs.declared.request.Message.{Message}
 use Rattle.bsp_table.specs.declared.area.Area.{Area}
@@ -48,7 +49,7 @@ AllPush-with n count pushed out h =
 pub goes_on_pushing : (turn : ViewParts → OutcomeParts) (input : Input) (s n : ℕ) (memory new : ℕ → List ℕ) (queue : ℕ → List Message) (table : List (List Area)) (tag count : ℕ) (pushed : ℕ → List Area) (out : ℕ → OutcomeParts)
     → state_at turn input s ≡ described n memory queue table tag
     → ((p : ℕ) → p < n → turn (view_described input.args s n memory queue table tag p) ≡ out p)
-    → AllPush n count pushed out → length table + count ≤ 256 → ((p : ℕ) → p < n → (out p).sends ≡ [])
+    → AllPush n count pushed out → length table + count ≤ most_slots → ((p : ℕ) → p < n → (out p).sends ≡ [])
     → ((d : ℕ) → d < n → next_memory (delivery_parts (each_below n out) d) ≡ new d)
     → GoesOn turn input s n new (table ++ slots_pushed n count pushed) tag out
 goes_on_pushing turn input s n memory new queue table tag count pushed out is turns pushes few quiet memories =

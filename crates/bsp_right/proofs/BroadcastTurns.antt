@@ -4,6 +4,7 @@ use Rattle.std.proofs.lemmas.List.{append-nil}
 use Rattle.std.proofs.lemmas.Bool.{le-leb}
 use Rattle.std.specs.List.{range_with_len}
 use Rattle.std.specs.Prelude.{slice_get}
+use Rattle.bsp_model.specs.Limits.{most_processes, most_requests}
 use Rattle.bsp_model.specs.declared.fault.Fault.TheVariants.{BadLocal}
 use Rattle.bsp_model.specs.declared.fault.End.TheVariants.{Halt, Sync}
 use Rattle.bsp_model.specs.declared.request.Put.{Put}
@@ -54,7 +55,7 @@ told_if true {own = own} e v plan puts h = ap (λ b. of_plan v (cond b plan (doe
 told_if false {own = own} e v plan puts h = empty_queue v plan puts own e
 
 -- The puts of the root.
-pub perform_all-tells : (own word m k : ℕ) (c : Context) → c.fault ≡ None → count_of_requests c + m ≤ 1024 → k + m ≤ c.view.nprocs → ((pid : ℕ) → pid < c.view.nprocs → target_area c.view pid 0 ≡ Some (record { start = 0; len = 1 }))
+pub perform_all-tells : (own word m k : ℕ) (c : Context) → c.fault ≡ None → count_of_requests c + m ≤ most_requests → k + m ≤ c.view.nprocs → ((pid : ℕ) → pid < c.view.nprocs → target_area c.view pid 0 ≡ Some (record { start = 0; len = 1 }))
     → perform_all c (puts_to_others own word (range_with_len k m)) ≡ record c { puts = c.puts ++ map (tell word) (others own k m) }
 perform_all-tells own word zero k c faultless few below at = ap (λ ps. record c { puts = ps }) (sym (append-nil c.puts))
 perform_all-tells own word (suc m) k c faultless few below at =
@@ -69,7 +70,7 @@ perform_all-tells own word (suc m) k c faultless few below at =
           ∙ ap (λ ps. record c { puts = ps }) (append_assoc c.puts (tell word k ∷ []) (map (tell word) (others own (k + 1) m)))
     ]
 
-pub turn_tells : (args : List (List ℕ)) (n root word : ℕ) (memory : ℕ → List ℕ) (p : ℕ) → n ≤ 64 → p < n → slice_get (get_or args p []) 0 ≡ Some root → (root == p ≡ true → slice_get (memory p) 0 ≡ Some word)
+pub turn_tells : (args : List (List ℕ)) (n root word : ℕ) (memory : ℕ → List ℕ) (p : ℕ) → n ≤ most_processes → p < n → slice_get (get_or args p []) 0 ≡ Some root → (root == p ≡ true → slice_get (memory p) 0 ≡ Some word)
     → broadcast_turn (view_described args 1 n memory no_queue (map (λ q. word_area) (range_with_len 0 n) ∷ []) 0 p) ≡ tells n root word memory p
 turn_tells args n root word memory p few below named own =
     let v = view_described args 1 n memory no_queue (map (λ q. word_area) (range_with_len 0 n) ∷ []) 0 p in

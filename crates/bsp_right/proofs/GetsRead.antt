@@ -2,6 +2,7 @@
 use Rattle.std.proofs.Common.{◌+◌, ◌++◌, ◌<◌, All, List, None, Some, [], ap, arith, get_or, length, map, nat_le, nat_lt, refl, suc, sym, true, ℕ, ◌∙◌, ◌∷◌, ◌≡◌, ◌≤◌}
 use Rattle.std.proofs.lemmas.Bool.{le-leb, lt-ltb}
 use Rattle.std.proofs.lemmas.List.FromFn.{fill_by_all}
+use Rattle.bsp_model.specs.Limits.{most_requests}
 use Rattle.bsp_model.specs.declared.fault.Fault.TheVariants.{BadLocal, BadPid, OutOfArea, TooManyRequests}
 use Rattle.bsp_model.specs.declared.request.Get.{Get}
 use Rattle.bsp_table.specs.declared.area.Area.{Area}
@@ -14,10 +15,10 @@ use Rattle.bsp_deliver.specs.Requests.{all_puts, each_below, words_read}
 use Rattle.bsp_right.proofs.WordsWritten.{outcome_of-each_below, written-all, written_by}
 
 -- A get that is allowed.
-pub perform-get : (c : Context) (pid area offset into len : ℕ) (a : Area) → c.fault ≡ None → count_of_requests c < 1024 → pid < c.view.nprocs → target_area c.view pid area ≡ Some a → offset + len ≤ a.len → into + len ≤ length c.memory
+pub perform-get : (c : Context) (pid area offset into len : ℕ) (a : Area) → c.fault ≡ None → count_of_requests c < most_requests → pid < c.view.nprocs → target_area c.view pid area ≡ Some a → offset + len ≤ a.len → into + len ≤ length c.memory
     → perform c (get pid area offset into len) ≡ record c { gets = c.gets ++ record { owner = pid; start = a.start + offset; len = len; into = into } ∷ [] }
 perform-get c pid area offset into len a faultless few known at inside own =
-    let room : nat_lt (count_of_requests c) 1024 ≡ true = lt-ltb (count_of_requests c) 1024 few in
+    let room : nat_lt (count_of_requests c) most_requests ≡ true = lt-ltb (count_of_requests c) most_requests few in
     let below : nat_lt pid c.view.nprocs ≡ true = lt-ltb pid c.view.nprocs known in
     let fits : nat_le (offset + len) a.len ≡ true = le-leb (offset + len) a.len inside in
     let there : nat_le (into + len) (length c.memory) ≡ true = le-leb (into + len) (length c.memory) own in

@@ -3,6 +3,7 @@ use Rattle.std.proofs.Common.{◌*◌, ◌+◌, ◌++◌, List, None, Some, [], 
 use Rattle.std.proofs.lemmas.List.FromFn.{length-map-range_with_len}
 use Rattle.std.specs.List.{range_with_len}
 use Rattle.std.specs.Prelude.{slice_get}
+use Rattle.bsp_model.specs.Limits.{most_line_words, most_memory_words}
 use Rattle.bsp_model.specs.declared.fault.End.TheVariants.{Halt}
 use Rattle.bsp_model.specs.declared.input.Input.{Input}
 use Rattle.bsp_model.specs.declared.request.Message.{Message}
@@ -29,7 +30,7 @@ abbrev pub answers : ℕ → ℕ → List Store → List ℕ → List ℕ → Ou
 answers n b log memory product = record (quiet memory) { ended = HaltEnd; stores = log; lines = product ∷ []; work = block_start n b }
 
 -- the product is stored, charged for and printed
-answering : (n b : ℕ) (product : List ℕ) (c : Context) → c.fault ≡ None → c.work ≡ 0 → c.lines ≡ [] → length product ≤ 64 → product_start n b + length product ≤ length c.memory → block_start n b ≤ 4096
+answering : (n b : ℕ) (product : List ℕ) (c : Context) → c.fault ≡ None → c.work ≡ 0 → c.lines ≡ [] → length product ≤ most_line_words → product_start n b + length product ≤ length c.memory → block_start n b ≤ most_memory_words
     → leaves c (matvec_answering n b product)
     ≡ closed (record c { memory = stored c.memory (product_start n b) product; stores = c.stores ++ logged (product_start n b) product; work = block_start n b; lines = product ∷ [] }) Halt
 answering n b product c faultless idle silent short inside little =
@@ -55,7 +56,7 @@ multiplies input b p =
 abbrev pub blocks_sent : Input → ℕ → ℕ → List Message
 blocks_sent input b p = map (block_message (block_in input b)) (range_with_len 0 (length input.mems))
 
-multiplied_by : (input : Input) (b p : ℕ) (c : Context) → c.fault ≡ None → c.work ≡ 0 → c.lines ≡ [] → c.memory ≡ gathered input b p → b ≤ 64 → length (memory_in input p) ≤ 4096 → product_start (length input.mems) b + b ≤ length (memory_in input p)
+multiplied_by : (input : Input) (b p : ℕ) (c : Context) → c.fault ≡ None → c.work ≡ 0 → c.lines ≡ [] → c.memory ≡ gathered input b p → b ≤ most_line_words → length (memory_in input p) ≤ most_memory_words → product_start (length input.mems) b + b ≤ length (memory_in input p)
     → leaves c (matvec_multiplying (length input.mems) b (gathered input b p))
     ≡ closed (record c { memory = memory_multiplied input b p; stores = c.stores ++ logged (product_start (length input.mems) b) (own_product input b p); work = block_start (length input.mems) b; lines = own_product input b p ∷ [] }) Halt
 multiplied_by input b p c faultless idle silent is few short h =
@@ -72,7 +73,7 @@ multiplied_by input b p c faultless idle silent is few short h =
     ∙ (λ i. closed (record c { memory = stored (is i) (product_start n b) own; stores = c.stores ++ logged (product_start n b) own; work = block_start n b; lines = own ∷ [] }) Halt)
     ∙ (λ i. closed (record c { memory = memory_at_end input b p h i; stores = c.stores ++ logged (product_start n b) own; work = block_start n b; lines = own ∷ [] }) Halt)
 
-pub turn_multiplies : (input : Input) (b p : ℕ) → slice_get (get_or input.args p []) 0 ≡ Some b → b ≤ 64 → length (memory_in input p) ≤ 4096 → product_start (length input.mems) b + b ≤ length (memory_in input p)
+pub turn_multiplies : (input : Input) (b p : ℕ) → slice_get (get_or input.args p []) 0 ≡ Some b → b ≤ most_line_words → length (memory_in input p) ≤ most_memory_words → product_start (length input.mems) b + b ≤ length (memory_in input p)
     → matvec_turn (view_described input.args 2 (length input.mems) (memory_in input) (blocks_sent input b) [] 1 p) ≡ multiplies input b p
 turn_multiplies input b p named few short h =
     let n = length input.mems in

@@ -1,6 +1,7 @@
 -- The run of a product.
 use Rattle.std.proofs.Common.{◌*◌, ◌+◌, ◌++◌, ◌-◌, ◌<◌, List, None, Some, [], ap, arith, get_or, length, map, refl, suc, zero, ℕ, ◌∙◌, ◌∷◌, ◌≡◌, ◌≤◌}
 use Rattle.std.specs.Prelude.{slice_get}
+use Rattle.bsp_model.specs.Limits.{most_line_words, most_memory_words}
 use Rattle.bsp_model.specs.declared.cost.CostRow.{CostRow}
 use Rattle.bsp_model.specs.declared.input.Input.{Input}
 use Rattle.bsp_model.specs.declared.request.Send.{Send}
@@ -20,7 +21,7 @@ use Rattle.bsp_right.proofs.MatVecAnswers.{blocks_sent, multiplies, turn_multipl
 use Rattle.bsp_right.proofs.MatVecCosts.{h_relation-blocks}
 use Rattle.bsp_right.proofs.MatVecProduct.{block_in, memory_in}
 use Rattle.bsp_right.proofs.MatVecReceiving.{block_message}
-use Rattle.bsp_right.proofs.MatVecTurns.{chooses_tags, few_rows, sends_block, turn_chooses, turn_sends}
+use Rattle.bsp_right.proofs.MatVecTurns.{chooses_tags, sends_block, turn_chooses, turn_sends}
 use Rattle.bsp_right.proofs.MessagesDelivered.{all_sent_to-one, messages-one, next_queue-is}
 use Rattle.bsp_right.proofs.NextSuperstep.{GoesOnWith, Halts, first-described, goes_on_with, halts, next_queue-none}
 use Rattle.bsp_right.proofs.Ranges.{map_range-agree, range-agree}
@@ -48,8 +49,8 @@ supersteps input b h =
     let lawful = lawful_input input h.lawful in
     let memory : ℕ → List ℕ = memory_in input in
     let room : (p : ℕ) → p < n → product_start n b + b ≤ length (memory p) = λ p l. h.words p [] l in
-    let short : (p : ℕ) → p < n → length (memory p) ≤ 4096 = λ p l. lawful.short_memories p [] l in
-    let few : b ≤ 64 = few_rows n b (length (memory 0)) lawful.some_process (room 0 (omega (arith, lawful.some_process))) (short 0 (omega (arith, lawful.some_process))) in
+    let short : (p : ℕ) → p < n → length (memory p) ≤ most_memory_words = λ p l. lawful.short_memories p [] l in
+    let few : b ≤ most_line_words = h.few in
     let named : (p : ℕ) → p < n → slice_get (get_or input.args p []) 0 ≡ Some b = λ p l. h.rows p [] (omega (arith, lawful.same_count)) in
     let first = goes_on_with matvec_turn input 0 n memory memory no_queue no_queue [] 0 [] 0 (λ p. []) (Some 1) (chooses_tags memory)
     (first-described matvec_turn input)

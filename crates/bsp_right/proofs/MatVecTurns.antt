@@ -8,6 +8,7 @@ use Rattle.std.proofs.lemmas.Bool.Decides.{nat_tests}
 use Rattle.std.proofs.lemmas.Grind.{common_steps, same_number_lists}
 use Rattle.std.specs.List.{range_with_len}
 use Rattle.std.specs.Prelude.{nat_le, nat_lt, slice_get}
+use Rattle.bsp_model.specs.Limits.{most_line_words, most_processes}
 use Rattle.bsp_model.specs.declared.fault.End.TheVariants.{Abort, Sync}
 use Rattle.bsp_step.specs.Act.{set_tagsize}
 use Rattle.bsp_step.specs.Blocks.{words_at}
@@ -20,17 +21,6 @@ use Rattle.bsp_programs.specs.MatVec.{block_start, given_words, matvec_checking,
 use Rattle.bsp_right.specs.Multiplied.{matvec_turn}
 use Rattle.bsp_right.proofs.ActsAllowed.{message_to, perform_all-sends}
 use Rattle.bsp_right.proofs.DescribedStates.{no_queue, of_plan, quiet, view_described}
-
--- where b rows of that many columns fit into a memory, b is small
-pub few_rows : (n b len : ℕ) → 1 ≤ n → product_start n b + b ≤ len → len ≤ 4096 → b ≤ 64
-few_rows n b len some fits short =
-    elim (cases_lt 64 b) [
-      | inl more ↦
-          let wide : 1 * 65 ≤ n * b = mul-le 1 65 n b some (omega arith) in
-          let large : 65 * 65 ≤ b * (n * b) = mul-le 65 65 b (n * b) (omega arith) (omega arith) in
-          absurd (omega arith)
-      | inr less ↦ less
-    ]
 
 -- these words of a memory
 abbrev pub words_from : List ℕ → ℕ → ℕ → List ℕ
@@ -57,10 +47,10 @@ abbrev pub sends_block : ℕ → ℕ → (ℕ → List ℕ) → ℕ → OutcomeP
 sends_block n b memory p = record (quiet (memory p)) { sends = map (message_to (p ∷ []) (block_of n b (memory p))) (range_with_len 0 n) }
 
 -- the turn where argument 0 is b
-pub turn_working : (v : ViewParts) (b : ℕ) → slice_get v.args 0 ≡ Some b → b ≤ 64 → matvec_turn v ≡ of_plan v (matvec_working v v.memory v.queue b)
+pub turn_working : (v : ViewParts) (b : ℕ) → slice_get v.args 0 ≡ Some b → b ≤ most_line_words → matvec_turn v ≡ of_plan v (matvec_working v v.memory v.queue b)
 turn_working v b named few =
-    ap (λ o. of_plan v (given_argument o (λ rows. cond (nat_lt 64 rows) (does [] (Abort 2)) (matvec_working v v.memory v.queue rows)))) named
-    ∙ ap (λ t. of_plan v (cond t (does [] (Abort 2)) (matvec_working v v.memory v.queue b))) (le-ltb 64 b few)
+    ap (λ o. of_plan v (given_argument o (λ rows. cond (nat_lt most_line_words rows) (does [] (Abort 2)) (matvec_working v v.memory v.queue rows)))) named
+    ∙ ap (λ t. of_plan v (cond t (does [] (Abort 2)) (matvec_working v v.memory v.queue b))) (le-ltb most_line_words b few)
 
 checks_if : (t : Bool) (v : ViewParts) (b : ℕ) → ((product_start v.nprocs b + b) == 0) ≡ t → product_start v.nprocs b + b ≤ length v.memory → of_plan v (matvec_checking v.nprocs b v.memory) ≡ record (quiet v.memory) { tag = Some 1 }
 checks_if true v b e h =
@@ -71,13 +61,13 @@ checks_if false v b e h =
     ap (λ t. of_plan v (cond t (does (set_tagsize 1 ∷ []) Sync) (given_word (slice_get v.memory (product_start v.nprocs b + b - 1)) (λ last. does (set_tagsize 1 ∷ []) Sync)))) e
     ∙ ap (λ o. of_plan v (given_word o (λ last. does (set_tagsize 1 ∷ []) Sync))) (slice_get-get_or v.memory (product_start v.nprocs b + b - 1) 0 (omega arith))
 
-pub turn_chooses : (args : List (List ℕ)) (n b : ℕ) (memory : ℕ → List ℕ) (p : ℕ) → slice_get (get_or args p []) 0 ≡ Some b → b ≤ 64 → product_start n b + b ≤ length (memory p)
+pub turn_chooses : (args : List (List ℕ)) (n b : ℕ) (memory : ℕ → List ℕ) (p : ℕ) → slice_get (get_or args p []) 0 ≡ Some b → b ≤ most_line_words → product_start n b + b ≤ length (memory p)
     → matvec_turn (view_described args 0 n memory no_queue [] 0 p) ≡ chooses_tags memory p
 turn_chooses args n b memory p named few h =
     let v = view_described args 0 n memory no_queue [] 0 p in
     turn_working v b named few ∙ checks_if ((product_start n b + b) == 0) v b refl h
 
-pub turn_sends : (args : List (List ℕ)) (n b : ℕ) (memory : ℕ → List ℕ) (p : ℕ) → n ≤ 64 → slice_get (get_or args p []) 0 ≡ Some b → b ≤ 64 → product_start n b + b ≤ length (memory p)
+pub turn_sends : (args : List (List ℕ)) (n b : ℕ) (memory : ℕ → List ℕ) (p : ℕ) → n ≤ most_processes → slice_get (get_or args p []) 0 ≡ Some b → b ≤ most_line_words → product_start n b + b ≤ length (memory p)
     → matvec_turn (view_described args 1 n memory no_queue [] 1 p) ≡ sends_block n b memory p
 turn_sends args n b memory p small named few h =
     let v = view_described args 1 n memory no_queue [] 1 p in

@@ -3,6 +3,7 @@ use Rattle.std.proofs.Common.{◌+◌, ◌++◌, ◌<◌, ◌==◌, List, None, 
 use Rattle.std.proofs.lemmas.List.FromFn.{fill_by_all, get_or-map-range_with_len, length-map-range_with_len}
 use Rattle.std.specs.List.{range_with_len}
 use Rattle.std.specs.Prelude.{unwrap_or}
+use Rattle.bsp_model.specs.Limits.{most_slots}
 use Rattle.bsp_model.specs.declared.input.Input.{Input}
 use Rattle.bsp_model.specs.declared.request.Message.{Message}
 use Rattle.bsp_model.specs.declared.request.Send.{Send}
@@ -73,7 +74,7 @@ GoesOn turn input s n memory table tag out = GoesOnWith turn input s n memory no
 pub goes_on_with : (turn : ViewParts → OutcomeParts) (input : Input) (s n : ℕ) (memory new : ℕ → List ℕ) (queue next : ℕ → List Message) (table : List (List Area)) (tag : ℕ) (popped : List ℕ) (count : ℕ) (pushed : ℕ → List Area) (chosen : Option ℕ) (out : ℕ → OutcomeParts)
     → state_at turn input s ≡ described n memory queue table tag
     → ((p : ℕ) → p < n → turn (view_described input.args s n memory queue table tag p) ≡ out p)
-    → AllSyncWith n popped count pushed chosen out → length (slots_left table popped) + count ≤ 256
+    → AllSyncWith n popped count pushed chosen out → length (slots_left table popped) + count ≤ most_slots
     → ((d : ℕ) → d < n → next_queue (delivery_parts (each_below n out) d) ≡ next d)
     → ((d : ℕ) → d < n → next_memory (delivery_parts (each_below n out) d) ≡ new d)
     → GoesOnWith turn input s n new next (slots_left table popped ++ slots_pushed n count pushed) (unwrap_or chosen tag) out
@@ -99,7 +100,7 @@ goes_on_with turn input s n memory new queue next table tag popped count pushed 
 pub goes_on : (turn : ViewParts → OutcomeParts) (input : Input) (s n : ℕ) (memory new : ℕ → List ℕ) (queue : ℕ → List Message) (table : List (List Area)) (tag : ℕ) (pushed : List Area) (out : ℕ → OutcomeParts)
     → state_at turn input s ≡ described n memory queue table tag
     → ((p : ℕ) → p < n → turn (view_described input.args s n memory queue table tag p) ≡ out p)
-    → AllSync n pushed out → length table + length pushed ≤ 256 → ((p : ℕ) → p < n → (out p).sends ≡ [])
+    → AllSync n pushed out → length table + length pushed ≤ most_slots → ((p : ℕ) → p < n → (out p).sends ≡ [])
     → ((d : ℕ) → d < n → next_memory (delivery_parts (each_below n out) d) ≡ new d)
     → GoesOn turn input s n new (table ++ slots_of n pushed) tag out
 goes_on turn input s n memory new queue table tag pushed out is turns syncs few quiet memories =

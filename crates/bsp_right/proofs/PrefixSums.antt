@@ -4,6 +4,7 @@ use Rattle.std.proofs.Math.Nat.{add-mod, mod-eq_of_lt}
 use Rattle.std.proofs.lemmas.List.{get_or-set_other, get_or-set_same, length-set}
 use Rattle.std.specs.Prelude.{min}
 use Rattle.std.proofs.lemmas.Bool.Decides.{nat_tests}
+use Rattle.bsp_model.specs.Limits.{most_processes}
 use Rattle.bsp_model.specs.declared.input.Input.{Input}
 use Rattle.bsp_model.proofs.Inputs.{lawful_input}
 use Rattle.bsp_programs.specs.Doubling.{distance}
@@ -93,7 +94,7 @@ sums input k h (suc t) l p m =
     let v = get_or (added (suc t) memory (p - D)) 0 0 in
     let long : 2 ≤ length A = omega (arith, length-added_at (suc t) memory p, has_words input k h t p m) in
     let near : distance (suc t) < length input.mems = h.before t (omega arith) in
-    let few : length input.mems ≤ 64 = (lawful_input input h.lawful).few_processes in
+    let few : length input.mems ≤ most_processes = (lawful_input input h.lawful).few_processes in
     let doubles : distance (suc (suc t)) ≡ D + D = distance-doubles t (omega arith) in
     ap (λ b. get_or (added_if b (passed_on (suc t) memory p)) 0 0) (received_is t p)
     ∙ sum_if (nat_le D p) A v long

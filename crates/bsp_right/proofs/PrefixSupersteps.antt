@@ -2,6 +2,7 @@
 use Rattle.std.proofs.Common.{◌+◌, ◌-◌, ◌<◌, All, List, None, [], ◌^◌, ap, arith, get_or, inl, inr, length, refl, suc, sym, zero, ℕ, ◌∙◌, ◌∷◌, ◌≡◌, ◌≤◌}
 use Rattle.std.proofs.lemmas.Bool.{cases_lt}
 use Rattle.std.specs.Prelude.{min}
+use Rattle.bsp_model.specs.Limits.{most_processes}
 use Rattle.bsp_model.specs.declared.input.Input.{Input}
 use Rattle.bsp_model.specs.Input.{input_fault}
 use Rattle.bsp_model.proofs.Inputs.{lawful_input}
@@ -29,8 +30,8 @@ pub record EndsAfter (input : Input) (k : ℕ) : Type 0 where
 pub distance-is : (t : ℕ) → t ≤ 7 → distance (suc t) ≡ 2 ^ t
 distance-is t h = let e : min (suc t) 8 - 1 ≡ t = omega arith in ap (λ x. 2 ^ x) e
 
--- 64 processes at most are reached by 6 doublings
-pub few_doublings : (k n : ℕ) → n ≤ 64 → ((j : ℕ) → j < k → 2 ^ j < n) → k ≤ 6
+-- As many processes as there may be are reached by 6 doublings.
+pub few_doublings : (k n : ℕ) → n ≤ most_processes → ((j : ℕ) → j < k → 2 ^ j < n) → k ≤ 6
 few_doublings k n few least =
     elim (cases_lt 6 k) [
       | inl more ↦ let h : 64 < n = least 6 more in absurd (omega arith)

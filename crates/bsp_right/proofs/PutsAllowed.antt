@@ -3,6 +3,7 @@ use Rattle.std.proofs.Common.{◌+◌, ◌++◌, ◌<◌, ◌==◌, None, Some, 
 use Rattle.std.proofs.lemmas.Bool.{le-leb}
 use Rattle.std.proofs.lemmas.Bool.Decides.{nat_tests}
 use Rattle.std.specs.List.{range_with_len}
+use Rattle.bsp_model.specs.Limits.{most_requests}
 use Rattle.bsp_model.specs.declared.fault.Fault.TheVariants.{BadPid, TooManyRequests}
 use Rattle.bsp_table.specs.declared.area.Area.{Area}
 use Rattle.bsp_step.specs.Context.{Context}
@@ -12,10 +13,10 @@ use Rattle.bsp_step.specs.Act.{put}
 use Rattle.bsp_right.proofs.TablesAlike.{target_area-alike}
 
 -- A put that is allowed.
-pub perform-put : (c : Context) (pid word area offset : ℕ) (a : Area) → c.fault ≡ None → count_of_requests c < 1024 → pid < c.view.nprocs → target_area c.view pid area ≡ Some a → offset + 1 ≤ a.len
+pub perform-put : (c : Context) (pid word area offset : ℕ) (a : Area) → c.fault ≡ None → count_of_requests c < most_requests → pid < c.view.nprocs → target_area c.view pid area ≡ Some a → offset + 1 ≤ a.len
     → perform c (put pid (word ∷ []) area offset) ≡ record c { puts = c.puts ++ record { target = pid; start = a.start + offset; words = word ∷ [] } ∷ [] }
 perform-put c pid word area offset a faultless few known at inside =
-    let room : nat_lt (count_of_requests c) 1024 ≡ true = grind (arith, nat_tests) in
+    let room : nat_lt (count_of_requests c) most_requests ≡ true = grind (arith, nat_tests) in
     let below : nat_lt pid c.view.nprocs ≡ true = grind (arith, nat_tests) in
     let fits : nat_le (offset + 1) a.len ≡ true = le-leb (offset + 1) a.len inside in
     (λ i. performed (faultless i) (first_fault (fault_unless (room i) TooManyRequests) (first_fault (fault_unless (below i) (BadPid pid)) (area_fault (at i) area (offset + 1)))) c

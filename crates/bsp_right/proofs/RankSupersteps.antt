@@ -1,6 +1,7 @@
 -- The supersteps of list ranking, and the run that they make.
 use Rattle.std.proofs.Common.{◌+◌, ◌-◌, ◌<◌, List, None, [], ◌^◌, ap, arith, drop, get_or, length, refl, suc, zero, ℕ, ◌∙◌, ◌∷◌, ◌≡◌, ◌≤◌}
 use Rattle.std.proofs.lemmas.Nat.{pow_below}
+use Rattle.bsp_model.specs.Limits.{most_processes}
 use Rattle.bsp_model.specs.declared.input.Input.{Input}
 use Rattle.bsp_model.proofs.Inputs.{lawful_input}
 use Rattle.bsp_programs.specs.Doubling.{distance}
@@ -57,7 +58,7 @@ module _ (input : Input) (element successors : ℕ → ℕ) (k : ℕ) (h : IsLis
   pub small : (p : ℕ) → p < length input.mems → successors p < 2 ^ 64
   small p l =
       let below : successors p < length input.mems = (h.order.places p l).0 in
-      let most : length input.mems ≤ 64 = (lawful_input input h.lawful).few_processes in
+      let most : length input.mems ≤ most_processes = (lawful_input input h.lawful).few_processes in
       let six : 2 ^ 6 < 2 ^ 64 = pow_below 6 64 (omega arith) in
       omega arith
 

@@ -5,6 +5,7 @@ use Rattle.std.specs.Prelude.{is_some, nat_eq}
 use Rattle.std.specs.List.{list_all, list_any, range_with_len}
 use Rattle.std.proofs.lemmas.Bool.Decides.{nat_tests}
 use lib.Pointwise.{pointwise}
+use Rattle.bsp_model.specs.Limits.{most_slots}
 use Rattle.bsp_model.specs.declared.fault.SyncFault.TheVariants.{MixedEnd, PopMismatch, PushMismatch, TagMismatch, TooManySlots}
 use Rattle.bsp_model.specs.declared.fault.SyncFault.{SyncFault}
 use Rattle.bsp_table.specs.declared.area.Area.{Area}
@@ -145,10 +146,10 @@ pushes-own n pushed out h = map_range-agree (λ (o : OutcomeParts). o.pushes) ou
 table_by : Bool → Bool → Bool → Option SyncFault
 table_by pops pushes over = cond (not pops) (Some PopMismatch) (cond (not pushes) (Some PushMismatch) (cond over (Some TooManySlots) None))
 
-not_over : (n : ℕ) → n ≤ 256 → nat_lt 256 n ≡ false
+not_over : (n : ℕ) → n ≤ most_slots → nat_lt most_slots n ≡ false
 not_over n h = grind (arith, nat_tests)
 
-table_fault-none : (slots : List (List Area)) (popped : List ℕ) (count : ℕ) (pushed : ℕ → List Area) (n : ℕ) → 1 ≤ n → ((p : ℕ) → p < n → length (pushed p) ≡ count) → length (slots_left slots popped) + count ≤ 256
+table_fault-none : (slots : List (List Area)) (popped : List ℕ) (count : ℕ) (pushed : ℕ → List Area) (n : ℕ) → 1 ≤ n → ((p : ℕ) → p < n → length (pushed p) ≡ count) → length (slots_left slots popped) + count ≤ most_slots
     → table_fault slots (map (λ p. popped) (range_with_len 0 n)) (map pushed (range_with_len 0 n)) ≡ None
 unfolding table_by
 table_fault-none slots popped count pushed n some counts few =
@@ -158,10 +159,10 @@ table_fault-none slots popped count pushed n some counts few =
     let same_pushes : are_alike (λ (x y : List Area). length x == length y) pushes ≡ true = same_counts pushed count n 0 (λ p l m. counts p (omega arith)) in
     let left : length (kept_slots slots pops) ≡ length (slots_left slots popped) = ap (λ (xs : List (List Area)). length xs) (kept_slots-alike slots popped n some) in
     let number : count_of_pushes pushes ≡ count = count_of_pushes-is pushed count n some counts in
-    let over : nat_lt 256 (length (kept_slots slots pops) + count_of_pushes pushes) ≡ false = not_over (length (kept_slots slots pops) + count_of_pushes pushes) (omega arith) in
+    let over : nat_lt most_slots (length (kept_slots slots pops) + count_of_pushes pushes) ≡ false = not_over (length (kept_slots slots pops) + count_of_pushes pushes) (omega arith) in
     λ i. table_by (same_pops i) (same_pushes i) (over i)
 
-pub end_of-syncs : {tag : Option ℕ} (n step : ℕ) (slots : List (List Area)) (popped : List ℕ) (count : ℕ) (pushed : ℕ → List Area) (out : ℕ → OutcomeParts) → AllSyncWith n popped count pushed tag out → length (slots_left slots popped) + count ≤ 256 → end_of step slots (each_below n out) ≡ None
+pub end_of-syncs : {tag : Option ℕ} (n step : ℕ) (slots : List (List Area)) (popped : List ℕ) (count : ℕ) (pushed : ℕ → List Area) (out : ℕ → OutcomeParts) → AllSyncWith n popped count pushed tag out → length (slots_left slots popped) + count ≤ most_slots → end_of step slots (each_below n out) ≡ None
 unfolding end_of ending_by
 end_of-syncs {tag = tag} n step slots popped count pushed out h few =
     let os = each_below n out in

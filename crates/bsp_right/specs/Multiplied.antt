@@ -1,6 +1,7 @@
 -- What a matrix by a vector computes (the claim of this profile's program of that name).
 use Rattle.std.specs.Prelude.{◌≡◌, ◌≤◌, ◌+◌, ◌-◌, ◌*◌, ◌/◌, ◌%◌, ◌^◌, ℕ, if◌then◌else◌, List, [], ◌∷◌, All, Some, None, map, length, slice_get, slice_index, slice_index_or}
 use Rattle.std.specs.List.{range_with_len}
+use Rattle.bsp_model.specs.Limits.{most_line_words}
 use Rattle.bsp_model.specs.declared.input.Input.{Input}
 use Rattle.bsp_model.specs.declared.cost.CostRow.{CostRow}
 use Rattle.bsp_model.specs.Input.{input_fault}
@@ -18,11 +19,12 @@ use Rattle.bsp_right.specs.Sums.{sum_before}
 abbrev pub matvec_turn : ViewParts → OutcomeParts
 matvec_turn = turn_of (λ v. (matvec_plan v v.memory v.queue).acts) (λ v. (matvec_plan v v.memory v.queue).ending)
 
--- An input of a product: all processes name one number b of rows, each memory has room for the rows, the two vectors and the product, and the
--- limit leaves room for three supersteps.
+-- An input of a product: all processes name one number b of rows, no more than a line has words, each memory has room for the rows, the two vectors
+-- and the product, and the limit leaves room for three supersteps.
 pub record IsMatVecInput (input : Input) (b : ℕ) : Type 0 where
   pub lawful : input_fault input ≡ None
   pub rows : All (λ args. slice_get args 0 ≡ Some b) input.args
+  pub few : b ≤ most_line_words
   pub words : All (λ memory. product_start (length input.mems) b + b ≤ length memory) input.mems
   pub room : 3 ≤ input.limit
 

@@ -4,6 +4,7 @@ use Rattle.std.proofs.lemmas.List.{get_or-map, length-map, get_or_default}
 use Rattle.std.proofs.lemmas.List.FromFn.{get_or-map-range_with_len, length-map-range_with_len, fill_by_all}
 use Rattle.std.proofs.lemmas.List.Elements.{All-weaker}
 use Rattle.std.proofs.lemmas.Option.{slice_get_within, get_or_from_slice_get}
+use Rattle.bsp_model.specs.Limits.{most_memory_words}
 use Rattle.bsp_table.specs.declared.area.Area.{Area}
 use Rattle.bsp_table.specs.Table.{area_at, area_in}
 use Rattle.bsp_table.specs.NextTable.{AreSlotsInside, ArePushesInside, IsSlotInside, no_area, AreSlots, AreWithin}
@@ -91,7 +92,7 @@ AreDeliverable-from_turns args step s os state h =
     record {
       some = omega (arith, state.some);
       few = omega (arith, state.few);
-      short = All-weaker IsOutcome (λ o. length o.memory ≤ 4096) (λ o m. m.short_memory) os h.limits;
+      short = All-weaker IsOutcome (λ o. length o.memory ≤ most_memory_words) (λ o m. m.short_memory) os h.limits;
       inside = λ k d l.
           subst (AreRequestsInside (sizes_of os)) (get_or_default os k no_outcome d l)
           (subst (λ ns. AreRequestsInside ns (outcome_of os k)) (sym (sizes-same args step s os h)) (requests_inside args step s os k state h (omega arith)));
@@ -113,10 +114,10 @@ pushes_are_inside args step s os h p k l q =
     let within = (outcome_at args step s os p h here).issued.pushed.each k no_area (rw is at q) in
     rw (is, size) within
 
--- each process's pushes end at 4,096 at most
-pub pushes_within : (args : List (List ℕ)) (step : ℕ) (s : State) (os : List OutcomeParts) → IsState s → AreOutcomesOf (views_of args step s) os → All (λ o. AreWithin 4096 o.pushes) os
+-- each process's pushes end within the longest memory
+pub pushes_within : (args : List (List ℕ)) (step : ℕ) (s : State) (os : List OutcomeParts) → IsState s → AreOutcomesOf (views_of args step s) os → All (λ o. AreWithin most_memory_words o.pushes) os
 pushes_within args step s os state h =
     λ k d l.
     let here : k < length s.memories = omega (arith, count_of_outcomes args step s os h) in
-    subst (λ (o : OutcomeParts). AreWithin 4096 o.pushes) (get_or_default os k no_outcome d l)
-    (λ j e q. let short : length (get_or s.memories k []) ≤ 4096 = state.short_memories k [] here in omega (arith, (outcome_at args step s os k h here).issued.pushed.each j e q))
+    subst (λ (o : OutcomeParts). AreWithin most_memory_words o.pushes) (get_or_default os k no_outcome d l)
+    (λ j e q. let short : length (get_or s.memories k []) ≤ most_memory_words = state.short_memories k [] here in omega (arith, (outcome_at args step s os k h here).issued.pushed.each j e q))

@@ -4,6 +4,7 @@ use Rattle.std.specs.Prelude.{unwrap_or}
 use Rattle.std.proofs.lemmas.List.{get_or-map, length-map}
 use Rattle.std.proofs.lemmas.List.FromFn.{get_or-map-range_with_len, length-map-range_with_len, fill_by_all}
 use Rattle.std.proofs.lemmas.List.Elements.{All-map, All-nil, All-append, All-filter, All-head, All-tail}
+use Rattle.bsp_model.specs.Limits.{most_processes, most_requests, most_tag_words}
 use Rattle.bsp_model.specs.declared.request.Send.{Send}
 use Rattle.bsp_step.specs.ViewParts.{IsQueue, IsShortMessage}
 use Rattle.bsp_step.specs.OutcomeParts.{OutcomeParts, IsOutcome, IsShortSend, IsTagChoice, no_outcome, outcome_of}
@@ -30,13 +31,13 @@ pub length-next_memory : (os : List OutcomeParts) (d : ℕ) → length (next_mem
 unfolding next_memory delivery_parts
 length-next_memory os d = length-map-range_with_len (next_word (delivery_parts os d)) 0 (length (outcome_of os d).memory)
 
-sends_from : (n : ℕ) (os : List OutcomeParts) → All IsOutcome os → length (requests_from (λ o. o.sends) n os) ≤ 1024 * length os
+sends_from : (n : ℕ) (os : List OutcomeParts) → All IsOutcome os → length (requests_from (λ o. o.sends) n os) ≤ most_requests * length os
 sends_from n [] h = omega arith
 sends_from n (o ∷ os) h =
     let pair : Send → ℕ × Send = λ m. (n, m) in
     let own : length (map pair o.sends) ≡ length o.sends = length-map o.sends pair in
-    let few : length o.puts + length o.gets + length o.sends + length o.pops + length o.pushes ≤ 1024 = (All-head IsOutcome o os h).few_requests in
-    let rest : length (requests_from (λ o. o.sends) (n + 1) os) ≤ 1024 * length os = sends_from (n + 1) os (All-tail IsOutcome o os h) in
+    let few : length o.puts + length o.gets + length o.sends + length o.pops + length o.pushes ≤ most_requests = (All-head IsOutcome o os h).few_requests in
+    let rest : length (requests_from (λ o. o.sends) (n + 1) os) ≤ most_requests * length os = sends_from (n + 1) os (All-tail IsOutcome o os h) in
     let both : length (map pair o.sends ++ requests_from (λ o. o.sends) (n + 1) os) ≡ length (map pair o.sends) + length (requests_from (λ o. o.sends) (n + 1) os) = length-append (map pair o.sends) (requests_from (λ o. o.sends) (n + 1) os) in
     omega arith
 
@@ -47,25 +48,25 @@ short_from n (o ∷ os) h =
     (All-map (λ (m : ℕ × Send). IsShortSend m.1) (λ (m : Send). (n, m)) o.sends (All-head IsOutcome o os h).sends.each) (short_from (n + 1) os (All-tail IsOutcome o os h))
 
 -- a next queue is within the limits
-pub queue_within : (os : List OutcomeParts) (d : ℕ) → length os ≤ 64 → All IsOutcome os → IsQueue (next_queue (delivery_parts os d))
+pub queue_within : (os : List OutcomeParts) (d : ℕ) → length os ≤ most_processes → All IsOutcome os → IsQueue (next_queue (delivery_parts os d))
 unfolding next_queue delivery_parts all_sends
 queue_within os d few h =
     let all = requests_from (λ o. o.sends) 0 os in
     let mine = filter (λ (m : ℕ × Send). m.1.target == d) all in
     let count : length (map (λ (m : ℕ × Send). message_of m.1) mine) ≡ length mine = length-map mine (λ (m : ℕ × Send). message_of m.1) in
     let fewer : length mine ≤ length all = length-filter-le (λ (m : ℕ × Send). m.1.target == d) all in
-    let most : length all ≤ 1024 * length os = sends_from 0 os h in
+    let most : length all ≤ most_requests * length os = sends_from 0 os h in
     record {
       few = omega arith;
       short = All-map IsShortMessage (λ (m : ℕ × Send). message_of m.1) mine (λ k e l. let s = All-filter (λ (m : ℕ × Send). m.1.target == d) (λ (m : ℕ × Send). IsShortSend m.1) all (short_from 0 os h) k e l in record { tag = s.tag; words = s.words });
     }
 
-small_choice : (old : ℕ) (choice : Option ℕ) → old ≤ 16 → IsTagChoice choice → unwrap_or choice old ≤ 16
+small_choice : (old : ℕ) (choice : Option ℕ) → old ≤ most_tag_words → IsTagChoice choice → unwrap_or choice old ≤ most_tag_words
 small_choice old None h k = h
 small_choice old (Some n) h k = k
 
 -- the next tag size is within the limit
-pub tag_within : (old : ℕ) (os : List OutcomeParts) → old ≤ 16 → All IsOutcome os → next_tag_size old os ≤ 16
+pub tag_within : (old : ℕ) (os : List OutcomeParts) → old ≤ most_tag_words → All IsOutcome os → next_tag_size old os ≤ most_tag_words
 tag_within old [] h k = h
 tag_within old (o ∷ os) h k = small_choice old o.tag h (All-head IsOutcome o os k).tag
 

@@ -15,10 +15,10 @@ state_is : (r : Run) (setting : Setting) (cells : List (List ℕ × List Message
 state_is r setting cells known made =
     cells_are r cells setting.table setting.tag_size made (next_table-is r setting.table (ap (λ (s : Setting). s.table) known)) (next_tag-is r setting.tag_size (ap (λ (s : Setting). s.tag_size) known))
 
-pub opens_next : (r : Run) (setting : Setting) (cells : List (List ℕ × List Message)) → IsRun r → r.phase ≡ Turned → setting ≡ next_setting r → cells ≡ deliveries_of r.outcomes → CanOpen setting.args (state_of cells setting.table setting.tag_size)
+pub opens_next : (r : Run) (setting : Setting) (cells : List (List ℕ × List Message)) → IsRun r → r.phase ≡ Turned → setting ≡ next_setting r → cells ≡ deliveries_of r.outcomes → CanOpen setting.args setting.step (state_of cells setting.table setting.tag_size)
 opens_next r setting cells h phase known made =
-    subst (λ xs. CanOpen xs (state_of cells setting.table setting.tag_size)) (sym (ap (λ (s : Setting). s.args) known))
-    (subst (CanOpen r.args) (sym (state_is r setting cells known made)) (can_open_next r (next_is_run r h phase)))
+    subst (λ (s : Setting). CanOpen s.args s.step (state_of cells setting.table setting.tag_size)) (sym known)
+    (subst (CanOpen r.args (length r.past + 1)) (sym (state_is r setting cells known made)) (can_open_next r (next_is_run r h phase)))
 
 pub views_next : (r : Run) (setting : Setting) (cells : List (List ℕ × List Message)) → setting ≡ next_setting r → cells ≡ deliveries_of r.outcomes → views_of setting.args setting.step (state_of cells setting.table setting.tag_size) ≡ next_views r
 views_next r setting cells known made =

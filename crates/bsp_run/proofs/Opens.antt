@@ -1,10 +1,11 @@
 -- Opening a superstep keeps what a run keeps.
-use Rattle.std.proofs.Common.{◌≡◌, ◌≤◌, ◌+◌, ℕ, List, [], map, length, All, arith, get_or, refl, sym, ap, ◌∙◌, subst}
+use Rattle.std.proofs.Common.{◌≡◌, ◌≤◌, ◌<◌, ◌+◌, ℕ, List, [], map, length, All, arith, get_or, refl, sym, ap, ◌∙◌, subst}
 use Rattle.std.specs.List.{range_with_len}
 use Rattle.std.proofs.Math.ListN.{get_or-map}
 use Rattle.std.proofs.lemmas.List.{length-map}
 use Rattle.std.proofs.lemmas.List.Elements.{All-map, All-nil}
 use Rattle.std.proofs.lemmas.List.FromFn.{fill_by_all}
+use Rattle.bsp_model.specs.Limits.{most_arguments, most_memory_words, most_supersteps}
 use Rattle.bsp_model.specs.declared.input.Input.{Input}
 use Rattle.bsp_model.specs.declared.request.Message.{Message}
 use Rattle.bsp_model.specs.Inside.LawfulInput.{IsLawfulInput}
@@ -15,9 +16,12 @@ use Rattle.bsp_deliver.specs.Condition.{AreDeliverable}
 use Rattle.bsp_run.specs.declared.setting.Setting.{Setting}
 use Rattle.bsp_run.specs.declared.superstep.Superstep.{Superstep}
 use Rattle.bsp_run.specs.State.{State, cell_of, first_cell, first_state, no_messages, view_of, views_of}
-use Rattle.bsp_run.specs.Run.{start, open_views}
+use Rattle.bsp_run.specs.declared.phase.Phase.{Phase}
+use Rattle.bsp_run.specs.declared.phase.Phase.TheVariants.{Open, Turned, Ended}
+use Rattle.bsp_run.specs.declared.result.Status.TheVariants.{Halted, Limit, Faulted, SyncFaulted}
+use Rattle.bsp_run.specs.Run.{Run, start, open_views}
 use Rattle.bsp_run.specs.Inside.Opening.{CanOpen, state_of}
-use Rattle.bsp_run.specs.Condition.{IsState, IsRun}
+use Rattle.bsp_run.specs.Condition.{IsState, IsRun, IsInPhase}
 use Rattle.bsp_run.proofs.Lists.{map_agree, map_same}
 use Rattle.bsp_deliver.proofs.Senders.{map_twice}
 
@@ -66,7 +70,7 @@ empty_queue : IsQueue []
 empty_queue = record { few = omega arith; short = All-nil IsShortMessage }
 
 empty_table : (n : ℕ) → IsTableFor n []
-empty_table n = record { few_slots = omega arith; full_slots = All-nil (λ (areas : List Area). length areas ≡ n); inside = All-nil (λ (areas : List Area). All (λ a. a.start + a.len ≤ 4096) areas) }
+empty_table n = record { few_slots = omega arith; full_slots = All-nil (λ (areas : List Area). length areas ≡ n); inside = All-nil (λ (areas : List Area). All (λ a. a.start + a.len ≤ most_memory_words) areas) }
 
 pub first_state_within : (input : Input) → IsLawfulInput input → IsState (first_state input)
 unfolding first_state
@@ -82,9 +86,24 @@ first_state_within input h =
       small_tag = omega arith;
     }
 
-pub can_open : (args : List (List ℕ)) (s : State) → IsState s → length args ≡ length s.memories → All (λ a. length a ≤ 64) args → CanOpen args s
-can_open args s h same short =
-    record { few = h.few; same_args = same; short_args = short; short_memories = h.short_memories; queues = h.queues; table = h.table; small_tag = h.small_tag }
+past_in : (phase : Phase) (r : Run) → IsInPhase phase r → length r.past ≤ r.limit
+past_in Open r h = let room : length r.past < r.limit = h.room in omega arith
+past_in Turned r h = let room : length r.past < r.limit = h.room in omega arith
+past_in (Ended Limit) r h = let full : length r.past ≡ r.limit = h.full in omega arith
+past_in (Ended Halted) r h = let room : length r.past < r.limit = h.room in omega arith
+past_in (Ended (Faulted step faults)) r h = let room : length r.past < r.limit = h.room in omega arith
+past_in (Ended (SyncFaulted step fault)) r h = let room : length r.past < r.limit = h.room in omega arith
+
+-- the superstep behind those of the past has a number within the limits
+pub past_within : (r : Run) → IsRun r → length r.past ≤ most_supersteps
+past_within r h =
+    let within = past_in r.phase r h.phase in
+    let few : r.limit ≤ most_supersteps = h.few_supersteps in
+    omega (arith, within)
+
+pub can_open : (args : List (List ℕ)) (step : ℕ) (s : State) → step ≤ most_supersteps → IsState s → length args ≡ length s.memories → All (λ a. length a ≤ most_arguments) args → CanOpen args step s
+can_open args step s few h same short =
+    record { few_supersteps = few; few = h.few; same_args = same; short_args = short; short_memories = h.short_memories; queues = h.queues; table = h.table; small_tag = h.small_tag }
 
 pub start_is_run : (input : Input) → IsLawfulInput input → IsRun (start input)
 unfolding start first_state
@@ -117,11 +136,11 @@ first_is input setting cells known made =
     ap (λ (s : Setting). state_of cells s.table s.tag_size) known ∙ ap (λ xs. state_of xs [] 0) made ∙ first_state-cells input
 
 -- the first cells may be opened ..
-pub opens_first : (input : Input) (setting : Setting) (cells : List (List ℕ × List Message)) → IsLawfulInput input → setting ≡ first_setting input → cells ≡ map (λ m. (m, no_messages m)) input.mems → CanOpen setting.args (state_of cells setting.table setting.tag_size)
+pub opens_first : (input : Input) (setting : Setting) (cells : List (List ℕ × List Message)) → IsLawfulInput input → setting ≡ first_setting input → cells ≡ map (λ m. (m, no_messages m)) input.mems → CanOpen setting.args setting.step (state_of cells setting.table setting.tag_size)
 opens_first input setting cells h known made =
-    subst (CanOpen setting.args) (sym (first_is input setting cells known made))
-    (subst (λ xs. CanOpen xs (first_state input)) (sym (ap (λ (s : Setting). s.args) known))
-    (can_open input.args (first_state input) (first_state_within input h) (h.same_count ∙ sym (first_length input)) h.short_arguments))
+    subst (CanOpen setting.args setting.step) (sym (first_is input setting cells known made))
+    (subst (λ (s : Setting). CanOpen s.args s.step (first_state input)) (sym known)
+    (can_open input.args 0 (first_state input) (omega arith) (first_state_within input h) (h.same_count ∙ sym (first_length input)) h.short_arguments))
 
 pub started : (input : Input) → open_views (start input) ≡ views_of input.args 0 (first_state input)
 unfolding start

@@ -9,6 +9,7 @@ use Rattle.std.proofs.lemmas.List.FromFn.{length-map-range_with_len}
 use Rattle.std.proofs.lemmas.List.{length-map}
 use Rattle.std.proofs.lemmas.List.Elements.{All-push, All-map}
 use Rattle.std.proofs.lemmas.Bool.Decides.{nat_tests}
+use Rattle.bsp_model.specs.Limits.{most_memory_words}
 use Rattle.bsp_table.specs.declared.area.Area.{Area}
 use Rattle.bsp_table.specs.NextTable.{AreFull, AreSlotsInside, ArePushesInside, AreWithin, next_table, table_fault, are_alike}
 use Rattle.bsp_table.proofs.NextTables.{full_after, few_after, inside_after, within_after}
@@ -30,7 +31,7 @@ use Rattle.bsp_run.specs.Inside.Opening.{CanOpen, state_of}
 use Rattle.bsp_run.specs.Condition.{deliveries_of, IsState, IsRun, IsInPhase, IsTurned, IsOpen, AreOutcomesOf}
 use Rattle.bsp_run.specs.Inside.Condition.{CanSync, IsNextTable}
 use Rattle.bsp_deliver.proofs.Senders.{map_twice}
-use Rattle.bsp_run.proofs.Opens.{can_open}
+use Rattle.bsp_run.proofs.Opens.{can_open, past_within}
 use Rattle.bsp_run.proofs.Conditions.{count_of_outcomes, sizes, sizes-same, outcome_at, AreDeliverable-from_turns, pops_are_slots, pushes_are_inside, pushes_within}
 use Rattle.bsp_run.proofs.Deliveries.{All-each_below, length-next_memory, queue_within, tag_within, sizes-next}
 
@@ -46,7 +47,7 @@ next_state_within args step s os state h table =
     record {
       some = omega (arith, state.some);
       few = omega (arith, state.few);
-      short_memories = All-each_below (λ m. length m ≤ 4096) memory (length os) (λ k l. let short = state.short_memories k [] (omega arith) in omega (arith, length-next_memory os k, (outcome_at args step s os k h (omega arith)).memory));
+      short_memories = All-each_below (λ m. length m ≤ most_memory_words) memory (length os) (λ k l. let short = state.short_memories k [] (omega arith) in omega (arith, length-next_memory os k, (outcome_at args step s os k h (omega arith)).memory));
       same_count = many ∙ sym long;
       queues = All-each_below IsQueue queue (length os) (λ k l. queue_within os k (omega (arith, state.few)) h.limits);
       table = record { few_slots = table.few; full_slots = subst (λ n. AreFull n (next_table s.table (pops_of os) (pushes_of os))) (sym long) table.full; inside = table.within };
@@ -174,9 +175,12 @@ state_of-deliveries s os =
     λ i. record { memories = memories i; queues = queues i; table = next_table s.table (pops_of os) (pushes_of os); tag_size = next_tag_size s.tag_size os }
 
 -- the next superstep may be opened
-pub can_open_next : (r : Run) → IsRun (after_delivery r) → CanOpen r.args (next_state r.state r.outcomes)
+pub can_open_next : (r : Run) → IsRun (after_delivery r) → CanOpen r.args (length r.past + 1) (next_state r.state r.outcomes)
 unfolding after_delivery
-can_open_next r h = can_open r.args (next_state r.state r.outcomes) h.state h.same_args h.short_args
+can_open_next r h =
+    let few = past_within (after_delivery r) h in
+    let step : Superstep = record { views = open_views r; outcomes = r.outcomes } in
+    can_open r.args (length r.past + 1) (next_state r.state r.outcomes) (omega (arith, few, length-append r.past (step ∷ []))) h.state h.same_args h.short_args
 
 pub cells_are : (r : Run) (cells : List (List ℕ × List Message)) (table : List (List Area)) (tag : ℕ) → cells ≡ deliveries_of r.outcomes → table ≡ next_table r.state.table (pops_of r.outcomes) (pushes_of r.outcomes) → tag ≡ next_tag_size r.state.tag_size r.outcomes
     → state_of cells table tag ≡ next_state r.state r.outcomes
@@ -194,7 +198,7 @@ next_table_within slots os h =
       few = few_after slots (pops_of os) (pushes_of os) h.faultless;
       full = full_after (length os) slots (pops_of os) (pushes_of os) h.full (length-map os (λ (o : OutcomeParts). o.pushes));
       inside = inside_after (map (λ (o : OutcomeParts). length o.memory) os) slots (pops_of os) (pushes_of os) h.faultless h.inside h.pushes;
-      within = within_after 4096 slots (pops_of os) (pushes_of os) h.faultless h.within (All-map (AreWithin 4096) (λ (o : OutcomeParts). o.pushes) os h.short_pushes);
+      within = within_after most_memory_words slots (pops_of os) (pushes_of os) h.faultless h.within (All-map (AreWithin most_memory_words) (λ (o : OutcomeParts). o.pushes) os h.short_pushes);
     }
 
 -- the run after a delivery keeps what a run keeps

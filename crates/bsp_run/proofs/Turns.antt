@@ -12,7 +12,7 @@ use Rattle.bsp_run.specs.State.{view_of, views_of}
 use Rattle.bsp_run.specs.Run.{Run, open_views}
 use Rattle.bsp_run.specs.Condition.{AreOutcomesOf, IsRun, no_view}
 use Rattle.bsp_run.proofs.Deliveries.{All-each_below}
-use Rattle.bsp_run.proofs.Opens.{can_open}
+use Rattle.bsp_run.proofs.Opens.{can_open, past_within}
 use Rattle.bsp_run.proofs.ViewsOfStates.{view_within}
 
 -- the views of an open superstep are within the limits
@@ -20,7 +20,7 @@ pub views_within : (r : Run) → IsRun r → All IsView (open_views r)
 unfolding views_of
 views_within r h =
     All-each_below IsView (view_of r.args (length r.past) r.state) (length r.state.memories)
-    (λ k l. view_within r.args (length r.past) r.state k (can_open r.args r.state h.state h.same_args h.short_args) h.state.same_count l)
+    (λ k l. view_within r.args (length r.past) r.state k (can_open r.args (length r.past) r.state (past_within r h) h.state h.same_args h.short_args) h.state.same_count l)
 
 -- whatever the program, the turns of views within the limits are outcomes of these views
 pub AreOutcomesOf-turns : (acts : ViewParts → List Act) (ending : ViewParts → End) (vs : List ViewParts) → All IsView vs → AreOutcomesOf vs (map (turn_of acts ending) vs)

@@ -1,6 +1,7 @@
 -- What a run that has ended gives.
-use Rattle.std.specs.Prelude.{◌<◌, ℕ, ◌+◌, ◌*◌, ◌^◌, List, ◌++◌, map, length, sum_by, if◌then◌else◌}
+use Rattle.std.specs.Prelude.{◌≤◌, ℕ, ◌+◌, ◌*◌, List, ◌++◌, map, length, sum_by, if◌then◌else◌}
 use Rattle.std.specs.List.{flat_map}
+use Rattle.bsp_model.specs.Limits.{most_cost, most_h, most_work}
 use Rattle.bsp_model.specs.declared.cost.CostRow.{CostRow}
 use Rattle.bsp_step.specs.OutcomeParts.{OutcomeParts, outcome_of}
 use Rattle.bsp_deliver.specs.Requests.{each_below}
@@ -50,9 +51,9 @@ costs_of r = map (cost_of_delivery r.g r.l) (outcomes_of r.past) ++ map cost_of_
 
 -- a cost that can be added up
 pub record IsSmall (row : CostRow) : Type 0 where
-  pub work : row.work < 2 ^ 32
-  pub h : row.h < 2 ^ 29
-  pub cost : row.cost < 2 ^ 50
+  pub work : row.work ≤ most_work
+  pub h : row.h ≤ most_h
+  pub cost : row.cost ≤ most_cost
 
 abbrev pub total_of : List CostRow → ℕ
 total_of rows = sum_by (λ row. row.cost) rows

@@ -1,6 +1,7 @@
 //! The cost of a run.
 
-ghost use Rattle.std.specs.Prelude.{◌≡◌, ◌+◌, ◌*◌, ◌<◌, ◌≤◌, ◌^◌, ◌++◌, All, IfOk, length, map, option_map, option_to_list};
+ghost use Rattle.std.specs.Prelude.{◌≡◌, ◌+◌, ◌*◌, ◌≤◌, ◌++◌, All, IfOk, length, map, option_map, option_to_list};
+ghost use Rattle.bsp_model.specs.Limits.{most_cost, most_h, most_work};
 ghost use Rattle.bsp_deliver.specs.Condition.{AreDeliverable};
 ghost use Rattle.bsp_run.specs.Result.{largest_work, cost_of_delivery, cost_of_end, total_of, IsSmall};
 
@@ -12,7 +13,7 @@ use std::alloc::Global;
 
 fn largest_work(outcomes: &Outcomes) -> u64
     ensures value { result ≡ largest_work outcomes.now }
-    ensures small { result < 2 ^ 32 }
+    ensures small { result ≤ most_work }
 {
     let mut most = 0;
     for pid in 0..outcomes.len() {
@@ -25,8 +26,8 @@ fn largest_work(outcomes: &Outcomes) -> u64
 fn cost_row(g: u64, l: u64, work: u64, h: u64) -> CostRow
     requires small_g { g ≤ HIGHEST_PRICE }
     requires small_l { l ≤ HIGHEST_PRICE }
-    requires small_work { work < 2 ^ 32 }
-    requires small_h { h < 2 ^ 29 }
+    requires small_work { work ≤ most_work }
+    requires small_h { h ≤ most_h }
     ensures value { result ≡ record { work = work; h = h; cost = work + h * g + l } }
     ensures small { IsSmall result }
 {
@@ -62,7 +63,7 @@ pub fn cost_at(g: u64, l: u64, row: &CostRow) -> CostRow
 /// The cost of the superstep that ended the run.
 pub fn cost_of_end(outcomes: &Outcomes) -> CostRow
     ensures value { result ≡ cost_of_end outcomes.now }
-    ensures small { result.cost < 2 ^ 50 }
+    ensures small { result.cost ≤ most_cost }
 {
     let work = largest_work(outcomes);
     CostRow {
@@ -78,22 +79,22 @@ pub fn all_costs(
     past: &[CostRow],
     last: Option<&Outcomes>,
 ) -> Result<SharedSeq<CostRow>, OutOfMemory>
-    requires { All (λ row. row.cost < 2 ^ 50) past.now }
+    requires { All (λ row. row.cost ≤ most_cost) past.now }
     ensures rows { IfOk result (λ rows. rows
         ≡ past.now ++ map cost_of_end (option_to_list (option_map (λ o. o.now) last.entry))) }
-    ensures small { IfOk result (λ rows. All (λ row. row.cost < 2 ^ 50) rows) }
+    ensures small { IfOk result (λ rows. All (λ row. row.cost ≤ most_cost) rows) }
 {
     let mut rows = past.to_vec(alloc)?;
     if let Some(outcomes) = last {
         rows.push(cost_of_end(outcomes))?;
     }
-    SharedSeq::from_vec(rows)
+    SharedSeq::try_from_vec(rows)
 }
 
 /// The sum of the costs.
 pub fn total_of(rows: &[CostRow]) -> u64
     requires few { length rows.now ≤ MOST_SUPERSTEPS }
-    requires small { All (λ row. row.cost < 2 ^ 50) rows.now }
+    requires small { All (λ row. row.cost ≤ most_cost) rows.now }
     ensures { result ≡ total_of rows.now }
 {
     let mut total = 0;

@@ -154,7 +154,7 @@ pub fn each_lines(
     for pid in 0..nprocs {
         each.push_reserved(lines_from(before, marks, all, pid)?);
     }
-    SharedSeq::from_vec(each)
+    SharedSeq::try_from_vec(each)
 }
 
 /// The lines of each process: those of a previous run where it is not marked. The others are gathered in one column, if there are any.

@@ -40,7 +40,7 @@ pub fn shared_args(args: &Seq<Words>) -> Result<Arguments, OutOfMemory>
     for words in args.as_slice() {
         shared.push_reserved(words.copy()?.share()?);
     }
-    SharedSeq::from_vec(shared)
+    SharedSeq::try_from_vec(shared)
 }
 
 /// Adds the memories of some processes in the first superstep, and their queues.

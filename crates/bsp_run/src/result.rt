@@ -8,6 +8,7 @@ use bsp_model::{
     CostRow, Fault, InputFault, Memories, OutOfMemory, Seq, SharedSeq, SyncFault, TryCopy,
 };
 use std::alloc::AllocError;
+use thiserror::Error;
 
 /// A fault of a process.
 #[derive(Clone, Copy)]
@@ -62,9 +63,12 @@ impl Drop for RunResult {
 }
 
 /// Why a run gave nothing.
-#[derive(Clone, Copy, Debug, PartialEq, Eq)]
+#[derive(Clone, Copy, Debug, PartialEq, Eq, Error)]
 pub enum RunError {
+    /// The input's own check answers this fault.
+    #[error("the input is refused: {0}")]
     Input(InputFault),
+    #[error("memory was refused")]
     OutOfMemory,
 }
 

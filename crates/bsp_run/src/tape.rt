@@ -197,11 +197,12 @@ impl Tape {
     }
 
     /// Takes the next memory and queue of each process. The messages that nobody took are discarded with the
-    /// former queues. Where the limit is reached, the run has ended. After `OutOfMemory` nothing has changed.
-    pub fn delivered(&mut self, cells: Cells) -> Result<(), OutOfMemory>
+    /// former queues. True where the next superstep opens; else the limit has ended the run. After `OutOfMemory` nothing has changed.
+    pub fn delivered(&mut self, cells: Cells) -> Result<bool, OutOfMemory>
         requires turned { self.old.phase ≡ Phase.Turned }
         requires cells { cells ≡ deliveries_of self.old.outcomes }
         ensures ok { OnOk result (self.new ≡ after_delivery self.old) }
+        ensures answer { IfOk result (λ opens. opens ≡ is_open self.new.phase) }
         ensures err { OnErr result (self.new ≡ self.old) }
     {
         let alloc = *self.past.allocator();
@@ -220,14 +221,15 @@ impl Tape {
         cost_of_delivery(self.g, self.l, &self.outcomes)
     }
 
-    /// Takes the views of the next superstep, and the cost of this one. Where the limit is reached, the run has ended. After `OutOfMemory` nothing has
-    /// changed.
-    pub fn delivered_as(&mut self, views: Views, row: CostRow) -> Result<(), OutOfMemory>
+    /// Takes the views of the next superstep, and the cost of this one. True where the next superstep opens; else the limit has ended the run. After
+    /// `OutOfMemory` nothing has changed.
+    pub fn delivered_as(&mut self, views: Views, row: CostRow) -> Result<bool, OutOfMemory>
         requires turned { self.old.phase ≡ Phase.Turned }
         requires views { views ≡ next_views self.old }
         requires row { row ≡ cost_of_delivery self.old.g self.old.l self.old.outcomes }
         requires small { IsSmall row }
         ensures ok { OnOk result (self.new ≡ after_delivery self.old) }
+        ensures answer { IfOk result (λ opens. opens ≡ is_open self.new.phase) }
         ensures err { OnErr result (self.new ≡ self.old) }
     {
         let alloc = *self.past.allocator();
@@ -242,7 +244,7 @@ impl Tape {
             row,
         )?;
         self.phase = phase_at(step, self.limit);
-        Ok(())
+        Ok(self.is_open())
     }
 
     /// The number of supersteps that ended by delivery.

@@ -49,7 +49,7 @@ impl Model for Views {
 impl Views {
     /// What the processes see with these memories and queues, or `OutOfMemory`.
     pub fn open(alloc: Global, setting: Setting, cells: Cells) -> Result<Views, OutOfMemory>
-        requires { CanOpen setting.args (state_of cells setting.table setting.tag_size) }
+        requires { CanOpen setting.args setting.step (state_of cells setting.table setting.tag_size) }
         ensures { IfOk result
             (λ v. v ≡ views_of setting.args setting.step (state_of cells setting.table setting.tag_size)) }
     {
@@ -68,7 +68,7 @@ impl Views {
         requires known { All (λ p. p < length self.now) processes.items }
         requires ascending { IsAscending processes.items }
         requires count { length cells ≡ length processes.items }
-        requires opens { CanOpen setting.args
+        requires opens { CanOpen setting.args setting.step
             (state_of (replaced (map cell_of self.now) processes.items cells) setting.table setting.tag_size) }
         ensures { IfOk result (λ v. v ≡ views_of setting.args setting.step
             (state_of (replaced (map cell_of self.now) processes.items cells) setting.table setting.tag_size)) }

@@ -86,7 +86,7 @@ fn by_crew<J: SharedRun, P: Program, G: Gate, R: Threads + Sync>(
     beside_crew(workers, program, input, views, kept, &crew)
 }
 
-/// The result of `lawful_result`, by 1 to 16 workers, the calling thread among them. It goes on alone until workers are worth their start. Where
+/// The result of `lawful_result`, by 1 to `MOST_WORKERS` workers, the calling thread among them. It goes on alone until workers are worth their start. Where
 /// the gate tells no time they start at once.
 pub fn wide_result<P: Program, G: Gate, R: Threads + Sync>(
     workers: &Workers<'_, R, G>,

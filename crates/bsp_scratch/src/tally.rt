@@ -1,6 +1,7 @@
 //! What is added up while a run goes on whose record is not kept.
 
-ghost use Rattle.std.specs.Prelude.{◌≡◌, ◌<◌, ◌≤◌, ◌^◌, ◌++◌, ◌∷◌, [], All, IfOk, OnOk, length};
+ghost use Rattle.std.specs.Prelude.{◌≡◌, ◌≤◌, ◌++◌, ◌∷◌, [], All, IfOk, OnOk, length};
+ghost use Rattle.bsp_model.specs.Limits.{most_cost};
 ghost use Rattle.bsp_deliver.specs.Condition.{AreDeliverable};
 ghost use Rattle.bsp_deliver.specs.Requests.{each_below};
 ghost use Rattle.bsp_run.specs.Result.{cost_of_delivery, cost_of_end, total_of};
@@ -22,7 +23,7 @@ pub struct Tally {
     /// The lines of each process, superstep by superstep, without those in which nobody printed.
     pub lines: Vec<LineColumn>,
     pub costs: Seq<CostRow>,
-    ghost small: { All (λ row. row.cost < 2 ^ 50) costs },
+    ghost small: { All (λ row. row.cost ≤ most_cost) costs },
 }
 
 impl Tally {
@@ -43,7 +44,7 @@ impl Tally {
 
     /// Adds the lines of a superstep, where any stand, and what it cost.
     fn add(&mut self, alloc: Global, outcomes: &Outcomes, row: CostRow) -> Result<(), OutOfMemory>
-        requires { row.cost < 2 ^ 50 }
+        requires { row.cost ≤ most_cost }
         ensures g { OnOk result (self.new.g ≡ self.old.g) }
         ensures l { OnOk result (self.new.l ≡ self.old.l) }
         ensures lines { OnOk result (AreLinesAnd self.old.lines.items outcomes.now self.new.lines.items) }

@@ -36,7 +36,8 @@ pub enum Call {
     Print(Seq<Operand>),
     /// Stores at an address the own word there plus a value, modulo 2^64. The own word is read first; where there is none, the turn ends by `Abort(1)`.
     Add(u64, Operand),
-    /// Takes the first message by `move_into` a buffer of so many words, at most 4,096, and stores each word copied, from an address on.
+    /// Takes the first message by `move_into` a buffer of so many words, at most `MOST_PAYLOAD_WORDS`, and stores each word copied, from an
+    /// address on.
     MoveInto(u64, u64),
     /// Prints how many messages are left, and how many words their payloads have together.
     PrintQsize,

@@ -1,6 +1,6 @@
 -- What a process may see in a superstep.
 use Rattle.std.specs.Prelude.{ℕ, List, ◌≤◌, ◌<◌, ◌+◌, ◌≡◌, length, All}
-use Rattle.bsp_model.specs.Limits.{most_arguments, most_memory_words, most_messages, most_payload_words, most_processes, most_slots, most_tag_words}
+use Rattle.bsp_model.specs.Limits.{most_arguments, most_memory_words, most_messages, most_payload_words, most_processes, most_slots, most_supersteps, most_tag_words}
 use Rattle.bsp_model.specs.declared.request.Message.{Message}
 use Rattle.bsp_table.specs.declared.area.Area.{Area}
 
@@ -35,6 +35,7 @@ pub record IsQueue (queue : List Message) : Type 0 where
 pub record IsView (v : ViewParts) : Type 0 where
   pub pid_below : v.pid < v.nprocs
   pub few_processes : v.nprocs ≤ most_processes
+  pub few_supersteps : v.step ≤ most_supersteps
   pub few_args : length v.args ≤ most_arguments
   pub short_memory : length v.memory ≤ most_memory_words
   pub small_tag : v.tag_size ≤ most_tag_words

@@ -6,13 +6,16 @@ ghost use Rattle.bsp_step.specs.declared.stop.Stop.TheVariants.{OutOfMemory};
 
 use bsp_model::End;
 use std::alloc::{AllocError, AllocFailed};
+use thiserror::Error;
 
 /// Why an acting call of a context did not act.
-#[derive(Clone, Copy, PartialEq, Eq)]
+#[derive(Clone, Copy, Debug, PartialEq, Eq, Error)]
 pub enum Stop {
     /// This fault is kept: the call's own, or that of an earlier call.
+    #[error("the process has a fault: {0}")]
     Fault(bsp_model::Fault),
     /// Memory was refused. The context is as it was before the call.
+    #[error("memory was refused")]
     OutOfMemory,
 }
 

@@ -14,7 +14,7 @@ pub struct View<'a> {
     pub nprocs: u64,
     /// The own number, below `nprocs`.
     pub pid: u64,
-    /// The number of the superstep, from 0.
+    /// The number of the superstep, from 0, at most `MOST_SUPERSTEPS`.
     pub step: u64,
     /// The own arguments: at most `MOST_ARGUMENTS` words.
     pub args: &'a [u64],

@@ -12,6 +12,7 @@ use crate::{Area, Table};
 use bsp_model::limits::{MOST_PROCESSES, MOST_SLOTS};
 use bsp_model::{OutOfMemory, Seq, SyncFault, TryCopy};
 use std::alloc::{AllocError, Global};
+use thiserror::Error;
 
 /// What the processes ask of the registration table in a superstep, by process.
 pub trait Registers {
@@ -48,10 +49,12 @@ pub trait Registers {
 }
 
 /// Why there is no next table.
-#[derive(Clone, Copy, PartialEq, Eq)]
+#[derive(Clone, Copy, Debug, PartialEq, Eq, Error)]
 pub enum TableFault {
     /// S3, S4 or S5: the first of `PopMismatch`, `PushMismatch` and `TooManySlots` that holds.
+    #[error("there is no next registration table: {0}")]
     Sync(SyncFault),
+    #[error("memory was refused")]
     OutOfMemory,
 }
 

@@ -1,7 +1,9 @@
 //! Runs and sessions by each call, what they record, and what they ask of a program, of its workers and of memory.
 
 mod batches;
+mod clash;
 mod counted;
+mod endings;
 mod known;
 mod meeting;
 mod memories;
@@ -12,3 +14,4 @@ mod running;
 mod sessions;
 mod sittings;
 mod tables;
+mod timed;

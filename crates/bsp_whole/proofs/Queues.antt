@@ -3,15 +3,16 @@ use Rattle.std.proofs.Common.{ℕ, ◌+◌, ◌*◌, ◌≤◌, ◌==◌, Bool, 
 use Rattle.std.proofs.lemmas.List.{length-append, length-map}
 use Rattle.std.proofs.lemmas.List.Elements.{All-nil, All-append, All-map, All-filter, All-weaker}
 use Rattle.std.proofs.lemmas.List.Sums.{length-filter, count_by-le-length}
+use Rattle.bsp_model.specs.Limits.{most_processes, most_requests}
 use Rattle.bsp_model.specs.declared.request.Send.{Send}
 use Rattle.bsp_model.specs.declared.request.Message.{Message}
 use Rattle.bsp_step.specs.OutcomeParts.{OutcomeParts, IsOutcome, IsShortSend}
 use Rattle.bsp_step.specs.ViewParts.{IsShortMessage, IsQueue}
 use Rattle.bsp_deliver.specs.Delivery.{message_of}
 
--- short messages, at most 1,024 from each sender
+-- short messages, and no more from each sender than it may make requests
 pub record IsQueueOf (senders : ℕ) (queue : List Message) : Type 0 where
-  pub few : length queue ≤ 1024 * senders
+  pub few : length queue ≤ most_requests * senders
   pub short : All IsShortMessage queue
 
 pub no_senders : IsQueueOf 0 []
@@ -37,5 +38,5 @@ sender_more d senders queue o h limits =
       short = All-append IsShortMessage queue M h.short (short_messages d o.sends limits.sends.each);
     }
 
-pub queue_of_few : (senders : ℕ) (queue : List Message) → senders ≤ 64 → IsQueueOf senders queue → IsQueue queue
+pub queue_of_few : (senders : ℕ) (queue : List Message) → senders ≤ most_processes → IsQueueOf senders queue → IsQueue queue
 queue_of_few senders queue l h = record { few = omega (arith, h.few); short = h.short }

@@ -12,6 +12,7 @@ use bsp_crew::Workers;
 use bsp_gate::{Gate, Open};
 use bsp_incr::{recorded_alone, recorded_run};
 use bsp_model::Input;
+use bsp_model::limits::MOST_WORKERS;
 use bsp_run::{History, RunError, RunResult};
 use bsp_scratch::{lawful_result, wide_result};
 use bsp_step::Program;
@@ -42,7 +43,7 @@ pub fn run_plain<P: Program>(alloc: Global, program: &P, input: &Input) -> Resul
     Ok(recorded_alone(alloc, program, input, &Open)?)
 }
 
-/// What `run_plain` answers, by 1 to 16 workers, the calling thread among them. It goes on alone until workers are worth their start. Where the gate
+/// What `run_plain` answers, by 1 to `MOST_WORKERS` workers, the calling thread among them. It goes on alone until workers are worth their start. Where the gate
 /// tells no time they start at once. Whoever takes a turn passes the gate with the number of its process before, and whoever makes a delivery too.
 pub fn run_wide<P: Program, G: Gate, R: Threads + Sync>(
     rt: &R,
@@ -52,7 +53,7 @@ pub fn run_wide<P: Program, G: Gate, R: Threads + Sync>(
     workers: usize,
     gate: &G,
 ) -> Result<History, RunError>
-    requires workers { (0 < workers) × (workers ≤ 16) }
+    requires workers { (0 < workers) × (workers ≤ MOST_WORKERS) }
     ensures lawful { OnOk result (input_fault input.now ≡ None) }
     ensures run { IfOk result (λ history. history ≡ run (turn_of (P.acts program.now)
         (P.ending program.now)) input.now) }
@@ -82,7 +83,7 @@ pub fn run_result<P: Program>(
     Ok(lawful_result(alloc, program, input, &Open)?)
 }
 
-/// What `run_result` answers, by 1 to 16 workers, which start as those of `run_wide` do.
+/// What `run_result` answers, by 1 to `MOST_WORKERS` workers, which start as those of `run_wide` do.
 pub fn run_result_wide<P: Program, G: Gate, R: Threads + Sync>(
     rt: &R,
     alloc: Global,
@@ -91,7 +92,7 @@ pub fn run_result_wide<P: Program, G: Gate, R: Threads + Sync>(
     workers: usize,
     gate: &G,
 ) -> Result<RunResult, RunError>
-    requires workers { (0 < workers) × (workers ≤ 16) }
+    requires workers { (0 < workers) × (workers ≤ MOST_WORKERS) }
     ensures lawful { OnOk result (input_fault input.now ≡ None) }
     ensures result { IfOk result (λ r. r ≡ result_of (run (turn_of (P.acts program.now)
         (P.ending program.now)) input.now)) }

@@ -14,6 +14,7 @@ ghost use Rattle.bsp_incr.specs.Inside.Replies.{done, reply_to, replies_from, re
 use bsp_crew::Workers;
 use bsp_gate::{Gate, Open};
 use bsp_incr::{Batch, EditError, Reply, Session, Update, scratch_run_behind};
+use bsp_model::limits::MOST_WORKERS;
 use bsp_model::{Input, OutOfMemory};
 use bsp_run::{History, RunError, RunResult};
 use bsp_scratch::lawful_result;
@@ -103,7 +104,7 @@ fn all_replies<P: Program + Drop, R: Threads + Sync, G: Gate>(
     Ok(all)
 }
 
-/// The replies of a session: the opening first, then one for each batch. 1 to 16 workers share the turns and the deliveries.
+/// The replies of a session: the opening first, then one for each batch. 1 to `MOST_WORKERS` workers share the turns and the deliveries.
 /// `Input(f)` exactly where the input's check answers f, or `OutOfMemory`.
 pub fn session_run<P: Program + Drop, R: Threads + Sync, G: Gate>(
     rt: &R,
@@ -114,7 +115,7 @@ pub fn session_run<P: Program + Drop, R: Threads + Sync, G: Gate>(
     workers: usize,
     gate: &G,
 ) -> Result<Vec<Reply>, RunError>
-    requires workers { (0 < workers) × (workers ≤ 16) }
+    requires workers { (0 < workers) × (workers ≤ MOST_WORKERS) }
     ensures law { IfOk result (λ all. AreReplies (P.looks program) (turn_of (P.acts program) (P.ending program))
         input batches.now all.items) }
     ensures lawful { OnOk result (input_fault input ≡ None) }

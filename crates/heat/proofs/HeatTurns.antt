@@ -7,6 +7,7 @@ use Rattle.std.proofs.lemmas.Bool.Decides.{nat_tests}
 use Rattle.std.proofs.lemmas.List.{append-nil}
 use Rattle.std.proofs.lemmas.List.FromFn.{get_or-map-range_with_len, length-map-range_with_len}
 use Rattle.std.proofs.lemmas.Grind.{same_number_lists}
+use Rattle.bsp_model.specs.Limits.{most_memory_words, most_requests}
 use Rattle.bsp_model.specs.declared.fault.End.TheVariants.{Abort, Halt, Sync}
 use Rattle.bsp_model.specs.declared.request.Put.{Put}
 use Rattle.bsp_model.specs.declared.request.Store.{Store}
@@ -97,7 +98,7 @@ stores-map : (f : ℕ → ℕ) (n start : ℕ) → stores start (map f (range_wi
 stores-map f zero start = refl
 stores-map f (suc n) start = ap (λ acts. store start (f start) ∷ acts) (stores-map f n (start + 1))
 
-advances : (v : ViewParts) (steps : ℕ) → 3 ≤ length v.memory → length v.memory ≤ 4096 → of_plan v (heat_advancing v steps v.memory) ≡ then_tells v steps (stepped v.memory) (cells_stored v.memory) (length v.memory - 2) (own_cells (stepped v.memory))
+advances : (v : ViewParts) (steps : ℕ) → 3 ≤ length v.memory → length v.memory ≤ most_memory_words → of_plan v (heat_advancing v steps v.memory) ≡ then_tells v steps (stepped v.memory) (cells_stored v.memory) (length v.memory - 2) (own_cells (stepped v.memory))
 advances v steps long short =
     let m : List ℕ = v.memory in
     let part : List Act = map (λ i. store i (next_cell_at m i)) (range_with_len 1 (length m - 2)) in
@@ -119,7 +120,7 @@ not_second : (s : ℕ) → 2 ≤ s → (s == 1) ≡ false
 not_second s h = grind (arith, nat_tests)
 
 -- That of each later superstep begins with one.
-pub turn_later : (args : List (List ℕ)) (s n steps : ℕ) (memory : ℕ → List ℕ) (table : List (List Area)) (p : ℕ) → 2 ≤ s → slice_get (get_or args p []) 0 ≡ Some steps → 3 ≤ length (memory p) → length (memory p) ≤ 4096
+pub turn_later : (args : List (List ℕ)) (s n steps : ℕ) (memory : ℕ → List ℕ) (table : List (List Area)) (p : ℕ) → 2 ≤ s → slice_get (get_or args p []) 0 ≡ Some steps → 3 ≤ length (memory p) → length (memory p) ≤ most_memory_words
     → heat_turn (view_described args s n memory no_queue table 0 p)
     ≡ then_tells (view_described args s n memory no_queue table 0 p) steps (stepped (memory p)) (cells_stored (memory p)) (length (memory p) - 2) (own_cells (stepped (memory p)))
 turn_later args s n steps memory table p late named long short =
@@ -135,7 +136,7 @@ turn_later args s n steps memory table p late named long short =
 pub record IsAtWork (mems : List (List ℕ)) (c : Context) (cells : List ℕ) : Type 0 where
   pub dealt : AreDealt mems
   pub faultless : c.fault ≡ None
-  pub few : count_of_requests c < 1024
+  pub few : count_of_requests c < most_requests
   pub nprocs : c.view.nprocs ≡ length mems
   pub known : c.view.pid < length mems
   pub table : c.view.table ≡ rod_table mems
@@ -161,7 +162,7 @@ tells_up : (mems : List (List ℕ)) (c : Context) (cells : List ℕ) → IsAtWor
     → perform_all c (put_above c.view cells) ≡ record c { puts = c.puts ++ puts_up c.view.nprocs first_address (get_or cells (length cells - 1) 0) c.view.pid }
 tells_up mems c cells h = up_if (nat_lt (c.view.pid + 1) c.view.nprocs) mems c cells h refl
 
-row_if : (b : Bool) (mems : List (List ℕ)) (c : Context) (cells : List ℕ) → IsAtWork mems c cells → count_of_requests c + 1 < 1024 → (c.view.pid == 0) ≡ b
+row_if : (b : Bool) (mems : List (List ℕ)) (c : Context) (cells : List ℕ) → IsAtWork mems c cells → count_of_requests c + 1 < most_requests → (c.view.pid == 0) ≡ b
     → perform_all c (cond b (put_above c.view cells) (put (c.view.pid - 1) (get_or cells 0 0 ∷ []) (length cells + 1) 0 ∷ put_above c.view cells))
     ≡ record c { puts = c.puts ++ cond b (puts_up c.view.nprocs first_address (get_or cells (length cells - 1) 0) c.view.pid) (word_put (c.view.pid - 1) (last_address mems (c.view.pid - 1)) (get_or cells 0 0) ∷ puts_up c.view.nprocs first_address (get_or cells (length cells - 1) 0) c.view.pid) }
 row_if true mems c cells h room e = tells_up mems c cells h
@@ -191,7 +192,7 @@ row_if false mems c cells h room e =
     ∙ ap (λ (ps : List Put). record c { puts = ps }) (append_assoc c.puts (x ∷ []) ups)
 
 -- the puts to the neighbours
-tells_row : (mems : List (List ℕ)) (c : Context) (cells : List ℕ) → IsAtWork mems c cells → count_of_requests c + 1 < 1024
+tells_row : (mems : List (List ℕ)) (c : Context) (cells : List ℕ) → IsAtWork mems c cells → count_of_requests c + 1 < most_requests
     → perform_all c (puts_to_neighbours c.view cells) ≡ record c { puts = c.puts ++ puts_in_row c.view.nprocs first_address (last_address mems) (get_or cells 0 0) (get_or cells (length cells - 1) 0) c.view.pid }
 tells_row mems c cells h room = row_if (c.view.pid == 0) mems c cells h room refl
 

@@ -31,7 +31,7 @@ const TOOL: Tool = Tool {
         "  program      samplesort",
         "
 Argument 0, where there is one, is the number of own words, which are the first of the memory; without it all words
-are own words. Each process prints its part of the words of all in order, 64 in a line, and keeps it in its memory
+are own words. Each process prints its part of the words of all in order, in full lines, and keeps it in its memory
 where it fits.
 ",
         "  program = \"samplesort\"

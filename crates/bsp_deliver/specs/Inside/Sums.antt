@@ -1,6 +1,6 @@
 -- Sums of words, transfer by transfer, which private functions keep: no public contract speaks of them.
-use Rattle.std.specs.Prelude.{ℕ, Bool, true, false, ◌+◌, ◌*◌, ◌<◌, ◌≤◌, ◌^◌, ◌==◌, if◌then◌else◌, List, [], ◌∷◌, ◌++◌, map, All, slice_index, slice_index_or, slice_set, replicate}
-use Rattle.bsp_model.specs.Limits.{most_payload_words, most_processes, most_tag_words}
+use Rattle.std.specs.Prelude.{ℕ, Bool, true, false, ◌+◌, ◌*◌, ◌<◌, ◌≤◌, ◌==◌, if◌then◌else◌, List, [], ◌∷◌, ◌++◌, map, All, slice_index, slice_index_or, slice_set, replicate}
+use Rattle.bsp_model.specs.Limits.{most_h, most_processes, most_request_words}
 use Rattle.bsp_deliver.specs.declared.cost.Sums.{Sums}
 use Rattle.bsp_deliver.specs.declared.cost.Targets.{Targets}
 use Rattle.bsp_deliver.specs.declared.cost.Targets.TheVariants.{Everyone, Members}
@@ -38,17 +38,13 @@ abbrev pub transfers_from : ℕ → List OutcomeParts → List Transfer
 transfers_from p [] = []
 transfers_from p (o ∷ os) = transfers_of p o ++ transfers_from (p + 1) os
 
--- the most words of a transfer: those of a tag and a payload
-abbrev pub most_words : ℕ
-most_words = most_tag_words + most_payload_words
-
--- so many transfers more leave each sum below 2 ^ 29
+-- so many transfers more leave each sum within the most words of an h-relation
 pub record HasRoom (s : Sums) (transfers : ℕ) : Type 0 where
-  pub sent : All (λ n. n + most_words * transfers < 2 ^ 29) s.sent
-  pub received : All (λ n. n + most_words * transfers < 2 ^ 29) s.received
+  pub sent : All (λ n. n + most_request_words * transfers ≤ most_h) s.sent
+  pub received : All (λ n. n + most_request_words * transfers ≤ most_h) s.received
 
--- a transfer between processes that there may be, of at most a tag and a payload
+-- a transfer between processes that there may be, of no more words than there may be
 pub record IsSmall (t : Transfer) : Type 0 where
   pub known_source : t.source < most_processes
   pub known_target : t.target < most_processes
-  pub few_words : t.count ≤ most_words
+  pub few_words : t.count ≤ most_request_words

@@ -1,6 +1,6 @@
 -- How a conversation goes on, byte by byte and line by line: private functions alone speak of it.
 use Rattle.std.specs.Prelude.{◌≡◌, ◌≢◌, ℕ, Bool, true, false, ◌==◌, List, [], ◌∷◌, ◌++◌, length, nat_lt, if◌then◌else◌, Option, ⊤}
-use Rattle.bsp_engine.specs.Limits.{most_document_bytes}
+use Rattle.bsp_model.specs.Limits.{most_document_bytes}
 use Rattle.bsp_engine.specs.declared.errors.EngineError.{EngineError}
 use Rattle.bsp_engine.specs.declared.errors.EngineError.TheVariants.{Write, OutOfMemory}
 use Rattle.bsp_engine.specs.Talk.{Breaks, Due, Event, Goes, HasNotWritten, IsBeginning, IsPrompt, IsReason, Talks, failed, heard, heard_in, said, said_in, whole_lines}

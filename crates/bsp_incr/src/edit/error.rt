@@ -5,11 +5,15 @@ ghost use Rattle.bsp_incr.specs.declared.edit.error.EditError.TheVariants.{OutOf
 
 use crate::EditRefusal;
 use std::alloc::AllocError;
+use thiserror::Error;
 
 /// Why a batch was not applied.
-#[derive(Clone, Copy, Debug, PartialEq, Eq)]
+#[derive(Clone, Copy, Debug, PartialEq, Eq, Error)]
 pub enum EditError {
+    /// The batch is not accepted.
+    #[error("the batch is refused: {0}")]
     Refused(EditRefusal),
+    #[error("memory was refused")]
     OutOfMemory,
 }
 

@@ -32,7 +32,7 @@ fn args_again(
         let args = &input.as_slice()[process];
         all[process] = args.copy()?.share()?;
     }
-    SharedSeq::from_vec(all)
+    SharedSeq::try_from_vec(all)
 }
 
 /// A run of an input whose superstep 0 is open. A process that is not marked shares its memory with the previous run, if there was one. A process whose

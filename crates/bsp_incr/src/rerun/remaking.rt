@@ -136,7 +136,7 @@ pub fn remake_alone<P: Program, G: Gate>(
     finish::<P, Brand, G>(given, tape, under_way, None)
 }
 
-/// The same by 1 to 16 workers, the calling thread among them. It goes on alone until workers are worth their start. Where the gate tells no time they
+/// The same by 1 to `MOST_WORKERS` workers, the calling thread among them. It goes on alone until workers are worth their start. Where the gate tells no time they
 /// start at once.
 pub fn remake_all<P: Program, G: Gate, R: Threads + Sync>(
     workers: &Workers<'_, R, G>,

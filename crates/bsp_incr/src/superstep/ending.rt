@@ -140,13 +140,14 @@ fn open_next<P: Program, G>(
         Some(old_next) => {
             let row = cost(given, tape, is_same_cost);
             let views = next_views_like(given, tape, old_next, deliveries, known)?;
-            tape.delivered_as(views, row)
+            tape.delivered_as(views, row)?;
         }
         None => {
             *known = KnownTable::Unknown;
-            tape.delivered(deliveries.cells)
+            tape.delivered(deliveries.cells)?;
         }
     }
+    Ok(())
 }
 
 /// The deliveries of the superstep whose turns are taken to the processes of a set, which the workers make. Their places are added. The lists of

@@ -2,6 +2,7 @@
 use Rattle.std.specs.Prelude.{ℕ, ◌+◌, ◌*◌, ◌≤◌, ◌≡◌, ◌≢◌, Bool, false, true, List, [], ◌∷◌, map, nat_eq, if◌then◌else◌}
 use Rattle.std.specs.List.{range_with_len}
 use Rattle.std.specs.Int.{bit_at}
+use Rattle.bsp_model.specs.Limits.{most_processes}
 
 -- whether the bit of a process is set
 unfoldable pub has_bit : ℕ → ℕ → Bool
@@ -16,9 +17,9 @@ unfoldable pub word_of : List Bool → ℕ
 word_of [] = 0
 word_of (b ∷ bs) = (if b then 1 else 0) + 2 * word_of bs
 
--- There are no more processes than bits, and no other bit is set.
+-- There are no more processes than there may be, and no other bit is set.
 pub record AreBitsOf (count word : ℕ) : Type 0 where
-  pub few : count ≤ 64
+  pub few : count ≤ most_processes
   pub clear : (p : ℕ) → count ≤ p → has_bit word p ≡ false
 
 -- one bit more

@@ -5,6 +5,7 @@ ghost use Rattle.bsp_step.specs.Calls.{Runs};
 ghost use Rattle.bsp_programs.specs.MatVec.{matvec_multiplying, matvec_answering, product_of, inner_product};
 
 use super::layout::Layout;
+use bsp_model::limits::MOST_LINE_WORDS;
 use bsp_model::{End, OutOfMemory, Words};
 use bsp_step::{Ctx, Stop};
 use std::alloc::Global;
@@ -26,7 +27,7 @@ pub(super) fn multiply(alloc: Global, ctx: &mut Ctx<'_>, layout: Layout) -> Resu
 
 /// Stores the product, charges for its multiplications, and prints it.
 fn answer(ctx: &mut Ctx<'_>, layout: Layout, product: &[u64]) -> Result<End, Stop>
-    requires { length product.now ≤ 64 }
+    requires { length product.now ≤ MOST_LINE_WORDS }
     ensures { let plan = matvec_answering layout.nprocs layout.block product.now
         in Runs ctx.old plan.acts plan.ending ctx.new result }
 {

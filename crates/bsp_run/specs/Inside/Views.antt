@@ -13,4 +13,4 @@ seen_in v = views_of v.setting.args v.setting.step (state_in v)
 
 -- all is within the limits
 abbrev pub IsLawful : Inside → Type 0
-IsLawful v = CanOpen v.setting.args (state_in v)
+IsLawful v = CanOpen v.setting.args v.setting.step (state_in v)

@@ -89,7 +89,7 @@ pub(super) fn send(
     made(ctx.send(pid, room.tag.as_slice(), room.words.as_slice()))
 }
 
-/// Moves the first message into a buffer of `room` words, at most 4,096, and stores what was copied.
+/// Moves the first message into a buffer of `room` words, at most `MOST_PAYLOAD_WORDS`, and stores what was copied.
 pub(super) fn move_into(alloc: Global, ctx: &mut Ctx<'_>, room: u64, into: u64) -> Result<(), Exit>
     ensures { Makes ctx.old (call_plan ctx.old (MoveInto room into)) ctx.new result }
 {

@@ -5,7 +5,9 @@ ghost use Rattle.std.specs.Prelude.{◌≡◌, ◌≤◌, ◌<◌, ◌-◌, ◌�
 
 use crate::Ctx;
 use bsp_model::Workspace;
-use bsp_model::limits::{MOST_ARGUMENTS, MOST_MEMORY_WORDS, MOST_PROCESSES, MOST_TAG_WORDS};
+use bsp_model::limits::{
+    MOST_ARGUMENTS, MOST_MEMORY_WORDS, MOST_PROCESSES, MOST_SUPERSTEPS, MOST_TAG_WORDS,
+};
 
 impl<'v> Ctx<'v> {
     /// The number of processes, 1 to `MOST_PROCESSES` (`bsp_nprocs`).
@@ -28,9 +30,10 @@ impl<'v> Ctx<'v> {
         view.pid
     }
 
-    /// The number of the superstep, from 0.
+    /// The number of the superstep, from 0, at most `MOST_SUPERSTEPS`.
     pub fn step(&self) -> u64
-        ensures { result ≡ self.now.view.step }
+        ensures number { result ≡ self.now.view.step }
+        ensures few { result ≤ MOST_SUPERSTEPS }
     {
         let view = self.view;
         view.step

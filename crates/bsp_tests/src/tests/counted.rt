@@ -1,19 +1,84 @@
 //! A program that is watched, with its workers.
 
 use bsp_gate::Gate;
+use bsp_incr::Place;
 use bsp_model::{End, OutOfMemory};
 use bsp_step::{Ctx, Program, View};
 use std::alloc::{AllocError, Global};
 use std::sync::atomic::Ordering::SeqCst;
 use std::sync::atomic::{AtomicBool, AtomicU64};
 
-/// How often a program was asked for a step, and at how many words whether it looks there; how many jobs passed the gate; and whether the steps
+/// The most supersteps of a run whose places are counted.
+const MOST_STEPS: usize = 8;
+
+/// Places of such a run: for each superstep a bit for each process.
+#[derive(Drop)]
+struct Places {
+    processes: [AtomicU64; MOST_STEPS],
+}
+
+impl Places {
+    fn new() -> Places {
+        let none = || AtomicU64::new(0);
+        Places {
+            processes: [
+                none(),
+                none(),
+                none(),
+                none(),
+                none(),
+                none(),
+                none(),
+                none(),
+            ],
+        }
+    }
+
+    fn insert(&self, step: u64, pid: u64) {
+        if let Some(processes) = self.processes.get(step as usize) {
+            let bit = 1u64.rotate_left(u32::try_from(pid).unwrap_or(0));
+            processes.fetch_or(bit, SeqCst);
+        }
+    }
+
+    fn has(&self, place: &Place) -> bool {
+        match self.processes.get(place.step as usize) {
+            Some(processes) => {
+                let bit = 1u64.rotate_left(u32::try_from(place.pid).unwrap_or(0));
+                processes.load(SeqCst) & bit != 0
+            }
+            None => false,
+        }
+    }
+
+    /// How many there are. Then there are none again.
+    fn take_count(&self) -> u64 {
+        let mut count = 0u64;
+        for processes in &self.processes {
+            count = count.saturating_add(u64::from(processes.swap(0, SeqCst).count_ones()));
+        }
+        count
+    }
+}
+
+/// What an update has to do: the turns, the deliveries and the looks at words, and at how many places it may look at most, where that was counted by hand.
+#[derive(Clone, Copy)]
+pub struct Work {
+    pub turns: u64,
+    pub deliveries: u64,
+    pub looks: u64,
+    pub most_places: Option<u64>,
+}
+
+/// Where and how often a program was asked for a step, and at how many words whether it looks there; how many jobs passed the gate; and whether the steps
 /// find no memory for now.
 #[derive(Drop)]
 pub struct Calls {
-    pub steps: AtomicU64,
-    pub looks: AtomicU64,
-    pub jobs: AtomicU64,
+    steps: AtomicU64,
+    looks: AtomicU64,
+    jobs: AtomicU64,
+    stepped: Places,
+    looked_at: Places,
     pub refuses: AtomicBool,
 }
 
@@ -23,16 +88,37 @@ impl Calls {
             steps: AtomicU64::new(0),
             looks: AtomicU64::new(0),
             jobs: AtomicU64::new(0),
+            stepped: Places::new(),
+            looked_at: Places::new(),
             refuses: AtomicBool::new(false),
         }
     }
 
-    /// Whether there were so many turns, deliveries and looks on all threads together. Then it counts from 0 again.
-    pub fn were(&self, turns: u64, deliveries: u64, looks: u64) -> bool {
+    /// Whether a step was asked for at each of these places.
+    pub fn were_at(&self, places: &[Place]) -> bool {
+        places.iter().all(|place| self.stepped.has(place))
+    }
+
+    /// Whether so much was done on all threads together, at as many places as there were turns. Then it counts from 0 again. The calling thread makes the
+    /// part of a late worker again, and the worker goes on with it in vain. So with workers beside it a turn or a delivery may be made twice, and not more.
+    pub fn were(&self, work: Work, workers: usize) -> bool {
+        let most = if workers > 1 { 2 } else { 1 };
         let steps = self.steps.swap(0, SeqCst);
         let delivered = self.jobs.swap(0, SeqCst).wrapping_sub(steps);
-        steps == turns && delivered == deliveries && self.looks.swap(0, SeqCst) == looks
+        let looks = self.looks.swap(0, SeqCst);
+        let places = self.stepped.take_count();
+        let looked_at = self.looked_at.take_count();
+        places == work.turns
+            && is_between(steps, work.turns, most)
+            && is_between(delivered, work.deliveries, most)
+            && looks == work.looks
+            && work.most_places.is_none_or(|most| looked_at <= most)
     }
+}
+
+/// Whether `count` is `least`, or at most so many times that.
+fn is_between(count: u64, least: u64, most: u64) -> bool {
+    least <= count && count <= least.saturating_mul(most)
 }
 
 /// Each turn and each delivery passes the gate once, on the thread that makes it.
@@ -61,12 +147,15 @@ impl<P: Program> Program for Counted<'_, P> {
     fn looks(&self, view: &View<'_>, address: u64) -> bool {
         let calls = self.calls;
         calls.looks.fetch_add(1, SeqCst);
+        calls.looked_at.insert(view.step, view.pid);
         self.program.looks(view, address)
     }
 
     fn step(&self, alloc: Global, ctx: &mut Ctx<'_>) -> Result<End, OutOfMemory> {
         let calls = self.calls;
         calls.steps.fetch_add(1, SeqCst);
+        calls.stepped.insert(ctx.step(), ctx.pid());
+        calls.looked_at.insert(ctx.step(), ctx.pid());
         if calls.refuses.load(SeqCst) {
             return Err(AllocError);
         }

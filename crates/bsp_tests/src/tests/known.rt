@@ -17,7 +17,8 @@ pub struct End {
     pub total: u64,
 }
 
-fn is_memory(memory: &MemoryRef<'_>, want: &[u64]) -> bool {
+/// Whether a memory has these words.
+pub fn is_memory(memory: &MemoryRef<'_>, want: &[u64]) -> bool {
     for address in 0..want.len() {
         if memory.load(address as u64) != Some(want[address]) {
             return false;
@@ -244,16 +245,32 @@ pub const SUMS_OF_ONES: Known = Known {
 };
 
 /// Runs that halt, fault, and are cut.
-static KNOWN: [Known; 6] = [TOLD, PRODUCT, NO_PRODUCT, RANKS, BROKEN_RANKS, CUT_SUMS];
+static KNOWN: [Known; 7] = [
+    TOLD,
+    PRODUCT,
+    NO_PRODUCT,
+    RANKS,
+    BROKEN_RANKS,
+    CUT_SUMS,
+    SUMS,
+];
 
-pub const COUNT_OF_KNOWN: usize = 6;
+pub const COUNT_OF_KNOWN: usize = 7;
 
-/// The numbers of three of them.
+/// The numbers of some of them.
 pub const TOLD_AT: usize = 0;
 
 pub const PRODUCT_AT: usize = 1;
 
+pub const NO_PRODUCT_AT: usize = 2;
+
 pub const RANKS_AT: usize = 3;
+
+pub const BROKEN_RANKS_AT: usize = 4;
+
+pub const CUT_SUMS_AT: usize = 5;
+
+pub const SUMS_AT: usize = 6;
 
 /// The known run of this number.
 pub fn known_run(number: usize) -> &'static Known

@@ -1,36 +1,86 @@
 //! Memories of several pages, and in one piece.
 
+use super::known::is_memory;
 use bsp_model::{Change, LocalMemory, Memory, OutOfMemory, Same, TryCopy, Workspace};
 use std::alloc::Global;
 
-/// Whether words are written up to the end, and not past it.
-fn is_written(memory: &mut Memory) -> Result<bool, OutOfMemory> {
-    let is_stored = memory.store(63, 1)? && !memory.store(130, 1)?;
-    let is_written = memory.write(60, &[3, 4, 5, 6, 7, 8])? && !memory.write(129, &[1, 2])?;
-    Ok(is_stored && is_written)
+static ZEROS: [u64; 4_096] = [0; 4_096];
+
+/// The words from 1 on.
+fn counted_words() -> [u64; 70] {
+    let mut words = [0; 70];
+    for i in 0..70 {
+        words[i] = i as u64 + 1;
+    }
+    words
 }
 
-/// Whether a copy of 130 zeros changes alone.
+/// Whether words are written up to the end, and not past it.
+fn is_written(memory: &mut Memory) -> Result<bool, OutOfMemory> {
+    let is_taken = memory.store(63, 1)?
+        && memory.store(4_095, 2)?
+        && memory.write(60, &counted_words())?
+        && memory.write(4_096, &[])?;
+    let is_past = memory.write(4_095, &[1, 2])?
+        || memory.store(4_096, 1)?
+        || memory.write(4_097, &[])?;
+    Ok(is_taken && !is_past)
+}
+
+/// Whether all these words are there, and no other word is.
+fn has_written(memory: &Memory) -> bool {
+    for address in 0..4_096 {
+        let word = match address {
+            60..130 => address - 59,
+            4_095 => 2,
+            _ => 0,
+        };
+        if memory.load(address) != Some(word) {
+            return false;
+        }
+    }
+    memory.load(4_096).is_none()
+}
+
+/// Whether a copy changes alone.
 fn changes_alone(first: &Memory) -> Result<bool, OutOfMemory> {
     let mut copy = first.copy()?;
     let is_written = is_written(&mut copy);
-    let is_changed = copy.load(63) == Some(6) && copy.load(65) == Some(8);
-    let is_kept = first.load(63) == Some(0) && first.load(65) == Some(0);
+    let is_changed = has_written(&copy);
+    let is_kept = is_memory(&first.as_ref(), &ZEROS);
     drop(copy);
     Ok(is_written? && is_changed && is_kept)
 }
 
 fn is_copied(alloc: Global) -> Result<bool, OutOfMemory> {
-    let first = Memory::from_words(alloc, &[0; 130])?;
-    let is_paged = first.count_of_pages() == 3;
+    let first = Memory::from_words(alloc, &ZEROS)?;
     let changes_alone = changes_alone(&first);
     drop(first);
-    Ok(is_paged && changes_alone?)
+    Ok(changes_alone?)
 }
 
 #[test]
 fn a_copy_changes_alone(rt: HostRuntime) {
     assert!(rt; is_copied(rt.alloc()) == Ok(true));
+    let none = Memory::from_words(rt.alloc(), &[]);
+    assert!(rt; none.is_ok_and(|mut memory| memory.store(0, 1) == Ok(false)));
+}
+
+/// The number of pages of a memory, and of the same memory in one piece.
+fn pages_of(alloc: Global, words: &[u64]) -> Result<(usize, usize), OutOfMemory> {
+    let paged = Memory::from_words(alloc, words)?;
+    let whole = paged.as_ref().to_one_piece()?;
+    let counts = (paged.count_of_pages(), whole.count_of_pages());
+    drop(paged);
+    drop(whole);
+    Ok(counts)
+}
+
+#[test]
+fn the_pages_that_stand_are_counted(rt: HostRuntime) {
+    assert!(rt; pages_of(rt.alloc(), &ZEROS) == Ok((64, 1)));
+    assert!(rt; pages_of(rt.alloc(), &ZEROS[..65]) == Ok((2, 1)));
+    assert!(rt; pages_of(rt.alloc(), &[]) == Ok((0, 0)));
 }
 
 /// Whether the words of `paged` are the same in one piece, until one of them is stored there.

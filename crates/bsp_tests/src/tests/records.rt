@@ -19,6 +19,17 @@ fn is_copied(outcome: &Outcome) -> Result<bool, OutOfMemory> {
     Ok(is_same)
 }
 
+/// Whether each view is the same as itself, and another than that of the process before.
+fn are_apart(views: &Views) -> bool {
+    for pid in 0..views.len() {
+        let view = views.get(pid);
+        if !view.same(&views.get(pid)) || pid > 0 && view.same(&views.get(pid - 1)) {
+            return false;
+        }
+    }
+    true
+}
+
 /// Whether what a program's turn leaves at each view is the same as its copy.
 fn are_copied(alloc: Global, program: &Bundled, views: &Views) -> Result<bool, OutOfMemory> {
     for pid in 0..views.len() {
@@ -90,7 +101,7 @@ fn is_superstep(
     let Some(outcomes) = history.outcomes(step) else {
         return Ok(false);
     };
-    if !are_copied(alloc, program, views)? {
+    if !are_apart(views) || !are_copied(alloc, program, views)? {
         return Ok(false);
     }
     let next = step.wrapping_add(1);

@@ -1,6 +1,7 @@
 //! Calls that find no memory. `ci/refuse_allocations` runs the tests of this file with each allocation refused in turn that is made between the lines
 //! `begin` and `end` of their output.
 
+use super::clash;
 use super::counted::Calls;
 use super::known::{COUNT_OF_KNOWN, End, Known, known_run};
 use super::running::{Way, is_run};
@@ -74,6 +75,22 @@ fn records_with_an_allocation_refused(rt: HostRuntime) {
 #[test]
 fn openings_with_an_allocation_refused(rt: HostRuntime) {
     find_runs(&rt, rt.alloc(), Way::Opened);
+}
+
+/// Finds that a run in which a get and puts meet is made or refused memory, and is then made.
+fn find_clash<R: Threads + Sync + Print + Abort>(rt: &R, alloc: Global, is_wide: bool) {
+    let begun = begin(rt);
+    let found = clash::is_right(rt, alloc, is_wide);
+    let ended = end(rt);
+    let is_right = found == Ok(true) || found == Err(RunError::OutOfMemory);
+    let again = clash::is_right(rt, alloc, is_wide);
+    assert!(rt; begun && is_right && ended && again == Ok(true));
+}
+
+#[test]
+fn clashes_with_an_allocation_refused(rt: HostRuntime) {
+    find_clash(&rt, rt.alloc(), false);
+    find_clash(&rt, rt.alloc(), true);
 }
 
 #[test]

@@ -7,6 +7,7 @@ use super::sittings::{SITTINGS, SUMS_OF_ONES_AT};
 use crate::hello::Hello;
 use bsp_gate::{Gate, Open, Timed};
 use bsp_incr::{Reply, Session};
+use bsp_model::limits::MOST_WORKERS;
 use bsp_model::{Input, TryCopy};
 use bsp_right::run_computing;
 use bsp_run::{History, RunError, RunResult, Tape};
@@ -39,14 +40,16 @@ fn is_begun(alloc: Global, input: &Input) -> Result<bool, RunError> {
     Ok(is_begun)
 }
 
-fn is_recorded(run: Result<History, RunError>, end: &End) -> Result<bool, RunError> {
+/// Whether a recorded run ends so.
+pub fn is_recorded(run: Result<History, RunError>, end: &End) -> Result<bool, RunError> {
     let history = run?;
     let is_right = end.is_of(&history);
     drop(history);
     Ok(is_right)
 }
 
-fn is_given(run: Result<RunResult, RunError>, end: &End) -> Result<bool, RunError> {
+/// Whether a run without a record gives so much.
+pub fn is_given(run: Result<RunResult, RunError>, end: &End) -> Result<bool, RunError> {
     let given = run?;
     let is_right = given.total == end.total;
     drop(given);
@@ -61,7 +64,7 @@ fn is_opened<R: Threads + Sync, G: Gate>(
     workers: usize,
     gate: &G,
 ) -> Result<bool, RunError>
-    requires { (0 < workers) × (workers ≤ 16) }
+    requires { (0 < workers) × (workers ≤ MOST_WORKERS) }
 {
     let (session, opening) = Session::open(rt, alloc, known.program, input, workers, gate)?;
     let is_right = known.end.is_of(session.history())
@@ -98,7 +101,7 @@ fn is_run_on<R: Threads + Sync, G: Gate>(
     workers: usize,
     gate: &G,
 ) -> Result<bool, RunError>
-    requires { (0 < workers) × (workers ≤ 16) }
+    requires { (0 < workers) × (workers ≤ MOST_WORKERS) }
 {
     let program = known.program;
     match way {
@@ -135,7 +138,7 @@ pub fn is_run<R: Threads + Sync, G: Gate>(
     workers: usize,
     gate: &G,
 ) -> Result<bool, RunError>
-    requires { (0 < workers) × (workers ≤ 16) }
+    requires { (0 < workers) × (workers ≤ MOST_WORKERS) }
 {
     let input = known.input(alloc)?;
     let found = is_run_on(rt, alloc, way, known, &input, workers, gate);
@@ -173,7 +176,7 @@ fn each_call_runs_each_program(rt: HostRuntime) {
 fn any_number_of_workers_gives_the_sums(rt: HostRuntime) {
     let known = &SITTINGS[SUMS_OF_ONES_AT].known;
     let timed = Timed::new(&rt);
-    for workers in 1..17 {
+    for workers in 1..MOST_WORKERS + 1 {
         for way in [Way::Wide, Way::UnrecordedWide] {
             let found = is_run(&rt, rt.alloc(), way, known, workers, &Open);
             let timed = is_run(&rt, rt.alloc(), way, known, workers, &timed);

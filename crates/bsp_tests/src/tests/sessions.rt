@@ -2,12 +2,13 @@
 
 ghost use Rattle.std.specs.Prelude.{◌<◌, ◌≤◌};
 
-use super::counted::{Calls, Counted, Everywhere};
+use super::counted::{Calls, Counted, Everywhere, Work};
 use super::known::{End, Known};
 use super::sittings::{Change, EVERYWHERE, SITTINGS, Sitting};
 use bsp_gate::{Gate, Open};
 use bsp_incr::{EditError, Session};
 use bsp_model::OutOfMemory;
+use bsp_model::limits::MOST_WORKERS;
 use bsp_programs::Prefix;
 use bsp_run::RunError;
 use bsp_step::Program;
@@ -27,7 +28,7 @@ pub fn opened<'a, P: Program + Drop, R: Threads + Sync>(
     known: &Known,
     workers: usize,
 ) -> Result<CountedSession<'a, P>, RunError>
-    requires { (0 < workers) × (workers ≤ 16) }
+    requires { (0 < workers) × (workers ≤ MOST_WORKERS) }
 {
     let program = Counted { program, calls };
     let input = known.input(alloc)?;
@@ -45,7 +46,7 @@ pub fn is_changed<P: Program + Drop, R: Threads + Sync, G: Gate>(
     workers: usize,
     gate: &G,
 ) -> Result<bool, OutOfMemory>
-    requires { (0 < workers) × (workers ≤ 16) }
+    requires { (0 < workers) × (workers ≤ MOST_WORKERS) }
 {
     let is_right = match session.apply(rt, alloc, change.batch, workers, gate) {
         Ok(update) => {
@@ -59,22 +60,43 @@ pub fn is_changed<P: Program + Drop, R: Threads + Sync, G: Gate>(
     Ok(is_right && change.end.is_of(session.history()))
 }
 
-/// How many batches, from the first one on, change a session as they have to, with a step for each turn. Each has another number of workers.
+/// How many workers the calls of a session have: the first call `first`, and each further call `more` more than the call before, of 1 to 16.
+#[derive(Clone, Copy)]
+struct Staff {
+    first: usize,
+    more: usize,
+}
+
+impl Staff {
+    fn at(self, call: usize) -> usize
+        ensures { (0 < result) × (result ≤ 16) }
+    {
+        let workers = self.first.wrapping_add(self.more.wrapping_mul(call));
+        workers.wrapping_sub(1) % 16 + 1
+    }
+}
+
+/// How many batches, from the first one on, change a session as they have to, with a step for each turn.
 fn count_of_right<P: Program + Drop, R: Threads + Sync>(
     rt: &R,
     alloc: Global,
     session: &mut CountedSession<'_, P>,
     calls: &Calls,
     changes: &[Change],
-    workers: usize,
+    staff: Staff,
 ) -> usize {
     for i in 0..changes.len() {
         let change = &changes[i];
-        let workers = workers.wrapping_add(i) % 16 + 1;
+        let workers = staff.at(i.wrapping_add(1));
         let found = is_changed(rt, alloc, session, change, workers, calls);
-        let turns = change.executed.len() as u64;
-        let deliveries = change.redelivered.len() as u64;
-        if found != Ok(true) || !calls.were(turns, deliveries, change.looks) {
+        let are_places = calls.were_at(change.executed);
+        let work = Work {
+            turns: change.executed.len() as u64,
+            deliveries: change.redelivered.len() as u64,
+            looks: change.looks,
+            most_places: change.most_places,
+        };
+        if found != Ok(true) || !are_places || !calls.were(work, workers) {
             return i;
         }
     }
@@ -87,29 +109,43 @@ fn is_sitting<P: Program + Drop, R: Threads + Sync>(
     alloc: Global,
     program: P,
     sitting: &Sitting,
-    workers: usize,
-) -> Result<bool, RunError>
-    requires { (0 < workers) × (workers ≤ 16) }
-{
+    staff: Staff,
+) -> Result<bool, RunError> {
     let known = &sitting.known;
     let calls = Calls::new();
+    let workers = staff.at(0);
     let mut session = opened(rt, alloc, program, &calls, known, workers)?;
-    let is_open = known.end.is_of(session.history())
-        && calls.were(known.turns, known.deliveries, 0);
-    let count = count_of_right(rt, alloc, &mut session, &calls, sitting.changes, workers);
+    let opening = Work {
+        turns: known.turns,
+        deliveries: known.deliveries,
+        looks: 0,
+        most_places: None,
+    };
+    let is_open = known.end.is_of(session.history()) && calls.were(opening, workers);
+    let count = count_of_right(rt, alloc, &mut session, &calls, sitting.changes, staff);
     drop(session);
     Ok(is_open && count == sitting.changes.len())
 }
 
+/// One worker, 3 and 16 at all calls, and another number at each call.
+static STAFFS: [Staff; 5] = [
+    Staff { first: 1, more: 0 },
+    Staff { first: 3, more: 0 },
+    Staff { first: 16, more: 0 },
+    Staff { first: 1, more: 1 },
+    Staff { first: 15, more: 1 },
+];
+
 fn find_sitting<R: Threads + Sync + Abort>(rt: &R, alloc: Global, sitting: &Sitting) {
     let known = &sitting.known;
-    let few = is_sitting(rt, alloc, known.program, sitting, 1);
-    let many = is_sitting(rt, alloc, known.program, sitting, 15);
-    assert!(rt; few == Ok(true) && many == Ok(true), "{}", known.name);
+    for i in 0..STAFFS.len() {
+        let found = is_sitting(rt, alloc, known.program, sitting, STAFFS[i]);
+        assert!(rt; found == Ok(true), "{} {i}", known.name);
+    }
 }
 
 #[test]
-fn each_call_has_another_number_of_workers(rt: HostRuntime) {
+fn updates_do_what_was_counted_by_hand(rt: HostRuntime) {
     for i in 0..SITTINGS.len() {
         find_sitting(&rt, rt.alloc(), &SITTINGS[i]);
     }
@@ -118,7 +154,7 @@ fn each_call_has_another_number_of_workers(rt: HostRuntime) {
 #[test]
 fn a_program_that_looks_everywhere(rt: HostRuntime) {
     let program = Everywhere(Prefix);
-    assert!(rt; is_sitting(&rt, rt.alloc(), program, &EVERYWHERE, 3) == Ok(true));
+    assert!(rt; is_sitting(&rt, rt.alloc(), program, &EVERYWHERE, STAFFS[1]) == Ok(true));
 }
 
 /// Whether a batch that found no memory had changed nothing, and now changes a session as it has to.

@@ -20,6 +20,8 @@ pub struct Change {
     pub redelivered: &'static [Place],
     /// At how many words that have changed it asks whether the program looks there.
     pub looks: u64,
+    /// At how many places it looks at most, where that was counted by hand: it compares the view there, or takes the turn.
+    pub most_places: Option<u64>,
     pub end: End,
 }
 
@@ -53,6 +55,7 @@ const OVERWRITTEN_WORD: Change = Change {
     batch: &[word!(2, 0, 9)],
     redelivered: places![(0, 2), (1, 2)],
     looks: 2,
+    most_places: Some(3),
     end: TOLD_END,
     ..NOTHING
 };
@@ -147,7 +150,7 @@ pub static EVERYWHERE: Sitting = Sitting {
 };
 
 /// The vector of the product becomes 7, 8.
-const OTHER_VECTOR: Change = Change {
+pub const OTHER_VECTOR: Change = Change {
     batch: &[word!(0, 2, 7), word!(1, 2, 8)],
     executed: places![(1, 0), (1, 1), (2, 0), (2, 1)],
     redelivered: places![(0, 0), (0, 1), (1, 0), (1, 1)],

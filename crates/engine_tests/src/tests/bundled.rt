@@ -5,6 +5,7 @@ ghost use Rattle.std.specs.Prelude.{◌<◌, ◌≤◌};
 use super::failing::{sink, source};
 use bsp_engine::{ByName, Detail, EngineError, Named, Options, engine};
 use bsp_gate::Gate;
+use bsp_model::limits::MOST_WORKERS;
 use bsp_programs::{Bundled, NAMES};
 use std::alloc::Global;
 use std::thread::Threads;
@@ -75,7 +76,7 @@ pub fn writes<R: Threads + Sync, G: Gate>(
     workers: usize,
     gate: &G,
 ) -> bool
-    requires { (0 < workers) × (workers ≤ 16) }
+    requires { (0 < workers) × (workers ≤ MOST_WORKERS) }
 {
     let mut reader = source(document, flow);
     let mut writer = sink(alloc, flow);

@@ -73,3 +73,9 @@ fn played(alloc: Global) -> Result<(usize, bool), OutOfMemory> {
 fn two_phases_event_by_event(rt: HostRuntime) {
     assert!(rt; played(rt.alloc()) == Ok((17, true)));
 }
+
+#[test]
+fn a_refusal_is_told(rt: HostRuntime) {
+    let said = format!(in rt.alloc(); "{}", CoreRefusal::NotNow);
+    assert!(rt; said.is_ok_and(|said| said.as_str() == "the event is not allowed now"));
+}

@@ -1,4 +1,5 @@
-use Rattle.std.proofs.Common.{◌≡◌, ◌≤◌, ◌*◌, ◌^◌, take}
+use Rattle.std.proofs.Common.{◌≡◌, ◌≤◌, ◌*◌, take}
+use Rattle.bsp_model.specs.Limits.{most_cost}
 use Rattle.bsp_run.specs.Supersteps.{supersteps_of}
 use Rattle.bsp_causes.specs.UpdateCost.{rows_from}
 use Rattle.bsp_causes.specs.Inside.Walk.{BeginsAt, with_rows}
@@ -8,7 +9,7 @@ use Rattle.bsp_causes.proofs.costs.add_rows.Given as goal
 abbrev pub invariant-loop-step : goal.invariant-loop-step
 invariant-loop-step l = record {
   rows : l.cost ≡ with_rows l.initial.cost (rows_from l.run.g l.run.l l.update 0 (take l.step (supersteps_of l.run)));
-  small : l.cost.total ≤ l.step * 2 ^ 50;
+  small : l.cost.total ≤ l.step * most_cost;
   turns : BeginsAt l.turns l.step l.turn;
   deliveries : BeginsAt l.deliveries l.step l.delivery;
 }

@@ -1,4 +1,5 @@
-use Rattle.std.proofs.Common.{◌≡◌, ◌<◌, ◌^◌, max, drop}
+use Rattle.std.proofs.Common.{◌≤◌, ◌≡◌, max, drop}
+use Rattle.bsp_model.specs.Limits.{most_work}
 use Rattle.bsp_causes.specs.UpdateCost.{processes_of, work_of}
 use Rattle.bsp_causes.proofs.costs.work_of.Given as goal
 
@@ -6,5 +7,5 @@ use Rattle.bsp_causes.proofs.costs.work_of.Given as goal
 abbrev pub invariant-loop-place : goal.invariant-loop-place
 invariant-loop-place l = record {
   value : max l.most (work_of (processes_of (drop l.place-index l.places)) l.outcomes) ≡ work_of (processes_of l.places) l.outcomes;
-  small : l.most < 2 ^ 32;
+  small : l.most ≤ most_work;
 }

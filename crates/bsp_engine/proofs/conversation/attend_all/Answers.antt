@@ -1,5 +1,6 @@
 use Rattle.std.proofs.Common.{◌≡◌, ◌<◌, ◌≤◌, ◌∙◌, ◌++◌, ◌∷◌, [], List, ℕ, length, get_or, refl, subst, sym, arith}
 use Rattle.std.proofs.lemmas.Grind.{common_steps}
+use Rattle.bsp_model.specs.Limits.{most_document_bytes}
 use Rattle.bsp_engine.specs.declared.errors.EngineError.{EngineError}
 use Rattle.bsp_engine.specs.Inside.DueAt.{due_at}
 use Rattle.bsp_engine.specs.Inside.Talk.{Answered, BreaksOff, Stopped}
@@ -19,14 +20,14 @@ loop-byte-preserved-then-byte-eq10 g c =
 
 pub loop-byte-preserved-then-len-gt-MOST_DOCUMENT_BYTES : goal.loop-byte-preserved-then-len-gt-MOST_DOCUMENT_BYTES
 loop-byte-preserved-then-len-gt-MOST_DOCUMENT_BYTES g c =
-    let long : 16777216 < length c.loop-byte.begun.items = omega arith in
+    let long : most_document_bytes < length c.loop-byte.begun.items = omega arith in
     λ due start h. going_byte _ _ _ _ _ _ _ _ _ _ _ (c.loop-byte.invariant due start h) (drop_next _ _ c.loop-byte-test.true)
     (attended_byte _ _ _ _ _ _ _ c.if-byte-eq10.false (sym (kept_none c.loop-byte.begun.items (get_or c.args.bytes.now c.loop-byte.byte-index 0) long)) refl refl)
 
 pub loop-byte-preserved : goal.loop-byte-preserved
 loop-byte-preserved g c =
     let byte = get_or c.args.bytes.now c.loop-byte.byte-index 0 in
-    let short : length c.loop-byte.begun.items ≤ 16777216 = omega arith in
+    let short : length c.loop-byte.begun.items ≤ most_document_bytes = omega arith in
     let pushed : c.push.new.self.items ≡ c.loop-byte.begun.items ++ byte ∷ [] = grind (arith, common_steps) in
     λ due start h. going_byte _ _ _ _ _ _ _ _ _ _ _ (c.loop-byte.invariant due start h) (drop_next _ _ c.loop-byte-test.true)
     (attended_byte _ _ _ _ _ _ _ c.if-byte-eq10.false (pushed ∙ sym (kept_one c.loop-byte.begun.items byte short)) refl refl)

@@ -3,6 +3,7 @@
 use super::Change;
 use crate::tests::known::{CUT_SUMS_END, End, SUMS_END, SUMS_OF_ONES_END};
 use bsp_incr::{Edit, EditFault, EditRefusal, Place};
+use bsp_model::limits::{HIGHEST_PRICE, MOST_SUPERSTEPS};
 
 /// A batch that changes nothing of the sums.
 pub const NOTHING: Change = Change {
@@ -11,6 +12,7 @@ pub const NOTHING: Change = Change {
     executed: &[],
     redelivered: &[],
     looks: 0,
+    most_places: None,
     end: SUMS_END,
 };
 
@@ -19,6 +21,7 @@ const FIRST: Change = Change {
     executed: places![(1, 0), (2, 0), (2, 1), (3, 0), (3, 1), (3, 2), (3, 3)],
     redelivered: places![(0, 0), (1, 0), (1, 1), (2, 0), (2, 1), (2, 2), (2, 3)],
     looks: 8,
+    most_places: Some(8),
     ..NOTHING
 };
 
@@ -49,6 +52,7 @@ const LAST_WORD: Change = Change {
     executed: places![(2, 3), (3, 3)],
     redelivered: places![(0, 3), (1, 3), (2, 3)],
     looks: 4,
+    most_places: Some(4),
     end: LAST_WORD_END,
     ..NOTHING
 };
@@ -86,7 +90,7 @@ pub const CHANGES_OF_SUMS: [Change; 13] = [
     Change {
         batch: &[
             Edit::Prices { g: 1, l: 0 },
-            Edit::Limit(1025),
+            Edit::Limit(MOST_SUPERSTEPS + 1),
             Edit::Limit(2),
         ],
         refusal: Some(EditRefusal {
@@ -96,7 +100,13 @@ pub const CHANGES_OF_SUMS: [Change; 13] = [
         ..NOTHING
     },
     Change {
-        batch: &[Edit::Limit(2), Edit::Prices { g: 4, l: 1_000_001 }],
+        batch: &[
+            Edit::Limit(2),
+            Edit::Prices {
+                g: 4,
+                l: HIGHEST_PRICE + 1,
+            },
+        ],
         refusal: Some(EditRefusal {
             place: 1,
             fault: EditFault::BadPrice,
@@ -106,6 +116,7 @@ pub const CHANGES_OF_SUMS: [Change; 13] = [
     NOTHING,
     Change {
         batch: &[word!(1, 0, 2)],
+        most_places: Some(1),
         ..NOTHING
     },
     Change {
@@ -179,6 +190,7 @@ pub const LAST_ONE: Change = Change {
         (6, 63)
     ],
     looks: 8,
+    most_places: Some(8),
     end: SUMS_OF_ONES_END,
     ..NOTHING
 };

@@ -1,6 +1,7 @@
 use Rattle.std.proofs.Common.{◌≡◌, ℕ, ◌+◌, ◌++◌, [], List, length, ap, sym, ◌∙◌, arith, subst, All, fold, map}
 use Rattle.std.proofs.lemmas.Bool.{OnTrue_at}
 use Rattle.std.proofs.lemmas.List.{append-nil}
+use Rattle.bsp_model.specs.Limits.{most_requests}
 use Rattle.bsp_model.specs.declared.request.Get.{Get}
 use Rattle.bsp_model.specs.declared.request.Send.{Send}
 use Rattle.bsp_step.specs.OutcomeParts.{OutcomeParts, IsShortSend, no_outcome, outcome_of}
@@ -27,7 +28,7 @@ count_gets-requires-clause-room c =
     let p = c.args.p in
     let o = outcome_of os p in
     let puts = ap (λ (x : OutcomeParts). x.puts) (c.own.view_is ∙ c.get-own.ensures) in
-    room_at (is_target c.args.targets.now) (put_transfer p) o.puts c.args.self.now c.count_puts.new.self 1024 (length c.own.inside.gets.now)
+    room_at (is_target c.args.targets.now) (put_transfer p) o.puts c.args.self.now c.count_puts.new.self most_requests (length c.own.inside.gets.now)
     (c.count_puts.ensures ∙ ap (λ xs. fold (counted_to (is_target c.args.targets.now)) c.args.self.now (map (put_transfer p) xs)) puts)
     (small_puts os p o c.requires.deliverable c.requires.known (outcome_at c.args.outcomes.now c.args.p c.requires.known))
     (omega (arith, ap length puts, c.own.invariant.few_requests)) c.requires.room
@@ -51,7 +52,7 @@ count_sends-requires-clause-room c =
     room_at (is_target c.args.targets.now) (get_transfer p) o.gets c.count_puts.new.self c.count_gets.new.self (length o.gets + n) n
     (c.count_gets.ensures ∙ ap (λ xs. fold (counted_to (is_target c.args.targets.now)) c.count_puts.new.self (map (get_transfer p) xs)) gets)
     (small_gets os p o c.requires.deliverable c.requires.known (outcome_at c.args.outcomes.now c.args.p c.requires.known)) (omega arith)
-    (room_at (is_target c.args.targets.now) (put_transfer p) o.puts c.args.self.now c.count_puts.new.self 1024 (length o.gets + n)
+    (room_at (is_target c.args.targets.now) (put_transfer p) o.puts c.args.self.now c.count_puts.new.self most_requests (length o.gets + n)
     (c.count_puts.ensures ∙ ap (λ xs. fold (counted_to (is_target c.args.targets.now)) c.args.self.now (map (put_transfer p) xs)) puts)
     (small_puts os p o c.requires.deliverable c.requires.known (outcome_at c.args.outcomes.now c.args.p c.requires.known))
     (omega (arith, ap length puts, ap length gets, few)) c.requires.room)
@@ -73,7 +74,7 @@ returns-clause-room c =
     (room_at (is_target c.args.targets.now) (get_transfer p) o.gets c.count_puts.new.self c.count_gets.new.self (length o.gets + (length o.sends + n)) (length o.sends + n)
     (c.count_gets.ensures ∙ ap (λ xs. fold (counted_to (is_target c.args.targets.now)) c.count_puts.new.self (map (get_transfer p) xs)) gets)
     (small_gets os p o c.requires.deliverable c.requires.known (outcome_at c.args.outcomes.now c.args.p c.requires.known)) (omega arith)
-    (room_at (is_target c.args.targets.now) (put_transfer p) o.puts c.args.self.now c.count_puts.new.self (1024 + n) (length o.gets + (length o.sends + n))
+    (room_at (is_target c.args.targets.now) (put_transfer p) o.puts c.args.self.now c.count_puts.new.self (most_requests + n) (length o.gets + (length o.sends + n))
     (c.count_puts.ensures ∙ ap (λ xs. fold (counted_to (is_target c.args.targets.now)) c.args.self.now (map (put_transfer p) xs)) puts)
     (small_puts os p o c.requires.deliverable c.requires.known (outcome_at c.args.outcomes.now c.args.p c.requires.known))
     (omega (arith, ap length puts, ap length gets, ap length sends, few)) room))
@@ -104,7 +105,7 @@ returns-then-puts_alone-clause-room c =
     let o = outcome_of os p in
     let puts = ap (λ (x : OutcomeParts). x.puts) (c.own.view_is ∙ c.get-own.ensures) in
     λ n room.
-    room_at (is_target c.args.targets.now) (put_transfer p) o.puts c.args.self.now c.count_puts.new.self (1024 + n) n
+    room_at (is_target c.args.targets.now) (put_transfer p) o.puts c.args.self.now c.count_puts.new.self (most_requests + n) n
     (c.count_puts.ensures ∙ ap (λ xs. fold (counted_to (is_target c.args.targets.now)) c.args.self.now (map (put_transfer p) xs)) puts)
     (small_puts os p o c.requires.deliverable c.requires.known (outcome_at os p c.requires.known))
     (omega (arith, ap length puts, c.own.invariant.few_requests)) room

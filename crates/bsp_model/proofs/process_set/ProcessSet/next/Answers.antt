@@ -26,4 +26,4 @@ returns-clause-first c =
     ∙ ap (λ (s : List Bool). slice_get (processes_from s c.args.from) 0) c.self.view_is
 
 pub returns-clause-known : goal.returns-clause-known
-returns-clause-known c = first_within c.self.inside.count c.self.inside.bits c.args.from c.self.invariant (omega arith) c.if-left-eq0.false
+returns-clause-known c = omega (arith, first_within c.self.inside.count c.self.inside.bits c.args.from c.self.invariant (omega arith) c.if-left-eq0.false, c.self.invariant.few)

@@ -39,4 +39,4 @@ invariant_of-self-2 c =
     }
 
 pub returns-clause-ok : goal.returns-clause-ok
-returns-clause-ok c = is_after c ∙ ap after_delivery c.self.view_is
+returns-clause-ok c = is_after c.before ∙ ap after_delivery c.self.view_is

@@ -29,7 +29,7 @@ kept v now ps cells new table tag seen is =
 pub invariant_of-result : goal.invariant_of-result
 invariant_of-result c =
     let state = kept c.self.inside c.args.self.now c.args.processes.items c.args.cells c.in_ok-cells.cells c.args.setting.table c.args.setting.tag_size c.self.view_is c.in_ok-cells.ensures in
-    subst (CanOpen c.args.setting.args) (sym state) c.requires.opens
+    subst (CanOpen c.args.setting.args c.args.setting.step) (sym state) c.requires.opens
 
 pub returns : goal.returns
 returns c =

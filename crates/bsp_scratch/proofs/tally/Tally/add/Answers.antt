@@ -1,5 +1,6 @@
-use Rattle.std.proofs.Common.{◌<◌, ◌^◌, All, sym, subst}
+use Rattle.std.proofs.Common.{◌≤◌, All, sym, subst}
 use Rattle.std.proofs.lemmas.List.Elements.{All-push}
+use Rattle.bsp_model.specs.Limits.{most_cost}
 use Rattle.bsp_model.specs.declared.cost.CostRow.{CostRow}
 use Rattle.std.proofs.lemmas.Bool.{OnTrue_at}
 use Rattle.bsp_scratch.proofs.PrintedLines.{none_more, one_more}
@@ -13,5 +14,5 @@ returns-clause-lines c = one_more c.args.self.now.lines.items _ c.in_ok-superste
 
 pub invariant_of-self-2 : goal.invariant_of-self-2
 invariant_of-self-2 c =
-    let small = λ (row : CostRow). row.cost < 2 ^ 50 in
+    let small = λ (row : CostRow). row.cost ≤ most_cost in
     record { small = subst (All small) (sym c.in_ok-push.ensures.ok) (All-push small c.args.self.now.costs c.args.row c.args.self.now.small c.requires) }

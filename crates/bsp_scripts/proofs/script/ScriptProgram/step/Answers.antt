@@ -17,7 +17,7 @@ returns c = λ begun.
     let v = now.view in
     let new = c.take.new.ctx in
     let calls = c.in-Some.turn.now.calls in
-    let given : Some c.in-Some.turn.now ≡ turn_at s v.step v.pid = c.in-Some.ensures ∙ (λ i. turn_at s (c.step.ensures i) (c.pid.ensures.number i)) in
+    let given : Some c.in-Some.turn.now ≡ turn_at s v.step v.pid = c.in-Some.ensures ∙ (λ i. turn_at s (c.step.ensures.number i) (c.pid.ensures.number i)) in
     let plan : calls_plan now calls ≡ script_plan s v =
     ap (λ (d : Context). calls_plan d calls) begun ∙ calls_plan-behind now.earlier (fresh v) calls ∙ ap (plan_of (fresh v)) given in
     let own = calls_plan now calls in
