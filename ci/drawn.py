@@ -2,7 +2,8 @@
 import json
 import random
 
-from drawn_scripts import draw_script, flooded, lengthened
+from drawn_kernels import draw_kernel, with_kernel
+from drawn_scripts import flooded, lengthened
 from modelled.limits import HIGHEST_PRICE, MOST_ARGUMENTS, MOST_MEMORY_WORDS, MOST_PROCESSES, MOST_SUPERSTEPS
 
 LARGEST = 2**63 - 1
@@ -123,18 +124,18 @@ def draw_batch(draw, memories, args):
     return [draw_edit(draw, memories, args) for _ in range(draw.choice((0, 1, 1, 1, 2, 3)))]
 
 
-DRAWN = {"bsp_tool": draw_bundled, "heat": draw_heat, "oddeven": draw_oddeven, "samplesort": draw_samplesort, "collectives": draw_collective, "bsp_script": draw_script}
+DRAWN = {"bsp_tool": draw_bundled, "heat": draw_heat, "oddeven": draw_oddeven, "samplesort": draw_samplesort, "collectives": draw_collective, "bsp_kernel": draw_kernel}
 
 
 def draw_values(draw, tool):
     """The values of a document's keys. Now and then an argument list or a memory loses its last word."""
-    key = "script" if tool == "bsp_script" else "program"
-    at_key, memories, args = DRAWN[tool](draw)
+    given, memories, args = DRAWN[tool](draw)
+    keys = given if tool == "bsp_kernel" else {"program": given}
     for words in memories + args:
         if words and draw.happens(0.01):
             words.pop()
     limit = draw.randint(1, 5) if draw.happens(0.3) else draw.randint(6, MOST_SUPERSTEPS)
-    values = {key: at_key, "limit": limit, "g": draw.randrange(5), "l": draw.randrange(20), "memory": memories, "args": args}
+    values = {**keys, "limit": limit, "g": draw.randrange(5), "l": draw.randrange(20), "memory": memories, "args": args}
     if not any(args) and draw.happens(0.5):
         del values["args"]
     if draw.happens(0.9):
@@ -174,7 +175,7 @@ def change_a_key(draw, values):
     if draw.happens(0.5):
         del values[draw.choice(list(values))]
     else:
-        values[draw.choice(("colour", "Limit", "program", "script"))] = draw.choice(OTHERS)
+        values[draw.choice(("colour", "Limit", "program", "kernel", "constants", "budget"))] = draw.choice(OTHERS)
 
 
 def change_a_size(draw, values):
@@ -272,6 +273,7 @@ def drawn_document(tool, seed, is_near=False):
     values = draw_values(draw, tool)
     if is_near:
         come_near(draw, values)
+    values = with_kernel(values)
     for change, rate in ((change_a_size, 0.08), (change_a_value, 0.1), (change_a_key, 0.05)):
         if draw.happens(rate):
             change(draw, values)

@@ -3,7 +3,7 @@
 
 usage: ci/model.py TOOL [--workers N] [--scratch] [--places] [--changes] [--why] [--update-cost] < DOCUMENT
 
-TOOL is bsp_tool, heat, oddeven, samplesort, collectives or bsp_script. Report, fault line and exit status are those of the program of that name; the number of
+TOOL is bsp_tool, heat, oddeven, samplesort, collectives or bsp_kernel. Report, fault line and exit status are those of the program of that name; the number of
 workers counts for nothing, and the line that says where a document's fault is can't be had here. Every process of every superstep is run, what is
 delivered is said word by word, and two whole runs are compared: nothing is reused, so the model is for small inputs. A run that halts is compared with
 what can be said without processes: one of heat with the rod in one piece (modelled/rods.py), one of oddeven and one of samplesort with the words in order, one of a collective

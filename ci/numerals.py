@@ -34,8 +34,8 @@ OTHERS = (
     (r"bsp_options/src/options", r"1 to 16\"|MOST_WORKERS == 16"),
     # a pool of threads, which knows of no limits
     (r"crates/bsp_(?:pool|crew)/", r"\b16\b|\b4294967296\b|\b1_000_000\b"),
-    # the byte of a character
-    (r"bsp_script/", r"\b64\b"),
+    # registers, and the bits of a word that is shifted
+    (r"bsp_kernels?/|ci/modelled/(?:kernels|machines)", r"\b(?:64|255|256)\b"),
     # processes and cells that a picture has room for
     (r"python/fannulavo/(?:pictures|traces)", r"\b(?:16|64)\b"),
 )

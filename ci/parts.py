@@ -15,7 +15,7 @@ def live(count):
     return Part(("ci/live", str(count), "--changes"), 6 * (count + 2))
 
 
-DOCUMENTS = Part(("ci/documents",), 9_100)
+DOCUMENTS = Part(("ci/documents",), 13_000)
 FIRST = (Part(("ci/test_gate",), 118), Part(("ci/statement",), 2), Part(("ci/python",), 77))  # before anything is proved
 PROOFS = Part(("rt", "ci"), 109)  # 29 crates and 80 must-fail edits
 LAST = (

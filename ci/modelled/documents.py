@@ -6,10 +6,10 @@ import tomllib
 from dataclasses import dataclass, field
 
 from modelled.collectives import COLLECTIVES
+from modelled.kernels import BUDGET, Kernel, is_code
 from modelled.limits import HIGHEST_PRICE, MOST_ARGUMENTS, MOST_MEMORY_WORDS, MOST_PROCESSES, MOST_SUPERSTEPS
 from modelled.programs import Broadcast, Heat, MatVec, OddEven, Prefix, Rank
 from modelled.runs import Input
-from modelled.scripts import Script, is_script
 from modelled.sessions import Edit
 from modelled.shapes import is_array_of, is_integer, is_string
 from modelled.sorts import SampleSort
@@ -80,15 +80,17 @@ SHAPES = {
 
 @dataclass(frozen=True)
 class Catalogue:
-    """What a tool reads at its own key, and the programs that are named there, if they are named."""
+    """What a tool reads at its own key and at others that may be absent, and the programs that are named at its key, if they are named."""
 
     key: str
     shape: object
     programs: dict[str, Program] = field(default_factory=dict)
+    others: dict[str, object] = field(default_factory=dict)
 
-    def program(self, value) -> Program:
-        if self.key == "script":
-            return Script(value)
+    def program(self, tree: dict) -> Program:
+        value = tree[self.key]
+        if self.key == "kernel":
+            return Kernel(value, tree.get("constants", []), tree.get("budget", BUDGET))
         if value not in self.programs:
             raise Refused("J5")
         return self.programs[value]
@@ -101,7 +103,7 @@ TOOLS = {
     "oddeven": Catalogue("program", is_string, {"oddeven": OddEven()}),
     "samplesort": Catalogue("program", is_string, {"samplesort": SampleSort()}),
     "collectives": Catalogue("program", is_string, COLLECTIVES),
-    "bsp_script": Catalogue("script", is_script),
+    "bsp_kernel": Catalogue("kernel", is_code, others={"constants": is_array_of(is_integer), "budget": is_integer}),
 }
 
 
@@ -133,16 +135,16 @@ def job_of(catalogue: Catalogue, document: bytes) -> Job:
     tree = tree_of(document)
     if not {catalogue.key, "limit", "g", "l", "memory"} <= tree.keys():
         raise Refused("J2")
-    shapes = {catalogue.key: catalogue.shape, **SHAPES}
+    shapes = {catalogue.key: catalogue.shape, **catalogue.others, **SHAPES}
     if not all(shape(tree[key]) for key, shape in shapes.items() if key in tree):
         raise Refused("J3")
     if not tree.keys() <= shapes.keys():
         raise Refused("J4")
-    program = catalogue.program(tree[catalogue.key])
+    program = catalogue.program(tree)
     fault = input_fault(tree)
     if fault:
         raise Refused(f"J6 {fault}")
-    if any(has_negative(tree.get(key)) for key in (catalogue.key, "memory", "args", "batches")):
+    if any(has_negative(tree.get(key)) for key in (catalogue.key, *catalogue.others, "memory", "args", "batches")):
         raise Refused("J7")
     memories = tuple(map(tuple, tree["memory"]))
     args = tuple(map(tuple, tree.get("args", [[]] * len(memories))))

@@ -3,7 +3,7 @@
 
 usage: fake_tool.py TOOL [--workers N] [--scratch] [--places] [--changes] [--why] [--update-cost] [--follow FILE] [--flaw NAME]
 
-TOOL is bsp_tool, heat, collectives or bsp_script. All is as with the program of that name, but that it is slow, that no line says
+TOOL is bsp_tool, heat, collectives or bsp_kernel. All is as with the program of that name, but that it is slow, that no line says
 where a document's fault is, or where a line is no TOML, and that the words are not checked. With a flaw it is wrong in one way (FLAWS), so that
 it can be shown that its client notices.
 """
@@ -100,7 +100,7 @@ class Live:
 
     def document(self) -> list[str]:
         given = self.inputs[-1]
-        key = TOOLS[self.tool].key
+        own = {"program", "kernel", "constants", "budget"} & self.tree.keys()
         limit = self.inputs[0].limit if self.flaw == "forgets" else given.limit
         values = {
             "limit": limit,
@@ -108,7 +108,7 @@ class Live:
             "l": given.l,
             "memory": given.memories,
             "args": given.args,
-            key: self.tree[key],
+            **{key: self.tree[key] for key in sorted(own)},
         }
         self.number += self.flaw == "numbers"
         return ["document", *(f"{name} = {json.dumps(value)}" for name, value in values.items()), "end"]

@@ -142,7 +142,7 @@ class Traces(unittest.TestCase):
 
     def test_other_parts(self) -> None:
         """A case that is worked by hand: an owner alone changes, and then an argument and a list of gets."""
-        path = f"{ROOT}/cases/bsp_script/why_a_get_of_which_the_owner_alone_changes.txt"
+        path = f"{ROOT}/cases/bsp_kernel/why_a_get_of_which_the_owner_alone_changes.txt"
         _, first, _, third = read_report(text_of(path))
         assert isinstance(first, Report) and isinstance(third, Report)
         self.trace(

@@ -81,7 +81,7 @@ class Stored(unittest.TestCase):
 
 class Drawn(unittest.TestCase):
     def test_from_scratch_and_with_places(self) -> None:
-        for tool in ("bsp_tool", "heat", "collectives", "bsp_script"):
+        for tool in ("bsp_tool", "heat", "collectives", "bsp_kernel"):
             for document in jobs(tool, 10):
                 told = {"why": True, "update_cost": True}
                 for options in ({"scratch": True}, {"places": True}, told, {"update_cost": True}):
@@ -94,7 +94,7 @@ class Drawn(unittest.TestCase):
         return "".join(f"{line}\n" for block in blocks for line in block)
 
     def test_changes_complete_the_report_before(self) -> None:
-        for tool in ("bsp_tool", "heat", "collectives", "bsp_script"):
+        for tool in ("bsp_tool", "heat", "collectives", "bsp_kernel"):
             for document in jobs(tool, 15):
                 whole = read_report(answer(tool, document, places=True).report)
                 text = self.changes(tool, document, "--places", "--changes")

@@ -93,7 +93,7 @@ def results(report: Block) -> tuple:
 class Batches(unittest.TestCase):
     """Sessions of random batches, with the tool that answers by the model; built.py has the same with a built one."""
 
-    names = ("bsp_tool", "heat", "oddeven", "collectives", "bsp_script")
+    names = ("bsp_tool", "heat", "oddeven", "collectives", "bsp_kernel")
 
     def tool(self, name: str = "heat") -> list[str]:
         return fake(name)

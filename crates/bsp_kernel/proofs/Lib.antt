@@ -1,0 +1,2 @@
+pub mod KindLists
+pub mod NoSigns

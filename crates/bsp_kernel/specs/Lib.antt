@@ -1,0 +1,4 @@
+pub mod Catalogue
+pub mod Names
+pub mod Operands
+pub mod Shapes

@@ -1,3 +1,0 @@
-pub mod KindLists
-pub mod NoSigns
-pub mod Numerals
