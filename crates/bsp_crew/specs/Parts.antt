@@ -1,5 +1,5 @@
 -- Parts of a superstep of a run, as several workers take them.
-use Rattle.std.specs.Prelude.{◌≡◌, ◌<◌, ℕ, Bool, true, false, List, [], ◌++◌, All, length, map}
+use Rattle.std.specs.Prelude.{◌≡◌, ◌<◌, ◌≤◌, ℕ, Bool, true, false, List, [], ◌++◌, All, length, map}
 use Rattle.bsp_model.specs.declared.input.Input.{Input}
 use Rattle.bsp_model.specs.declared.request.Message.{Message}
 use Rattle.bsp_step.specs.ViewParts.{ViewParts}
@@ -23,6 +23,13 @@ pub record AreParts (part rest whole : Part) : Type 0 where
   pub step : part.step ≡ whole.step
   pub step_of_rest : rest.step ≡ whole.step
   pub processes : whole.processes.now ≡ part.processes.now ++ rest.processes.now
+
+-- Processes that stand in a row in a list of a superstep.
+pub record IsWithin (part whole : Part) : Type 0 where
+  pub step : part.step ≡ whole.step
+  pub before : List ℕ
+  pub behind : List ℕ
+  pub processes : whole.processes.now ≡ before ++ (part.processes.now ++ behind)
 
 -- A part of a superstep in which all processes see these views: turns of some processes at the views, or deliveries to some of what all turns left.
 pub record IsPart (turn : ViewParts → OutcomeParts) (vs : List ViewParts) (ps : List ℕ) (task : Task) : Type 0 where
@@ -51,3 +58,11 @@ has_turns (Delivered cells) = false
 abbrev pub nothing_of : Task → Made
 nothing_of (Turns seen) = Taken []
 nothing_of (Deliveries os) = Delivered []
+
+-- The turns of the first processes of a list, or the deliveries to them, were added to those so far. The rest of the list is left.
+pub record IsLeft (turn : ViewParts → OutcomeParts) (views : ℕ → List ViewParts) (list : Part) (made : Made) (rest : Part) (more : Made) : Type 0 where
+  pub step : rest.step ≡ list.step
+  pub few : length rest.processes.now ≤ length list.processes.now
+  pub part : (task : Task) → IsPart turn (views list.step) list.processes.now task → IsPart turn (views rest.step) rest.processes.now task
+  pub alike : has_turns more ≡ has_turns made
+  pub all : with_part turn (views rest.step) rest.processes.now more ≡ with_part turn (views list.step) list.processes.now made

@@ -1,76 +1,164 @@
-//! Workers that take parts of the supersteps beside the calling thread until a run is over.
+//! Workers that make the supersteps of a run beside the calling thread until it is over.
 
-ghost use Rattle.std.specs.Prelude.{◌≡◌, ◌<◌, OnOk, length, true};
+ghost use Rattle.std.specs.Prelude.{◌≡◌, ◌<◌, IfOk, OnOk, true};
 ghost use Rattle.bsp_run.specs.TurnBy.{turn_by};
-ghost use Rattle.bsp_crew.specs.Parts.{IsPart, asks_turns, has_turns, with_part};
+ghost use Rattle.bsp_crew.specs.Parts.{IsLeft, IsPart, asks_turns, has_turns, with_part};
 
 use crate::part::{Made, Means, Part, Task};
-use crate::patience::Patience;
-use crate::seat::Seat;
 use crate::shared_run::SharedRun;
+use crate::worksheet::{Pieces, Worksheet, large_piece};
 use bsp_gate::Gate;
 use bsp_model::{OutOfMemory, TryCopy};
+use bsp_pool::{Deal, Desk, MOST_WORKERS, Pool};
 use bsp_step::{Gathering, Program};
 use std::alloc::Global;
-use std::sync::atomic::AtomicU64;
-use std::sync::atomic::Ordering::SeqCst;
-use std::thread::{Threads, map_indices};
+use std::thread::Threads;
 
-/// The places of the workers beside the calling thread.
+/// How many units of turns a lane has, about. Deliveries go over all requests, so those of a lane are one unit.
+const TURN_UNITS_A_LANE: usize = 4;
+
+/// The workers of a run, of which the calling thread is one.
 #[derive(Drop)]
 pub struct Crew<J: SharedRun> {
-    seats: Vec<Seat<J>>,
-    /// 1 once the run is over, so that the workers leave.
-    over: AtomicU64,
+    pool: Pool<Worksheet<J>>,
 }
 
 impl<J: SharedRun> Crew<J> {
-    /// The places of so many workers, or `OutOfMemory`.
-    pub fn new(alloc: Global, workers: usize) -> Result<Crew<J>, OutOfMemory> {
-        let mut seats = Vec::with_capacity(alloc, workers)?;
-        for _worker in 0..workers {
-            seats.push(Seat::new(alloc))?;
+    /// A crew of so many workers beside the calling thread, 15 at most. None where there is no worker, or no memory.
+    pub fn new(alloc: Global, beside: usize) -> Option<Crew<J>> {
+        if beside == 0 {
+            return None;
         }
-        Ok(Crew {
-            seats,
-            over: AtomicU64::new(0),
-        })
+        let workers = beside.min(MOST_WORKERS - 1) + 1;
+        let mut sheets = Vec::new(alloc);
+        for _worker in 0..workers {
+            sheets.push(Worksheet::new(alloc)).ok()?;
+        }
+        let pool = Pool::new(alloc, sheets).ok()?;
+        Some(Crew { pool })
     }
 
     /// Tells the workers to leave.
     pub fn dismiss(&self) {
-        self.over.store(1, SeqCst);
+        self.pool.dismiss();
     }
 
-    /// Lets the workers attend to their seats until they are told to leave, each in a thread of its own where one can be made.
+    /// Lets the workers draw units until they are told to leave, each in a thread of its own where one can be made.
     pub fn attend<P: Program, G: Gate, R: Threads + Sync>(&self, rt: &R, means: &Means<'_, P, G>)
+    where
+        J: Send,
         requires { J.turn ≡ turn_by P.Program means.now.program.now }
     {
-        let work = |place: usize|
-            requires { (place < length self.now.seats.items)
-                × (J.turn ≡ turn_by P.Program means.now.program.now) }
-        { self.seats[place].attend(means, &self.over) };
-        // Where a thread cannot start, its seat stays empty: the calling thread works the parts of that seat.
-        let _ = map_indices(rt, means.alloc, self.seats.len(), &work);
+        let work = |sheet: &mut Worksheet<J>, unit: usize|
+            requires { J.turn ≡ turn_by P.Program means.now.program.now }
+        { sheet.work(means, unit) };
+        let rest = || drop(large_piece(means.alloc));
+        self.pool.attend(rt, means.alloc, &work, &rest);
     }
 
-    /// Hands out a list, so many processes to each worker.
-    fn hand_out(&self, whole: &Part<'_>, size: usize, task: &Task)
+    /// Orders the work of a list, of which so many processes are a unit, from the workers beside the calling thread.
+    fn hand_out(&self, deal: &Deal, whole: &Part<'_>, size: usize, task: &Task)
         requires { IsPart J.turn (J.views whole.now.step) whole.now.processes.now task.now }
     {
-        let mut rest = *whole;
-        for seat in self.seats.as_slice() {
-            let (part, behind) = rest.split(size);
-            rest = behind;
-            if let Ok(copy) = task.copy() {
-                seat.hand_out(&part, copy);
+        for seat in self.pool.beside() {
+            if let Some(mut desk) = seat.take_anew()
+                && let Ok(copy) = task.copy()
+            {
+                desk.sheet.order(whole, size, copy);
+                seat.open(desk, deal);
             }
         }
     }
 
-    /// Works a task at the processes of a list, and adds the turns or deliveries to `made`. Each worker is handed a part of the list. The calling thread
-    /// works the first part, and the part of a worker that has not begun, is late, or was refused memory.
-    pub(crate) fn work_parts<P: Program, G: Gate>(
+    /// Draws units until none is left, and works them: those that the list begins with into `made`, the rest into the pieces of the calling thread. It
+    /// answers what is left of the list, and how many units it has drawn.
+    fn draw<'a, P: Program, G: Gate>(
+        &self,
+        means: &Means<'_, P, G>,
+        task: &Task,
+        whole: &Part<'a>,
+        size: usize,
+        own: &mut Desk<Worksheet<J>>,
+        spare: &mut Option<Gathering>,
+        made: &mut Made,
+    ) -> Result<(Part<'a>, u64), OutOfMemory>
+        requires turn { asks_turns task.now ≡ true → J.turn ≡ turn_by P.Program means.now.program.now }
+        requires part { IsPart J.turn (J.views whole.now.step) whole.now.processes.now task.now }
+        requires alike { has_turns made.old ≡ asks_turns task.now }
+        ensures { IfOk result (λ r. IsLeft J.turn J.views whole.now made.old r.0 made.new) }
+    {
+        let mut rest = *whole;
+        for drawn in 0..u64::MAX {
+            let Some(unit) = own.hands.draw() else {
+                return Ok((rest, drawn));
+            };
+            if unit.saturating_mul(size) == rest.first {
+                let (part, behind) = rest.split(size);
+                means.work::<J>(task, &part, spare, made)?;
+                rest = behind;
+            } else {
+                let pieces = &mut own.sheet.pieces;
+                pieces.work(means, task, &whole.unit(unit, size));
+            }
+        }
+        Ok((rest, u64::MAX))
+    }
+
+    /// Adds to `made` the pieces of all workers that the rest of the list begins with, in one round. Orders that no worker has begun are taken back.
+    fn add_pieces<'a>(
+        &self,
+        own: &mut Pieces<J>,
+        rest: &Part<'a>,
+        made: &mut Made,
+    ) -> Result<Part<'a>, OutOfMemory>
+        ensures { IfOk result (λ left. IsLeft J.turn J.views rest.now made.old left made.new) }
+    {
+        let mut left = own.add_to(rest, made)?;
+        for seat in self.pool.beside() {
+            if let Some(mut desk) = seat.take_back() {
+                desk.sheet.take_back();
+                left = desk.sheet.pieces.add_to(&left, made)?;
+            }
+        }
+        Ok(left)
+    }
+
+    /// Adds to `made` what the workers made of the rest of a list. A unit that none has answered is made by the calling thread.
+    fn gather<P: Program, G: Gate>(
+        &self,
+        means: &Means<'_, P, G>,
+        task: &Task,
+        rest: &Part<'_>,
+        size: usize,
+        own: &mut Pieces<J>,
+        spare: &mut Option<Gathering>,
+        made: &mut Made,
+    ) -> Result<(), OutOfMemory>
+        requires size { 0 < size }
+        requires turn { asks_turns task.now ≡ true → J.turn ≡ turn_by P.Program means.now.program.now }
+        requires part { IsPart J.turn (J.views rest.now.step) rest.now.processes.now task.now }
+        requires alike { has_turns made.old ≡ asks_turns task.now }
+        ensures alike { OnOk result (has_turns made.new ≡ has_turns made.old) }
+        ensures made { OnOk result (made.new
+            ≡ with_part J.turn (J.views rest.now.step) rest.now.processes.now made.old) }
+    {
+        let mut rest = self.add_pieces(own, rest, made)?;
+        while !rest.processes.is_empty() {
+            let left = self.add_pieces(own, &rest, made)?;
+            if left.processes.len() == rest.processes.len() {
+                let (part, behind) = left.split(size);
+                means.work::<J>(task, &part, spare, made)?;
+                rest = behind;
+            } else {
+                rest = left;
+            }
+        }
+        Ok(())
+    }
+
+    /// Works a task at the processes of a list, and adds the turns or deliveries to `made`. The list is cut into units, which the workers and the calling
+    /// thread draw. The calling thread makes the units that no worker has answered: where one is late, or was refused memory.
+    pub(crate) fn work_units<P: Program, G: Gate>(
         &self,
         means: &Means<'_, P, G>,
         task: &Task,
@@ -81,21 +169,33 @@ impl<J: SharedRun> Crew<J> {
         requires turn { asks_turns task.now ≡ true → J.turn ≡ turn_by P.Program means.now.program.now }
         requires part { IsPart J.turn (J.views whole.now.step) whole.now.processes.now task.now }
         requires alike { has_turns made.old ≡ asks_turns task.now }
-        ensures alike { has_turns made.new ≡ has_turns made.old }
+        ensures alike { OnOk result (has_turns made.new ≡ has_turns made.old) }
         ensures made { OnOk result (made.new
             ≡ with_part J.turn (J.views whole.now.step) whole.now.processes.now made.old) }
     {
-        let size = whole.processes.len().div_ceil(self.seats.len() + 1);
-        let (own, mut rest) = whole.split(size);
-        self.hand_out(&rest, size, task);
+        let guard = match self.pool.own() {
+            Some(seat) => seat.take_back(),
+            None => None,
+        };
+        let Some(mut guard) = guard else {
+            return means.work::<J>(task, whole, spare, made);
+        };
+        let own = &mut *guard;
+        let count = whole.processes.len();
+        let lanes = self.pool.beside().len().saturating_add(1);
+        let least = match task {
+            Task::Turns(_) => lanes.saturating_mul(TURN_UNITS_A_LANE),
+            Task::Deliveries(_) => lanes,
+        };
+        let size = count.div_ceil(least.max(1)).max(1);
+        let units = count.div_ceil(size);
+        let deal = own.hands.deal(units);
+        own.sheet.pieces.clear();
+        self.hand_out(&deal, whole, size, task);
         let began = means.gate.now();
-        means.work::<J>(task, &own, spare, made)?;
-        let mut patience = Patience::new(began, means.gate);
-        for seat in self.seats.as_slice() {
-            let (part, behind) = rest.split(size);
-            seat.add_part(means, task, &part, &mut patience, spare, made)?;
-            rest = behind;
-        }
-        means.work::<J>(task, &rest, spare, made)
+        let (rest, drawn) = self.draw(means, task, whole, size, own, spare, made)?;
+        let awaited = (units as u64).saturating_sub(drawn);
+        self.pool.wait(awaited, began, means.gate);
+        self.gather(means, task, &rest, size, &mut own.sheet.pieces, spare, made)
     }
 }

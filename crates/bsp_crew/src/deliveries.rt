@@ -11,6 +11,7 @@ use bsp_deliver::{Cells, deliver_some};
 use bsp_gate::Gate;
 use bsp_model::{OutOfMemory, TryCopy};
 use bsp_step::{Outcomes, Program};
+use std::alloc::AllocError;
 
 /// Adds cells behind cells. Where there are none yet, the new ones are handed on.
 pub(crate) fn add_cells(cells: &mut Cells, mut more: Cells) -> Result<(), OutOfMemory>
@@ -75,11 +76,11 @@ pub fn wide_deliveries<J: SharedRun, P: Program, G: Gate>(
         Some(crew) if processes.len() > 1 => {
             let task = Task::Deliveries(outcomes.copy()?);
             let mut made = Made::Delivered(cells);
-            let worked = crew.work_parts(means, &task, &whole, &mut None, &mut made);
+            let worked = crew.work_units(means, &task, &whole, &mut None, &mut made);
             drop(task);
             match made {
                 Made::Delivered(cells) => worked.and(Ok(cells)),
-                Made::Taken(_rows) => unreachable!(),
+                Made::Taken(_rows) => worked.and(Err(AllocError)),
             }
         }
         _ => {

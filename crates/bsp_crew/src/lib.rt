@@ -1,16 +1,15 @@
-//! Workers that stay until a run is over, and take parts of its supersteps.
+//! The workers of a run, which stay until it is over and draw the units of its supersteps, on the pool of `bsp_pool`.
 #![tactic(auto)]
 
 mod crew;
 mod deliveries;
 mod pace;
 mod part;
-mod patience;
-mod seat;
+mod piece;
 mod shared_run;
-mod sheet;
 mod turns;
 mod workers;
+mod worksheet;
 
 pub use crew::Crew;
 pub use deliveries::wide_deliveries;

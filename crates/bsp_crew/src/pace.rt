@@ -6,8 +6,8 @@ use bsp_gate::Gate;
 use bsp_run::Recording;
 use std::time::Instant;
 
-/// How many nanoseconds a run goes on alone at least. To start a few threads, each with an arena of the allocator, takes a third of that.
-const NANOS_ALONE: u128 = 2_000_000;
+/// How many nanoseconds a run goes on alone at least. To start a few threads, each with an arena of the allocator, takes some 200,000.
+const NANOS_ALONE: u128 = 500_000;
 
 /// How many nanoseconds a superstep takes at least, on average, that is worth workers.
 const NANOS_A_SUPERSTEP: u128 = 20_000;

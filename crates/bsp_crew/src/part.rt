@@ -1,8 +1,9 @@
 //! A part of a superstep, its task, and the means of a thread to work it.
 
 ghost use Rattle.std.specs.Prelude.{◌≡◌, [], IfOk, IfSome, OnOk, length, min, true};
+ghost use Rattle.std.specs.Bool.{OnTrue};
 ghost use Rattle.bsp_run.specs.TurnBy.{turn_by};
-ghost use Rattle.bsp_crew.specs.Parts.{AreParts, IsPart, asks_turns, has_turns, nothing_of, with_part};
+ghost use Rattle.bsp_crew.specs.Parts.{AreParts, IsPart, IsWithin, asks_turns, has_turns, nothing_of, with_part};
 
 use crate::shared_run::SharedRun;
 use bsp_deliver::Cells;
@@ -38,6 +39,14 @@ impl<'a> Part<'a> {
         };
         (part, rest)
     }
+
+    /// The unit of this number, of units of so many processes.
+    pub fn unit(&self, unit: usize, size: usize) -> Part<'a>
+        ensures { IsWithin result self.now }
+    {
+        let (_, behind) = self.split(unit.saturating_mul(size));
+        behind.split(size).0
+    }
 }
 
 /// The work of a part: turns at shared views, or deliveries of shared outcomes.
@@ -64,6 +73,16 @@ impl TryCopy for Task {
 }
 
 impl Task {
+    /// Whether turns or deliveries are asked for, as these are.
+    pub fn fits(&self, made: &Made) -> bool
+        ensures { OnTrue result (has_turns made.now ≡ asks_turns self.now) }
+    {
+        matches!(
+            (self, made),
+            (Task::Turns(_), Made::Taken(_)) | (Task::Deliveries(_), Made::Delivered(_))
+        )
+    }
+
     /// No turns, in the lists that are kept, if there are any; or no deliveries.
     pub fn nothing(
         &self,

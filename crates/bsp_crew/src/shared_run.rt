@@ -3,7 +3,7 @@
 use std::marker::Brand;
 
 /// A run, as a type parameter of the sheets that its workers hand each other.
-pub trait SharedRun: Send {
+pub trait SharedRun {
     ghost use Rattle.std.specs.Prelude.{List, ℕ};
     ghost use Rattle.bsp_step.specs.ViewParts.{ViewParts};
     ghost use Rattle.bsp_step.specs.OutcomeParts.{OutcomeParts};

@@ -86,11 +86,11 @@ pub fn wide_turns<J: SharedRun, P: Program, G: Gate>(
                 return Err(AllocError);
             };
             let (task, mut made) = (Task::Turns(copy), Made::Taken(rows));
-            let worked = crew.work_parts(means, &task, &whole, spare, &mut made);
+            let worked = crew.work_units(means, &task, &whole, spare, &mut made);
             drop(task);
             match made {
                 Made::Taken(rows) => worked.and(Ok(rows)),
-                Made::Delivered(_cells) => unreachable!(),
+                Made::Delivered(_cells) => worked.and(Err(AllocError)),
             }
         }
         _ => {

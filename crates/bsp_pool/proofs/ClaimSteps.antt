@@ -2,6 +2,8 @@
 use Rattle.std.proofs.Common.{◌≡◌, ◌≢◌, ℕ, zero, suc, ◌+◌, ◌*◌, ◌%◌, ◌<◌, ◌≤◌, List, [], ◌∷◌, ◌++◌, length, set, sym, refl, ap, ◌∙◌, subst, ⊎_elim, arith, length-append}
 use Rattle.std.specs.Prelude.{All, slice_index}
 use Rattle.std.proofs.lemmas.Bool.Decides.{nat_tests}
+use Rattle.std.proofs.lemmas.List.{get_or-set_same, set-get_or}
+use Rattle.std.proofs.Math.ListN.{length-set}
 use mathlib.Core.Option.{some, some-injective, some-ne-none}
 use lib.ListN.{get_elem?}
 use Rattle.atomic_table.proofs.Lists.{at_set, at_snoc, set_again}
@@ -86,48 +88,51 @@ all_snoc : (F : View → Type 0) (views : List View) (w : View) → F w → ((j 
 all_snoc F views w mine others j u e = ⊎_elim (λ x. others j u x) (λ (is : w ≡ u). subst F is mine) (at_snoc views w u j e)
 
 -- the word stays far below 2 ^ 64
-word_fits : (words : List ℕ) (views : List View) → IsClaimed words views → slice_index words 0 ≤ 9223372036854775808
+word_fits : (words : List ℕ) (views : List View) → IsClaimed words views → slice_index words 8 ≤ 9223372036854775808
 word_fits words views h = let r = total_room views h.room in let u = h.units in let m = h.many in omega arith
 
-set_word : (words : List ℕ) (n m : ℕ) → words ≡ n ∷ [] → set words 0 m ≡ m ∷ []
-set_word words n m e = ap (λ ws. set ws 0 m) e
+-- the claim word after a write
+set_word : (words : List ℕ) (n : ℕ) → length words ≡ 16 → slice_index (set words 8 n) 8 ≡ n
+set_word words n wide = get_or-set_same words 8 n 0 (omega arith)
 
 abbrev pub roomy : View → Type 0
 roomy v = length v.numbers ≤ v.units * 4294967296
 
 pub drawn_next : (words : List ℕ) (views : List View) (seat : ℕ) (v : View) → length v.numbers < v.units * 4294967296 → IsClaimed words views → get_elem? views seat ≡ some v
-    → IsClaimed (set words 0 ((slice_index words 0 + 1) % 18446744073709551616)) (set views seat (view_of v.units (v.numbers ++ slice_index words 0 ∷ [])))
+    → IsClaimed (set words 8 ((slice_index words 8 + 1) % 18446744073709551616)) (set views seat (view_of v.units (v.numbers ++ slice_index words 8 ∷ [])))
 drawn_next words views seat v some_room h at =
-    let n : ℕ = slice_index words 0 in
+    let n : ℕ = slice_index words 8 in
     let w : View = view_of v.units (v.numbers ++ n ∷ []) in
     let fits = word_fits words views h in
     let next : (n + 1) % 18446744073709551616 ≡ n + 1 = omega arith in
-    let one : set words 0 ((n + 1) % 18446744073709551616) ≡ (n + 1) ∷ [] = set_word words n ((n + 1) % 18446744073709551616) h.word ∙ ap (λ (k : ℕ). k ∷ []) next in
+    let ws : List ℕ = set words 8 ((n + 1) % 18446744073709551616) in
+    let is : slice_index ws 8 ≡ n + 1 = set_word words ((n + 1) % 18446744073709551616) h.wide ∙ next in
     let len : length (v.numbers ++ n ∷ []) ≡ length v.numbers + 1 = length-append v.numbers (n ∷ []) in
-    rw one record {
-      word = refl;
+    record {
+      wide = length-set words 8 ((n + 1) % 18446744073709551616) ∙ h.wide;
       units = (let s = total_set (λ u. u.units) views seat v w at in let p = h.units in omega arith);
       once = (λ x.
           let s = total_set (λ u. occurrences x u.numbers) views seat v w at in
           let p = h.once x in
           let a = occurrences-append x v.numbers (n ∷ []) in
           let o = once_more x n in
+          let same : once_below x (slice_index ws 8) ≡ once_below x (n + 1) = ap (once_below x) is in
           omega arith);
       many = (let s = total_set (λ u. length u.numbers) views seat v w at in let p = h.many in omega arith);
       room = all_set roomy views seat w (omega arith) h.room;
     }
 
-pub drawn_above : (words : List ℕ) (views : List View) (seat : ℕ) (v : View) → IsClaimed words views → get_elem? views seat ≡ some v → All (λ x. x < slice_index words 0) v.numbers
+pub drawn_above : (words : List ℕ) (views : List View) (seat : ℕ) (v : View) → IsClaimed words views → get_elem? views seat ≡ some v → All (λ x. x < slice_index words 8) v.numbers
 drawn_above words views seat v h at =
-    all_below (slice_index words 0) v.numbers (λ x has.
+    all_below (slice_index words 8) v.numbers (λ x has.
     let part = total_part (λ u. occurrences x u.numbers) views seat v at in
     let p = h.once x in
-    once_then x (slice_index words 0) (omega arith))
+    once_then x (slice_index words 8) (omega arith))
 
-pub looks_once : (words : List ℕ) (views : List View) (seat : ℕ) (v : View) → IsClaimed words views → get_elem? views seat ≡ some v → (x : ℕ) → occurrences x v.numbers ≤ once_below x (slice_index words 0)
+pub looks_once : (words : List ℕ) (views : List View) (seat : ℕ) (v : View) → IsClaimed words views → get_elem? views seat ≡ some v → (x : ℕ) → occurrences x v.numbers ≤ once_below x (slice_index words 8)
 looks_once words views seat v h at x = let part = total_part (λ u. occurrences x u.numbers) views seat v at in let p = h.once x in omega arith
 
-pub looks_whole : (words : List ℕ) (views : List View) (seat : ℕ) (v : View) → IsClaimed words views → get_elem? views seat ≡ some v → v.units ≡ 2147483648 → (x : ℕ) → occurrences x v.numbers ≡ once_below x (slice_index words 0)
+pub looks_whole : (words : List ℕ) (views : List View) (seat : ℕ) (v : View) → IsClaimed words views → get_elem? views seat ≡ some v → v.units ≡ 2147483648 → (x : ℕ) → occurrences x v.numbers ≡ once_below x (slice_index words 8)
 looks_whole words views seat v h at all x =
     let u = h.units in
     let p = h.once x in
@@ -149,7 +154,7 @@ shares words views seat v h at =
     let r : View = given_view v in
     let one = gives_one v.units (length v.numbers) in
     record {
-      word = h.word;
+      wide = h.wide;
       units = (let s = total_set (λ u. u.units) views seat v l at in let t = total_snoc (λ u. u.units) (set views seat l) r in let p = h.units in omega arith);
       once = (λ x. let s = total_set (λ u. occurrences x u.numbers) views seat v l at in let t = total_snoc (λ u. occurrences x u.numbers) (set views seat l) r in let p = h.once x in omega arith);
       many = (let s = total_set (λ u. length u.numbers) views seat v l at in let t = total_snoc (λ u. length u.numbers) (set views seat l) r in let p = h.many in omega arith);
@@ -166,7 +171,7 @@ joins words views seat v other w h at apart at' =
     let mine = h.room seat v at in
     let theirs = h.room other w was in
     record {
-      word = h.word;
+      wide = h.wide;
       units = (let s = total_set (λ u. u.units) views seat v b at in let t = total_set (λ u. u.units) (set views seat b) other w e at' in let p = h.units in omega arith);
       once = (λ x. let s = total_set (λ u. occurrences x u.numbers) views seat v b at in let t = total_set (λ u. occurrences x u.numbers) (set views seat b) other w e at' in let p = h.once x in let a = occurrences-append x v.numbers w.numbers in omega arith);
       many = (let s = total_set (λ u. length u.numbers) views seat v b at in let t = total_set (λ u. length u.numbers) (set views seat b) other w e at' in let p = h.many in omega arith);
@@ -174,21 +179,22 @@ joins words views seat v other w h at apart at' =
     }
 
 -- a look changes nothing
-pub looked : (words : List ℕ) (views : List View) (seat : ℕ) (v : View) → IsClaimed words views → get_elem? views seat ≡ some v → IsClaimed (set words 0 (slice_index words 0)) (set views seat v)
-looked words views seat v h at = rw (set_again views seat v at, set_word words (slice_index words 0) (slice_index words 0) h.word, ← h.word) h
+pub looked : (words : List ℕ) (views : List View) (seat : ℕ) (v : View) → IsClaimed words views → get_elem? views seat ≡ some v → IsClaimed (set words 8 (slice_index words 8)) (set views seat v)
+looked words views seat v h at = rw (set_again views seat v at, set-get_or words 8 0) h
 
 -- two lists whose numbers stand once at most have none in common
 pub apart : (x : ℕ) (xs ys : List ℕ) (n : ℕ) → occurrences x (xs ++ ys) ≤ once_below x n → occurrences x xs + occurrences x ys ≤ 1
 apart x xs ys n h = let a = occurrences-append x xs ys in let o = at_most_once x n in omega arith
 
-first_is : (ws : List ℕ) (n : ℕ) → get_elem? ws 0 ≡ some n → slice_index ws 0 ≡ n
-first_is [] n e = absurd (some-ne-none n (sym e))
-first_is (x ∷ xs) n e = some-injective x n e
+word_is : (ws : List ℕ) (k n : ℕ) → get_elem? ws k ≡ some n → slice_index ws k ≡ n
+word_is [] k n e = absurd (some-ne-none n (sym e))
+word_is (x ∷ xs) zero n e = some-injective x n e
+word_is (x ∷ xs) (suc k) n e = word_is xs k n e
 
 -- what the look at the end tells
-pub closes : {Slot : Type 0} (seat : ℕ) (v : View) (ws : List ℕ) (xs : List Slot) (n : ℕ) → Final (Seen (λ (s : State Slot View). IsClaimed s.words s.views) seat v) ws xs → get_elem? ws 0 ≡ some n → Looks v n v
+pub closes : {Slot : Type 0} (seat : ℕ) (v : View) (ws : List ℕ) (xs : List Slot) (n : ℕ) → Final (Seen (λ (s : State Slot View). IsClaimed s.words s.views) seat v) ws xs → get_elem? ws 8 ≡ some n → Looks v n v
 closes seat v ws xs n f e =
-    let is : slice_index f.0.words 0 ≡ n = ap (λ l. slice_index l 0) f.2 ∙ first_is ws n e in
+    let is : slice_index f.0.words 8 ≡ n = ap (λ l. slice_index l 8) f.2 ∙ word_is ws 8 n e in
     let P : ℕ → Type 0 = λ k. Looks v k v in
     subst P is record {
       once = looks_once f.0.words f.0.views seat v f.1.0 f.1.1;

@@ -1,6 +1,5 @@
 pub mod ClaimSteps
 pub mod ShareLists
-pub mod HandSteps
 pub mod TurnLists
 pub mod KeptLists
 pub mod RoundSteps

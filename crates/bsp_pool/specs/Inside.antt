@@ -1,6 +1,5 @@
 pub mod Claim
 pub mod Views
-pub mod Hands
 pub mod Holding
 pub mod Kept
 pub mod Turning

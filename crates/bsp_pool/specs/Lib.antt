@@ -1,5 +1,6 @@
 pub mod Numbers
 pub mod Passes
+pub mod Lanes
 pub mod Shares
 pub mod Rounds
 pub mod Machine

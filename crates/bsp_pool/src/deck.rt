@@ -11,13 +11,19 @@ use std::alloc::Global;
 use std::convert::Infallible;
 use std::marker::Model;
 
+/// The words of a deck's table, of which one is used. It lies in their middle, so that no other value lies on its cache line.
+const TABLE_WORDS: usize = 16;
+
+/// The place of the claim word among them.
+const CLAIM_PLACE: usize = 8;
+
 /// A deck of the numbers 0, 1, 2, .. that threads draw, each number once. It is one claim word:
 /// the number that is drawn next.
 ///
 /// Contracts see a deck as which one it is.
 #[derive(Drop)]
 pub struct Deck {
-    // A table of one word. It has no slots, so nothing to put into them, and its rule is given nothing.
+    // It has no slots, so nothing to put into them, and its rule is given nothing.
     table: Table<Infallible, PassView, (), ClaimRule, Global>,
 }
 
@@ -31,7 +37,7 @@ impl Model for Deck {
 
     ghost view = { λ d. d.table.shared.table_id };
 
-    ghost invariant = { λ d. (d.table.shared.table_id.words ≡ 1) × (d.table.shared.table_id.slots ≡ 0) };
+    ghost invariant = { λ d. (d.table.shared.table_id.words ≡ 16) × (d.table.shared.table_id.slots ≡ 0) };
 }
 
 /// The right to draw from one deck. It has no bytes: its numbers and units are seen by contracts alone, so
@@ -63,7 +69,7 @@ impl Deck {
     pub fn open(alloc: Global) -> Result<(Deck, Pass), OutOfMemory>
         ensures { IfOk result (λ r. r.1 ≡ pass_of r.0 all_units []) }
     {
-        let (table, seat) = Table::of_words(alloc, &[0], &())?;
+        let (table, seat) = Table::of_words(alloc, &[0; TABLE_WORDS], &())?;
         Ok((Deck { table }, Pass { seat }))
     }
 
@@ -87,7 +93,14 @@ impl Deck {
         ensures above { All (λ x. x < result) pass.old.numbers }
         ensures drawn { pass.new ≡ drawn pass.old result }
     {
-        self.table.shared.fetch_add::<Draw>(&mut pass.seat, 0, 1)
+        self.table
+            .shared
+            .fetch_add::<Draw>(&mut pass.seat, CLAIM_PLACE, 1)
+    }
+
+    /// The number that the next draw takes, unless another draw comes before it.
+    pub fn next(&self) -> u64 {
+        self.table.shared.peek(CLAIM_PLACE)
     }
 
     /// Takes in the numbers and units of another pass. No number stands in both.
@@ -100,7 +113,7 @@ impl Deck {
         self.table
             .shared
             .join_seat::<JoinPasses>(&mut pass.seat, other.seat);
-        self.table.shared.load::<Look>(&mut pass.seat, 0);
+        self.table.shared.load::<Look>(&mut pass.seat, CLAIM_PLACE);
     }
 
     /// How many numbers were drawn. Those of the pass are distinct and below it. Where the pass has all units they
@@ -112,7 +125,7 @@ impl Deck {
         ensures whole { pass.units ≡ all_units → (x : ℕ) → x < result → occurrences x pass.numbers ≡ 1 }
     {
         let closed = self.table.close_with(pass.seat);
-        let drawn = closed.word(0);
+        let drawn = closed.word(CLAIM_PLACE);
         closed.free();
         drawn
     }

@@ -7,18 +7,27 @@
 
 mod claim;
 mod deck;
+mod hand;
+mod lanes;
 mod machine;
+mod patience;
 mod phases;
+mod pool;
 mod round;
 mod row;
+mod seat;
+mod share;
 mod turning;
 mod work;
-mod worker;
 
 pub use bsp_gate::{Gate, Open};
 pub use deck::{Deck, Pass};
+pub use hand::Hand;
+pub use lanes::{Deal, Hands, MOST_WORKERS};
 pub use machine::{Core, CoreRefusal, Event};
 pub use phases::phase;
+pub use pool::Pool;
 pub use row::Row;
+pub use seat::{Desk, Seat, Sheet};
 pub use std::alloc::AllocError as OutOfMemory;
 pub use work::Work;

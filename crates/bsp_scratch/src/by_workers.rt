@@ -20,7 +20,7 @@ use std::marker::Brand;
 use std::thread::{Threads, join};
 
 /// The result of a run that is under way, beside a crew that is there.
-fn beside_crew<J: SharedRun, P: Program, G: Gate, R: Threads + Sync>(
+fn beside_crew<J: SharedRun + Send, P: Program, G: Gate, R: Threads + Sync>(
     workers: &Workers<'_, R, G>,
     program: &P,
     input: &Input,
@@ -61,7 +61,7 @@ fn beside_crew<J: SharedRun, P: Program, G: Gate, R: Threads + Sync>(
 }
 
 /// The result of a run that is under way, by so many workers beside the calling thread.
-fn by_crew<J: SharedRun, P: Program, G: Gate, R: Threads + Sync>(
+fn by_crew<J: SharedRun + Send, P: Program, G: Gate, R: Threads + Sync>(
     workers: &Workers<'_, R, G>,
     program: &P,
     input: &Input,
@@ -74,8 +74,8 @@ fn by_crew<J: SharedRun, P: Program, G: Gate, R: Threads + Sync>(
     requires run { AreOfRun (turn_by P.Program program.now) input.now J.turn J.views }
     ensures { IfOk result (λ r. r ≡ result_of (run (turn_by P.Program program.now) input.now)) }
 {
-    let crew: Result<Crew<J>, OutOfMemory> = Crew::new(workers.alloc, beside);
-    let Ok(crew) = crew else {
+    let crew: Option<Crew<J>> = Crew::new(workers.alloc, beside);
+    let Some(crew) = crew else {
         let means = Means {
             alloc: workers.alloc,
             program,

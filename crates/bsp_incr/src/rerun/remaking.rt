@@ -73,7 +73,7 @@ fn finish<P: Program, J: SharedRun, G: Gate>(
 }
 
 /// The same, beside a crew that is there.
-fn beside_crew<P: Program, J: SharedRun, G: Gate, R: Threads + Sync>(
+fn beside_crew<P: Program, J: SharedRun + Send, G: Gate, R: Threads + Sync>(
     rt: &R,
     given: Given<'_, P, G>,
     tape: Tape,
@@ -102,7 +102,7 @@ fn beside_crew<P: Program, J: SharedRun, G: Gate, R: Threads + Sync>(
 }
 
 /// The same, by so many workers beside the calling thread.
-fn by_crew<P: Program, J: SharedRun, G: Gate, R: Threads + Sync>(
+fn by_crew<P: Program, J: SharedRun + Send, G: Gate, R: Threads + Sync>(
     rt: &R,
     given: Given<'_, P, G>,
     tape: Tape,
@@ -113,8 +113,8 @@ fn by_crew<P: Program, J: SharedRun, G: Gate, R: Threads + Sync>(
     requires run { AreOfRun (turn_by P.Program given.program) given.input J.turn J.views }
     ensures { IfOk result (λ r. IsRemade P.Program given.entry r) }
 {
-    let crew: Result<Crew<J>, OutOfMemory> = Crew::new(given.alloc, workers);
-    let Ok(crew) = crew else {
+    let crew: Option<Crew<J>> = Crew::new(given.alloc, workers);
+    let Some(crew) = crew else {
         return finish::<P, Brand, G>(&given, tape, under_way, None);
     };
     beside_crew(rt, given, tape, under_way, &crew)

@@ -18,13 +18,20 @@ total f (v ∷ vs) = f v + total f vs
 abbrev pub once_below : ℕ → ℕ → ℕ
 once_below x n = if nat_lt x n then 1 else 0
 
--- Each number below the word stands in exactly one view, once, and no other number in any. The units of all
+-- the place of the claim word among the words of its table, and how many there are
+abbrev pub claim_place : ℕ
+claim_place = 8
+
+abbrev pub table_words : ℕ
+table_words = 16
+
+-- Each number below the claim word stands in exactly one view, once, and no other number in any. The units of all
 -- views add up to 2^31, and a view has at most 2^32 numbers for each of its units.
 pub record IsClaimed (words : List ℕ) (views : List View) : Type 0 where
-  pub word : words ≡ slice_index words 0 ∷ []
+  pub wide : length words ≡ table_words
   pub units : total (λ v. v.units) views ≡ all_units
-  pub once : (x : ℕ) → total (λ v. occurrences x v.numbers) views ≡ once_below x (slice_index words 0)
-  pub many : total (λ v. length v.numbers) views ≡ slice_index words 0
+  pub once : (x : ℕ) → total (λ v. occurrences x v.numbers) views ≡ once_below x (slice_index words claim_place)
+  pub many : total (λ v. length v.numbers) views ≡ slice_index words claim_place
   pub room : (seat : ℕ) (v : View) → get_elem? views seat ≡ some v → length v.numbers ≤ v.units * numbers_a_unit
 
 -- a draw gives the next number, which is above all that the pass has

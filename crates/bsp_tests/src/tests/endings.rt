@@ -1,8 +1,6 @@
 //! How runs end, read off the history and off the result that it gives, and the inputs of which there is no run.
 
-use super::known::{
-    BROKEN_RANKS_AT, CUT_SUMS_AT, End, Known, NO_PRODUCT_AT, RANKS_AT, SUMS, is_memory, known_run,
-};
+use super::known::{BROKEN_RANKS, CUT_SUMS, End, Known, NO_PRODUCT, RANKS, SUMS, is_memory};
 use bsp_model::{Fault, Input, InputFault, Memory, OutOfMemory, Seq, Words};
 use bsp_run::{History, RunError, RunResult, Status};
 use bsp_whole::run_plain;
@@ -19,26 +17,26 @@ enum Ended {
     },
 }
 
-/// The number of a known run, its supersteps, and how it ends.
+/// A known run, its supersteps, and how it ends.
 struct Ending {
-    known: usize,
+    known: Known,
     steps: usize,
     ended: Ended,
 }
 
 static ENDINGS: [Ending; 4] = [
     Ending {
-        known: RANKS_AT,
+        known: RANKS,
         steps: 4,
         ended: Ended::Halted,
     },
     Ending {
-        known: CUT_SUMS_AT,
+        known: CUT_SUMS,
         steps: 2,
         ended: Ended::Limit,
     },
     Ending {
-        known: BROKEN_RANKS_AT,
+        known: BROKEN_RANKS,
         steps: 2,
         ended: Ended::Faulted {
             step: 1,
@@ -46,7 +44,7 @@ static ENDINGS: [Ending; 4] = [
         },
     },
     Ending {
-        known: NO_PRODUCT_AT,
+        known: NO_PRODUCT,
         steps: 3,
         ended: Ended::Faulted {
             step: 2,
@@ -96,7 +94,7 @@ fn ends_so(history: &History, known: &Known, ending: &Ending) -> Result<bool, Ou
 }
 
 fn is_ending(alloc: Global, ending: &Ending) -> Result<bool, RunError> {
-    let known = known_run(ending.known);
+    let known = &ending.known;
     let input = known.input(alloc)?;
     let run = run_plain(alloc, &known.program, &input);
     drop(input);

@@ -172,7 +172,7 @@ pub const BROKEN_RANKS_END: End = End {
 };
 
 /// Element 0 of the list has a successor that there is not.
-const BROKEN_RANKS: Known = Known {
+pub const BROKEN_RANKS: Known = Known {
     name: "broken ranks",
     memories: &[&[9, 1, 0, 0], &[1, 0, 0, 0], &[0, 1, 0, 0], &[1, 1, 0, 0]],
     turns: 8,
@@ -262,15 +262,7 @@ pub const TOLD_AT: usize = 0;
 
 pub const PRODUCT_AT: usize = 1;
 
-pub const NO_PRODUCT_AT: usize = 2;
-
 pub const RANKS_AT: usize = 3;
-
-pub const BROKEN_RANKS_AT: usize = 4;
-
-pub const CUT_SUMS_AT: usize = 5;
-
-pub const SUMS_AT: usize = 6;
 
 /// The known run of this number.
 pub fn known_run(number: usize) -> &'static Known

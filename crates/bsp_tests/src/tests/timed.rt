@@ -2,7 +2,7 @@
 
 ghost use Rattle.std.specs.Prelude.{◌<◌, ◌≤◌};
 
-use super::known::{Known, PRODUCT_AT, SUMS_AT, known_run};
+use super::known::{Known, PRODUCT, SUMS};
 use super::running::{is_given, is_recorded};
 use super::sittings::{Change, OTHER_VECTOR};
 use bsp_crew::DEPTH_OF_SUPERSTEPS;
@@ -217,29 +217,29 @@ fn is_updated<P: Program + Drop, R: Threads + Sync, G: Gate>(
 /// A call, and the superstep from which workers meet.
 struct Meeting {
     way: Way,
-    known: usize,
+    known: Known,
     from: u64,
 }
 
 static MEETINGS: [Meeting; 4] = [
     Meeting {
         way: Way::Wide,
-        known: SUMS_AT,
+        known: SUMS,
         from: 1,
     },
     Meeting {
         way: Way::Unrecorded,
-        known: SUMS_AT,
+        known: SUMS,
         from: 1,
     },
     Meeting {
         way: Way::Opened,
-        known: SUMS_AT,
+        known: SUMS,
         from: 1,
     },
     Meeting {
         way: Way::Updated,
-        known: PRODUCT_AT,
+        known: PRODUCT,
         from: 2,
     },
 ];
@@ -260,8 +260,7 @@ fn find_meeting<R: Threads + Sync + Clock + Abort>(
     let from = if is_alone { u64::MAX } else { meeting.from };
     for _ in 0..TRIES {
         let gate = TimedPairs::new(rt, from);
-        let known = known_run(meeting.known);
-        let found = is_made(rt, alloc, meeting.way, known, workers, &gate);
+        let found = is_made(rt, alloc, meeting.way, &meeting.known, workers, &gate);
         assert!(rt; found == Ok(true), "{workers} workers");
         let met = gate.met.load(SeqCst);
         drop(gate);

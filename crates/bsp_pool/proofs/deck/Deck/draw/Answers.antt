@@ -13,7 +13,7 @@ fetch_add-requires c =
       ap (λ (p : PassContent). p.deck) c.pass.view_is ∙ (c.requires.deck ∙ sym c.self.view_is),
       omega (arith, c.self.invariant.0),
       λ s h _ at _. (
-        view_of v.units (v.numbers ++ slice_index s.words 0 ∷ []),
+        view_of v.units (v.numbers ++ slice_index s.words 8 ∷ []),
         keeps,
         tt,
         drawn_next s.words s.views c.pass.inside.seat.id v some_room h at,

@@ -1,0 +1,97 @@
+//! Workers that stay until a run is over, and draw the units of its phases beside the calling thread.
+
+ghost use Rattle.std.specs.Prelude.{◌<◌, ◌≤◌, length};
+
+use crate::OutOfMemory;
+use crate::lanes::hands_of_workers;
+use crate::patience::Patience;
+use crate::seat::{Seat, Sheet};
+use bsp_gate::Gate;
+use crossbeam_utils::CachePadded;
+use std::alloc::Global;
+use std::sync::atomic::AtomicU64;
+use std::sync::atomic::Ordering::SeqCst;
+use std::thread::{Threads, map_indices};
+use std::time::Instant;
+
+/// The workers of a pool, each with a lane and a sheet. The first is the calling thread.
+#[derive(Drop)]
+pub struct Pool<S> {
+    seats: Vec<Seat<S>>,
+    /// 1 once the run is over, so that the workers leave.
+    over: CachePadded<AtomicU64>,
+}
+
+impl<S: Sheet> Pool<S> {
+    /// A pool of as many workers as there are sheets, at most 16; or `OutOfMemory`.
+    pub fn new(alloc: Global, sheets: Vec<S>) -> Result<Pool<S>, OutOfMemory>
+        requires { length sheets.items ≤ 16 }
+    {
+        let workers = sheets.len();
+        let hands = hands_of_workers(alloc, workers)?;
+        let mut seats = Vec::with_capacity(alloc, workers)?;
+        for (hands, sheet) in hands.into_iter().zip(sheets) {
+            seats.push(Seat::new(hands, sheet))?;
+        }
+        Ok(Pool {
+            seats,
+            over: CachePadded::new(AtomicU64::new(0)),
+        })
+    }
+
+    /// The seat of the calling thread.
+    pub fn own(&self) -> Option<&Seat<S>> {
+        self.seats.first()
+    }
+
+    /// The seats of the workers beside it.
+    pub fn beside(&self) -> &[Seat<S>] {
+        match self.seats.split_first() {
+            Some((_own, beside)) => beside,
+            None => &[],
+        }
+    }
+
+    /// Tells the workers to leave.
+    pub fn dismiss(&self) {
+        let over: &AtomicU64 = &self.over;
+        over.store(1, SeqCst);
+    }
+
+    /// Waits until the workers beside the calling thread have answered so many units of the phase, in which its own part began at this time; or patience
+    /// ends.
+    pub fn wait<G: Gate>(&self, units: u64, began: Option<Instant>, gate: &G) {
+        let mut patience = Patience::new(began, gate);
+        for _look in 0..u64::MAX {
+            let mut answered: u64 = 0;
+            for seat in self.beside() {
+                answered = answered.saturating_add(seat.answered());
+            }
+            if answered >= units || !patience.lasts(gate) {
+                return;
+            }
+        }
+    }
+
+    /// Lets the workers beside the calling thread draw in all phases until they are told to leave, each in a thread of its own where one can be made.
+    /// A worker works each unit by its number, and rests after each phase.
+    pub fn attend<F: Fn(&mut S, usize) + Sync, H: Fn() + Sync, R: Threads + Sync>(
+        &self,
+        rt: &R,
+        alloc: Global,
+        work: &F,
+        rest: &H,
+    )
+    where
+        S: Send,
+        requires work { F.IsAlwaysCallable work.now }
+        requires rest { H.IsAlwaysCallable rest.now }
+    {
+        let seats = self.beside();
+        let attend = |place: usize|
+            requires { (place < length seats.now) × F.IsAlwaysCallable work.now × H.IsAlwaysCallable rest.now }
+        { seats[place].attend(work, rest, &self.over) };
+        // Where a thread cannot start, its desk stays empty: the units of its lane are drawn by the rest.
+        let _ = map_indices(rt, alloc, seats.len(), &attend);
+    }
+}
