@@ -10,10 +10,10 @@ use Rattle.bsp_incr.specs.Exact.{HasTurn, HasDelivery, view_there}
 use Rattle.bsp_causes.specs.TurnCauses.{view_causes, new_turn, turn_causes}
 use Rattle.bsp_causes.specs.DeliveryCauses.{parcel_causes, new_delivery, delivery_causes}
 
-lt_holds : (m n : ℕ) → m < n → nat_lt m n ≡ true
+pub lt_holds : (m n : ℕ) → m < n → nat_lt m n ≡ true
 lt_holds m n l = grind (arith, nat_tests)
 
-lt_fails : (m n : ℕ) → n ≤ m → nat_lt m n ≡ false
+pub lt_fails : (m n : ℕ) → n ≤ m → nat_lt m n ≡ false
 lt_fails m n l = grind (arith, nat_tests)
 
 pub turn_there : (looks : ViewParts → ℕ → Bool) (olds news : List Superstep) (place : Place) → HasTurn olds place → turn_causes looks olds news place ≡ view_causes looks (view_there olds place) (view_there news place)

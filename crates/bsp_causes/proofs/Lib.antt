@@ -3,7 +3,11 @@ pub mod Filtered
 pub mod OtherWords
 pub mod Cases
 pub mod Shapes
-pub mod KnownTargets
+pub mod SamePlaces
+pub mod Travelling
+pub mod Sums
+pub mod Counting
 pub mod Walks
 pub mod Rows
+pub mod Synchronised
 pub mod Handing

@@ -1,5 +1,6 @@
 pub mod Same
 pub mod TurnCauses
 pub mod DeliveryCauses
+pub mod Travel
 pub mod UpdateCost
 pub mod Inside

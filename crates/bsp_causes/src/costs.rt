@@ -1,19 +1,25 @@
 //! What an update costs.
 
-ghost use Rattle.std.specs.Prelude.{◌≡◌, ℕ, ◌+◌, ◌<◌, ◌≤◌, ◌^◌, [], IfOk, OnOk, false, length, slice_index_or, slice_range};
+ghost use Rattle.std.specs.Prelude.{◌≡◌, ℕ, ◌+◌, ◌<◌, ◌≤◌, ◌^◌, ◌==◌, ◌||◌, if◌then◌else◌, not, [], IfOk, OnOk, Some, length, option_map};
+ghost use Rattle.std.specs.List.{list_any};
 ghost use Rattle.bsp_model.specs.Limits.{most_cost, most_work};
 ghost use Rattle.bsp_deliver.specs.Condition.{AreDeliverable};
-ghost use Rattle.bsp_run.specs.Supersteps.{supersteps_of, superstep_at};
+ghost use Rattle.bsp_run.specs.Supersteps.{supersteps_of};
+ghost use Rattle.bsp_table.specs.Same.{same_table};
 ghost use Rattle.bsp_incr.specs.Exact.{AreInOrder};
-ghost use Rattle.bsp_causes.specs.UpdateCost.{processes_of, processes_at, is_one_of, work_of, row_again, row_if, rows_from, update_cost};
-ghost use Rattle.bsp_causes.specs.Inside.Walk.{AreBySuperstep, BeginsAt, with_rows};
+ghost use Rattle.bsp_causes.specs.Travel.{has_requests};
+ghost use Rattle.bsp_causes.specs.Inside.Walk.{processes_of};
+ghost use Rattle.bsp_causes.specs.UpdateCost.{work_of, outcomes_at, views_after, have_other_tables, row_again, update_cost};
+ghost use Rattle.bsp_causes.specs.Inside.Travel.{requests_in, AreBounded};
+ghost use Rattle.bsp_causes.specs.Inside.Walk.{AreBySuperstep, BeginsAt, rows_at, rows_below, with_rows};
 
-use bsp_deliver::h_to;
+use crate::moved::h_again;
+use crate::travel::{Redone, any_travels, set_of};
 use bsp_incr::{Place, Update};
-use bsp_model::limits::{HIGHEST_PRICE, MOST_PROCESSES};
-use bsp_model::{CostRow, OutOfMemory, ProcessSet, Seq};
-use bsp_run::History;
-use bsp_step::Outcomes;
+use bsp_model::limits::MOST_SUPERSTEPS;
+use bsp_model::{CostRow, OutOfMemory, Same, Seq};
+use bsp_run::{History, ViewsRef};
+use bsp_step::{Outcomes, View};
 use std::alloc::Global;
 
 /// The cost of a superstep of an update.
@@ -21,7 +27,7 @@ use std::alloc::Global;
 pub struct StepCost {
     /// The number of the superstep, from 0.
     pub step: u64,
-    /// The largest work of its turns that were taken again; the h-relation of the requests whose deliveries were made again; and their cost.
+    /// The largest work of its turns that were taken again; the h-relation of the requests that travel again; and their cost.
     pub row: CostRow,
 }
 
@@ -63,37 +69,150 @@ fn work_of(outcomes: &Outcomes, places: &[Place]) -> u64
     most
 }
 
-fn set_of(places: &[Place], count: usize) -> ProcessSet
-    requires { count ≤ MOST_PROCESSES }
-    ensures { (p : ℕ) → p < count → slice_index_or result p false ≡ is_one_of (processes_of places.now) p }
+/// What the processes see after the delivery of a superstep of a run; nothing where it made none.
+fn views_after<'a>(run: Option<&'a History>, step: u64) -> ViewsRef<'a>
+    requires { step < MOST_SUPERSTEPS }
+    ensures { result ≡ views_after (option_map (λ h. h.now) run.entry) step }
 {
-    let mut set = ProcessSet::none(count);
-    for place in places {
-        let pid = place.pid as usize;
-        if pid < count {
-            set.insert(pid);
-        }
+    match run {
+        Some(history) => match history.views(step + 1) {
+            Some(views) => views.as_ref(),
+            None => ViewsRef::none(),
+        },
+        None => ViewsRef::none(),
     }
-    set
 }
 
-/// What a superstep costs at these prices in which these turns were taken again, and these deliveries made again.
-fn row_again(g: u64, l: u64, outcomes: &Outcomes, turned: &[Place], delivered: &[Place]) -> CostRow
-    requires small_g { g ≤ HIGHEST_PRICE }
-    requires small_l { l ≤ HIGHEST_PRICE }
-    requires deliverable { AreDeliverable outcomes.now }
-    ensures value { result ≡ row_again g l (processes_of turned.now) (processes_of delivered.now) outcomes.now }
+fn is_other_tag_size(old: &View<'_>, new: &View<'_>) -> bool
+    ensures { result ≡ not (old.now.tag_size == new.now.tag_size) }
+{
+    old.tag_size != new.tag_size
+}
+
+fn is_other_table(old: &View<'_>, new: &View<'_>) -> bool
+    ensures { result ≡ not (same_table old.now.table new.now.table) }
+{
+    !old.table.same(new.table)
+}
+
+fn sees_other_table(old: &View<'_>, new: &View<'_>) -> bool
+    ensures { result ≡ (not (old.now.tag_size == new.now.tag_size) || not (same_table old.now.table new.now.table)) }
+{
+    is_other_tag_size(old, new) || is_other_table(old, new)
+}
+
+fn have_other_tables(olds: &ViewsRef<'_>, news: &ViewsRef<'_>) -> bool
+    ensures { result ≡ have_other_tables olds.now news.now }
+{
+    if olds.is_empty() {
+        return true;
+    }
+    if news.is_empty() {
+        return true;
+    }
+    let old = olds.get(0);
+    let new = news.get(0);
+    sees_other_table(&old, &new)
+}
+
+/// What the turns of a superstep left.
+fn outcomes_there(run: &History, step: usize) -> &Outcomes
+    requires { step < length (supersteps_of run.now) }
+    ensures value { result.now ≡ outcomes_at (Some run.now) step }
+    ensures deliverable { AreDeliverable result.now }
+{
+    run.outcomes(step as u64).unwrap()
+}
+
+/// The same; `none` where the run took no turns there.
+fn outcomes_if_any<'a>(run: Option<&'a History>, step: usize, none: &'a Outcomes) -> &'a Outcomes
+    requires { none.now ≡ [] }
+    ensures value { result.now ≡ outcomes_at (option_map (λ h. h.now) run.entry) step }
+    ensures bounded { AreBounded result.now }
+{
+    match run {
+        Some(history) if step < history.steps() => outcomes_there(history, step),
+        _ => none,
+    }
+}
+
+/// Whether a superstep that ends by delivery is synchronised again.
+fn is_synchronised(
+    redone: &Redone,
+    olds: &ViewsRef<'_>,
+    news: &ViewsRef<'_>,
+    before: &Outcomes,
+    after: &Outcomes,
+) -> bool
+    requires before { AreBounded before.now }
+    requires after { AreBounded after.now }
+    ensures { result ≡ (have_other_tables olds.now news.now
+        || list_any has_requests (requests_in redone.now before.now after.now after.now)
+        || list_any has_requests (requests_in redone.now before.now after.now before.now)) }
+{
+    have_other_tables(olds, news)
+        || any_travels(redone, before, after, after)
+        || any_travels(redone, before, after, before)
+}
+
+/// The price of a synchronisation where one is paid again.
+fn l_again(
+    price: u64,
+    redone: &Redone,
+    olds: &ViewsRef<'_>,
+    news: &ViewsRef<'_>,
+    before: &Outcomes,
+    after: &Outcomes,
+) -> u64
+    requires before { AreBounded before.now }
+    requires after { AreBounded after.now }
+    ensures value { result ≡ (if have_other_tables olds.now news.now
+        || list_any has_requests (requests_in redone.now before.now after.now after.now)
+        || list_any has_requests (requests_in redone.now before.now after.now before.now) then price else 0) }
+    ensures small { result ≤ price }
+{
+    if is_synchronised(redone, olds, news, before, after) {
+        price
+    } else {
+        0
+    }
+}
+
+/// What a superstep costs in which these turns were taken again, and these deliveries made again.
+fn row_again(
+    old: Option<&History>,
+    new: &History,
+    step: usize,
+    turned: &[Place],
+    delivered: &[Place],
+) -> CostRow
+    requires known { step < length (supersteps_of new.now) }
+    requires few { step < MOST_SUPERSTEPS }
+    ensures value { result ≡ row_again (option_map (λ h. h.now) old.entry) new.now step (processes_of turned.now)
+        (processes_of delivered.now) }
     ensures small { result.cost ≤ most_cost }
 {
-    let work = work_of(outcomes, turned);
-    if delivered.is_empty() {
+    let none = Outcomes::new();
+    let after = outcomes_there(new, step);
+    let work = work_of(after, turned);
+    let delivered_steps = new.past().len();
+    if step >= delivered_steps {
         return CostRow {
             work,
             h: 0,
             cost: work,
         };
     }
-    let h = h_to(outcomes, &set_of(delivered, outcomes.len()));
+    let before = outcomes_if_any(old, step, &none);
+    let redone = Redone {
+        turned: set_of(turned),
+        delivered: set_of(delivered),
+    };
+    let h = h_again(&redone, before, after);
+    let olds = views_after(old, step as u64);
+    let news = views_after(Some(new), step as u64);
+    let (g, price) = new.prices();
+    let l = l_again(price, &redone, &olds, &news, before, after);
     CostRow {
         work,
         h,
@@ -103,24 +222,23 @@ fn row_again(g: u64, l: u64, outcomes: &Outcomes, turned: &[Place], delivered: &
 
 fn add_row(
     cost: &mut UpdateCost,
-    run: &History,
+    old: Option<&History>,
+    new: &History,
     step: usize,
     turned: &[Place],
     delivered: &[Place],
 ) -> Result<(), OutOfMemory>
-    requires known { step < length (supersteps_of run.now) }
+    requires known { step < length (supersteps_of new.now) }
+    requires few { step < MOST_SUPERSTEPS }
     requires room { cost.old.total + most_cost < 2 ^ 64 }
-    ensures rows { OnOk result (cost.new ≡ with_rows cost.old
-        (row_if run.now.g run.now.l step (processes_of turned.now) (processes_of delivered.now)
-        (superstep_at (supersteps_of run.now) step).outcomes)) }
+    ensures rows { OnOk result (cost.new ≡ with_rows cost.old (rows_at (option_map (λ h. h.now) old.entry) new.now step
+        (processes_of turned.now) (processes_of delivered.now))) }
     ensures small { OnOk result (cost.new.total ≤ cost.old.total + most_cost) }
 {
     if turned.is_empty() && delivered.is_empty() {
         return Ok(());
     }
-    let (g, l) = run.prices();
-    let outcomes = run.outcomes(step as u64).unwrap();
-    let row = row_again(g, l, outcomes, turned, delivered);
+    let row = row_again(old, new, step, turned, delivered);
     cost.rows.push(StepCost {
         step: step as u64,
         row,
@@ -129,41 +247,51 @@ fn add_row(
     Ok(())
 }
 
-fn add_rows(cost: &mut UpdateCost, run: &History, update: &Update) -> Result<(), OutOfMemory>
+fn add_rows(
+    cost: &mut UpdateCost,
+    old: Option<&History>,
+    new: &History,
+    update: &Update,
+) -> Result<(), OutOfMemory>
     requires executed { AreInOrder update.now.executed }
     requires redelivered { AreInOrder update.now.redelivered }
     requires none { cost.old.total ≡ 0 }
-    ensures { OnOk result (cost.new ≡ with_rows cost.old (rows_from run.now.g run.now.l update.now 0
-        (supersteps_of run.now))) }
+    ensures { OnOk result (cost.new ≡ with_rows cost.old (rows_below (option_map (λ h. h.now) old.entry) new.now
+        update.now (length (supersteps_of new.now)))) }
 {
     let turns = update.executed.as_slice();
     let deliveries = update.redelivered.as_slice();
     let mut turn = 0;
     let mut delivery = 0;
-    for step in 0..run.steps() {
+    for step in 0..new.steps() {
         let turn_end = end_of(turns, turn, step as u64);
         let delivery_end = end_of(deliveries, delivery, step as u64);
         let turned = &turns[turn..turn_end];
         let delivered = &deliveries[delivery..delivery_end];
-        add_row(cost, run, step, turned, delivered)?;
+        add_row(cost, old, new, step, turned, delivered)?;
         turn = turn_end;
         delivery = delivery_end;
     }
     Ok(())
 }
 
-/// What an update of a run cost, in units of one operation on a local word (the usual additive BSP cost formula, later than Valiant 1990; over what
-/// was done again: this profile). A superstep costs `w + h*g + l` where deliveries were made again, else `w`. Here `w` is the largest work of a turn
-/// that was taken again, and `h` counts the requests alone that are to the processes of these deliveries. Each list of places is gone over once.
-pub fn update_cost(alloc: Global, run: &History, update: &Update) -> Result<UpdateCost, OutOfMemory>
+/// What an update cost that made the run `new` of the run `old`, in units of one operation on a local word (the usual additive BSP cost formula, later
+/// than Valiant 1990; over what was done again: this profile). A superstep costs `w + h*g`, and `l` where it is synchronised again. Here `w` is the
+/// largest work of a turn that was taken again, and `h` counts the requests alone that travel again. Each list of places is gone over once.
+pub fn update_cost(
+    alloc: Global,
+    old: Option<&History>,
+    new: &History,
+    update: &Update,
+) -> Result<UpdateCost, OutOfMemory>
     requires executed { AreInOrder update.now.executed }
     requires redelivered { AreInOrder update.now.redelivered }
-    ensures { IfOk result (λ cost. cost ≡ update_cost run.now update.now) }
+    ensures { IfOk result (λ cost. cost ≡ update_cost (option_map (λ h. h.now) old.entry) new.now update.now) }
 {
     let mut cost = UpdateCost {
         rows: Seq::new(alloc),
         total: 0,
     };
-    let added = add_rows(&mut cost, run, update);
+    let added = add_rows(&mut cost, old, new, update);
     added.and(Ok(cost))
 }

@@ -3,6 +3,8 @@
 
 mod costs;
 mod deliveries;
+mod moved;
+mod travel;
 mod turns;
 
 pub use costs::{StepCost, UpdateCost, update_cost};

@@ -3,7 +3,7 @@
 ghost use Rattle.std.specs.Prelude.{◌≡◌, ◌+◌, ◌≤◌, ◌++◌, ◌==◌, ◌&&◌, not, IfOk, OnOk, length, option_map, slice_index};
 ghost use Rattle.bsp_run.specs.Supersteps.{superstep_at, supersteps_of};
 ghost use Rattle.bsp_incr.specs.Exact.{HasTurn, supersteps_before};
-ghost use Rattle.bsp_causes.specs.TurnCauses.{other_words, view_causes, turn_causes};
+ghost use Rattle.bsp_causes.specs.TurnCauses.{HaveSameSizes, other_words, view_causes, turn_causes};
 ghost use Rattle.bsp_causes.specs.Inside.Words.{other_words_from};
 
 use bsp_incr::Place;
@@ -117,7 +117,8 @@ fn views_in<'a>(run: Option<&'a History>, step: u64) -> ViewsRef<'a>
 }
 
 /// Why the turn at a place of the run `after` was taken, against the run `before`, or `OutOfMemory`: the parts of the view that are others, and of
-/// the memory the words at which the program looks.
+/// the memory the words at which the program looks. Where both runs have a turn at the place, they are of as many processes, with memories of the same
+/// length.
 pub fn turn_causes<P: Program>(
     alloc: Global,
     program: &P,
@@ -126,6 +127,7 @@ pub fn turn_causes<P: Program>(
     place: Place,
 ) -> Result<TurnCauses, OutOfMemory>
     requires known { HasTurn (supersteps_of after.now) place }
+    requires same_sizes { HaveSameSizes (supersteps_before (option_map (λ h. h.now) before)) (supersteps_of after.now) place }
     ensures { IfOk result (λ c. c ≡ turn_causes (P.looks program.now)
         (supersteps_before (option_map (λ h. h.now) before.entry)) (supersteps_of after.now) place) }
 {

@@ -16,6 +16,7 @@ use Rattle.bsp_incr.specs.Edits.{edited}
 use Rattle.bsp_incr.specs.Named.{with_members}
 use Rattle.bsp_incr.proofs.Lawful.{edited_count}
 use Rattle.bsp_incr.proofs.Members.{out_of_members}
+use Rattle.bsp_step.specs.Turn.{turn_of}
 use Rattle.bsp_engine.specs.Inside.Touched.{compared_processes, IsUpdateBetween, HaveSameOutside}
 use Rattle.bsp_engine.specs.Untouched.{touched, at_limit, end_alike, HasTheSame}
 use Rattle.bsp_engine.proofs.Endings.{count_result_lines, count_result_memories}
@@ -52,9 +53,10 @@ same_outside old new set n a b c d e same =
 pub compared_are_enough : (old : Run) (batch : List Edit) (update : Update) (new : Run) → IsUpdateBetween old batch update new → HaveSameOutside (compared_processes (result_of old) (result_of new) batch update) (result_of old) (result_of new)
 compared_are_enough old batch update new h =
     let runs = h.runs in
+    let turn = turn_of h.acts h.ending in
     let n = length h.input.mems in
     let k = length (result_of old).memories in
-    let many : k ≡ n = count_result_memories h.turn h.input old runs.before in
+    let many : k ≡ n = count_result_memories turn h.input old runs.before in
     let ps = touched batch update in
     let none : List Bool = replicate k false in
     let compared = compared_processes (result_of old) (result_of new) batch update in
@@ -68,14 +70,14 @@ compared_are_enough old batch update new h =
     elim (end_alike (result_of old) (result_of new)) as (λ b. end_alike (result_of old) (result_of new) ≡ b → get_or (cond b (with_members none ps) (replicate k true)) p false ≡ false → HasTheSame (result_of old) (result_of new) p) [
       | true ↦ λ e out.
           let within : p < length (with_members none ps) = omega (arith, here, length-replaced none ps (map (λ _. true) ps), length-replicate k false) in
-          untouched_stay h.turn h.looks h.input batch update old new runs e p l (out_of_members none ps p (get_or_default (with_members none ps) p true false within ∙ out)).1
+          untouched_stay turn h.looks h.input batch update old new runs e p l (out_of_members none ps p (get_or_default (with_members none ps) p true false within ∙ out)).1
       | false ↦ λ e out. absurd (false≢true (sym out ∙ get_or-replicate k p true false here))
     ] refl in
     same_outside (result_of old) (result_of new) compared n many
-    (count_result_memories h.turn (edited h.input batch) new runs.after ∙ edited_count h.input batch)
-    (count_result_lines h.turn h.input old runs.before)
-    (count_result_lines h.turn (edited h.input batch) new runs.after ∙ edited_count h.input batch) long same
+    (count_result_memories turn (edited h.input batch) new runs.after ∙ edited_count h.input batch)
+    (count_result_lines turn h.input old runs.before)
+    (count_result_lines turn (edited h.input batch) new runs.after ∙ edited_count h.input batch) long same
 
 -- there are few enough processes for a set
 pub few_compared : (old : Run) (batch : List Edit) (update : Update) (new : Run) → IsUpdateBetween old batch update new → length (result_of old).memories ≤ most_processes
-few_compared old batch update new h = omega (arith, count_result_memories h.turn h.input old h.runs.before, (lawful_input h.input h.runs.lawful).few_processes)
+few_compared old batch update new h = omega (arith, count_result_memories (turn_of h.acts h.ending) h.input old h.runs.before, (lawful_input h.input h.runs.lawful).few_processes)

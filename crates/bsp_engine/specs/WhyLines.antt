@@ -67,4 +67,4 @@ update_cost_lines c = flat_map step_cost_line c.rows ++ line (codes "update tota
 -- The lines that are asked for on the update from one run to the next.
 unfoldable pub more_lines : Detail → (ViewParts → ℕ → Bool) → Option Run → Run → Update → List ℕ
 more_lines detail looks old new update =
-    (if detail.why then why_lines looks old new update else []) ++ (if detail.update_cost then update_cost_lines (update_cost new update) else [])
+    (if detail.why then why_lines looks old new update else []) ++ (if detail.update_cost then update_cost_lines (update_cost old new update) else [])

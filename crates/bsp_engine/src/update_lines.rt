@@ -1,7 +1,7 @@
 //! The lines of an update.
 
 ghost use Rattle.std.specs.Prelude.{◌≡◌, ◌++◌, OnOk, Some, [], option_map, All};
-ghost use Rattle.bsp_incr.specs.Exact.{AreInOrder, HasDelivery, HasTurn, delivered_before};
+ghost use Rattle.bsp_incr.specs.Exact.{AreInOrder, HasDelivery, HasTurn, delivered_before, supersteps_before};
 ghost use Rattle.bsp_causes.specs.UpdateCost.{update_cost};
 ghost use Rattle.bsp_engine.specs.Inside.Causes.{IsUpdateTo};
 ghost use Rattle.bsp_engine.specs.Text.{update_lines};
@@ -9,6 +9,7 @@ ghost use Rattle.bsp_engine.specs.WhyLines.{more_lines, update_cost_lines, cause
 ghost use Rattle.std.specs.List.{flat_map};
 ghost use Rattle.bsp_run.specs.Supersteps.{supersteps_of};
 ghost use Rattle.bsp_causes.specs.DeliveryCauses.{HaveAsMany};
+ghost use Rattle.bsp_causes.specs.TurnCauses.{HaveSameSizes};
 
 use crate::block_lines::{begin_line, push_counts, push_update_places};
 use bsp_causes::{
@@ -31,12 +32,18 @@ fn push_costs(text: &mut Vec<u8>, cost: &UpdateCost) -> Result<(), OutOfMemory>
     push_line(text, "update total", &[cost.total])
 }
 
-fn push_update_cost(text: &mut Vec<u8>, new: &History, update: &Update) -> Result<(), OutOfMemory>
+fn push_update_cost(
+    text: &mut Vec<u8>,
+    old: Option<&History>,
+    new: &History,
+    update: &Update,
+) -> Result<(), OutOfMemory>
     requires executed { AreInOrder update.now.executed }
     requires redelivered { AreInOrder update.now.redelivered }
-    ensures { OnOk result (text.new.items ≡ text.old.items ++ update_cost_lines (update_cost new.now update.now)) }
+    ensures { OnOk result (text.new.items ≡ text.old.items ++ update_cost_lines
+        (update_cost (option_map (λ h. h.now) old.entry) new.now update.now)) }
 {
-    let cost = update_cost(*text.allocator(), new, update)?;
+    let cost = update_cost(*text.allocator(), old, new, update)?;
     let pushed = push_costs(text, &cost);
     drop(cost);
     pushed
@@ -62,7 +69,7 @@ pub fn push_update<P: Program>(
         push_why_deliveries(text, old, new, update.redelivered.as_slice())?;
     }
     if detail.update_cost {
-        push_update_cost(text, new, update)?;
+        push_update_cost(text, old, new, update)?;
     }
     push_counts(text, update)
 }
@@ -138,6 +145,7 @@ fn push_why_turns<P: Program>(
     places: &[Place],
 ) -> Result<(), OutOfMemory>
     requires known { All (HasTurn (supersteps_of new.now)) places.now }
+    requires same_sizes { All (HaveSameSizes (supersteps_before (option_map (λ h. h.now) old)) (supersteps_of new.now)) places.now }
     ensures { OnOk result (text.new.items ≡ text.old.items ++ flat_map (why_turn_line (P.looks program.now)
         (option_map (λ h. h.now) old.entry) new.now) places.now) }
 {

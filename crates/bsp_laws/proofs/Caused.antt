@@ -15,11 +15,12 @@ use Rattle.bsp_incr.specs.Inside.Reuse.{serves}
 use Rattle.bsp_incr.proofs.Lawful.{edited_count, edited_lawful}
 use Rattle.bsp_incr.proofs.Propagation.{Decides-untouched}
 use Rattle.bsp_incr.proofs.Serving.{Decides-serves}
+use Rattle.bsp_causes.proofs.SamePlaces.{same_place}
 use Rattle.bsp_causes.proofs.Shapes.{have_as_many}
 use Rattle.bsp_causes.specs.TurnCauses.{turn_causes}
 use Rattle.bsp_causes.specs.DeliveryCauses.{delivery_causes}
 use Rattle.bsp_laws.specs.Causes.{no_turn_causes, no_delivery_causes, UpdatesHaveCauses}
-use Rattle.bsp_laws.proofs.TurnCaused.{uncaused_turn, same_place}
+use Rattle.bsp_laws.proofs.TurnCaused.{uncaused_turn}
 use Rattle.bsp_laws.proofs.DeliveryCaused.{uncaused_delivery, deliverable_there}
 
 -- what a test decides holds where it cannot fail

@@ -8,5 +8,7 @@ pub mod DeliveryCaused
 pub mod Caused
 pub mod RunsWithin
 pub mod PlacesAt
+pub mod RowsOf
 pub mod Openings
 pub mod AtMost
+pub mod Paid

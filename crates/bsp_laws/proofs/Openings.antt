@@ -1,37 +1,40 @@
 -- The update of an opening takes every turn and makes every delivery of the run, so it costs what the run costs.
-use Rattle.std.proofs.Common.{◌≡◌, ℕ, zero, suc, ◌+◌, ◌-◌, ◌*◌, ◌<◌, ◌≤◌, ◌==◌, ◌||◌, Bool, true, false, cond, List, [], ◌∷◌, ◌++◌, None, length, map, refl, sym, ap, ◌∙◌, subst, arith, inl, inr}
+use Rattle.std.proofs.Common.{◌≡◌, ℕ, zero, suc, ◌+◌, ◌-◌, ◌*◌, ◌<◌, ◌≤◌, ◌==◌, ◌||◌, Bool, true, false, List, [], ◌∷◌, None, Some, filter, get_or, length, map, refl, sym, ap, ◌∙◌, subst, arith, inl, inr}
 use Rattle.std.specs.List.{range_with_len}
-use Rattle.std.proofs.lemmas.Bool.{cases_eq, eq-eqb, false≢true}
-use Rattle.std.proofs.lemmas.List.{get_or-map, get_or_push, length-append, length-map}
+use Rattle.std.proofs.lemmas.Bool.{cases_eq, cases_lt, eq-eqb}
+use Rattle.std.proofs.lemmas.List.{get_or-map, length-map}
 use Rattle.std.proofs.lemmas.List.FromFn.{fill_by_all}
 use Rattle.std.proofs.lemmas.List.Sums.{sum_by-cons}
 use Rattle.bsp_model.specs.declared.cost.CostRow.{CostRow}
 use Rattle.bsp_model.specs.declared.input.Input.{Input}
 use Rattle.bsp_model.specs.Input.{input_fault}
 use Rattle.bsp_model.specs.declared.fault.End.{End}
+use Rattle.bsp_model.specs.declared.request.Get.{Get}
 use Rattle.bsp_step.specs.Act.{Act}
 use Rattle.bsp_step.specs.Turn.{turn_of}
 use Rattle.bsp_step.specs.ViewParts.{ViewParts}
 use Rattle.bsp_step.specs.OutcomeParts.{OutcomeParts, no_outcome, outcome_of}
 use Rattle.bsp_deliver.specs.Condition.{AreDeliverable}
-use Rattle.bsp_deliver.specs.Cost.{largest, h_relation, h_relation_to}
-use Rattle.bsp_deliver.proofs.Targeted.{h_relation_to-all}
+use Rattle.bsp_deliver.specs.Cost.{largest, h_relation}
 use Rattle.bsp_run.specs.declared.superstep.Superstep.{Superstep}
 use Rattle.bsp_run.specs.Condition.{IsRun}
 use Rattle.bsp_run.specs.Law.{IsBspRun}
-use Rattle.bsp_run.specs.Result.{cost_of_delivery, cost_of_end, costs_of, largest_work, total_of}
+use Rattle.bsp_run.specs.Result.{costs_of, largest_work, total_of}
 use Rattle.bsp_run.specs.Run.{Run}
 use Rattle.bsp_run.specs.State.{State}
-use Rattle.bsp_run.specs.Supersteps.{has_turns, last_superstep, no_superstep, open_superstep, outcomes_of, superstep_at, supersteps_of}
+use Rattle.bsp_run.specs.Supersteps.{no_superstep, superstep_at, supersteps_of}
 use Rattle.bsp_run.proofs.OneRun.{front, one_run}
 use Rattle.bsp_run.proofs.Records.{count-outcomes_in, count-state_at, count-views_in}
 use Rattle.bsp_incr.specs.declared.reply.Update.{Update}
 use Rattle.bsp_incr.specs.Exact.{IsExact}
 use Rattle.bsp_causes.specs.declared.costs.StepCost.{StepCost}
-use Rattle.bsp_causes.specs.UpdateCost.{is_one_of, processes_at, row_if, rows_from, total_again, update_cost, work_of}
-use Rattle.bsp_causes.proofs.KnownTargets.{h_relation_to-same}
-use Rattle.bsp_laws.specs.Costs.{OpeningsCostTheRun, numbered}
-use Rattle.bsp_laws.proofs.PlacesAt.{all_at, deliveries_end}
+use Rattle.bsp_causes.specs.Inside.Travel.{reads_other}
+use Rattle.bsp_causes.specs.Travel.{has_some, outcomes_again}
+use Rattle.bsp_causes.specs.UpdateCost.{is_one_of, is_redone, is_synchronised, outcomes_at, processes_at, row_again, step_cost, total_again, travelling, update_cost, work_of}
+use Rattle.bsp_causes.proofs.Travelling.{again-agree, targets_below}
+use Rattle.bsp_laws.specs.Costs.{OpeningsCostTheRun, no_costs, numbered}
+use Rattle.bsp_laws.proofs.PlacesAt.{all_at}
+use Rattle.bsp_laws.proofs.RowsOf.{cost_delivered, cost_ended, count_costs, filter_all, row_delivered, row_ended}
 use Rattle.bsp_laws.proofs.RunsWithin.{run_is_run}
 
 -- the work of all is the largest work
@@ -49,43 +52,60 @@ is_one-all a (suc n) p l k =
       | inr ne ↦ ap (λ b. (a == p) || b) (is_one-all (a + 1) n p (omega arith) (omega arith)) ∙ elim (a == p) as (λ b. (b || true) ≡ true) [ true ↦ refl | false ↦ refl ]
     ]
 
-h-all : (os : List OutcomeParts) (n : ℕ) → length os ≡ n → AreDeliverable os → h_relation_to (is_one_of (range_with_len 0 n)) os ≡ h_relation os
-h-all os n count known =
-    h_relation_to-same (is_one_of (range_with_len 0 n)) (λ _. true) os known (λ p l. is_one-all 0 n p (omega arith) (omega (arith, l, count))) ∙ h_relation_to-all os
+filter_every : {R : Type 0} (rs : List R) → filter (λ (r : R). true) rs ≡ rs
+filter_every [] = refl
+filter_every (r ∷ rs) = ap (λ xs. r ∷ xs) (filter_every rs)
 
--- all took their turns, and a delivery was made to each
-whole_delivery : (g l s n : ℕ) (ts ds : List ℕ) (os : List OutcomeParts) → ts ≡ range_with_len 0 (suc n) → ds ≡ range_with_len 0 (suc n) → length os ≡ suc n → AreDeliverable os
-    → row_if g l s ts ds os ≡ record { step = s; row = cost_of_delivery g l os } ∷ []
-whole_delivery g l s n ts ds os t d count known =
-    let w = work-all os (suc n) count in
-    let h = h-all os (suc n) count known in
-    (λ i. row_if g l s (t i) (d i) os) ∙ (λ i. record { step = s; row = record { work = w i; h = h i; cost = w i + h i * g + l } } ∷ [])
+-- where all was done again, all requests travel
+again_every : (r : Get → Bool) (a : ℕ) (os : List OutcomeParts) → outcomes_again (λ _. true) (λ _. true) r a os ≡ os
+again_every r a [] = refl
+again_every r a (o ∷ os) =
+    let puts = filter_every o.puts in
+    let sends = filter_every o.sends in
+    let rest = again_every r (a + 1) os in
+    (λ i. record o { puts = puts i; sends = sends i } ∷ rest i)
 
--- all took their turns, and no delivery was made
-whole_end : (g l s n : ℕ) (ts ds : List ℕ) (os : List OutcomeParts) → ts ≡ range_with_len 0 (suc n) → ds ≡ [] → length os ≡ suc n
-    → row_if g l s ts ds os ≡ record { step = s; row = cost_of_end os } ∷ []
-whole_end g l s n ts ds os t d count =
-    let w = work-all os (suc n) count in
-    (λ i. row_if g l s (t i) (d i) os) ∙ (λ i. record { step = s; row = record { work = w i; h = 0; cost = w i } } ∷ [])
+travels-all : (n : ℕ) (r : Get → Bool) (ts ds : List ℕ) (os : List OutcomeParts) → ts ≡ range_with_len 0 n → ds ≡ range_with_len 0 n → length os ≡ n → AreDeliverable os → outcomes_again (is_one_of ts) (is_one_of ds) r 0 os ≡ os
+travels-all n r ts ds os t d count known =
+    let every : (p : ℕ) → p < n → is_one_of (range_with_len 0 n) p ≡ true = λ p l. is_one-all 0 n p (omega arith) (omega arith) in
+    (λ i. outcomes_again (is_one_of (t i)) (is_one_of (d i)) r 0 os)
+    ∙ again-agree (is_one_of (range_with_len 0 n)) (λ _. true) (is_one_of (range_with_len 0 n)) (λ _. true) r n 0 os every every (omega arith) (targets_below n os (omega arith) known)
+    ∙ again_every r 0 os
 
--- the row of a superstep is this one
-abbrev IsRow : ℕ → ℕ → Update → ℕ → List OutcomeParts → CostRow → Type 0
-IsRow g l u s os row = row_if g l s (processes_at u.executed s) (processes_at u.redelivered s) os ≡ record { step = s; row = row } ∷ []
+-- what is known of the run and of the update of its opening
+record IsOpened (n : ℕ) (r : Run) (u : Update) : Type 0 where
+  pub turns : (s : ℕ) → s < length (supersteps_of r) → processes_at u.executed s ≡ range_with_len 0 n
+  pub deliveries : (s : ℕ) → s < length r.past → processes_at u.redelivered s ≡ range_with_len 0 n
+  pub counts : (s : ℕ) → s < length (supersteps_of r) → length (outcomes_at (Some r) s) ≡ n
+  pub known : (s : ℕ) → s < length r.past → AreDeliverable (outcomes_at (Some r) s)
 
-past_rows : (g l : ℕ) (u : Update) (s t : ℕ) (past rest : List Superstep) (more : List CostRow) → t ≡ s + length past
-    → ((k m : ℕ) → m ≡ s + k → k < length past → IsRow g l u m (superstep_at past k).outcomes (cost_of_delivery g l (superstep_at past k).outcomes))
-    → rows_from g l u t rest ≡ numbered t more → rows_from g l u s (past ++ rest) ≡ numbered s (map (cost_of_delivery g l) (outcomes_of past) ++ more)
-past_rows g l u s t [] rest more e h last =
-    let n : t ≡ s = omega arith in subst (λ k. rows_from g l u k rest ≡ numbered k more) n last
-past_rows g l u s t (x ∷ xs) rest more e h last =
-    let first = h 0 s (omega arith) (omega arith) in
-    let later = past_rows g l u (s + 1) t xs rest more (omega arith) (λ k m at inside. h (suc k) m (omega arith) (omega arith)) last in
-    (λ i. first i ++ later i)
+-- the row of a superstep is that of the run
+row-opened : (n : ℕ) (r : Run) (u : Update) (s : ℕ) → IsOpened n r u → s < length (supersteps_of r) → row_again None r s (processes_at u.executed s) (processes_at u.redelivered s) ≡ get_or (costs_of r) s no_costs
+unfolding is_synchronised
+row-opened n r u s h l =
+    let ts = processes_at u.executed s in
+    let ds = processes_at u.redelivered s in
+    let os = outcomes_at (Some r) s in
+    let w : work_of ts os ≡ largest_work os = ap (λ ps. work_of ps os) (h.turns s l) ∙ work-all os n (h.counts s l) in
+    elim (cases_lt s (length r.past)) [
+      | inl k ↦
+          let m : h_relation (travelling None r s ts ds os) ≡ h_relation os =
+          ap h_relation (travels-all n (reads_other (outcomes_at None s) os) ts ds os (h.turns s l) (h.deliveries s k) (h.counts s l) (h.known s k)) in
+          row_delivered None r s ts ds k ∙ (λ i. record { work = w i; h = m i; cost = w i + m i * r.g + r.l }) ∙ sym (cost_delivered r s k)
+      | inr k ↦ row_ended None r s ts ds k ∙ (λ i. record { work = w i; h = 0; cost = w i }) ∙ sym (cost_ended r s k l)
+    ]
 
-last_rows : (g l : ℕ) (u : Update) (t : ℕ) (b : Bool) (x : Superstep) → (b ≡ true → IsRow g l u t x.outcomes (cost_of_end x.outcomes))
-    → rows_from g l u t (cond b (x ∷ []) []) ≡ numbered t (map cost_of_end (outcomes_of (cond b (x ∷ []) [])))
-last_rows g l u t true x h = ap (λ rows. rows ++ []) (h refl)
-last_rows g l u t false x h = refl
+-- in each superstep something was done again
+redone-opened : (n : ℕ) (r : Run) (u : Update) (s : ℕ) → IsOpened (suc n) r u → s < length (supersteps_of r) → is_redone u s ≡ true
+redone-opened n r u s h l = ap (λ ps. has_some ps || has_some (processes_at u.redelivered s)) (h.turns s l)
+
+numbered-is : (f : ℕ → StepCost) (a : ℕ) (cs : List CostRow) → ((k : ℕ) → k < length cs → f (a + k) ≡ record { step = a + k; row = get_or cs k no_costs }) → map f (range_with_len a (length cs)) ≡ numbered a cs
+numbered-is f a [] h = refl
+numbered-is f a (c ∷ cs) h =
+    let at : a + 0 ≡ a = omega arith in
+    let first : f a ≡ record { step = a; row = c } = sym (ap f at) ∙ h 0 (omega arith) ∙ ap (λ k. record { step = k; row = c }) at in
+    let later = numbered-is f (a + 1) cs (λ k l. let next : a + 1 + k ≡ a + suc k = omega arith in ap f next ∙ h (suc k) (omega arith) ∙ ap (λ j. record { step = j; row = get_or cs k no_costs }) (sym next)) in
+    (λ i. first i ∷ later i)
 
 total-numbered : (s : ℕ) (rows : List CostRow) → total_again (numbered s rows) ≡ total_of rows
 total-numbered s [] = refl
@@ -93,38 +113,15 @@ total-numbered s (row ∷ rows) =
     sum_by-cons (λ (r : StepCost). r.row.cost) (record { step = s; row = row }) (numbered (s + 1) rows) ∙ ap (λ n. row.cost + n) (total-numbered (s + 1) rows)
     ∙ sym (sum_by-cons (λ (r : CostRow). r.cost) row rows)
 
--- what is known of the run and of the update of its opening
-record IsOpened (n : ℕ) (r : Run) (u : Update) : Type 0 where
-  pub turns : (s : ℕ) → s < length (supersteps_of r) → processes_at u.executed s ≡ range_with_len 0 n
-  pub deliveries : (s : ℕ) → s < length r.past → processes_at u.redelivered s ≡ range_with_len 0 n
-  pub no_delivery : processes_at u.redelivered (length r.past) ≡ []
-  pub counts : (s : ℕ) → s < length (supersteps_of r) → length (superstep_at (supersteps_of r) s).outcomes ≡ n
-  pub known : (s : ℕ) → s < length r.past → AreDeliverable (superstep_at r.past s).outcomes
-
-past_row : (n : ℕ) (r : Run) (u : Update) (s : ℕ) → IsOpened (suc n) r u → s < length r.past → IsRow r.g r.l u s (superstep_at r.past s).outcomes (cost_of_delivery r.g r.l (superstep_at r.past s).outcomes)
-past_row n r u s h l =
-    let at = front r s l in
-    whole_delivery r.g r.l s n (processes_at u.executed s) (processes_at u.redelivered s) (superstep_at r.past s).outcomes (h.turns s at.0) (h.deliveries s l)
-    (ap (λ (x : Superstep). length x.outcomes) (sym at.1) ∙ h.counts s at.0) (h.known s l)
-
--- the superstep that ended the run, if its turns were taken
-last_if : (b : Bool) (past : List Superstep) (x : Superstep) → b ≡ true → (length past < length (past ++ cond b (x ∷ []) [])) × (superstep_at (past ++ cond b (x ∷ []) []) (length past) ≡ x)
-last_if true past x e = (omega (arith, length-append past (x ∷ [])), get_or_push past x no_superstep (length past) refl)
-last_if false past x e = absurd (false≢true e)
-
-last_there : (r : Run) → has_turns r.phase ≡ true → (length r.past < length (supersteps_of r)) × (superstep_at (supersteps_of r) (length r.past) ≡ open_superstep r)
-last_there r b = last_if (has_turns r.phase) r.past (open_superstep r) b
-
-opened_rows : (n : ℕ) (r : Run) (u : Update) → IsOpened (suc n) r u → rows_from r.g r.l u 0 (supersteps_of r) ≡ numbered 0 (costs_of r)
-unfolding costs_of
+opened_rows : (n : ℕ) (r : Run) (u : Update) → IsOpened (suc n) r u → map (step_cost None r u) (filter (is_redone u) (range_with_len 0 (length (supersteps_of r)))) ≡ numbered 0 (costs_of r)
 opened_rows n r u h =
-    let t = length r.past in
-    let x = open_superstep r in
-    past_rows r.g r.l u 0 t r.past (last_superstep r) (map cost_of_end (outcomes_of (last_superstep r))) (omega arith)
-    (λ k m at inside. let e : k ≡ m = omega arith in subst (λ j. IsRow r.g r.l u j (superstep_at r.past k).outcomes (cost_of_delivery r.g r.l (superstep_at r.past k).outcomes)) e (past_row n r u k h inside))
-    (last_rows r.g r.l u t (has_turns r.phase) x (λ b.
-    let at = last_there r b in
-    whole_end r.g r.l t n (processes_at u.executed t) (processes_at u.redelivered t) x.outcomes (h.turns t at.0) h.no_delivery (ap (λ (y : Superstep). length y.outcomes) (sym at.1) ∙ h.counts t at.0)))
+    let f = step_cost None r u in
+    let m = length (supersteps_of r) in
+    ap (map f) (filter_all (is_redone u) 0 m (λ k low high. redone-opened n r u k h (omega arith)))
+    ∙ ap (λ k. map f (range_with_len 0 k)) (sym (count_costs r))
+    ∙ numbered-is f 0 (costs_of r) (λ k l. let at : 0 + k ≡ k = omega arith in
+    let inside : k < m = omega (arith, l, count_costs r) in
+    ap f at ∙ ap (λ (row : CostRow). record { step = k; row = row }) (row-opened (suc n) r u k h inside) ∙ ap (λ j. record { step = j; row = get_or (costs_of r) k no_costs }) (sym at))
 
 -- what an opening takes and delivers
 opened : (acts : ViewParts → List Act) (ending : ViewParts → End) (looks : ViewParts → ℕ → Bool) (input : Input) (r : Run) (u : Update) → input_fault input ≡ None → IsBspRun (turn_of acts ending) input r → IsExact looks None r u
@@ -144,9 +141,8 @@ opened acts ending looks input r u lawful law is =
           all_at u.redelivered s n is.redelivered_in_order (λ q.
           let both = is.redelivered (record { step = s; pid = q }) in
           (λ c. omega (arith, (both.0 c).0, count), λ k. both.1 (omega (arith, k, count), λ kept. omega (arith, kept.there))));
-      no_delivery = deliveries_end looks None r u is;
       counts = counts;
-      known = λ s l. within.past s no_superstep l;
+      known = λ s l. subst (λ (x : Superstep). AreDeliverable x.outcomes) (sym (front r s l).1) (within.past s no_superstep l);
     }
 
 -- there is a process

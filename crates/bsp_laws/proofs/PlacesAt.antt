@@ -1,23 +1,18 @@
 -- The processes of an update's places in a superstep.
-use Rattle.std.proofs.Common.{◌≡◌, ℕ, zero, suc, ◌+◌, ◌<◌, ◌≤◌, ◌==◌, ◌↔◌, Bool, cond, List, [], ◌∷◌, Option, filter, length, map, refl, sym, ap, ◌∙◌, subst, arith, inl, inr}
+use Rattle.std.proofs.Common.{◌≡◌, ℕ, zero, suc, ◌+◌, ◌<◌, ◌≤◌, ◌==◌, ◌↔◌, Bool, cond, List, [], ◌∷◌, filter, length, map, refl, sym, ap, ◌∙◌, subst, arith, inl, inr}
 use Rattle.std.specs.List.{Contains, range_with_len}
 use Rattle.std.proofs.lemmas.Bool.{cases_eq, eq-eqb, ne_eqb}
-use Rattle.bsp_step.specs.ViewParts.{ViewParts}
-use Rattle.bsp_run.specs.declared.superstep.Superstep.{Superstep}
-use Rattle.bsp_run.specs.Run.{Run}
-use Rattle.bsp_run.proofs.Laws.{superstep_at-past_end}
 use Rattle.bsp_incr.specs.declared.reply.Place.{Place}
-use Rattle.bsp_incr.specs.declared.reply.Update.{Update}
-use Rattle.bsp_incr.specs.Exact.{comes_before, AreInOrder, IsExact}
+use Rattle.bsp_incr.specs.Exact.{comes_before, AreInOrder}
 use Rattle.bsp_causes.specs.UpdateCost.{processes_at}
 
 abbrev place_of : ℕ → ℕ → Place
 place_of s p = record { step = s; pid = p }
 
-here : {X : Type 0} (x : X) (xs : List X) → Contains (x ∷ xs) x
+pub here : {X : Type 0} (x : X) (xs : List X) → Contains (x ∷ xs) x
 here x xs = (0, omega arith, refl)
 
-there : {X : Type 0} (x : X) (xs : List X) (y : X) → Contains xs y → Contains (x ∷ xs) y
+pub there : {X : Type 0} (x : X) (xs : List X) (y : X) → Contains xs y → Contains (x ∷ xs) y
 there x xs y c = (suc c.0, omega (arith, c.1), c.2)
 
 nowhere : {X : Type 0} (y : X) → Contains [] y → ⊥
@@ -51,7 +46,7 @@ listed (p ∷ later) s q c =
     ]
 
 -- and who has a place there is listed
-is_listed : (places : List Place) (s q : ℕ) → Contains places (place_of s q) → Contains (processes_at places s) q
+pub is_listed : (places : List Place) (s q : ℕ) → Contains places (place_of s q) → Contains (processes_at places s) q
 is_listed [] s q c = absurd (nowhere (place_of s q) c)
 is_listed (p ∷ later) s q (zero, inside, is) =
     let e = ap (λ (x : Place). x.step) is in
@@ -114,9 +109,3 @@ all_at places s n ordered h =
       inside = λ q c. let l = (h q).0 (listed places s q c) in (omega arith, omega (arith, l));
       all = λ q l k. is_listed places s q ((h q).1 (omega (arith, k)));
     }
-
--- no delivery was made after those of the supersteps that ended by delivery
-pub deliveries_end : (looks : ViewParts → ℕ → Bool) (old : Option Run) (run : Run) (update : Update) → IsExact looks old run update → processes_at update.redelivered (length run.past) ≡ []
-deliveries_end looks old run update is =
-    none_at update.redelivered (length run.past)
-    (λ p c e. let l = ((is.redelivered p).0 c).0 in omega (arith, l, ap (λ (x : Superstep). length x.outcomes) (superstep_at-past_end run.past p.step (omega (arith, e)))))

@@ -3,7 +3,7 @@
 ghost use Rattle.bsp_run.specs.Law.{OneRun};
 ghost use Rattle.bsp_laws.specs.Batches.{AcceptanceStays, LengthsStay, LastWins, LastWinsInBatch, EditsCommute};
 ghost use Rattle.bsp_laws.specs.Causes.{UpdatesHaveCauses};
-ghost use Rattle.bsp_laws.specs.Costs.{NothingCostsNothing, OpeningsCostTheRun, UpdatesCostAtMostTheRun};
+ghost use Rattle.bsp_laws.specs.Costs.{NothingCostsNothing, OpeningsCostTheRun, TravelsArePaid, UpdatesCostAtMostTheRun};
 ghost use Rattle.bsp_laws.specs.Least.{NoTurnServesMore};
 ghost use Rattle.bsp_laws.specs.Reach.{SeesTheSame, UpdatesAreWithinReach, TablesStay, NoTurnWithoutACause};
 ghost use Rattle.bsp_laws.specs.Updates.{NothingForTheSameRun, LimitsAndPricesGoOn, LowerLimitsDoNothing, TurnsAreReused};
@@ -96,7 +96,12 @@ pub fn nothing_costs_nothing()
     ensures { NothingCostsNothing }
 {}
 
-/// An exact update costs in no superstep more than the run does there, and in all at most the run's total.
+/// An update costs in no superstep more than the run does there, and in all at most the run's total.
 pub fn updates_cost_at_most_the_run()
     ensures { UpdatesCostAtMostTheRun }
+{}
+
+/// A superstep in which words travelled again costs at least `l` and their `h*g`, beside the work.
+pub fn travels_are_paid()
+    ensures { TravelsArePaid }
 {}

@@ -1,8 +1,10 @@
 -- The processes that an update tells of, and that of all others nothing is another where both runs end alike.
 use Rattle.std.specs.Prelude.{◌≡◌, ◌<◌, ℕ, Bool, true, false, List, [], ◌∷◌, ◌++◌, codes, length, replicate, slice_get, slice_index_or, Option, None, Some, if◌then◌else◌}
 use Rattle.bsp_model.specs.declared.input.Input.{Input}
+use Rattle.bsp_model.specs.declared.fault.End.{End}
+use Rattle.bsp_step.specs.Act.{Act}
+use Rattle.bsp_step.specs.Turn.{turn_of}
 use Rattle.bsp_step.specs.ViewParts.{ViewParts}
-use Rattle.bsp_step.specs.OutcomeParts.{OutcomeParts}
 use Rattle.bsp_run.specs.declared.result.RunResult.{RunResult}
 use Rattle.bsp_run.specs.Run.{Run}
 use Rattle.bsp_model.specs.declared.cost.CostRow.{CostRow}
@@ -16,10 +18,11 @@ use Rattle.bsp_engine.specs.Untouched.{touched, end_alike, AreRunsAround}
 
 -- A run before the batch, the run after it, and what was done for that.
 pub record IsUpdateBetween (old : Run) (batch : List Edit) (update : Update) (new : Run) : Type 0 where
-  pub turn : ViewParts → OutcomeParts
+  pub acts : ViewParts → List Act
+  pub ending : ViewParts → End
   pub looks : ViewParts → ℕ → Bool
   pub input : Input
-  pub runs : AreRunsAround turn looks input batch update old new
+  pub runs : AreRunsAround (turn_of acts ending) looks input batch update old new
 
 -- The processes that are compared: those that are touched, or all where the runs do not end alike.
 abbrev pub compared_processes : RunResult → RunResult → List Edit → Update → List Bool

@@ -1,7 +1,11 @@
 use Rattle.std.proofs.Common.{◌<◌, ◌∙◌, length, ap, arith, subst, sym}
-use Rattle.bsp_run.specs.Supersteps.{supersteps_of, superstep_at}
-use Rattle.bsp_causes.specs.UpdateCost.{processes_of, processes_at, row_if}
-use Rattle.bsp_causes.specs.Inside.Walk.{AreBySuperstep, with_rows}
+use Rattle.std.specs.Prelude.{option_map}
+use Rattle.std.proofs.Common.{Bor}
+use Rattle.bsp_run.specs.Run.{Run}
+use Rattle.bsp_run.specs.Supersteps.{supersteps_of}
+use Rattle.bsp_causes.specs.Inside.Walk.{processes_of}
+use Rattle.bsp_causes.specs.UpdateCost.{processes_at}
+use Rattle.bsp_causes.specs.Inside.Walk.{AreBySuperstep, rows_at, with_rows}
 use Rattle.bsp_causes.proofs.Rows.{rows_more}
 use Rattle.bsp_causes.proofs.Walks.{between, by_superstep}
 use Rattle.bsp_causes.proofs.costs.add_rows.Goals as goal
@@ -15,10 +19,10 @@ end_of-delivery_end-requires-clause-in_order c =
 
 pub loop-step-preserved : goal.loop-step-preserved
 loop-step-preserved c =
-    let run = c.args.run.now in
+    let old = option_map (λ (h : Bor Run). h.now) c.args.old in
+    let new = c.args.new.now in
     let step = c.loop-step.step in
     let walk = c.loop-step.invariant in
-    let here : step < length (supersteps_of run) = omega (arith, c.loop-step-test.true, c.steps-step-end.ensures.count) in
     let turned =
     ap processes_of (between c.as_slice-turns.result.now step c.loop-step.turn c.end_of-turn_end.result c.end_of-turn_end.ensures.later walk.turns c.end_of-turn_end.ensures.end)
     ∙ ap (λ ps. processes_at ps step) c.as_slice-turns.ensures in
@@ -27,8 +31,8 @@ loop-step-preserved c =
     ∙ ap (λ ps. processes_at ps step) c.as_slice-deliveries.ensures in
     record {
       rows =
-          rows_more run.g run.l c.args.update.now (supersteps_of run) step c.args.cost.now c.loop-step.cost c.add_row.new.cost here walk.rows
-          (c.in_ok-add_row.ensures.rows ∙ (λ i. with_rows c.loop-step.cost (row_if run.g run.l step (turned i) (delivered i) (superstep_at (supersteps_of run) step).outcomes)));
+          rows_more old new c.args.update.now step c.args.cost.now c.loop-step.cost c.add_row.new.cost walk.rows
+          (c.in_ok-add_row.ensures.rows ∙ (λ i. with_rows c.loop-step.cost (rows_at old new step (turned i) (delivered i))));
       small = omega (arith, c.in_ok-add_row.ensures.small, walk.small);
       turns = c.end_of-turn_end.ensures.end;
       deliveries = c.end_of-delivery_end.ensures.end;

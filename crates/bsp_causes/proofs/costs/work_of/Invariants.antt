@@ -1,6 +1,7 @@
 use Rattle.std.proofs.Common.{◌≤◌, ◌≡◌, max, drop}
 use Rattle.bsp_model.specs.Limits.{most_work}
-use Rattle.bsp_causes.specs.UpdateCost.{processes_of, work_of}
+use Rattle.bsp_causes.specs.Inside.Walk.{processes_of}
+use Rattle.bsp_causes.specs.UpdateCost.{work_of}
 use Rattle.bsp_causes.proofs.costs.work_of.Given as goal
 
 -- the largest work so far, and the largest of what is left
