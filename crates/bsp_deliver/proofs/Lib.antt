@@ -18,3 +18,5 @@ pub mod CellsOf
 pub mod MovedMemories
 pub mod Targeted
 pub mod BothOk
+mod AddressedRequests
+mod Queues

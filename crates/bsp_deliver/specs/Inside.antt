@@ -6,3 +6,4 @@ pub mod Gathering
 pub mod Cells
 pub mod Chains
 pub mod Puts
+pub mod Inbox

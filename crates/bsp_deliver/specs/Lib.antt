@@ -1,5 +1,6 @@
 pub mod Requests
 pub mod Delivery
+pub mod Inbox
 pub mod Condition
 pub mod Readable
 pub mod SyncFault

@@ -75,7 +75,11 @@ fn add_memory(memories: &mut Memories, d: usize, outcomes: &Outcomes) -> Result<
 ///
 /// # Errors
 /// `OutOfMemory` where there is none for the memory.
-pub fn memory_with_gets(alloc: Global, d: usize, outcomes: &Outcomes) -> Result<Memory, OutOfMemory>
+pub(crate) fn memory_with_gets(
+    alloc: Global,
+    d: usize,
+    outcomes: &Outcomes,
+) -> Result<Memory, OutOfMemory>
     requires known { d < length outcomes.now }
     requires deliverable { AreDeliverable outcomes.now }
     ensures { IfOk result (λ memory. memory ≡ each_below (length (delivery_parts outcomes.now d).memory) (λ a.

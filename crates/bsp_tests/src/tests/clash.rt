@@ -6,11 +6,12 @@ ghost use Rattle.bsp_step.specs.Calls.{Runs};
 ghost use Rattle.bsp_tests.specs.Clash.{clash_plan};
 
 use super::known::{End as Left, is_memory};
+use bsp_deliver::{deliver, deliver_inbox, inbox};
 use bsp_gate::Open;
 use bsp_model::{CostRow, End, Input, Memory, OutOfMemory, Same, Seq, Words};
 use bsp_run::{History, RunError};
 use bsp_step::{Ctx, Outcomes, Program, Queue, Stop, View, settle};
-use bsp_whole::{deliver, deliver_inbox, inbox, run_plain, run_wide};
+use bsp_whole::{run_plain, run_wide};
 use std::alloc::Global;
 use std::thread::Threads;
 

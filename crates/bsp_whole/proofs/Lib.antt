@@ -1,2 +1,0 @@
-mod AddressedRequests
-mod Queues

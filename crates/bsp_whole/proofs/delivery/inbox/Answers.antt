@@ -1,6 +1,0 @@
-use Rattle.bsp_deliver.specs.Delivery.{delivery_parts}
-use Rattle.bsp_whole.proofs.delivery.inbox.Goals as goal
-
-pub returns : goal.returns
-unfolding delivery_parts
-returns c = λ i. record { puts = c.in_ok-puts.ensures i; sends = c.in_ok-sends.ensures.sends i }

@@ -1,2 +1,0 @@
-pub mod Inbox
-pub mod Inside
