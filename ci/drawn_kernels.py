@@ -32,11 +32,11 @@ def draw_instruction(draw, names, places):
 
 def draw_code(draw):
     """Random instructions behind a superstep that registers the memory, on few processes. Most turns end soon."""
-    nprocs, size = draw.choice((1, 2, 2, 3)), draw.randrange(5)
+    nprocs, size = draw.count(1, 2, 2, 3), draw.length(*range(5))
     opening = [["memory_len", 0], ["step", 1], ["unless", 1, 4], ["jump", 6], ["push_reg", 255, 0], ["sync"]]
     count = len(opening) + draw.randrange(40)
     names = [name for name in KINDS if name not in ENDS] + list(draw.choice((ENDS, ("halt",), ())))
-    names += ["number"] * draw.randrange(12) + ["load", "store", "put_block", "take", "send"] * draw.randrange(4)
+    names += ["number"] * draw.randrange(12) + ["load", "load_at", "store", "put_block", "take", "send"] * draw.randrange(4)
     code = opening + [draw_instruction(draw, names, count) for _ in range(count - len(opening))]
     keys = {"kernel": code, "constants": draw.words(draw.randrange(4)), "budget": draw.choice((0, 1, 7, 100, 100, 1000))}
     if draw.happens(0.2):

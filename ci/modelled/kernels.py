@@ -17,9 +17,11 @@ KINDS = {
     **{name: (REGISTER,) for name in (*SOURCES, "charge", "pop_reg", "take", "abort")},
     **{name: (REGISTER,) * 2 for name in (*INDEXED, "copy", "load", "store", "push_reg", "set_tagsize", "print", "print_block", "store_taken")},
     **{name: FIVE for name in ("put", "put_block", "put_constants", "get", "send", "send_block", "send_constants")},
+    "load_at": (REGISTER,) * 3,
     "number": (REGISTER, NUMBER),
     "jump": (PLACE,),
     "unless": (REGISTER, PLACE),
+    "unless_lt": (REGISTER, REGISTER, PLACE),
     "sync": (),
     "halt": (),
 }

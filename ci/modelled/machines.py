@@ -100,10 +100,16 @@ class Machine:
             r[operands[0]] = there(self.source(name, operands[1:]), 2 if name == "argument" else 1)
         elif name == "load":
             r[operands[0]] = there(at(self.memory, r[operands[1]]), 1)
+        elif name == "load_at":
+            d, a, b = operands
+            r[d] = there(at(self.memory, (r[a] + r[b]) % MODULUS), 1)
         elif name == "jump":
             self.place = operands[0]
         elif name == "unless":
             self.place = operands[1] if r[operands[0]] == 0 else self.place
+        elif name == "unless_lt":
+            a, b, to = operands
+            self.place = self.place if r[a] < r[b] else to
         elif name in ("sync", "halt"):
             raise Ended(name)
         elif name == "abort":
@@ -196,7 +202,7 @@ class Blind(Machine):
 
     def follow(self, name: str, operands) -> None:
         r = self.registers
-        if name in ("load", "put_block", "send_block", "print_block"):
+        if name in ("load", "load_at", "put_block", "send_block", "print_block"):
             self.look(name, operands)
         elif name in ("copy", *OPERATORS):
             d, *used = operands
@@ -211,18 +217,18 @@ class Blind(Machine):
         elif name in ("number", *SOURCES, "set_tagsize", "take"):
             super().follow(name, operands)
             self.known[operands[0]] = name != "words_left"
-        elif name in ("jump", "unless", "sync", "halt", "abort"):
-            self.needs(*operands[:1] if name == "unless" else ())
+        elif name in ("jump", "unless", "unless_lt", "sync", "halt", "abort"):
+            self.needs(*operands[: {"unless": 1, "unless_lt": 2}.get(name, 0)])
             super().follow(name, operands)
         else:
             self.place += 1
 
     def look(self, name: str, operands) -> None:
         """A word is loaded, or a block of own words is used."""
-        if name == "load":
-            d, address = operands
-            self.needs(address)
-            self.looked.append((self.registers[address], 1))
+        if name in ("load", "load_at"):
+            d, *used = operands
+            self.needs(*used)
+            self.looked.append((sum(self.registers[each] for each in used) % MODULUS, 1))
             self.learn(d, None)
         else:
             start, length = {"put_block": operands[1:3], "send_block": operands[3:5], "print_block": operands}[name]

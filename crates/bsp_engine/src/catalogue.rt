@@ -2,6 +2,7 @@
 
 ghost use Rattle.std.specs.Prelude.{◌≡◌, IfOk};
 
+use crate::explain::Remark;
 use crate::tree::{has, text_at, value_at};
 use bsp_model::OutOfMemory;
 use bsp_step::Program;
@@ -41,6 +42,11 @@ pub trait Catalogue {
     /// The key of the catalogue's own that is named to the user where its keys have the fault J2, J3, J5 or J7.
     fn key_at_fault(document: &Table) -> &'static str
         ensures { meaning.is_key result.now ≡ true };
+
+    /// Says behind the key that is named where in its value the fault J3 is, and why.
+    fn tell_misfit(_document: &Table, remark: &mut Remark) {
+        remark.add(": a value of another shape");
+    }
 
     /// The names of the programs, in words, for whoever wrote another name (J5); empty where programs have no names.
     fn names() -> &'static str {

@@ -11,14 +11,14 @@ use crate::tree::value_at;
 use batch::tell_batch_fault;
 use bsp_model::Input;
 use reasons::tell_fault;
-use remark::Remark;
+pub use remark::Remark;
 use std::alloc::Global;
 use std::fs;
 use std::rt::Files;
 use toml::Table;
 
-/// The table of a document that is these written bytes, or that has words before them and an LF behind them. Where it is no TOML, there is none, and it
-/// is told where in the written bytes.
+/// The table of a document. `written` is the document, or the part of it that somebody wrote, to which words in front and an LF behind were added. Where
+/// the document is no TOML there is no table, and the place in the written bytes is told.
 fn read_table(
     alloc: Global,
     document: &[u8],
@@ -49,7 +49,7 @@ pub fn explain<C: Catalogue, R: Alloc<A = Global> + Eprint>(rt: &R, document: &[
     if let Some(table) = read_table(rt.alloc(), document, document, &mut remark)
         && let Err(wrong) = check::<C>(&table)
     {
-        tell_fault(&mut remark, &table, &wrong, C::names());
+        tell_fault::<C>(&mut remark, &table, &wrong);
     }
     remark.say(rt);
 }

@@ -29,6 +29,7 @@ pub use bsp_options::{Detail, Options, Tool, VERSION, read_options, words_status
 pub use catalogue::{ByName, Catalogue, Named};
 pub use documents::{engine, follow};
 pub use errors::{EngineError, JobError, JobFault};
+pub use explain::Remark;
 pub use flow::{Failed, Sink, Source};
 pub use jobs::{
     ArrayOf, Described, Each, Job, NotNegative, Path, Shape, all_fit, fits, read_each, read_job,

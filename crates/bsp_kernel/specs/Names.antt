@@ -12,8 +12,7 @@ use Rattle.bsp_kernels.specs.declared.instruction.Instruction.TheVariants as ins
 
 abbrev pub operator_named : List ℕ → Option Operator
 operator_named text =
-    if bytes_eq text (codes "add") then Some operator.Add
-    else (if bytes_eq text (codes "sub") then Some operator.Sub
+    if bytes_eq text (codes "sub") then Some operator.Sub
     else (if bytes_eq text (codes "mul") then Some operator.Mul
     else (if bytes_eq text (codes "div") then Some operator.Div
     else (if bytes_eq text (codes "rem") then Some operator.Rem
@@ -26,7 +25,7 @@ operator_named text =
     else (if bytes_eq text (codes "ne") then Some operator.Ne
     else (if bytes_eq text (codes "lt") then Some operator.Lt
     else (if bytes_eq text (codes "le") then Some operator.Le
-    else None)))))))))))))
+    else None))))))))))))
 
 -- a source, with 0 for its operand
 abbrev pub source_named : List ℕ → Option Source
@@ -71,14 +70,17 @@ abbrev pub plain_named : List ℕ → Option Instruction
 plain_named text =
     if bytes_eq text (codes "number") then Some (instruction.Number 0 0)
     else (if bytes_eq text (codes "copy") then Some (instruction.Copy 0 0)
+    else (if bytes_eq text (codes "add") then Some (instruction.Add 0 0 0)
     else (if bytes_eq text (codes "load") then Some (instruction.Load 0 0)
+    else (if bytes_eq text (codes "load_at") then Some (instruction.LoadAt 0 0 0)
     else (if bytes_eq text (codes "store") then Some (instruction.Store 0 0)
     else (if bytes_eq text (codes "jump") then Some (instruction.Jump 0)
     else (if bytes_eq text (codes "unless") then Some (instruction.Unless 0 0)
+    else (if bytes_eq text (codes "unless_lt") then Some (instruction.UnlessLess 0 0 0)
     else (if bytes_eq text (codes "sync") then Some instruction.Sync
     else (if bytes_eq text (codes "halt") then Some instruction.Halt
     else (if bytes_eq text (codes "abort") then Some (instruction.Abort 0)
-    else None))))))))
+    else None)))))))))))
 
 abbrev pub unless_call : Option Call → Option Instruction → Option Instruction
 unless_call (Some c) other = Some (instruction.Call c)

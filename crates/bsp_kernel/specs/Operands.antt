@@ -7,7 +7,7 @@ use Rattle.bsp_kernels.specs.declared.source.Source.TheVariants.{Nprocs, Pid, St
 use Rattle.bsp_kernels.specs.declared.call.Call.{Call}
 use Rattle.bsp_kernels.specs.declared.call.Call.TheVariants.{Charge, Put, PutBlock, PutConstants, Get, Send, SendBlock, SendConstants, PushReg, PopReg, SetTagsize, Print, PrintBlock, Take, StoreTaken}
 use Rattle.bsp_kernels.specs.declared.instruction.Instruction.{Instruction}
-use Rattle.bsp_kernels.specs.declared.instruction.Instruction.TheVariants.{Number, Copy, Compute, Read, Load, Store, Jump, Unless, Call as Calls, Sync, Halt, Abort}
+use Rattle.bsp_kernels.specs.declared.instruction.Instruction.TheVariants.{Number, Copy, Add, Compute, Read, Load, LoadAt, Store, Jump, Unless, UnlessLess, Call as Calls, Sync, Halt, Abort}
 
 -- the register at a place of an instruction; its name stands at place 0
 abbrev pub register_in : ℕ → List Data → ℕ
@@ -52,12 +52,15 @@ filled_call (StoreTaken a b) ds = StoreTaken (register_in 1 ds) (register_in 2 d
 abbrev pub filled : Instruction → List Data → Instruction
 filled (Number a n) ds = Number (register_in 1 ds) (number_in 2 ds)
 filled (Copy a b) ds = Copy (register_in 1 ds) (register_in 2 ds)
+filled (Add a b c) ds = Add (register_in 1 ds) (register_in 2 ds) (register_in 3 ds)
 filled (Compute o a b c) ds = Compute o (register_in 1 ds) (register_in 2 ds) (register_in 3 ds)
 filled (Read a s) ds = Read (register_in 1 ds) (filled_source s ds)
 filled (Load a b) ds = Load (register_in 1 ds) (register_in 2 ds)
+filled (LoadAt a b c) ds = LoadAt (register_in 1 ds) (register_in 2 ds) (register_in 3 ds)
 filled (Store a b) ds = Store (register_in 1 ds) (register_in 2 ds)
 filled (Jump to) ds = Jump (number_in 1 ds)
 filled (Unless a to) ds = Unless (register_in 1 ds) (number_in 2 ds)
+filled (UnlessLess a b to) ds = UnlessLess (register_in 1 ds) (register_in 2 ds) (number_in 3 ds)
 filled (Calls c) ds = Calls (filled_call c ds)
 filled Sync ds = Sync
 filled Halt ds = Halt

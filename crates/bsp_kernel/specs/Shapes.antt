@@ -9,14 +9,18 @@ use Rattle.bsp_kernels.specs.declared.source.Source.TheVariants.{FirstTag, Taken
 use Rattle.bsp_kernels.specs.declared.call.Call.{Call}
 use Rattle.bsp_kernels.specs.declared.call.Call.TheVariants.{Charge, PushReg, PopReg, SetTagsize, Print, PrintBlock, Take, StoreTaken}
 use Rattle.bsp_kernels.specs.declared.instruction.Instruction.{Instruction}
-use Rattle.bsp_kernels.specs.declared.instruction.Instruction.TheVariants.{Number as Numbers, Copy, Compute, Read, Load, Store, Jump, Unless, Call as Calls, Sync, Halt, Abort}
+use Rattle.bsp_kernels.specs.declared.instruction.Instruction.TheVariants.{Number as Numbers, Copy, Add, Compute, Read, Load, LoadAt, Store, Jump, Unless, UnlessLess, Call as Calls, Sync, Halt, Abort}
 use Rattle.bsp_kernel.specs.declared.operands.Kind.{Kind}
 use Rattle.bsp_kernel.specs.declared.operands.Kind.TheVariants.{Register, Number, Place}
 use Rattle.bsp_kernel.specs.Names.{template_named}
 
+-- the text that the values begin with
+abbrev pub name_in : List Data → Option (List ℕ)
+name_in ds = option_and_then as_str (slice_get ds 0)
+
 -- the instruction whose name the values begin with
 abbrev pub template_in : List Data → Option Instruction
-template_in ds = option_and_then template_named (option_and_then as_str (slice_get ds 0))
+template_in ds = option_and_then template_named (name_in ds)
 
 abbrev pub source_kinds : Source → List Kind
 source_kinds (FirstTag a) = Register ∷ Register ∷ []
@@ -40,12 +44,15 @@ call_kinds call = Register ∷ Register ∷ Register ∷ Register ∷ Register �
 abbrev pub kinds_of : Instruction → List Kind
 kinds_of (Numbers a n) = Register ∷ Number ∷ []
 kinds_of (Copy a b) = Register ∷ Register ∷ []
+kinds_of (Add a b c) = Register ∷ Register ∷ Register ∷ []
 kinds_of (Compute o a b c) = Register ∷ Register ∷ Register ∷ []
 kinds_of (Read a s) = source_kinds s
 kinds_of (Load a b) = Register ∷ Register ∷ []
+kinds_of (LoadAt a b c) = Register ∷ Register ∷ Register ∷ []
 kinds_of (Store a b) = Register ∷ Register ∷ []
 kinds_of (Jump to) = Place ∷ []
 kinds_of (Unless a to) = Register ∷ Place ∷ []
+kinds_of (UnlessLess a b to) = Register ∷ Register ∷ Place ∷ []
 kinds_of (Calls c) = call_kinds c
 kinds_of Sync = []
 kinds_of Halt = []

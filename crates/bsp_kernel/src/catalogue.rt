@@ -7,11 +7,12 @@ ghost use Rattle.toml.specs.View.{table_view};
 ghost use Rattle.bsp_engine.specs.Tree.{elements_at, is_negative};
 ghost use Rattle.bsp_kernel.specs.Catalogue.{budget_of, has_right_budget, has_right_code, has_right_constants, is_negative_in};
 
+use crate::misfits::tell_code;
 use crate::operands::filled;
 use crate::shapes::{has_negative_number, is_code, template_in};
 use bsp_engine::tree::{elements, elements_at, has, integer_at, is_negative, natural_of, value_at};
 use bsp_engine::{
-    ArrayOf, Catalogue, Described, NotNegative, Path, Shape, all_fit, fits, read_each,
+    ArrayOf, Catalogue, Described, NotNegative, Path, Remark, Shape, all_fit, fits, read_each,
 };
 use bsp_kernels::{Instruction, Kernel};
 use bsp_model::OutOfMemory;
@@ -148,6 +149,18 @@ impl Catalogue for Kernels {
             "budget"
         } else {
             "kernel"
+        }
+    }
+
+    fn tell_misfit(document: &Table, remark: &mut Remark) {
+        match Self::key_at_fault(document) {
+            "constants" => remark.add(": not an array of integers"),
+            "budget" => remark.add(": not an integer"),
+            _ => {
+                if let Some(value) = value_at(document, "kernel") {
+                    tell_code(remark, value);
+                }
+            }
         }
     }
 

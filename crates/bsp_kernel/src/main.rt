@@ -2,6 +2,7 @@
 #![tactic(auto)]
 
 mod catalogue;
+mod misfits;
 mod names;
 mod operands;
 mod shapes;
@@ -23,7 +24,8 @@ Instructions, over 256 registers that have 0 as a turn begins. r, a, b .. are nu
   [OPERATOR, r, a, b]  add, sub, mul, div, rem, and, or, xor, shl, shr, eq, ne, lt, le
   [SOURCE, r]  nprocs, pid, step, memory_len, tag_size, messages_left, words_left, first_len, first_tag_len
   [SOURCE, r, index]  argument, constant, first_tag, taken
-  [\"load\", r, address]  [\"store\", address, a]  [\"jump\", PLACE]  [\"unless\", a, PLACE]
+  [\"load\", r, address]  [\"load_at\", r, a, b]  [\"store\", address, a]
+  [\"jump\", PLACE]  [\"unless\", a, PLACE]  [\"unless_lt\", a, b, PLACE]
   [\"put\", pid, a, COUNT, area, offset]  of the words in COUNT registers from a on
   [\"put_block\", pid, from, len, area, offset]  [\"put_constants\", pid, from, len, area, offset]
   [\"get\", pid, area, offset, into, len]  [\"push_reg\", start, len]  [\"pop_reg\", start]

@@ -9,7 +9,6 @@ fn operator_named(text: &str) -> Option<Operator>
     ensures { result ≡ operator_named text.now }
 {
     match text {
-        "add" => Some(Operator::Add),
         "sub" => Some(Operator::Sub),
         "mul" => Some(Operator::Mul),
         "div" => Some(Operator::Div),
@@ -77,10 +76,13 @@ fn plain_named(text: &str) -> Option<Instruction>
     match text {
         "number" => Some(Instruction::Number(0, 0)),
         "copy" => Some(Instruction::Copy(0, 0)),
+        "add" => Some(Instruction::Add(0, 0, 0)),
         "load" => Some(Instruction::Load(0, 0)),
+        "load_at" => Some(Instruction::LoadAt(0, 0, 0)),
         "store" => Some(Instruction::Store(0, 0)),
         "jump" => Some(Instruction::Jump(0)),
         "unless" => Some(Instruction::Unless(0, 0)),
+        "unless_lt" => Some(Instruction::UnlessLess(0, 0, 0)),
         "sync" => Some(Instruction::Sync),
         "halt" => Some(Instruction::Halt),
         "abort" => Some(Instruction::Abort(0)),

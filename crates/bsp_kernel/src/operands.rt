@@ -87,14 +87,17 @@ pub fn filled(template: Instruction, values: &[Value]) -> Instruction
     match template {
         Instruction::Number(_, _) => Instruction::Number(a, number_in(values, 2)),
         Instruction::Copy(_, _) => Instruction::Copy(a, b),
+        Instruction::Add(_, _, _) => Instruction::Add(a, b, register_in(values, 3)),
         Instruction::Compute(operator, _, _, _) => {
             Instruction::Compute(operator, a, b, register_in(values, 3))
         }
         Instruction::Read(_, source) => Instruction::Read(a, filled_source(source, values)),
         Instruction::Load(_, _) => Instruction::Load(a, b),
+        Instruction::LoadAt(_, _, _) => Instruction::LoadAt(a, b, register_in(values, 3)),
         Instruction::Store(_, _) => Instruction::Store(a, b),
         Instruction::Jump(_) => Instruction::Jump(number_in(values, 1)),
         Instruction::Unless(_, _) => Instruction::Unless(a, number_in(values, 2)),
+        Instruction::UnlessLess(_, _, _) => Instruction::UnlessLess(a, b, number_in(values, 3)),
         Instruction::Call(call) => Instruction::Call(filled_call(call, values)),
         Instruction::Sync => Instruction::Sync,
         Instruction::Halt => Instruction::Halt,

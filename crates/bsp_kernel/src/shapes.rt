@@ -1,10 +1,10 @@
 //! Whether values are instructions (J3), and whether a number of them is negative (J7).
 
-ghost use Rattle.std.specs.Prelude.{◌≡◌, map};
+ghost use Rattle.std.specs.Prelude.{◌≡◌, map, option_map};
 ghost use Rattle.std.specs.List.{list_all, list_any};
 ghost use Rattle.toml.specs.View.{view};
 ghost use Rattle.bsp_kernel.specs.Shapes.{are_of_kinds, call_kinds, has_negative_number, is_code};
-ghost use Rattle.bsp_kernel.specs.Shapes.{is_instruction, is_of_kind, kinds_of, source_kinds, template_in};
+ghost use Rattle.bsp_kernel.specs.Shapes.{is_instruction, is_of_kind, kinds_of, most_of, name_in, source_kinds, template_in};
 
 use crate::names::template_named;
 use crate::operands::Kind;
@@ -14,11 +14,18 @@ use bsp_engine::{Each, NotNegative, all_fit};
 use bsp_kernels::{Call, Instruction, Source};
 use toml::Value;
 
+/// The name of an instruction, with which the values begin.
+pub fn name_in(values: &[Value]) -> Option<&str>
+    ensures { option_map (λ name. name.now) result ≡ name_in (map view values.now) }
+{
+    values.first()?.as_str()
+}
+
 /// The instruction whose name the values begin with, if there is one, with 0 for each operand.
 pub fn template_in(values: &[Value]) -> Option<Instruction>
     ensures { result ≡ template_in (map view values.now) }
 {
-    template_named(values.first()?.as_str()?)
+    template_named(name_in(values)?)
 }
 
 fn source_kinds(source: Source) -> &'static [Kind]
@@ -63,7 +70,7 @@ fn call_kinds(call: Call) -> &'static [Kind]
 }
 
 /// The operands of an instruction.
-fn kinds_of(template: Instruction) -> &'static [Kind]
+pub fn kinds_of(template: Instruction) -> &'static [Kind]
     ensures { result.now ≡ kinds_of template }
 {
     match template {
@@ -71,26 +78,35 @@ fn kinds_of(template: Instruction) -> &'static [Kind]
         Instruction::Copy(_, _) | Instruction::Load(_, _) | Instruction::Store(_, _) => {
             &[Register, Register]
         }
-        Instruction::Compute(_, _, _, _) => &[Register, Register, Register],
+        Instruction::Add(_, _, _)
+        | Instruction::Compute(_, _, _, _)
+        | Instruction::LoadAt(_, _, _) => &[Register, Register, Register],
         Instruction::Read(_, source) => source_kinds(source),
         Instruction::Jump(_) => &[Place],
         Instruction::Unless(_, _) => &[Register, Place],
+        Instruction::UnlessLess(_, _, _) => &[Register, Register, Place],
         Instruction::Call(call) => call_kinds(call),
         Instruction::Sync | Instruction::Halt => &[],
         Instruction::Abort(_) => &[Register],
     }
 }
 
-/// Whether a value may be such an operand in a code of so many instructions. A negative integer may: it is refused later.
-fn is_of_kind(kind: Kind, places: usize, value: &Value) -> bool
-    ensures { result ≡ is_of_kind kind places (view value.now) }
+/// The greatest number that such an operand may be, in a code of so many instructions.
+pub fn most_of(kind: Kind, places: usize) -> u64
+    ensures { result ≡ most_of kind places }
 {
-    let most = match kind {
+    match kind {
         Kind::Register => 255,
         Kind::Number => u32::MAX as u64,
         Kind::Place => (places as u64).min(u32::MAX as u64),
-    };
-    value.is_integer() && natural_of(value.as_integer()) <= most
+    }
+}
+
+/// Whether a value may be such an operand in a code of so many instructions. A negative integer may: it is refused later.
+pub fn is_of_kind(kind: Kind, places: usize, value: &Value) -> bool
+    ensures { result ≡ is_of_kind kind places (view value.now) }
+{
+    value.is_integer() && natural_of(value.as_integer()) <= most_of(kind, places)
 }
 
 /// Whether there are as many values as kinds, each of its kind.
@@ -108,7 +124,7 @@ fn are_of_kinds(kinds: &[Kind], places: usize, values: &[Value]) -> bool
     true
 }
 
-fn is_instruction(places: usize, value: &Value) -> bool
+pub fn is_instruction(places: usize, value: &Value) -> bool
     ensures { result ≡ is_instruction places (view value.now) }
 {
     let values = elements(value);

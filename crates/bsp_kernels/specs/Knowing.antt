@@ -1,6 +1,6 @@
 -- What is known of a turn is so: registers that are known have their words.
 use Rattle.std.proofs.Common.{◌≡◌, ℕ, zero, suc, ◌+◌, Bool, true, false, cond, List, [], ◌∷◌, Option, None, Some, drop, length, get_or, set, refl, sym, ap, ◌∙◌}
-use Rattle.std.specs.Prelude.{slice_get, slice_index, slice_index_or, ◌==◌}
+use Rattle.std.specs.Prelude.{slice_get, slice_index, slice_index_or, nat_lt, ◌==◌}
 use Rattle.bsp_step.specs.Act as act
 use Rattle.bsp_step.specs.Act.{Act}
 use Rattle.bsp_model.specs.declared.request.Message.{Message}
@@ -10,10 +10,10 @@ use Rattle.bsp_kernels.specs.declared.source.Source.TheVariants.{Nprocs, Pid, St
 use Rattle.bsp_kernels.specs.declared.call.Call.{Call}
 use Rattle.bsp_kernels.specs.declared.call.Call.TheVariants.{Charge, Put, PutBlock, PutConstants, Get, Send, SendBlock, SendConstants, PushReg, PopReg, SetTagsize, Print, PrintBlock, Take, StoreTaken}
 use Rattle.bsp_kernels.specs.declared.instruction.Instruction.{Instruction}
-use Rattle.bsp_kernels.specs.declared.instruction.Instruction.TheVariants.{Number, Copy, Compute, Read, Load, Store, Jump, Unless, Call as Calls, Sync, Halt, Abort}
-use Rattle.bsp_kernels.specs.Operators.{applied}
-use Rattle.bsp_kernels.specs.Machine.{Setting, State, Effect, source_word, code_without, first_tag, word, own_block, constant_block, behind, with_word, call_effect, effect, sets, makes_with}
-use Rattle.bsp_kernels.specs.Known.{Known, Sight, everywhere, over, reads, known_word, learn, behind_known, takes_known, shown_source, both, at_known, reads_word, reads_block, branches, call_sight, sight}
+use Rattle.bsp_kernels.specs.declared.instruction.Instruction.TheVariants.{Number, Copy, Add, Compute, Read, Load, LoadAt, Store, Jump, Unless, UnlessLess, Call as Calls, Sync, Halt, Abort}
+use Rattle.bsp_kernels.specs.Operators.{applied, sum_of, truth}
+use Rattle.bsp_kernels.specs.Machine.{Setting, State, Effect, source_word, code_without, first_tag, word, own_block, constant_block, behind, with_word, call_effect, effect, sets, makes_with, unless}
+use Rattle.bsp_kernels.specs.Known.{Known, Sight, everywhere, over, reads, known_word, learn, behind_known, takes_known, shown_source, both, added, less, at_known, reads_word, reads_block, branches, call_sight, sight}
 
 -- each register that is known has its word
 abbrev pub AreKnown : List Bool → List ℕ → List ℕ → Type 0
@@ -139,9 +139,9 @@ block-seen g k s None p ws a h = tt
 block-seen g k s (Some from) None ws a h = tt
 block-seen g k s (Some from) (Some len) ws a h = made-seen g k s ws a h
 
-branch-seen : (g : Setting) (k : Known) (s : State) (r to : ℕ) (o : Option ℕ) → Agrees g k s → ((x : ℕ) → o ≡ Some x → word s r ≡ x) → IsSeen g (branches k to o) (effect s (Some (Unless r to)))
-branch-seen g k s r to None h is = tt
-branch-seen g k s r to (Some w) h is =
+branch-seen : (g : Setting) (k : Known) (s : State) (v to : ℕ) (o : Option ℕ) → Agrees g k s → ((x : ℕ) → o ≡ Some x → v ≡ x) → IsSeen g (branches k to o) (unless s v to)
+branch-seen g k s v to None h is = tt
+branch-seen g k s v to (Some w) h is =
     λ goes. record {
       setting = h.setting;
       left = h.left;
@@ -178,26 +178,37 @@ call-seen g k s (PrintBlock from len) h = block-seen g k s (known_word k from) (
 call-seen g k s (Take r) h = λ goes. takes-seen g k s r h
 call-seen g k s (StoreTaken into count) h = λ goes. record { setting = h.setting; left = h.left; taken = h.taken; place = ap (λ p. p + 1) h.place; registers = h.registers }
 
+-- what is known of two words together is so
+pub both-known : (f : ℕ → ℕ → Option ℕ) (g : Setting) (k : Known) (s : State) (a b x : ℕ) → Agrees g k s → both f (known_word k a) (known_word k b) ≡ Some x → f (word s a) (word s b) ≡ Some x
+both-known f g k s a b x h known =
+    let parts = both-some f (known_word k a) (known_word k b) x known in
+    let first : word s a ≡ parts.0 = word-known g k s a parts.0 h parts.2 in
+    let second : word s b ≡ parts.1 = word-known g k s b parts.1 h parts.3 in
+    (λ i. f (first i) (second i)) ∙ parts.4
+
+pub sum-known : (g : Setting) (k : Known) (s : State) (a b x : ℕ) → Agrees g k s → both added (known_word k a) (known_word k b) ≡ Some x → sum_of (word s a) (word s b) ≡ x
+sum-known g k s a b x h known = some-is (sum_of (word s a) (word s b)) x (both-known added g k s a b x h known)
+
 -- what an instruction shows is so
 pub sight-seen : (g : Setting) (k : Known) (s : State) (i : Option Instruction) → Agrees g k s → IsSeen g (sight g k i) (effect s i)
 sight-seen g k s None h = λ goes. cc
 sight-seen g k s (Some (Number r n)) h = λ goes. learns g k s r (Some n) n h (λ x known. some-is n x known)
 sight-seen g k s (Some (Copy r a)) h = λ goes. learns g k s r (known_word k a) (word s a) h (λ x known. word-known g k s a x h known)
+sight-seen g k s (Some (Add r a b)) h = λ goes. learns g k s r (both added (known_word k a) (known_word k b)) (sum_of (word s a) (word s b)) h (λ x known. sum-known g k s a b x h known)
 sight-seen g k s (Some (Compute how r a b)) h =
-    sets-seen g k s r 5 (both (applied how) (known_word k a) (known_word k b)) (applied how (word s a) (word s b)) h (λ x w known found.
-    let parts = both-some (applied how) (known_word k a) (known_word k b) x known in
-    let first : word s a ≡ parts.0 = word-known g k s a parts.0 h parts.2 in
-    let second : word s b ≡ parts.1 = word-known g k s b parts.1 h parts.3 in
-    let same : Some w ≡ Some x = sym found ∙ (λ i. applied how (first i) (second i)) ∙ parts.4 in
-    cc)
+    sets-seen g k s r 5 (both (applied how) (known_word k a) (known_word k b)) (applied how (word s a) (word s b)) h (λ x w known found. some-is w x (sym found ∙ both-known (applied how) g k s a b x h known))
 sight-seen g k s (Some (Read r source)) h =
     sets-seen g k s r (code_without source) (shown_source g k source) (source_word s source) h (λ x w known found.
     let same : Some w ≡ Some x = sym found ∙ shown-is g k s source x h known in
     cc)
 sight-seen g k s (Some (Load r a)) h = word-seen g k s r (known_word k a) (slice_get s.memory (word s a)) h
+sight-seen g k s (Some (LoadAt r a b)) h = word-seen g k s r (both added (known_word k a) (known_word k b)) (slice_get s.memory (sum_of (word s a) (word s b))) h
 sight-seen g k s (Some (Store a w)) h = λ goes. record { setting = h.setting; left = h.left; taken = h.taken; place = ap (λ p. p + 1) h.place; registers = h.registers }
 sight-seen g k s (Some (Jump to)) h = λ goes. record { setting = h.setting; left = h.left; taken = h.taken; place = refl; registers = h.registers }
-sight-seen g k s (Some (Unless a to)) h = branch-seen g k s a to (known_word k a) h (λ x known. word-known g k s a x h known)
+sight-seen g k s (Some (Unless a to)) h = branch-seen g k s (word s a) to (known_word k a) h (λ x known. word-known g k s a x h known)
+sight-seen g k s (Some (UnlessLess a b to)) h =
+    let w = truth (nat_lt (word s a) (word s b)) in
+    branch-seen g k s w to (both less (known_word k a) (known_word k b)) h (λ x known. some-is w x (both-known less g k s a b x h known))
 sight-seen g k s (Some (Calls call)) h = call-seen g k s call h
 sight-seen g k s (Some Sync) h = λ goes. cc
 sight-seen g k s (Some Halt) h = λ goes. cc

@@ -7,8 +7,8 @@ use Rattle.bsp_kernels.specs.declared.source.Source.TheVariants.{Nprocs, Pid, St
 use Rattle.bsp_kernels.specs.declared.call.Call.{Call}
 use Rattle.bsp_kernels.specs.declared.call.Call.TheVariants.{Charge, Put, PutBlock, PutConstants, Get, Send, SendBlock, SendConstants, PushReg, PopReg, SetTagsize, Print, PrintBlock, Take, StoreTaken}
 use Rattle.bsp_kernels.specs.declared.instruction.Instruction.{Instruction}
-use Rattle.bsp_kernels.specs.declared.instruction.Instruction.TheVariants.{Number, Copy, Compute, Read, Load, Store, Jump, Unless, Call as Calls, Sync, Halt, Abort}
-use Rattle.bsp_kernels.specs.Operators.{applied}
+use Rattle.bsp_kernels.specs.declared.instruction.Instruction.TheVariants.{Number, Copy, Add, Compute, Read, Load, LoadAt, Store, Jump, Unless, UnlessLess, Call as Calls, Sync, Halt, Abort}
+use Rattle.bsp_kernels.specs.Operators.{applied, sum_of, truth}
 use Rattle.bsp_kernels.specs.Machine.{Setting, first_tag}
 
 -- The messages that are left, the words of the message taken last, the place, the registers, and which of these are known: they do not depend on a word of the memory.
@@ -36,6 +36,13 @@ abbrev pub both : (ℕ → ℕ → Option ℕ) → Option ℕ → Option ℕ →
 both f None o = None
 both f (Some x) None = None
 both f (Some x) (Some y) = f x y
+
+-- what may be known of a sum, and of a comparison
+abbrev pub added : ℕ → ℕ → Option ℕ
+added x y = Some (sum_of x y)
+
+abbrev pub less : ℕ → ℕ → Option ℕ
+less x y = Some (truth (nat_lt x y))
 
 -- the word at a known index, if there is one
 abbrev pub at_known : List ℕ → Option ℕ → Option ℕ
@@ -105,12 +112,15 @@ abbrev pub sight : Setting → Known → Option Instruction → Sight
 sight g k None = over
 sight g k (Some (Number r n)) = goes_on (learn k r (Some n))
 sight g k (Some (Copy r a)) = goes_on (learn k r (known_word k a))
+sight g k (Some (Add r a b)) = goes_on (learn k r (both added (known_word k a) (known_word k b)))
 sight g k (Some (Compute how r a b)) = goes_on (learn k r (both (applied how) (known_word k a) (known_word k b)))
 sight g k (Some (Read r source)) = goes_on (learn k r (shown_source g k source))
 sight g k (Some (Load r a)) = reads_word k r (known_word k a)
+sight g k (Some (LoadAt r a b)) = reads_word k r (both added (known_word k a) (known_word k b))
 sight g k (Some (Store a w)) = goes_on (behind_known k)
 sight g k (Some (Jump to)) = goes_on (record k { place = to })
 sight g k (Some (Unless a to)) = branches k to (known_word k a)
+sight g k (Some (UnlessLess a b to)) = branches k to (both less (known_word k a) (known_word k b))
 sight g k (Some (Calls call)) = call_sight g k call
 sight g k (Some Sync) = over
 sight g k (Some Halt) = over

@@ -1,5 +1,5 @@
 -- The machine that follows the instructions of a kernel.
-use Rattle.std.specs.Prelude.{ℕ, zero, suc, List, [], ◌∷◌, ◌+◌, ◌==◌, Option, None, Some, length, take, drop, sum_by, slice_get, slice_index, slice_set, replicate, if◌then◌else◌}
+use Rattle.std.specs.Prelude.{ℕ, zero, suc, List, [], ◌∷◌, ◌+◌, ◌==◌, Option, None, Some, length, take, drop, sum_by, nat_lt, slice_get, slice_index, slice_set, replicate, if◌then◌else◌}
 use Rattle.bsp_model.specs.declared.fault.End.{End}
 use Rattle.bsp_model.specs.declared.fault.End.TheVariants.{Sync as Synced, Halt as Halted, Abort as Aborted}
 use Rattle.bsp_model.specs.declared.request.Message.{Message}
@@ -14,8 +14,8 @@ use Rattle.bsp_kernels.specs.declared.source.Source.TheVariants.{Nprocs, Pid, St
 use Rattle.bsp_kernels.specs.declared.call.Call.{Call}
 use Rattle.bsp_kernels.specs.declared.call.Call.TheVariants.{Charge, Put, PutBlock, PutConstants, Get, Send, SendBlock, SendConstants, PushReg, PopReg, SetTagsize, Print, PrintBlock, Take, StoreTaken}
 use Rattle.bsp_kernels.specs.declared.instruction.Instruction.{Instruction}
-use Rattle.bsp_kernels.specs.declared.instruction.Instruction.TheVariants.{Number, Copy, Compute, Read, Load, Store, Jump, Unless, Call as Calls, Sync, Halt, Abort}
-use Rattle.bsp_kernels.specs.Operators.{applied}
+use Rattle.bsp_kernels.specs.declared.instruction.Instruction.TheVariants.{Number, Copy, Add, Compute, Read, Load, LoadAt, Store, Jump, Unless, UnlessLess, Call as Calls, Sync, Halt, Abort}
+use Rattle.bsp_kernels.specs.Operators.{applied, sum_of, truth}
 
 -- what stays the same in a turn: the constants of the kernel, and the view without the words of its memory
 pub record Setting : Type 0 where
@@ -118,6 +118,10 @@ makes_with s (Some ws) a = makes s (a ws)
 abbrev pub answers : State → Act → ℕ → ℕ → Effect
 answers s a r w = record { acts = a ∷ []; ending = None; next = with_word s r w }
 
+-- the turn goes on at a place where a word is 0
+abbrev pub unless : State → ℕ → ℕ → Effect
+unless s w to = goes (record s { place = if w == 0 then to else s.place + 1 })
+
 abbrev pub stores_word : State → ℕ → ℕ → Effect
 stores_word s a w = record { acts = act.store a w ∷ []; ending = None; next = record (behind s) { memory = slice_set s.memory a w } }
 
@@ -155,12 +159,15 @@ abbrev pub effect : State → Option Instruction → Effect
 effect s None = ends s Synced
 effect s (Some (Number r n)) = goes (with_word s r n)
 effect s (Some (Copy r a)) = goes (with_word s r (word s a))
+effect s (Some (Add r a b)) = goes (with_word s r (sum_of (word s a) (word s b)))
 effect s (Some (Compute how r a b)) = sets s r 5 (applied how (word s a) (word s b))
 effect s (Some (Read r source)) = sets s r (code_without source) (source_word s source)
 effect s (Some (Load r a)) = sets s r 1 (slice_get s.memory (word s a))
+effect s (Some (LoadAt r a b)) = sets s r 1 (slice_get s.memory (sum_of (word s a) (word s b)))
 effect s (Some (Store a w)) = stores_word s (word s a) (word s w)
 effect s (Some (Jump to)) = goes (record s { place = to })
-effect s (Some (Unless a to)) = goes (record s { place = if word s a == 0 then to else s.place + 1 })
+effect s (Some (Unless a to)) = unless s (word s a) to
+effect s (Some (UnlessLess a b to)) = unless s (truth (nat_lt (word s a) (word s b))) to
 effect s (Some (Calls call)) = call_effect s call
 effect s (Some Sync) = ends s Synced
 effect s (Some Halt) = ends s Halted

@@ -16,11 +16,11 @@ use Rattle.bsp_kernels.specs.declared.source.Source.TheVariants.{Nprocs, Pid, St
 use Rattle.bsp_kernels.specs.declared.call.Call.{Call}
 use Rattle.bsp_kernels.specs.declared.call.Call.TheVariants.{Charge, Put, PutBlock, PutConstants, Get, Send, SendBlock, SendConstants, PushReg, PopReg, SetTagsize, Print, PrintBlock, Take, StoreTaken}
 use Rattle.bsp_kernels.specs.declared.instruction.Instruction.{Instruction}
-use Rattle.bsp_kernels.specs.declared.instruction.Instruction.TheVariants.{Number, Copy, Compute, Read, Load, Store, Jump, Unless, Call as Calls, Sync, Halt, Abort}
-use Rattle.bsp_kernels.specs.Operators.{applied}
+use Rattle.bsp_kernels.specs.declared.instruction.Instruction.TheVariants.{Number, Copy, Add, Compute, Read, Load, LoadAt, Store, Jump, Unless, UnlessLess, Call as Calls, Sync, Halt, Abort}
+use Rattle.bsp_kernels.specs.Operators.{applied, sum_of}
 use Rattle.bsp_kernels.specs.Machine.{Setting, State, Effect, source_word, code_without, word, words, own_block, constant_block, call_effect, effect, sets, makes_with, followed, plan_from}
-use Rattle.bsp_kernels.specs.Known.{Known, Sight, everywhere, over, reads, known_word, reads_word, reads_block, call_sight, sight, within, looked, looks_from}
-use Rattle.bsp_kernels.specs.Knowing.{Agrees, IsSeen, word-known, sight-seen}
+use Rattle.bsp_kernels.specs.Known.{Known, Sight, everywhere, over, reads, both, added, known_word, reads_word, reads_block, call_sight, sight, within, looked, looks_from}
+use Rattle.bsp_kernels.specs.Knowing.{Agrees, IsSeen, word-known, sum-known, sight-seen}
 
 -- a memory of the same length with equal words at each address that is looked at
 pub record IsAlike (looks : ℕ → Bool) (old new : List ℕ) : Type 0 where
@@ -149,15 +149,22 @@ effect-same : (looks : ℕ → Bool) (g : Setting) (k : Known) (s : State) (m : 
 effect-same looks g k s m None agrees covered h = record { acts = refl; ending = refl; memory = m; next = refl; alike = h }
 effect-same looks g k s m (Some (Number r n)) agrees covered h = record { acts = refl; ending = refl; memory = m; next = refl; alike = h }
 effect-same looks g k s m (Some (Copy r a)) agrees covered h = record { acts = refl; ending = refl; memory = m; next = refl; alike = h }
+effect-same looks g k s m (Some (Add r a b)) agrees covered h = record { acts = refl; ending = refl; memory = m; next = refl; alike = h }
 effect-same looks g k s m (Some (Compute how r a b)) agrees covered h = sets-same looks s m r 5 (applied how (word s a) (word s b)) h
 effect-same looks g k s m (Some (Read r source)) agrees covered h = source-same looks s m r source h
 effect-same looks g k s m (Some (Load r a)) agrees covered h =
     subst (λ o. IsSame looks (sets s r 1 (slice_get s.memory (word s a))) (sets (with_memory s m) r 1 o))
     (word-same looks k s.memory m r (word s a) (known_word k a) (λ x known. word-known g k s a x agrees known) covered h)
     (sets-same looks s m r 1 (slice_get s.memory (word s a)) h)
+effect-same looks g k s m (Some (LoadAt r a b)) agrees covered h =
+    let address = sum_of (word s a) (word s b) in
+    subst (λ o. IsSame looks (sets s r 1 (slice_get s.memory address)) (sets (with_memory s m) r 1 o))
+    (word-same looks k s.memory m r address (both added (known_word k a) (known_word k b)) (λ x known. sum-known g k s a b x agrees known) covered h)
+    (sets-same looks s m r 1 (slice_get s.memory address) h)
 effect-same looks g k s m (Some (Store a w)) agrees covered h = record { acts = refl; ending = refl; memory = slice_set m (word s a) (word s w); next = refl; alike = IsAlike-set looks s.memory m (word s a) (word s w) h }
 effect-same looks g k s m (Some (Jump to)) agrees covered h = record { acts = refl; ending = refl; memory = m; next = refl; alike = h }
 effect-same looks g k s m (Some (Unless a to)) agrees covered h = record { acts = refl; ending = refl; memory = m; next = refl; alike = h }
+effect-same looks g k s m (Some (UnlessLess a b to)) agrees covered h = record { acts = refl; ending = refl; memory = m; next = refl; alike = h }
 effect-same looks g k s m (Some (Calls call)) agrees covered h = call-same looks g k s m call agrees covered h
 effect-same looks g k s m (Some Sync) agrees covered h = record { acts = refl; ending = refl; memory = m; next = refl; alike = h }
 effect-same looks g k s m (Some Halt) agrees covered h = record { acts = refl; ending = refl; memory = m; next = refl; alike = h }

@@ -39,7 +39,7 @@ impl Kernel {
             let Some(instruction) = code.get(place) else {
                 return Exit::Ended(End::Sync);
             };
-            match machine.follow(*instruction, ctx, place) {
+            match machine.follow(instruction, ctx, place) {
                 Ok(next) => place = next,
                 Err(exit) => return exit,
             }

@@ -3,7 +3,7 @@
 ghost use Rattle.std.specs.Prelude.{◌≡◌, ℕ, List, [], ◌+◌, ◌<◌, ◌^◌, Some, is_some, slice_set, unwrap_or};
 ghost use Rattle.bsp_model.specs.declared.request.Message.{Message};
 ghost use Rattle.bsp_kernels.specs.Inside.Showing.{Shows, block_shown, known_at};
-ghost use Rattle.bsp_kernels.specs.Known.{both, call_sight, first_known, known_word, sight, within};
+ghost use Rattle.bsp_kernels.specs.Known.{added, both, call_sight, first_known, known_word, sight, within};
 ghost use Rattle.bsp_kernels.specs.Machine.{setting_of};
 ghost use Rattle.bsp_kernels.specs.Operators.{applied};
 
@@ -98,6 +98,17 @@ impl Knowledge {
         }
     }
 
+    /// The sum of the words of two registers, if both are known.
+    fn sum(&self, a: u8, b: u8) -> Option<u64>
+        ensures { let k = known_at [] self.now 0 in
+            result ≡ both added (known_word k a) (known_word k b) }
+    {
+        match (self.word(a), self.word(b)) {
+            (Some(x), Some(y)) => Some(x.wrapping_add(y)),
+            _ => None,
+        }
+    }
+
     /// What an instruction at a place shows.
     pub(crate) fn show(
         &mut self,
@@ -117,6 +128,10 @@ impl Knowledge {
                 let word = self.word(a);
                 self.learn(r, word, next)
             }
+            Instruction::Add(r, a, b) => {
+                let word = self.sum(a, b);
+                self.learn(r, word, next)
+            }
             Instruction::Compute(operator, r, a, b) => {
                 let word = self.computed(operator, a, b);
                 self.learn(r, word, next)
@@ -132,12 +147,23 @@ impl Knowledge {
                 }
                 None => Shown::Everywhere,
             },
+            Instruction::LoadAt(r, a, b) => match self.sum(a, b) {
+                Some(address) => {
+                    self.learn(r, None, next);
+                    Shown::Reads(address, 1, next)
+                }
+                None => Shown::Everywhere,
+            },
             Instruction::Store(_, _) => Shown::Reads(0, 0, next),
             Instruction::Jump(to) => Shown::Reads(0, 0, to as usize),
             Instruction::Unless(a, to) => match self.word(a) {
                 Some(0) => Shown::Reads(0, 0, to as usize),
                 Some(_) => Shown::Reads(0, 0, next),
                 None => Shown::Everywhere,
+            },
+            Instruction::UnlessLess(a, b, to) => match (self.word(a), self.word(b)) {
+                (Some(x), Some(y)) => Shown::Reads(0, 0, if x < y { next } else { to as usize }),
+                _ => Shown::Everywhere,
             },
             Instruction::Call(call) => self.show_call(call, view, place),
             Instruction::Sync | Instruction::Halt | Instruction::Abort(_) => Shown::Over,

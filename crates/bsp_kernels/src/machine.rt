@@ -1,9 +1,9 @@
 //! The machine that follows instructions.
 
-ghost use Rattle.std.specs.Prelude.{◌≡◌, ◌+◌, ◌<◌, ◌^◌, IfErr, OnOk, Ok, Err, Some, drop, slice_index, take};
+ghost use Rattle.std.specs.Prelude.{◌≡◌, ◌+◌, ◌<◌, ◌^◌, IfErr, OnOk, Ok, Err, Some, drop, slice_get, slice_index, take};
 ghost use Rattle.bsp_step.specs.Context.{Context};
 ghost use Rattle.bsp_kernels.specs.Inside.Making.{Makes, state_at};
-ghost use Rattle.bsp_kernels.specs.Machine.{effect, first_state, setting_of};
+ghost use Rattle.bsp_kernels.specs.Machine.{effect, first_state, sets, setting_of};
 
 mod blocks;
 mod calls;
@@ -76,25 +76,43 @@ impl<'k> Machine<'k> {
         words
     }
 
+    /// Sets a register to the own word at an address. Where there is none, the turn ends.
+    #[inline(always)]
+    fn load(&mut self, ctx: &Ctx<'_>, place: usize, r: u8, address: u64) -> Result<usize, Exit>
+        requires { place + 1 < 2 ^ 64 }
+        ensures { Makes ctx.now (sets (state_at self.old ctx.now place) r 1 (slice_get ctx.now.memory address))
+            ctx.now self.new result }
+    {
+        let Some(word) = ctx.load(address) else {
+            return ended(End::Abort(1));
+        };
+        self.registers[r as usize] = word;
+        Ok(place + 1)
+    }
+
     /// Follows an instruction at a place, and answers the place of the next.
     #[inline(always)]
     pub(crate) fn follow(
         &mut self,
-        instruction: Instruction,
+        instruction: &Instruction,
         ctx: &mut Ctx<'_>,
         place: usize,
     ) -> Result<usize, Exit>
         requires { place + 1 < 2 ^ 64 }
-        ensures { Makes ctx.old (effect (state_at self.old ctx.old place) (Some instruction)) ctx.new self.new result }
+        ensures { Makes ctx.old (effect (state_at self.old ctx.old place) (Some instruction.now)) ctx.new self.new result }
     {
         let next = place + 1;
-        match instruction {
+        match *instruction {
             Instruction::Number(r, n) => {
                 self.registers[r as usize] = n as u64;
                 Ok(next)
             }
             Instruction::Copy(r, a) => {
                 self.registers[r as usize] = self.word(a);
+                Ok(next)
+            }
+            Instruction::Add(r, a, b) => {
+                self.registers[r as usize] = self.word(a).wrapping_add(self.word(b));
                 Ok(next)
             }
             Instruction::Compute(operator, r, a, b) => {
@@ -112,15 +130,23 @@ impl<'k> Machine<'k> {
                 Ok(next)
             }
             Instruction::Load(r, a) => {
-                let Some(word) = ctx.load(self.word(a)) else {
-                    return ended(End::Abort(1));
-                };
-                self.registers[r as usize] = word;
-                Ok(next)
+                let address = self.word(a);
+                self.load(ctx, place, r, address)
+            }
+            Instruction::LoadAt(r, a, b) => {
+                let address = self.word(a).wrapping_add(self.word(b));
+                self.load(ctx, place, r, address)
             }
             Instruction::Store(a, w) => acted(ctx.store(self.word(a), self.word(w)), next),
             Instruction::Jump(to) => Ok(to as usize),
             Instruction::Unless(a, to) => Ok(if self.word(a) == 0 { to as usize } else { next }),
+            Instruction::UnlessLess(a, b, to) => {
+                Ok(if self.word(a) < self.word(b) {
+                    next
+                } else {
+                    to as usize
+                })
+            }
             Instruction::Call(call) => self.make(call, ctx, place),
             Instruction::Sync => ended(End::Sync),
             Instruction::Halt => ended(End::Halt),

@@ -6,7 +6,6 @@ ghost use Rattle.bsp_kernels.specs.Operators.{applied};
 /// An operator on two words, modulo 2^64. A comparison gives 1 where it holds, else 0.
 #[derive(Clone, Copy)]
 pub enum Operator {
-    Add,
     Sub,
     Mul,
     /// There is no quotient by 0.
@@ -32,7 +31,6 @@ impl Operator {
         ensures { result ≡ applied self a b }
     {
         match self {
-            Operator::Add => Some(a.wrapping_add(b)),
             Operator::Sub => Some(a.wrapping_sub(b)),
             Operator::Mul => Some(a.wrapping_mul(b)),
             Operator::Div => { if b == 0 { None } else { Some(a / b) } }

@@ -1,6 +1,7 @@
 //! What is wrong with a document that is TOML, in words.
 
 use super::remark::Remark;
+use crate::catalogue::Catalogue;
 use crate::errors::{EngineError, JobFault};
 use crate::jobs::{Wrong, count_of_args};
 use crate::tree::{elements, elements_at, integer_at};
@@ -25,16 +26,15 @@ fn tell_place(remark: &mut Remark, wrong: &Wrong<'_>) {
     }
 }
 
-/// Which shape is missing: that of the value at a key, of one of its elements, or of an element of that element.
+/// Which shape is missing: that of the value at a key which every document may have, of one of its elements, or of an element of that element.
 fn shape_reason(wrong: &Wrong<'_>) -> &'static str {
     match (wrong.key, wrong.path.outer, wrong.path.inner) {
         ("limit" | "g" | "l", _, _) => "not an integer",
         ("memory" | "args", None, _) => "not an array of arrays of integers",
         ("memory" | "args", Some(_), _) => "not an array of integers",
-        ("batches", None, _) => "not an array of batches",
-        ("batches", Some(_), None) => "not an array of edits",
-        ("batches", Some(_), Some(_)) => "not an edit",
-        _ => "a value of another shape",
+        (_, None, _) => "not an array of batches",
+        (_, Some(_), None) => "not an array of edits",
+        (_, Some(_), Some(_)) => "not an edit",
     }
 }
 
@@ -66,12 +66,15 @@ fn tell_size(remark: &mut Remark, table: &Table, wrong: &Wrong<'_>, fault: Input
     }
 }
 
-pub fn tell_fault(remark: &mut Remark, table: &Table, wrong: &Wrong<'_>, names: &str) {
+pub fn tell_fault<C: Catalogue>(remark: &mut Remark, table: &Table, wrong: &Wrong<'_>) {
     if let Some((_, number)) = EngineError::Job(wrong.fault).line().split_once("J6 ") {
         remark.add(number);
         remark.add(", ");
     }
     tell_place(remark, wrong);
+    if wrong.fault == JobFault::WrongType && C::is_key(wrong.key) {
+        return C::tell_misfit(table, remark);
+    }
     remark.add(": ");
     match wrong.fault {
         JobFault::Input(fault) => tell_size(remark, table, wrong, fault),
@@ -80,8 +83,8 @@ pub fn tell_fault(remark: &mut Remark, table: &Table, wrong: &Wrong<'_>, names: 
         JobFault::UnknownKey => remark.add("there is no such key"),
         JobFault::UnknownProgram => {
             remark.add("there is no such program");
-            if !names.is_empty() {
-                remark.add_value("; this tool has ", names);
+            if !C::names().is_empty() {
+                remark.add_value("; this tool has ", C::names());
             }
         }
         JobFault::BadWord => remark.add("a negative number"),

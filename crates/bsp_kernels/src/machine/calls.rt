@@ -24,11 +24,7 @@ impl<'k> Machine<'k> {
         match call {
             Call::Charge(n) => acted(ctx.charge(self.word(n)), next),
             Call::Put(pid, first, count, area, offset) => {
-                let (area, offset) = (self.word(area), self.word(offset));
-                acted(
-                    ctx.put(self.word(pid), self.words(first, count), area, offset),
-                    next,
-                )
+                self.put(ctx, place, (pid, area, offset), self.words(first, count))
             }
             Call::PutBlock(pid, from, len, area, offset) => {
                 self.put_block(ctx, place, (pid, area, offset), (from, len))
@@ -44,8 +40,7 @@ impl<'k> Machine<'k> {
                 )
             }
             Call::Send(pid, tag, tag_len, first, count) => {
-                let (tag, words) = (self.words(tag, tag_len), self.words(first, count));
-                acted(ctx.send(self.word(pid), tag, words), next)
+                self.send(ctx, place, (pid, tag, tag_len), self.words(first, count))
             }
             Call::SendBlock(pid, tag, tag_len, from, len) => {
                 self.send_block(ctx, place, (pid, tag, tag_len), (from, len))
