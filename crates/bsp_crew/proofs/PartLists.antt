@@ -11,10 +11,10 @@ use Rattle.bsp_deliver.specs.Delivery.{delivery_parts, next_memory, next_queue}
 use Rattle.bsp_run.specs.Condition.{no_view}
 use Rattle.bsp_run.specs.Shares.{turns_of, deliveries_to}
 use Rattle.bsp_crew.specs.declared.part.Part.{Part}
-use Rattle.bsp_crew.specs.declared.part.Task.{Task}
-use Rattle.bsp_crew.specs.declared.part.Task.TheVariants.{Turns, Deliveries}
-use Rattle.bsp_crew.specs.declared.part.Made.{Made}
-use Rattle.bsp_crew.specs.declared.part.Made.TheVariants.{Taken, Delivered}
+use Rattle.bsp_crew.specs.declared.task.Task.{Task}
+use Rattle.bsp_crew.specs.declared.task.Task.TheVariants.{Turns, Deliveries}
+use Rattle.bsp_crew.specs.declared.task.Made.{Made}
+use Rattle.bsp_crew.specs.declared.task.Made.TheVariants.{Taken, Delivered}
 use Rattle.bsp_crew.specs.Parts.{AreParts, IsPart, IsWithin, IsMade, IsLeft, has_turns, nothing_of, with_part}
 
 all_of_both : {X : Type 0} (P : X → Type 0) (xs ys : List X) → All P (xs ++ ys) → All P xs × All P ys
@@ -78,6 +78,7 @@ within_cuts front behind part rest whole one other =
       before = front.processes.now;
       behind = rest.processes.now;
       processes = one.processes ∙ ap (λ (ps : List ℕ). front.processes.now ++ ps) other.processes;
+      first = other.first ∙ one.first_of_rest;
     }
 
 -- processes in a row of a part are one

@@ -1,5 +1,5 @@
 -- Parts of a superstep of a run, as several workers take them.
-use Rattle.std.specs.Prelude.{◌≡◌, ◌<◌, ◌≤◌, ℕ, Bool, true, false, List, [], ◌++◌, All, length, map}
+use Rattle.std.specs.Prelude.{◌≡◌, ◌<◌, ◌≤◌, ◌+◌, ℕ, Bool, true, false, List, [], ◌++◌, All, length, map}
 use Rattle.bsp_model.specs.declared.input.Input.{Input}
 use Rattle.bsp_model.specs.declared.request.Message.{Message}
 use Rattle.bsp_step.specs.ViewParts.{ViewParts}
@@ -8,10 +8,10 @@ use Rattle.bsp_deliver.specs.Condition.{CanDeliver}
 use Rattle.bsp_run.specs.Law.{views_in}
 use Rattle.bsp_run.specs.Shares.{turns_of, deliveries_to}
 use Rattle.bsp_crew.specs.declared.part.Part.{Part}
-use Rattle.bsp_crew.specs.declared.part.Task.{Task}
-use Rattle.bsp_crew.specs.declared.part.Task.TheVariants.{Turns, Deliveries}
-use Rattle.bsp_crew.specs.declared.part.Made.{Made}
-use Rattle.bsp_crew.specs.declared.part.Made.TheVariants.{Taken, Delivered}
+use Rattle.bsp_crew.specs.declared.task.Task.{Task}
+use Rattle.bsp_crew.specs.declared.task.Task.TheVariants.{Turns, Deliveries}
+use Rattle.bsp_crew.specs.declared.task.Made.{Made}
+use Rattle.bsp_crew.specs.declared.task.Made.TheVariants.{Taken, Delivered}
 
 -- This turn and these views are those of the run of an input.
 pub record AreOfRun (turn : ViewParts → OutcomeParts) (input : Input) (named : ViewParts → OutcomeParts) (views : ℕ → List ViewParts) : Type 0 where
@@ -23,6 +23,8 @@ pub record AreParts (part rest whole : Part) : Type 0 where
   pub step : part.step ≡ whole.step
   pub step_of_rest : rest.step ≡ whole.step
   pub processes : whole.processes.now ≡ part.processes.now ++ rest.processes.now
+  pub first : part.first ≡ whole.first
+  pub first_of_rest : rest.first ≡ whole.first + length part.processes.now
 
 -- Processes that stand in a row in a list of a superstep.
 pub record IsWithin (part whole : Part) : Type 0 where
@@ -30,6 +32,7 @@ pub record IsWithin (part whole : Part) : Type 0 where
   pub before : List ℕ
   pub behind : List ℕ
   pub processes : whole.processes.now ≡ before ++ (part.processes.now ++ behind)
+  pub first : part.first ≡ whole.first + length before
 
 -- A part of a superstep in which all processes see these views: turns of some processes at the views, or deliveries to some of what all turns left.
 pub record IsPart (turn : ViewParts → OutcomeParts) (vs : List ViewParts) (ps : List ℕ) (task : Task) : Type 0 where

@@ -1,31 +1,43 @@
 //! Workers that make the supersteps of a run beside the calling thread until it is over.
 
-ghost use Rattle.std.specs.Prelude.{◌≡◌, ◌<◌, IfOk, OnOk, true};
+ghost use Rattle.std.specs.Prelude.{◌≡◌, ◌<◌, IfOk, IfSome, OnOk, min, true};
 ghost use Rattle.bsp_run.specs.TurnBy.{turn_by};
 ghost use Rattle.bsp_crew.specs.Parts.{IsLeft, IsPart, asks_turns, has_turns, with_part};
 
-use crate::part::{Made, Means, Part, Task};
+use crate::part::Part;
 use crate::shared_run::SharedRun;
+use crate::task::{Made, Means, Task};
 use crate::worksheet::{Pieces, Worksheet, large_piece};
 use bsp_gate::Gate;
 use bsp_model::{OutOfMemory, TryCopy};
 use bsp_pool::{Deal, Desk, MOST_WORKERS, Pool};
 use bsp_step::{Gathering, Program};
 use std::alloc::Global;
+use std::marker::Model;
 use std::thread::Threads;
 
 /// How many units of turns a lane has, about. Deliveries go over all requests, so those of a lane are one unit.
 const TURN_UNITS_A_LANE: usize = 4;
 
-/// The workers of a run, of which the calling thread is one.
+/// The workers of a run, of which the calling thread is one. Contracts see a crew as the number of the workers beside it.
 #[derive(Drop)]
 pub struct Crew<J: SharedRun> {
     pool: Pool<Worksheet<J>>,
 }
 
+impl<J: SharedRun> Model for Crew<J> {
+    ghost use Rattle.std.specs.Prelude.{ℕ, ◌-◌};
+
+    ghost Value = { ℕ };
+
+    ghost view = { λ c. c.pool - 1 };
+}
+
 impl<J: SharedRun> Crew<J> {
     /// A crew of so many workers beside the calling thread, 15 at most. None where there is no worker, or no memory.
-    pub fn new(alloc: Global, beside: usize) -> Option<Crew<J>> {
+    pub fn new(alloc: Global, beside: usize) -> Option<Crew<J>>
+        ensures { IfSome result (λ crew. (0 < crew) × (crew ≡ min beside 15)) }
+    {
         if beside == 0 {
             return None;
         }
@@ -60,7 +72,7 @@ impl<J: SharedRun> Crew<J> {
     fn hand_out(&self, deal: &Deal, whole: &Part<'_>, size: usize, task: &Task)
         requires { IsPart J.turn (J.views whole.now.step) whole.now.processes.now task.now }
     {
-        for seat in self.pool.beside() {
+        for seat in self.pool.useful(deal) {
             if let Some(mut desk) = seat.take_anew()
                 && let Ok(copy) = task.copy()
             {
@@ -173,14 +185,29 @@ impl<J: SharedRun> Crew<J> {
         ensures made { OnOk result (made.new
             ≡ with_part J.turn (J.views whole.now.step) whole.now.processes.now made.old) }
     {
-        let guard = match self.pool.own() {
-            Some(seat) => seat.take_back(),
-            None => None,
-        };
-        let Some(mut guard) = guard else {
-            return means.work::<J>(task, whole, spare, made);
-        };
-        let own = &mut *guard;
+        match self.pool.own_desk() {
+            Some(mut own) => self.work_at(&mut own, means, task, whole, spare, made),
+            None => means.work::<J>(task, whole, spare, made),
+        }
+    }
+
+    /// The same, where this is the desk of the calling thread.
+    fn work_at<P: Program, G: Gate>(
+        &self,
+        own: &mut Desk<Worksheet<J>>,
+        means: &Means<'_, P, G>,
+        task: &Task,
+        whole: &Part<'_>,
+        spare: &mut Option<Gathering>,
+        made: &mut Made,
+    ) -> Result<(), OutOfMemory>
+        requires turn { asks_turns task.now ≡ true → J.turn ≡ turn_by P.Program means.now.program.now }
+        requires part { IsPart J.turn (J.views whole.now.step) whole.now.processes.now task.now }
+        requires alike { has_turns made.old ≡ asks_turns task.now }
+        ensures alike { OnOk result (has_turns made.new ≡ has_turns made.old) }
+        ensures made { OnOk result (made.new
+            ≡ with_part J.turn (J.views whole.now.step) whole.now.processes.now made.old) }
+    {
         let count = whole.processes.len();
         let lanes = self.pool.beside().len().saturating_add(1);
         let least = match task {
@@ -194,8 +221,7 @@ impl<J: SharedRun> Crew<J> {
         self.hand_out(&deal, whole, size, task);
         let began = means.gate.now();
         let (rest, drawn) = self.draw(means, task, whole, size, own, spare, made)?;
-        let awaited = (units as u64).saturating_sub(drawn);
-        self.pool.wait(awaited, began, means.gate);
+        self.pool.wait(&deal, drawn, began, means.gate);
         self.gather(means, task, &rest, size, &mut own.sheet.pieces, spare, made)
     }
 }

@@ -5,13 +5,13 @@ ghost use Rattle.bsp_deliver.specs.Condition.{CanDeliver};
 ghost use Rattle.bsp_run.specs.Shares.{deliveries_to};
 
 use crate::crew::Crew;
-use crate::part::{Made, Means, Part, Task};
+use crate::part::Part;
 use crate::shared_run::SharedRun;
+use crate::task::{Made, Means, Task};
 use bsp_deliver::{Cells, deliver_some};
 use bsp_gate::Gate;
 use bsp_model::{OutOfMemory, TryCopy};
 use bsp_step::{Outcomes, Program};
-use std::alloc::AllocError;
 
 /// Adds cells behind cells. Where there are none yet, the new ones are handed on.
 pub(crate) fn add_cells(cells: &mut Cells, mut more: Cells) -> Result<(), OutOfMemory>
@@ -37,7 +37,7 @@ impl<'a, P, G: Gate> Means<'a, P, G> {
         ensures { OnOk result (cells.new ≡ cells.old ++ deliveries_to outcomes.now part.now.processes.now) }
     {
         for place in 0..part.processes.len() {
-            self.gate.pass(part.first.saturating_add(place));
+            self.gate.pass(part.first + place);
         }
         if cells.len() == 0 {
             return deliver_some(self.alloc, outcomes, part.processes, cells);
@@ -45,6 +45,32 @@ impl<'a, P, G: Gate> Means<'a, P, G> {
         let mut more = Cells::new(self.alloc);
         deliver_some(self.alloc, outcomes, part.processes, &mut more)?;
         cells.append(&mut more)
+    }
+}
+
+impl<J: SharedRun> Crew<J> {
+    /// The next memory and queue of the processes of a list of two or more, made in the room of `cells`.
+    fn deliver<P: Program, G: Gate>(
+        &self,
+        means: &Means<'_, P, G>,
+        outcomes: &Outcomes,
+        whole: &Part<'_>,
+        cells: Cells,
+    ) -> Result<Cells, OutOfMemory>
+        requires none { cells ≡ [] }
+        requires can { CanDeliver outcomes.now whole.now.processes.now }
+        requires made { outcomes.now ≡ map J.turn (J.views whole.now.step) }
+        ensures { IfOk result (λ cells. cells ≡ deliveries_to outcomes.now whole.now.processes.now) }
+    {
+        let task = Task::Deliveries(outcomes.copy()?);
+        let mut made = Made::Delivered(cells);
+        let worked = self.work_units(means, &task, whole, &mut None, &mut made);
+        drop(task);
+        match (worked, made) {
+            (Ok(()), Made::Delivered(cells)) => Ok(cells),
+            (Ok(()), Made::Taken(_)) => unreachable!(),
+            (Err(error), _) => Err(error),
+        }
     }
 }
 
@@ -73,16 +99,7 @@ pub fn wide_deliveries<J: SharedRun, P: Program, G: Gate>(
         first: 0,
     };
     match crew {
-        Some(crew) if processes.len() > 1 => {
-            let task = Task::Deliveries(outcomes.copy()?);
-            let mut made = Made::Delivered(cells);
-            let worked = crew.work_units(means, &task, &whole, &mut None, &mut made);
-            drop(task);
-            match made {
-                Made::Delivered(cells) => worked.and(Ok(cells)),
-                Made::Taken(_rows) => worked.and(Err(AllocError)),
-            }
-        }
+        Some(crew) if processes.len() > 1 => crew.deliver(means, outcomes, &whole, cells),
         _ => {
             let delivered = means.make_deliveries(outcomes, &whole, &mut cells);
             delivered.and(Ok(cells))

@@ -6,8 +6,9 @@ ghost use Rattle.bsp_run.specs.TurnBy.{turn_by};
 ghost use Rattle.bsp_crew.specs.Parts.{IsLeft, IsMade, IsPart, asks_turns, has_turns, with_part};
 
 use crate::deliveries::add_cells;
-use crate::part::{Made, Means, Part, Task};
+use crate::part::Part;
 use crate::shared_run::SharedRun;
+use crate::task::{Made, Means, Task};
 use bsp_gate::Gate;
 use bsp_model::OutOfMemory;
 use bsp_step::{Gathering, OutcomeRows, Program};

@@ -5,8 +5,9 @@ ghost use Rattle.bsp_run.specs.Shares.{turns_of};
 ghost use Rattle.bsp_run.specs.TurnBy.{turn_by};
 
 use crate::crew::Crew;
-use crate::part::{Made, Means, Part, Task};
+use crate::part::Part;
 use crate::shared_run::SharedRun;
+use crate::task::{Made, Means, Task};
 use bsp_gate::Gate;
 use bsp_model::{OutOfMemory, Shared, TryCopy};
 use bsp_run::Views;
@@ -43,12 +44,43 @@ impl<'a, P: Program, G: Gate> Means<'a, P, G> {
         let mut gathering = spare_of(self.alloc, spare)?;
         gathering.swap(rows);
         for (place, process) in part.processes.iter().enumerate() {
-            self.gate.pass(part.first.saturating_add(place));
+            self.gate.pass(part.first + place);
             gathering = add_turn(self.alloc, self.program, &views.get(*process), gathering)?;
         }
         gathering.swap(rows);
         spare.insert(gathering);
         Ok(())
+    }
+}
+
+impl<J: SharedRun> Crew<J> {
+    /// The outcomes of `rows`, and behind them the turns of the processes of a list of two or more.
+    fn take_turns<P: Program, G: Gate>(
+        &self,
+        means: &Means<'_, P, G>,
+        rows: OutcomeRows,
+        spare: &mut Option<Gathering>,
+        views: &Shared<Views>,
+        whole: &Part<'_>,
+    ) -> Result<OutcomeRows, OutOfMemory>
+        requires processes { All (λ p. p < length views.now) whole.now.processes.now }
+        requires turn { J.turn ≡ turn_by P.Program means.now.program.now }
+        requires seen { views.now ≡ J.views whole.now.step }
+        ensures { IfOk result (λ all. all
+            ≡ rows ++ turns_of (turn_by P.Program means.now.program.now) views.now whole.now.processes.now) }
+    {
+        let Ok(copy) = views.copy() else {
+            drop(rows);
+            return Err(AllocError);
+        };
+        let (task, mut made) = (Task::Turns(copy), Made::Taken(rows));
+        let worked = self.work_units(means, &task, whole, spare, &mut made);
+        drop(task);
+        match (worked, made) {
+            (Ok(()), Made::Taken(rows)) => Ok(rows),
+            (Ok(()), Made::Delivered(_)) => unreachable!(),
+            (Err(error), _) => Err(error),
+        }
     }
 }
 
@@ -80,19 +112,7 @@ pub fn wide_turns<J: SharedRun, P: Program, G: Gate>(
         first: 0,
     };
     match crew {
-        Some(crew) if processes.len() > 1 => {
-            let Ok(copy) = views.copy() else {
-                drop(rows);
-                return Err(AllocError);
-            };
-            let (task, mut made) = (Task::Turns(copy), Made::Taken(rows));
-            let worked = crew.work_units(means, &task, &whole, spare, &mut made);
-            drop(task);
-            match made {
-                Made::Taken(rows) => worked.and(Ok(rows)),
-                Made::Delivered(_cells) => worked.and(Err(AllocError)),
-            }
-        }
+        Some(crew) if processes.len() > 1 => crew.take_turns(means, rows, spare, views, &whole),
         _ => {
             let taken = means.take_turns(views, &whole, spare, &mut rows);
             taken.and(Ok(rows))

@@ -1,6 +1,6 @@
 //! The workers of a run.
 
-ghost use Rattle.std.specs.Prelude.{◌≡◌, ◌<◌, ◌≤◌, min};
+ghost use Rattle.std.specs.Prelude.{◌≡◌, ◌<◌, ◌≤◌, ◌-◌, min};
 
 use bsp_gate::Gate;
 use std::alloc::Global;
@@ -43,7 +43,9 @@ impl<'a, R, G> Workers<'a, R, G> {
 impl<'a, R: Threads, G: Gate> Workers<'a, R, G> {
     /// The number of workers that start beside the calling thread, which is one of the `useful` workers. Where the gate tells the time, all
     /// together are no more than the processors.
-    pub fn beside(&self, useful: usize) -> usize {
+    pub fn beside(&self, useful: usize) -> usize
+        ensures { result ≤ useful - 1 }
+    {
         if self.gate.now().is_none() {
             return useful.saturating_sub(1);
         }

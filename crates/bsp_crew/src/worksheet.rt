@@ -5,9 +5,10 @@ ghost use Rattle.std.specs.Option.{ForSome};
 ghost use Rattle.bsp_run.specs.TurnBy.{turn_by};
 ghost use Rattle.bsp_crew.specs.Parts.{IsLeft, IsPart, asks_turns};
 
-use crate::part::{Made, Means, Part, Task};
+use crate::part::Part;
 use crate::piece::Piece;
 use crate::shared_run::SharedRun;
+use crate::task::{Made, Means, Task};
 use bsp_gate::Gate;
 use bsp_model::OutOfMemory;
 use bsp_pool::Sheet;

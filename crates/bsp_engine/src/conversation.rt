@@ -166,7 +166,8 @@ fn attend_all<P: Program + Drop, R: Threads + Sync, G: Gate, T: Terminal>(
     Ok(())
 }
 
-/// Waits for bytes, for which there is room in `chunk`, and answers the lines that end in them. Whether there were bytes: at the end the line that was begun is answered.
+/// Waits for bytes, for which there is room in `chunk`, and answers the lines that end in them. False at the end, where
+/// the line that was begun is answered.
 fn attend_more<P: Program + Drop, R: Threads + Sync, G: Gate, T: Terminal>(
     workers: &Workers<'_, R, G>,
     attendant: &mut Attendant<P>,

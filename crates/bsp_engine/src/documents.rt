@@ -116,6 +116,10 @@ pub fn follow<C: Catalogue, R: Threads + Sync, S: Source, T: Terminal, G: Gate>(
         Follows C.meaning C.Program.acts C.Program.ending C.Program.looks options.detail bytes
         (T.log terminal.old) (T.log terminal.new) (terminal.new ≡ terminal.old) result) }
 
+    // All of the document was read, and never more than one byte past the limit.
+    ensures end { OnOk result (IsAtEnd (S.remaining source.new)) }
+    ensures taken { TakesAtMost (most_document_bytes + 1) (S.remaining source.old) (S.remaining source.new) }
+
     // The document is there for whoever tells more of its fault.
     ensures document { (fault : JobFault) → result ≡ Err (EngineError.Job fault) →
         IfSome (S.remaining source.old) (λ bytes. document.new.items ≡ bytes) }

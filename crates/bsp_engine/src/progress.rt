@@ -2,6 +2,7 @@
 
 use bsp_crew::DEPTH_OF_RUNS;
 use bsp_gate::Gate;
+use std::env::Env;
 use std::io::IsTerminal;
 use std::sync::atomic::{AtomicU64, Ordering};
 use std::time::{Clock, Instant};
@@ -14,6 +15,9 @@ const NEXT_MILLIS: u64 = 100;
 
 /// Stands for no time.
 const NEVER: u64 = u64::MAX;
+
+/// Where this variable of the environment is 1, runs start their workers at once, as many as are asked for. It is for tests.
+const AT_ONCE: &str = "FANNULAVO_WORKERS_AT_ONCE";
 
 /// A runtime that tells whether its standard error is a terminal.
 pub trait Watched {
@@ -31,6 +35,8 @@ impl Watched for HostRuntime {
 #[derive(Drop)]
 pub struct Progress<'a, R> {
     rt: &'a R,
+    /// Whether callers are told the time.
+    tells_time: bool,
     /// When the tool began, where progress is shown. The times below are milliseconds from then on.
     began: Option<Instant>,
     /// When the present work began, or `NEVER` where there is none.
@@ -40,10 +46,16 @@ pub struct Progress<'a, R> {
     run: AtomicU64,
 }
 
-impl<'a, R: Clock + Eprint> Progress<'a, R> {
+fn starts_at_once<R: Env>(rt: &R) -> bool {
+    let mut value = [0u8; 1];
+    matches!(rt.var(AT_ONCE, &mut value), Ok(1)) && value[0] == b'1'
+}
+
+impl<'a, R: Clock + Eprint + Env> Progress<'a, R> {
     pub fn new(rt: &'a R, is_shown: bool) -> Progress<'a, R> {
         Progress {
             rt,
+            tells_time: !starts_at_once(rt),
             began: if is_shown {
                 Instant::now(rt).ok()
             } else {
@@ -54,7 +66,9 @@ impl<'a, R: Clock + Eprint> Progress<'a, R> {
             run: AtomicU64::new(0),
         }
     }
+}
 
+impl<'a, R: Clock + Eprint> Progress<'a, R> {
     fn millis(&self) -> Option<u64> {
         let began = self.began?;
         let now = Instant::now(self.rt).ok()?;
@@ -87,7 +101,11 @@ impl<'a, R: Clock + Eprint + Sync> Gate for Progress<'a, R> {
     fn pass(&self, _job: usize) {}
 
     fn now(&self) -> Option<Instant> {
-        Instant::now(self.rt).ok()
+        if self.tells_time {
+            Instant::now(self.rt).ok()
+        } else {
+            None
+        }
     }
 
     fn enter(&self, depth: usize, number: u64) {

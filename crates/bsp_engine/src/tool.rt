@@ -110,7 +110,7 @@ fn follow_file<
 /// Runs a job, shows its progress, and says why there is no report where that is so.
 fn run_shown<
     C: Catalogue,
-    R: Alloc<A = Global> + Files + Input + Print + Eprint + Watched + Threads + Clock + Sync,
+    R: Env + Alloc<A = Global> + Files + Input + Print + Eprint + Watched + Threads + Clock + Sync,
 >(rt: &R, options: Options, path: Option<&str>) -> ExitCode
     requires workers { (0 < options.workers) × (options.workers ≤ MOST_WORKERS) }
 {
@@ -155,7 +155,7 @@ fn option_of_sessions(options: Options, path: Option<&str>) -> Option<&'static s
 /// Does what the words ask for, unless the options do not go together; the first word is the program's name.
 fn run_words<
     C: Catalogue,
-    R: Alloc<A = Global> + Files + Input + Print + Eprint + Watched + Threads + Clock + Sync,
+    R: Env + Alloc<A = Global> + Files + Input + Print + Eprint + Watched + Threads + Clock + Sync,
 >(rt: &R, tool: &Tool, words: &[String]) -> ExitCode {
     let mut texts = Vec::new(rt.alloc());
     for word in words {

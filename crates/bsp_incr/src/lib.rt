@@ -13,4 +13,4 @@ pub use edit::{Batch, Edit, EditError, EditFault, EditRefusal};
 pub use named::{add_place_processes, add_word_processes};
 pub use reply::{Place, Reply, Update};
 pub use rerun::{recorded_alone, recorded_run};
-pub use session::{Session, scratch_run_behind};
+pub use session::{Session, scratch_run, scratch_run_behind, session_run};

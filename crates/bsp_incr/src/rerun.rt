@@ -151,10 +151,11 @@ pub fn rerun_edited<P: Program, G: Gate, R: Threads + Sync>(
     ensures before { OnOk result (before.new ≡ Some history.old) }
     ensures err_input { OnErr result (input.new ≡ input.old) }
     ensures err_history { OnErr result (history.new ≡ history.old) }
+    ensures err_before { OnErr result (before.new ≡ None) }
 {
+    let discarded = discarded_of(workers.alloc, before.take());
     let formers = make_edits(workers.alloc, input, edits)?;
     let marks = marks_of_edits(history, input, edits);
-    let discarded = discarded_of(workers.alloc, before.take());
     match rerun(workers, program, Some(&*history), input, marks, discarded) {
         Ok((made, update)) => {
             drop(formers);

@@ -1,6 +1,7 @@
 //! Sessions.
 
 mod replies;
+mod whole;
 
 use crate::edit::{are_there, refusal_of};
 use crate::rerun::{recorded_run, rerun_edited};
@@ -15,6 +16,7 @@ pub use replies::scratch_run_behind;
 use std::alloc::Global;
 use std::marker::Model;
 use std::thread::Threads;
+pub use whole::{scratch_run, session_run};
 
 /// A program, an input, and the history of the program's run on that input.
 #[derive(Drop)]
@@ -156,7 +158,7 @@ impl<P: Program + Drop> Session<P> {
 
     /// Applies a batch that is accepted, as `apply` does, and hands out the history that the batch replaced: `before` is `None` where the batch left
     /// the history as it was. A history that stood there, as an earlier batch replaced it, is used up: its lists serve as room. After `OutOfMemory` the
-    /// session has not changed.
+    /// session has not changed, and `before` is `None`.
     pub fn apply_accepted<R: Threads + Sync, G: Gate>(
         &mut self,
         workers: &Workers<'_, R, G>,
@@ -172,6 +174,7 @@ impl<P: Program + Drop> Session<P> {
             (Some self.old.history) self.new.history u) }
         ensures before { OnOk result (unwrap_or before.new self.new.history ≡ self.old.history) }
         ensures err { OnErr result (self.new ≡ self.old) }
+        ensures err_before { OnErr result (before.new ≡ None) }
     {
         if are_there(&self.input, edits) {
             drop(before.take());

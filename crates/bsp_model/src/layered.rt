@@ -23,7 +23,7 @@ pub struct Layered<T: ByProcess> {
     apart: Option<Shared<Apart<T>>>,
 }
 
-// A crate above proves it as one call.
+// docs/DECISIONS.md says why it has a drop of its own.
 impl<T: ByProcess + Drop> Drop for Layered<T> {
     fn drop(self) {
         let Self { base, apart } = self;

@@ -61,7 +61,7 @@ fn go_on(ranges: &[Range], values: &[u64], start: u64) -> bool
     }
 }
 
-/// Keeps the words of one range that goes without: those that the memory has there.
+/// Adds the values of a range that has none yet, if there is one: the words that the memory has there.
 fn keep_words(ranges: &[Range], values: &mut Vec<u64>, memory: &Memory) -> Result<(), OutOfMemory>
     requires { AreRanges ranges.now (words_beside ranges.now values.old.items memory.now) }
     ensures kept { OnOk result (values.new.items ≡ words_beside ranges.now values.old.items memory.now) }
@@ -215,7 +215,7 @@ impl LocalMemory {
     }
 
     /// Makes `words` the words from `start` on, or no words, and keeps these stores. After `OutOfMemory` nothing has changed.
-    #[inline]
+    #[inline(always)]
     pub fn store(&mut self, start: u64, words: &[u64]) -> Result<(), OutOfMemory>
         requires inside { length words.now ≤ length self.old.memory - start }
         requires short { length self.old.memory < 2 ^ 64 }
@@ -280,6 +280,7 @@ impl LocalMemory {
         ensures ok { OnOk result (memories.new ≡ memories.old ++ self.old.memory ∷ []) }
         ensures err { OnErr result (memories.new ≡ memories.old) }
         ensures few { length self.new.memory ≤ length self.old.memory }
+        ensures none { self.new.stores ≡ [] }
     {
         self.ranges.clear();
         self.values.clear();

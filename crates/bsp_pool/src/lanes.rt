@@ -19,6 +19,13 @@ pub struct Deal {
     firsts: [u64; MOST_WORKERS],
 }
 
+impl Deal {
+    /// How many units the phase has.
+    pub(crate) fn units(&self) -> usize {
+        self.units
+    }
+}
+
 /// The hands of a worker, one at each lane, and the phase in which it draws. It draws from its own lane first, and from each further lane once the lanes
 /// before have no unit left.
 #[derive(Drop)]

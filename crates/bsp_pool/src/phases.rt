@@ -47,6 +47,20 @@ pub fn phase<W: Work, G: Gate, R: Threads + Sync>(
     Ok(merged(kept, missing))
 }
 
+/// A pool of so many workers, none of which has made an output yet; or `OutOfMemory`.
+fn pool_of<N: Outputs<T>, T: Drop>(
+    alloc: Global,
+    workers: usize,
+) -> Result<Pool<Share<N, T>>, OutOfMemory>
+    requires { workers ≤ 16 }
+{
+    let mut sheets = Vec::with_capacity(alloc, workers)?;
+    for _worker in 0..workers {
+        sheets.push_reserved(Share::new(alloc));
+    }
+    Pool::new(alloc, sheets)
+}
+
 /// Keeps the outputs that a pool of so many workers makes.
 fn kept_by_pool<N: Outputs<W::Out> + Send, W: Work, G: Gate, R: Threads + Sync>(
     rt: &R,
@@ -61,72 +75,70 @@ fn kept_by_pool<N: Outputs<W::Out> + Send, W: Work, G: Gate, R: Threads + Sync>(
 {
     // A worker beyond the number of inputs would find nothing to draw.
     let useful = workers.min(jobs.inputs.len()).max(1);
-    let mut sheets = Vec::new(jobs.alloc);
-    for _worker in 0..useful {
-        if sheets.push(Share::new(jobs.alloc)).is_err() {
-            return kept;
-        }
-    }
-    let pool: Result<Pool<Share<N, W::Out>>, OutOfMemory> = Pool::new(jobs.alloc, sheets);
-    let Ok(pool) = pool else {
+    let Ok(pool) = pool_of::<N, W::Out>(jobs.alloc, useful) else {
         return kept;
     };
     let pool = &pool;
-    if useful == 1 {
-        return kept_beside(pool, jobs, kept);
-    }
-    let attend = ||
-        requires { IsPhase (W.accepts jobs.now.work.now) (W.does jobs.now.work.now) jobs.now.inputs.now N.outputs }
-    {
-        let work = |share: &mut Share<N, W::Out>, number: usize|
+    if useful > 1 {
+        let attend = ||
             requires { IsPhase (W.accepts jobs.now.work.now) (W.does jobs.now.work.now) jobs.now.inputs.now N.outputs }
-        { work_input(jobs, share, number) };
-        pool.attend(rt, jobs.alloc, &work, &|| ())
-    };
-    let conduct = move || -> Vec<Option<W::Out>>
-        requires phase { IsPhase (W.accepts jobs.now.work.now) (W.does jobs.now.work.now) jobs.now.inputs.now N.outputs }
-        requires kept { AreKept N.outputs kept.items }
-        ensures { AreKept N.outputs result.items }
-    {
-        let kept = kept_beside(pool, jobs, kept);
-        pool.dismiss();
-        kept
-    };
-    join(rt, attend, conduct).1
+        { attend_inputs(rt, pool, jobs) };
+        let conduct = ||
+            requires { IsPhase (W.accepts jobs.now.work.now) (W.does jobs.now.work.now) jobs.now.inputs.now N.outputs }
+        {
+            work_inputs(pool, jobs);
+            pool.dismiss();
+        };
+        join(rt, attend, conduct);
+    } else {
+        work_inputs(pool, jobs);
+    }
+    kept_shares(pool, kept)
 }
 
-/// Keeps the outputs that the calling thread and the workers beside it make.
-fn kept_beside<N: Outputs<W::Out> + Send, W: Work, G: Gate>(
+/// Lets the workers beside the calling thread work inputs until they are told to leave.
+fn attend_inputs<N: Outputs<W::Out> + Send, W: Work, G: Gate, R: Threads + Sync>(
+    rt: &R,
     pool: &Pool<Share<N, W::Out>>,
     jobs: &Jobs<'_, W, G>,
-    mut kept: Vec<Option<W::Out>>,
-) -> Vec<Option<W::Out>>
-    requires phase { IsPhase (W.accepts jobs.now.work.now) (W.does jobs.now.work.now) jobs.now.inputs.now N.outputs }
-    requires kept { AreKept N.outputs kept.items }
-    ensures { AreKept N.outputs result.items }
+)
+    requires { IsPhase (W.accepts jobs.now.work.now) (W.does jobs.now.work.now) jobs.now.inputs.now N.outputs }
 {
-    let units = jobs.inputs.len();
-    let own = match pool.own() {
-        Some(seat) => seat.take_back(),
-        None => None,
+    let work = |share: &mut Share<N, W::Out>, number: usize|
+        requires { IsPhase (W.accepts jobs.now.work.now) (W.does jobs.now.work.now) jobs.now.inputs.now N.outputs }
+    { work_input(jobs, share, number) };
+    pool.attend(rt, jobs.alloc, &work, &|| ());
+}
+
+/// Opens the phase to the workers, works inputs beside them, and waits for theirs.
+fn work_inputs<N: Outputs<W::Out> + Send, W: Work, G: Gate>(
+    pool: &Pool<Share<N, W::Out>>,
+    jobs: &Jobs<'_, W, G>,
+)
+    requires { IsPhase (W.accepts jobs.now.work.now) (W.does jobs.now.work.now) jobs.now.inputs.now N.outputs }
+{
+    let Some(mut own) = pool.own_desk() else {
+        return;
     };
-    let Some(mut own) = own else {
-        return kept;
-    };
-    let deal = own.hands.deal(units);
-    for seat in pool.beside() {
-        if let Some(desk) = seat.take_anew() {
-            seat.open(desk, &deal);
-        }
-    }
+    let deal = own.hands.deal(jobs.inputs.len());
+    pool.open(&deal);
     let began = jobs.gate.now();
     let work = |share: &mut Share<N, W::Out>, number: usize|
         requires { IsPhase (W.accepts jobs.now.work.now) (W.does jobs.now.work.now) jobs.now.inputs.now N.outputs }
     { work_input(jobs, share, number) };
     let worked = own.work(&work);
-    pool.wait((units as u64).saturating_sub(worked), began, jobs.gate);
-    own.sheet.keep_in(&mut kept);
-    for seat in pool.beside() {
+    pool.wait(&deal, worked, began, jobs.gate);
+}
+
+/// Keeps the outputs of each worker that has answered.
+fn kept_shares<N: Outputs<T>, T: Drop>(
+    pool: &Pool<Share<N, T>>,
+    mut kept: Vec<Option<T>>,
+) -> Vec<Option<T>>
+    requires { AreKept N.outputs kept.items }
+    ensures { AreKept N.outputs result.items }
+{
+    for seat in pool.seats() {
         if let Some(mut desk) = seat.take_back() {
             desk.sheet.keep_in(&mut kept);
         }

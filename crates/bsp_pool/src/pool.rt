@@ -1,20 +1,22 @@
 //! Workers that stay until a run is over, and draw the units of its phases beside the calling thread.
 
-ghost use Rattle.std.specs.Prelude.{◌<◌, ◌≤◌, length};
+ghost use Rattle.std.specs.Prelude.{◌≡◌, ◌-◌, ◌<◌, ◌≤◌, IfOk, length};
 
 use crate::OutOfMemory;
-use crate::lanes::hands_of_workers;
+use crate::lanes::{Deal, hands_of_workers};
 use crate::patience::Patience;
-use crate::seat::{Seat, Sheet};
+use crate::seat::{Desk, Seat, Sheet};
 use bsp_gate::Gate;
 use crossbeam_utils::CachePadded;
 use std::alloc::Global;
+use std::marker::Model;
+use std::sync::MutexGuard;
 use std::sync::atomic::AtomicU64;
 use std::sync::atomic::Ordering::SeqCst;
 use std::thread::{Threads, map_indices};
 use std::time::Instant;
 
-/// The workers of a pool, each with a lane and a sheet. The first is the calling thread.
+/// The workers of a pool, each with a lane and a sheet. The first is the calling thread. Contracts see a pool as the number of its workers.
 #[derive(Drop)]
 pub struct Pool<S> {
     seats: Vec<Seat<S>>,
@@ -22,10 +24,19 @@ pub struct Pool<S> {
     over: CachePadded<AtomicU64>,
 }
 
+impl<S> Model for Pool<S> {
+    ghost use Rattle.std.specs.Prelude.{ℕ, length};
+
+    ghost Value = { ℕ };
+
+    ghost view = { λ p. length p.seats.items };
+}
+
 impl<S: Sheet> Pool<S> {
     /// A pool of as many workers as there are sheets, at most 16; or `OutOfMemory`.
     pub fn new(alloc: Global, sheets: Vec<S>) -> Result<Pool<S>, OutOfMemory>
         requires { length sheets.items ≤ 16 }
+        ensures { IfOk result (λ pool. pool ≡ length sheets.items) }
     {
         let workers = sheets.len();
         let hands = hands_of_workers(alloc, workers)?;
@@ -39,17 +50,42 @@ impl<S: Sheet> Pool<S> {
         })
     }
 
-    /// The seat of the calling thread.
-    pub fn own(&self) -> Option<&Seat<S>> {
-        self.seats.first()
+    /// The seats of all workers, that of the calling thread first.
+    pub(crate) fn seats(&self) -> &[Seat<S>]
+        ensures { length result.now ≡ self.now }
+    {
+        self.seats.as_slice()
+    }
+
+    /// The desk of the calling thread.
+    pub fn own_desk(&self) -> Option<MutexGuard<'_, Desk<S>>> {
+        self.seats.first()?.take_back()
+    }
+
+    /// Lets the workers beside the calling thread that are free draw in a phase.
+    pub(crate) fn open(&self, deal: &Deal) {
+        for seat in self.useful(deal) {
+            if let Some(desk) = seat.take_anew() {
+                seat.open(desk, deal);
+            }
+        }
     }
 
     /// The seats of the workers beside it.
-    pub fn beside(&self) -> &[Seat<S>] {
+    pub fn beside(&self) -> &[Seat<S>]
+        ensures { length result.now ≡ self.now - 1 }
+    {
         match self.seats.split_first() {
             Some((_own, beside)) => beside,
             None => &[],
         }
+    }
+
+    /// The seats of the workers beside it that are of use in a phase, which are fewer than its units.
+    pub fn useful(&self, deal: &Deal) -> &[Seat<S>] {
+        let beside = self.beside();
+        let useful = deal.units().saturating_sub(1).min(beside.len());
+        &beside[..useful]
     }
 
     /// Tells the workers to leave.
@@ -58,13 +94,14 @@ impl<S: Sheet> Pool<S> {
         over.store(1, SeqCst);
     }
 
-    /// Waits until the workers beside the calling thread have answered so many units of the phase, in which its own part began at this time; or patience
-    /// ends.
-    pub fn wait<G: Gate>(&self, units: u64, began: Option<Instant>, gate: &G) {
+    /// Waits until the workers beside the calling thread have answered the units of the phase but so many, which it drew itself from this time on; or
+    /// patience ends.
+    pub fn wait<G: Gate>(&self, deal: &Deal, drawn: u64, began: Option<Instant>, gate: &G) {
+        let units = (deal.units() as u64).saturating_sub(drawn);
         let mut patience = Patience::new(began, gate);
         for _look in 0..u64::MAX {
             let mut answered: u64 = 0;
-            for seat in self.beside() {
+            for seat in self.useful(deal) {
                 answered = answered.saturating_add(seat.answered());
             }
             if answered >= units || !patience.lasts(gate) {

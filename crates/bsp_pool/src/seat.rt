@@ -131,19 +131,20 @@ impl<S: Sheet> Seat<S> {
         }
     }
 
-    /// Works in the phases of the pool, until it is over, and rests after each.
+    /// Works in the phases of the pool, until it is over, and rests after each. An order that still waits then is not begun.
     pub(crate) fn attend<F: Fn(&mut S, usize), H: Fn()>(&self, work: &F, rest: &H, over: &AtomicU64)
         requires work { F.IsAlwaysCallable work.now }
         requires rest { H.IsAlwaysCallable rest.now }
     {
         let mut looks = 0;
         for _look in 0..u64::MAX {
+            if over.load(SeqCst) != 0 {
+                return;
+            }
             if self.state() == WAITING {
                 self.work(work);
                 rest();
                 looks = 0;
-            } else if over.load(SeqCst) != 0 {
-                return;
             } else {
                 pause(looks);
                 looks = looks.saturating_add(1);

@@ -17,7 +17,7 @@ pub struct Discarded {
     open: Option<Superstep>,
 }
 
-// A crate above proves it as one call.
+// docs/DECISIONS.md says why it has a drop of its own.
 impl Drop for Discarded {
     fn drop(self) {
         let Self { past, last, open } = self;
@@ -62,7 +62,7 @@ impl Discarded {
         }
     }
 
-    /// No cells, in the room of the views of the open superstep, where no copy shares them and their room fits so many processes.
+    /// An empty list of cells. Its room is that of the views of the open superstep, as `Views::room_of` has it.
     pub fn take_cells(&mut self, alloc: Global, count: usize) -> Cells
         ensures { result ≡ [] }
     {

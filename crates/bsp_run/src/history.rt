@@ -34,7 +34,7 @@ pub struct History {
     sums: Sums,
 }
 
-// A crate above proves it as one call.
+// docs/DECISIONS.md says why it has a drop of its own.
 impl Drop for History {
     fn drop(self) {
         let Self { run, sums } = self;

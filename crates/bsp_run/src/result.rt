@@ -49,7 +49,7 @@ pub struct RunResult {
     pub total: u64,
 }
 
-// A crate above proves it as one call.
+// docs/DECISIONS.md says why it has a drop of its own.
 impl Drop for RunResult {
     fn drop(self) {
         let Self {

@@ -36,7 +36,7 @@ pub struct Tape {
     pub(crate) phase: Phase,
 }
 
-// A crate above proves it as one call.
+// docs/DECISIONS.md says why it has a drop of its own.
 impl Drop for Tape {
     fn drop(self) {
         let Self {

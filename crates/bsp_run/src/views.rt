@@ -26,7 +26,7 @@ pub struct Views {
     cells: Layered<Cells>,
 }
 
-// A crate above proves it as one call.
+// docs/DECISIONS.md says why it has a drop of its own.
 impl Drop for Views {
     fn drop(self) {
         let Self { setting, cells } = self;
@@ -129,7 +129,7 @@ impl Views {
         cells
     }
 
-    /// No cells, in the room of views that are needed no more, where no copy shares them and their room fits so many processes.
+    /// An empty list of cells. Its room is that of views that nobody needs, unless a copy shares them or the room is too small or large for so many processes.
     pub fn room_of(alloc: Global, views: Shared<Views>, count: usize) -> Cells
         ensures { result ≡ [] }
     {
@@ -177,7 +177,7 @@ impl Views {
         }
     }
 
-    /// The memory that a process sees. Where little of a view is asked for, this is cheaper than `get`.
+    /// The memory that a process sees.
     #[inline(always)]
     pub fn memory(&self, pid: usize) -> MemoryRef<'_>
         requires { pid < length self.now }

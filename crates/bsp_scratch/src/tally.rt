@@ -59,7 +59,7 @@ impl Tally {
         Ok(())
     }
 
-    /// Adds the lines and the cost of a superstep that ended by delivery, whose h-relation is known.
+    /// Adds the lines and the cost of a superstep that ended by delivery.
     pub fn add_delivery(&mut self, alloc: Global, outcomes: &Outcomes) -> Result<(), OutOfMemory>
         requires small_g { self.old.g ≤ HIGHEST_PRICE }
         requires small_l { self.old.l ≤ HIGHEST_PRICE }

@@ -117,6 +117,7 @@ impl Unrecorded {
     pub(crate) fn is_over(&self, limit: u64) -> bool
         ensures over { OnTrue result (self.now.end ≡ None → limit ≤ self.now.step) }
         ensures open { OnFalse result (self.now.end ≡ None) }
+        ensures below { OnFalse result (self.now.step < limit) }
     {
         self.end.is_some() || limit <= self.step
     }

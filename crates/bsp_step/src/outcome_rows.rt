@@ -31,7 +31,7 @@ pub struct OutcomeRows {
     lists: Box<Lists>,
 }
 
-// A crate above proves it as one call.
+// docs/DECISIONS.md says why it has a drop of its own.
 impl Drop for OutcomeRows {
     fn drop(self) {
         let Self {

@@ -23,7 +23,7 @@ pub struct Outcomes {
     rows: Option<Layered<OutcomeRows>>,
 }
 
-// A crate above proves it as one call.
+// docs/DECISIONS.md says why it has a drop of its own.
 impl Drop for Outcomes {
     fn drop(self) {
         let Self { rows } = self;
@@ -85,7 +85,7 @@ impl Outcomes {
         rows.get(place)
     }
 
-    /// The memory that the turn of a process left. Where little of an outcome is asked for, this and the like of it are cheaper than `get`.
+    /// The memory that the turn of a process left.
     #[inline(always)]
     pub fn memory(&self, pid: usize) -> MemoryRef<'_>
         requires { pid < length self.now }

@@ -28,7 +28,7 @@ fn left_only_puts(outcomes: &Outcomes) -> bool
         && outcomes.is_without(ListKind::Sends)
 }
 
-/// True only where the turns of both supersteps left puts alone.
+/// True only where the turns of both supersteps left nothing but puts.
 fn both_left_only_puts(old: &Outcomes, new: &Outcomes) -> bool
     ensures { result ≡ true → All LeftOnlyPuts old.now × All LeftOnlyPuts new.now }
 {
@@ -45,7 +45,7 @@ fn costs_alike(old: &OutcomeRef<'_>, new: &OutcomeRef<'_>) -> bool
         && sends_move_alike(&old.sends, &new.sends)
 }
 
-/// The same of two turns that left puts alone.
+/// The same of two turns that left nothing but puts.
 #[inline(always)]
 fn puts_cost_alike(old: &OutcomeRef<'_>, new: &OutcomeRef<'_>) -> bool
     requires old { LeftOnlyPuts old.now }
@@ -66,7 +66,7 @@ fn ends_alike(old: &OutcomeRef<'_>, new: &OutcomeRef<'_>) -> bool
         && are_same(old.pushes, new.pushes)
 }
 
-/// The same of two turns that left puts alone.
+/// The same of two turns that left nothing but puts.
 #[inline(always)]
 fn puts_end_alike(old: &OutcomeRef<'_>, new: &OutcomeRef<'_>) -> bool
     requires old { LeftOnlyPuts old.now }
@@ -96,13 +96,12 @@ impl Alike {
         ensures costs { self.new.costs ≡ true → (self.old.costs ≡ true)
             × CostsAlike (outcome_of old.now p) (outcome_of new.now p) }
     {
+        let (before, after) = (old.get(p), new.get(p));
         if only_puts {
-            let (before, after) = (old.get(p), new.get(p));
             self.ends = self.ends && puts_end_alike(&before, &after);
             self.costs = self.costs && puts_cost_alike(&before, &after);
             return;
         }
-        let (before, after) = (old.get(p), new.get(p));
         self.ends = self.ends && ends_alike(&before, &after);
         self.costs = self.costs && costs_alike(&before, &after);
     }

@@ -12,7 +12,7 @@ use bsp_step::{Program, View};
 use bsp_table::Table;
 
 /// Fewer words are compared one by one.
-const WORDS_WORTH_A_LOOK: usize = 16;
+const WORDS_WORTH_COMPARING: usize = 16;
 
 /// Whether a view has this table and this tag size.
 pub fn has_table(view: &View<'_>, table: &Table, tag_size: u64) -> bool
@@ -51,7 +51,7 @@ fn are_alike_from<P: Program>(
     ensures { IsTrue result ↔ ((i : ℕ) → i < length old.now → IsTrue (P.looks program.now view.now (first + i))
         → slice_index old.now i ≡ slice_index new.now i) }
 {
-    if old.len() >= WORDS_WORTH_A_LOOK && are_same_words(old, new) {
+    if old.len() >= WORDS_WORTH_COMPARING && are_same_words(old, new) {
         return true;
     }
     for i in 0..old.len() {

@@ -1,6 +1,7 @@
 //! How a superstep of a run that is made again ends: its deliveries, and the opening of the next.
 
-ghost use Rattle.std.specs.Prelude.{◌≡◌, ◌≤◌, ◌<◌, ◌++◌, [], IfOk, IfSome, OnOk, length, map, true};
+ghost use Rattle.std.specs.Prelude.{◌≡◌, ◌≤◌, ◌<◌, ◌++◌, [], All, IfOk, IfSome, OnOk, length, map, true};
+ghost use Rattle.bsp_model.specs.Replaced.{IsAscending};
 ghost use Rattle.bsp_model.specs.ProcessSet.{processes_in, union, processes_where};
 ghost use Rattle.bsp_deliver.specs.Requests.{each_below};
 ghost use Rattle.bsp_run.specs.Run.{after_delivery, open_views};
@@ -150,8 +151,28 @@ fn open_next<P: Program, G>(
     Ok(())
 }
 
-/// The deliveries of the superstep whose turns are taken to the processes of a set, which the workers make. Their places are added. The lists of
-/// `discarded` serve as room.
+/// What the processes of a list get at the end of the superstep whose turns are taken. The workers make it, in the room of `discarded`.
+fn cells_of<P: Program, J: SharedRun, G: Gate>(
+    given: &Given<'_, P, G>,
+    tape: &Tape,
+    processes: &[usize],
+    discarded: &mut Discarded,
+    crew: Option<&Crew<J>>,
+) -> Result<Cells, OutOfMemory>
+    requires crew { IfSome crew (λ _. AreOfRun (turn_by P.Program given.now.program) given.now.input J.turn J.views) }
+    requires turned { tape.now.phase ≡ Phase.Turned }
+    requires known { All (λ p. p < length tape.now.outcomes) processes.now }
+    requires ascending { IsAscending processes.now }
+    requires taken { tape.now.outcomes ≡ map (turn_by P.Program given.now.program)
+        (views_in (turn_by P.Program given.now.program) given.now.input (length tape.now.past)) }
+    ensures { IfOk result (λ cells. cells ≡ deliveries_to tape.now.outcomes processes.now) }
+{
+    let step = tape.step() as u64;
+    let room = discarded.take_cells(given.alloc, processes.len());
+    wide_deliveries(&given.means(), tape.outcomes(), processes, step, room, crew)
+}
+
+/// The deliveries of the superstep whose turns are taken to the processes of a set. Their places are added.
 fn deliveries_among<P: Program, J: SharedRun, G: Gate>(
     given: &Given<'_, P, G>,
     tape: &Tape,
@@ -170,12 +191,10 @@ fn deliveries_among<P: Program, J: SharedRun, G: Gate>(
     ensures places { OnOk result (redelivered.new
         ≡ redelivered.old ++ places_of (length tape.now.past) (processes_in touched.now)) }
 {
-    let step = tape.step() as u64;
     let processes = touched.members(given.alloc)?;
     let asked = processes.as_slice();
-    add_places(redelivered, step, asked)?;
-    let room = discarded.take_cells(given.alloc, asked.len());
-    let cells = wide_deliveries(&given.means(), tape.outcomes(), asked, step, room, crew)?;
+    add_places(redelivered, tape.step() as u64, asked)?;
+    let cells = cells_of(given, tape, asked, discarded, crew)?;
     Ok(Deliveries { processes, cells })
 }
 

@@ -193,6 +193,36 @@ fn discarded_for_taken(room: &mut Room, are_all_taken: bool) -> Outcomes {
     Outcomes::new()
 }
 
+/// The turns of all processes, where the turns of the processes in `needed` were taken. The recorded turns of the rest serve. Discarded lists serve as room.
+fn all_turns<P: Program, G>(
+    given: &Given<'_, P, G>,
+    superstep: &OpenSuperstep<'_, '_>,
+    dirty: &ProcessSet,
+    needed: &ProcessSet,
+    processes: Vec<usize>,
+    taken: OutcomeRows,
+    room: &mut Room,
+) -> Result<Outcomes, OutOfMemory>
+    requires recorded { IfSome superstep.now.old_outcomes (λ o. (0 < length superstep.now.old_views)
+        × (o.now ≡ map (turn_by P.Program given.now.program) superstep.now.old_views)) }
+    requires none { IfNone superstep.now.old_outcomes (superstep.now.old_views ≡ []) }
+    requires dirty { ViewsDifferAtMost superstep.now.old_views superstep.now.views.now dirty.now }
+    requires needed { needed.now ≡ each_below (length superstep.now.views.now)
+        (differs_now (P.looks given.now.program) superstep.now) }
+    requires processes { processes.items ≡ processes_in needed.now }
+    requires turns { taken
+        ≡ turns_of (turn_by P.Program given.now.program) superstep.now.views.now (processes_in needed.now) }
+    ensures { IfOk result (λ all. all ≡ map (turn_by P.Program given.now.program) superstep.now.views.now) }
+{
+    match superstep.old_outcomes {
+        Some(old) if needed.same(dirty) => {
+            over_recorded(given, superstep, old, dirty, processes, taken)
+        }
+        Some(old) => over_renewed(given, superstep, old, dirty, needed, taken, room),
+        None => taken.share(),
+    }
+}
+
 /// The turns of a superstep: the workers take those that have to be taken, and their places are added.
 pub fn turns_again<P: Program, J: SharedRun, G: Gate>(
     given: &Given<'_, P, G>,
@@ -219,12 +249,13 @@ pub fn turns_again<P: Program, J: SharedRun, G: Gate>(
     add_places(executed, superstep.step, asked)?;
     let are_all_taken = needed.same(&dirty.processes);
     let taken = taken_turns(given, superstep, asked, room, are_all_taken, crew)?;
-    let dirty = &dirty.processes;
-    match superstep.old_outcomes {
-        Some(old) if are_all_taken => {
-            over_recorded(given, superstep, old, dirty, processes, taken)
-        }
-        Some(old) => over_renewed(given, superstep, old, dirty, &needed, taken, room),
-        None => taken.share(),
-    }
+    all_turns(
+        given,
+        superstep,
+        &dirty.processes,
+        &needed,
+        processes,
+        taken,
+        room,
+    )
 }

@@ -1,6 +1,6 @@
 //! For each process blocks, of which the last process still gets some.
 
-ghost use Rattle.std.specs.Prelude.{◌≡◌, ◌≤◌, ◌+◌, ◌++◌, ◌∷◌, [], length, take, IfOk, OnErr, OnOk};
+ghost use Rattle.std.specs.Prelude.{◌≡◌, ◌≤◌, ◌+◌, ◌++◌, ◌∷◌, ℕ, [], length, take, IfOk, OnErr, OnOk};
 ghost use Rattle.bsp_model.specs.Columns.{row_at, AreCut, IsPut};
 
 use super::BlockColumn;
@@ -94,9 +94,11 @@ impl<X: Block> OpenBlocks<X> {
         Ok(())
     }
 
-    /// Adds copies of blocks to the open row. After `OutOfMemory` some of them are there.
+    /// Adds copies of blocks to the open row. After `OutOfMemory` the first of them are there.
     pub fn extend(&mut self, more: &BlocksRef<'_, X>) -> Result<(), OutOfMemory>
-        ensures { OnOk result (self.new ≡ record self.old { last = self.old.last ++ more.now }) }
+        ensures ok { OnOk result (self.new ≡ record self.old { last = self.old.last ++ more.now }) }
+        ensures err { OnErr result ((count : ℕ)
+            × (self.new ≡ record self.old { last = self.old.last ++ take count more.now })) }
     {
         for place in 0..more.len() {
             let (head, words) = more.parts(place);

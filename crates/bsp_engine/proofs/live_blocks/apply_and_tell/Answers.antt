@@ -29,7 +29,8 @@ push_accepted-pushed-requires-clause-update g c κs within =
     ∙ (λ k. unwrap_or (c.as_ref.ensures.value k) (c.history-new.ensures.history k)) ∙ c.in-Ok.ensures.before in
     subst (λ (h : Run). IsUpdateBetween h batch c.in-Ok.update c.history-new.result.now) (sym old)
     (subst (λ (h : Run). IsUpdateBetween session.history batch c.in-Ok.update h) (sym c.history-new.ensures.history) (record {
-      turn = turn_of (g.P.Program.acts session.program) (g.P.Program.ending session.program);
+      acts = g.P.Program.acts session.program;
+      ending = g.P.Program.ending session.program;
       looks = g.P.Program.looks session.program;
       input = session.input;
       runs = c.in-Ok.ensures.runs;

@@ -1,7 +1,7 @@
 use Rattle.std.proofs.Common.{◌≡◌, ◌++◌, take}
 use Rattle.bsp_run.specs.Shares.{turns_of}
 use Rattle.bsp_run.specs.TurnBy.{turn_by}
-use Rattle.bsp_crew.proofs.part.Means.take_turns.Given as goal
+use Rattle.bsp_crew.proofs.task.Means.take_turns.Given as goal
 
 -- the turns so far
 abbrev pub invariant-loop-place : goal.invariant-loop-place

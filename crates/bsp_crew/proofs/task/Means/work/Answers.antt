@@ -1,7 +1,7 @@
 use Rattle.std.proofs.Common.{◌≡◌, List, map, rules}
 use Rattle.bsp_step.specs.OutcomeParts.{OutcomeParts}
-use Rattle.bsp_crew.proofs.part.Means.work.Goals as goal
-use Rattle.bsp_crew.proofs.part.Means.work.Goals.{in-Turns-Taken, in-Deliveries-Delivered}
+use Rattle.bsp_crew.proofs.task.Means.work.Goals as goal
+use Rattle.bsp_crew.proofs.task.Means.work.Goals.{in-Turns-Taken, in-Deliveries-Delivered}
 
 pub make_deliveries-requires-after_bounds : goal.make_deliveries-requires-after_bounds
 make_deliveries-requires-after_bounds g c κs within =
