@@ -15,14 +15,22 @@ def build_library(room):
 
 def environment(library, refused, count, is_between_marks):
     marks = {"REFUSE_AFTER": "begin\n", "REFUSE_UNTIL": "end\n"} if is_between_marks else {}
-    return {**os.environ, "LD_PRELOAD": library, "REFUSE_NUMBER": str(refused), "REFUSE_COUNT": count, **marks}
+    return {"LD_PRELOAD": library, "REFUSE_NUMBER": str(refused), "REFUSE_COUNT": count, **marks}
 
 
-def run_counted(library, words, document, refused=0, is_between_marks=False):
-    """Runs a program on a document, with the allocation of this number refused, or none where it is 0. Answers how it ended, and how many allocations it
-    made, from the start of its `main` on or between the lines `begin` and `end` of its output; None where it did not come to tell."""
+def run_measured(library, words, document, refused=0, is_between_marks=False, started=None):
+    """Runs a program on a document, with the allocation of this number refused, or none where it is 0. Answers how it ended, and the numbers that ci/refusing.c
+    tells: how many allocations it made, from the start of its `main` on or between the lines `begin` and `end` of its output, how many bytes more it had in
+    the end, and how many threads. There are none where it did not come to tell. With `started` its threads are counted there too."""
     with tempfile.NamedTemporaryFile() as count, open(document, "rb") as given:
         how = environment(library, refused, count.name, is_between_marks)
-        ended = subprocess.run(words, stdin=given, capture_output=True, timeout=SECONDS, env=how)
-        told = count.read()
-    return ended, int(told) if told else None
+        if started:
+            how = {**started.variables, **how, "LD_PRELOAD": f"{library}:{started.variables['LD_PRELOAD']}"}
+        ended = subprocess.run(words, stdin=given, capture_output=True, timeout=SECONDS, env={**os.environ, **how})
+        return ended, [int(number) for number in count.read().split()]
+
+
+def run_counted(*given, **more):
+    """How a program ended that was run so, and how many allocations it made; None where it did not come to tell."""
+    ended, numbers = run_measured(*given, **more)
+    return ended, numbers[0] if numbers else None

@@ -3,6 +3,7 @@ import os
 import resource
 import subprocess
 import unicodedata
+import zlib
 from dataclasses import dataclass, replace
 
 from modelled.limits import MOST_WORKERS
@@ -10,7 +11,9 @@ from modelled.limits import MOST_WORKERS
 ROOT = os.path.dirname(os.path.dirname(os.path.realpath(__file__)))
 EXAMPLES_OF = "bsp_tool"
 SECONDS = 120
-WORKERS = ("1", "3", str(MOST_WORKERS))
+WORKERS = ("1", str(MOST_WORKERS))
+# Those that start at once, of a session and of runs from scratch; or the other way round.
+AT_ONCE = (("2", str(MOST_WORKERS)), ("3", "4"))
 # The lists of options with which a document is run besides, where the model says the report.
 OPTIONS = (
     ("--places",),
@@ -34,6 +37,7 @@ class Case:
     words: tuple = ()  # of the command line
     output: str = ""  # where standard output goes, if it is not to be compared
     memory: int = 0  # the most bytes of address space, if not 0
+    workers: int = 0  # how many start at once, if not 0
 
 
 def bytes_of(path):
@@ -74,17 +78,25 @@ def given_words(case, report, *words):
     return replace(case, name=" ".join([case.name, *words]), report=report, words=words)
 
 
+def started_at_once(case):
+    """The case by 2, 3, 4 and the most workers that start at once, two of these numbers from scratch."""
+    of_session, of_scratch = AT_ONCE[:: 1 if zlib.crc32(case.name.encode()) % 2 else -1]
+    words = [["--workers", count] for count in of_session] + [["--workers", count, "--scratch"] for count in of_scratch]
+    given = [given_words(case, without_updates(case.report) if "--scratch" in each else case.report, *each) for each in words]
+    return [replace(each, name=f"{each.name}, started at once", workers=int(each.words[1])) for each in given]
+
+
 def with_words(case, reports):
     """A case that has no words of its own, with each number of workers and with --scratch too, and with each list of options of which the report is
     known."""
     if isinstance(case, str) or case.words:
         return [case]
-    cases = [case, *(given_words(case, case.report, "--workers", count) for count in WORKERS)]
+    cases = [case, *(given_words(case, case.report, "--workers", count) for count in WORKERS), *started_at_once(case)]
     cases.append(given_words(case, without_updates(case.report), "--scratch"))
     return cases + [given_words(case, report, *words) for words, report in reports.items()]
 
 
-def run(program, case):
+def run(program, case, environment=None):
     limit = (lambda: resource.setrlimit(resource.RLIMIT_AS, (case.memory, case.memory))) if case.memory else None
     with open(case.output or os.devnull, "wb") as sink:
         given = os.open(case.document, os.O_RDONLY)
@@ -96,6 +108,7 @@ def run(program, case):
                 stderr=subprocess.PIPE,
                 timeout=SECONDS,
                 preexec_fn=limit,
+                env=environment,
             )
         finally:
             os.close(given)
@@ -109,6 +122,12 @@ def difference(what, found, wanted):
     at = next((n for n, (row, other) in enumerate(zip(rows, others)) if row != other), min(len(rows), len(others)))
     row, other = (lines[at][:80] if at < len(lines) else None for lines in (rows, others))
     return [f"{what}, line {at + 1}: {row!r} in place of {other!r}"]
+
+
+def runs_of(report):
+    """The lines of each block of a report that has a status."""
+    blocks = [block.decode().splitlines() for block in (b"\n" + report).split(b"\nrun ")[1:]]
+    return [block for block in blocks if any(line.startswith("status ") for line in block)]
 
 
 def first_line(text):
@@ -144,11 +163,14 @@ def unlike(case, report, error, status):
     return [f"{case.name}: {it}" for it in found]
 
 
-def differences(program, case):
+def differences(program, case, starting=None):
+    """What differs where the case is run. Of workers that start at once `starting` counts the threads."""
     if isinstance(case, str):
         return [case]
+    started = starting.run() if case.workers else None
     try:
-        ended = run(program, case)
+        ended = run(program, case, started and started.environment())
     except subprocess.TimeoutExpired:
         return [f"{case.name}: no end after {SECONDS} seconds"]
-    return unlike(case, ended.stdout or b"", ended.stderr, ended.returncode)
+    found = unlike(case, ended.stdout or b"", ended.stderr, ended.returncode)
+    return found + [f"{case.name}: {it}" for it in (started.differences(runs_of(case.report), case.workers) if started else [])]

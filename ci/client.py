@@ -21,11 +21,11 @@ FAILURES = (Wrong, OSError, subprocess.TimeoutExpired)
 class Client:
     """The two ends of a session's pipes. Its standard error goes to a file."""
 
-    def __init__(self, command, path, *words):
+    def __init__(self, command, path, *words, environment=None):
         self.errors = open(f"{path}.errors", "w+b")
         pipes = {"stdin": subprocess.PIPE, "stdout": subprocess.PIPE, "stderr": self.errors, "bufsize": 0}
         # A write to a pipe that nobody reads fails then, and ends no process.
-        self.process = subprocess.Popen([*command, "--follow", path, *words], restore_signals=False, **pipes)
+        self.process = subprocess.Popen([*command, "--follow", path, *words], restore_signals=False, env=environment, **pipes)
         self.heard = b""
 
     def say(self, text):
@@ -112,10 +112,10 @@ class Client:
 
 
 @contextlib.contextmanager
-def opened(command, path, document, *words):
+def opened(command, path, document, *words, environment=None):
     with open(path, "wb") as file:
         file.write(document)
-    client = Client(command, path, *words)
+    client = Client(command, path, *words, environment=environment)
     try:
         yield client
     finally:

@@ -2,6 +2,7 @@
 import os
 import shutil
 
+from model import answer
 from place import InAPlace
 
 
@@ -55,30 +56,80 @@ class Sessions(InAPlace):
 
 class Progress(InAPlace):
     LINES = "printf 'run 0\\n'; show() { printf '\\rrun 3, superstep 9\\033[K\\r\\033[K' >&2; }"
+    TOLD = "told() { printf '\\rrun %s, superstep 7\\033[K' $1 >&2; }; away() { printf '\\r\\033[K' >&2; }; block() { printf 'run %s\\nexecuted 1 redelivered 1\\n' $1; }"
+    LIVE = "told 0; away; block 0; echo ready; for run in 1 2 3; do read -r line; [ $run = 3 ] || { told $run; away; }; block $run; done; cat"
 
-    def test_a_program_that_shows_its_progress_passes(self):
+    def live(self, *changes):
+        text = self.LIVE
+        for old, new in changes:
+            text = text.replace(old, new)
+        self.place.program("bsp_kernel", f"{self.TOLD}; {text}")
+
+    def test_programs_that_show_their_progress_pass(self):
         self.place.program("heat", f'{self.LINES}; if [ -t 2 ] && [ "$2" != --quiet ]; then show; fi')
-        self.passes("3 passed, 0 failed", "ci/progress")
+        self.live()
+        self.passes("4 passed, 0 failed", "ci/progress")
 
     def test_a_program_that_shows_it_always_or_never(self):
+        self.live()
         self.place.program("heat", f"{self.LINES}; show")
-        self.fails("1 passed, 2 failed", "test_quiet", "ci/progress")
+        self.fails("2 passed, 2 failed", "test_quiet", "ci/progress")
         self.place.program("heat", self.LINES)
-        self.fails("2 passed, 1 failed", "test_a_terminal", "ci/progress")
+        self.fails("3 passed, 1 failed", "test_a_terminal", "ci/progress")
+
+    def test_a_session_that_shows_it_wrongly(self):
+        self.place.program("heat", f'{self.LINES}; if [ -t 2 ] && [ "$2" != --quiet ]; then show; fi')
+        wrong = {
+            "another run": ("told $run", "told 0"),
+            "it stays": ("told $run; away", "told $run"),
+            "it is taken away behind the answer": ("away; }; block $run", "}; block $run; sleep 1; away"),
+            "the time between two answers counts": ("[ $run = 3 ] || ", ""),
+        }
+        for name, change in wrong.items():
+            with self.subTest(wrong=name):
+                self.live(change)
+                self.fails("3 passed, 1 failed", "test_the_line_is_taken_away_before_an_answer", "ci/progress")
 
     def test_a_program_that_is_not_built(self):
         self.place.script("bin/rt", "exit 1")
-        self.fails("0 passed, 1 failed", "heat was not built", "ci/progress")
+        self.fails("0 passed, 2 failed", "was not built", "ci/progress")
 
 
 class Threads(InAPlace):
     def test_a_program_whose_workers_do_not_come(self):
-        self.place.program("heat", "exit 0")
-        self.fails("0 passed, 4 failed", "no superstep was made", "ci/threads")
+        for crate in ("heat", "bsp_kernel"):
+            self.place.program(crate, "exit 0")
+        self.fails("0 passed, 7 failed", "no superstep was made", "ci/threads")
 
     def test_a_program_that_is_not_built(self):
         self.place.script("bin/rt", "exit 1")
         self.fails("0 passed, 1 failed", "heat was not built", "ci/threads")
+
+
+class RefuseThreads(InAPlace):
+    """A program of two processes with one batch, of which each start is refused by itself, and all."""
+
+    DOCUMENT = 'program = "heat"\nlimit = 9\ng = 1\nl = 1\nmemory = [[0, 8, 0], [0, 0, 0], [0, 0, 0]]\nargs = [[1], [1], [1]]\nbatches = [[["word", 0, 1, 4]]]\n'
+
+    def run_of(self):
+        self.place.write("crates/heat/stdin", self.DOCUMENT.encode())
+        self.place.write("crates/heat/stdout", answer("heat", self.DOCUMENT.encode()).report.encode())
+        os.makedirs(f"{self.place.root}/cases/heat")
+
+    def test_a_right_tool_passes(self):
+        talker(self.place)
+        self.run_of()
+        # By 3 and by 4 workers two threads start for each of two runs: as a session, from scratch and live.
+        self.passes("30 passed, 0 failed", "ci/refuse_threads", "heat")
+
+    def test_a_tool_that_starts_no_thread(self):
+        talker(self.place, "--flaw", "alone")
+        self.run_of()
+        self.fails("6 passed, 24 failed", "0 threads started in place of 3", "ci/refuse_threads", "heat")
+
+    def test_a_program_that_is_not_built(self):
+        self.place.script("bin/rt", "exit 1")
+        self.fails("0 passed, 1 failed", "heat: its program was not built", "ci/refuse_threads", "heat")
 
 
 class Live(InAPlace):
@@ -87,7 +138,7 @@ class Live(InAPlace):
     FLAWS = {
         "late": (0, "line 0"),
         "unread_edits": (3, "in place of"),
-        "mute": (0, "on standard error"),
+        "mute": (1, "on standard error"),
         "blames": (0, "on standard error"),
         "undoes_refused": (4, "undo"),
         "numbers": (1, "b'run "),
@@ -95,6 +146,7 @@ class Live(InAPlace):
         "looks_back": (0, "view"),
         "stays": (0, "no end after"),
         "unheard": (0, "a client that dies"),
+        "alone": (1, "0 threads started"),
     }
 
     def test_a_right_session_passes(self):

@@ -4,11 +4,13 @@ import unittest
 
 
 class Counts:
-    """How many tries passed and how many failed. A part that tries nothing has shown nothing, so that is a failure."""
+    """How many tries passed and how many failed, and how many threads they started, where that is counted. A part that tries nothing has shown nothing, so
+    that is a failure."""
 
     def __init__(self):
         self.passed = 0
         self.failed = 0
+        self.threads = None
 
     def record(self, found):
         """Counts a try by what was wrong with it, and prints that."""
@@ -20,9 +22,11 @@ class Counts:
         self.failed += failed
 
     def end(self):
-        """Prints the last line, and answers the exit status."""
+        """Prints the last lines, and answers the exit status."""
         if not self.passed and not self.failed:
             self.record(["nothing was tried"])
+        if self.threads is not None:
+            print(f"{self.threads} threads started")
         print(f"{self.passed} passed, {self.failed} failed")
         return 1 if self.failed else 0
 

@@ -7,13 +7,28 @@ from drawn_scripts import flooded, lengthened
 from modelled.limits import HIGHEST_PRICE, MOST_ARGUMENTS, MOST_MEMORY_WORDS, MOST_PROCESSES, MOST_SUPERSTEPS
 
 LARGEST = 2**63 - 1
+LARGE_EACH = 15  # so many documents have one that is large
 
 
 class Draw(random.Random):
-    """A source of random values."""
+    """A source of random values. The inputs that are drawn from a large one have many processes, or memories of several pages."""
+
+    is_large = False
+
+    def count(self, *counts):
+        """A number of processes, of these mostly."""
+        return self.choice((20, 33, MOST_PROCESSES)) if self.is_large and self.happens(0.7) else self.choice(counts)
+
+    def length(self, *lengths):
+        """A length of a memory or of a part of it, of these mostly; or one of more than a page, or of more than two."""
+        return min(self.choice((70, 100, 130, 150)), MOST_MEMORY_WORDS) if self.is_large and self.happens(0.6) else self.choice(lengths)
 
     def happens(self, rate):
         return self.random() < rate
+
+    def happens_to_one(self, rate, count):
+        """What happens to each process at a rate happens to as many of a large input as of a small one."""
+        return self.happens(rate * 5 / count if self.is_large else rate)
 
     def small(self):
         """A word that is small mostly."""
@@ -26,12 +41,12 @@ class Draw(random.Random):
 def draw_bundled(draw):
     """A bundled program with memories and arguments that mostly suit it."""
     program = draw.choice(("broadcast", "prefix", "matvec", "rank"))
-    nprocs = draw.choice((1, 2, 2, 3, 4, 5, 7))
+    nprocs = draw.count(1, 2, 2, 3, 4, 5, 7)
     args = [[] for _ in range(nprocs)]
     if program == "broadcast":
-        lengths = [draw.choice((1, 1, 1, 2, 3)) for _ in range(nprocs)]
+        lengths = [draw.length(1, 1, 1, 2, 3) for _ in range(nprocs)]
         root = draw.randrange(nprocs)
-        args = [[draw.randrange(nprocs + 1) if draw.happens(0.1) else root] for _ in range(nprocs)]
+        args = [[draw.randrange(nprocs + 1) if draw.happens_to_one(0.1, nprocs) else root] for _ in range(nprocs)]
     elif program == "matvec":
         b = draw.randrange(3)
         args = [[b] for _ in range(nprocs)]
@@ -41,37 +56,37 @@ def draw_bundled(draw):
     memories = [draw.words(length) for length in lengths]
     if program == "rank":
         for memory in memories:
-            memory[0] = draw.randrange(nprocs + draw.happens(0.05))
+            memory[0] = draw.randrange(nprocs + draw.happens_to_one(0.05, nprocs))
     return program, memories, args
 
 
 def draw_heat(draw):
     """Rods of few cells, in pieces of one length or of any, for few time steps."""
-    nprocs, length, steps = draw.randint(1, 5), 2 if draw.happens(0.03) else draw.randint(3, 6), draw.randrange(5)
+    nprocs, length, steps = draw.count(*range(1, 6)), 2 if draw.happens(0.03) else draw.length(*range(3, 7)), draw.randrange(5)
     is_even = draw.happens(0.5)
-    lengths = [length if is_even else 2 if draw.happens(0.02) else draw.randint(3, 6) for _ in range(nprocs)]
+    lengths = [length if is_even else 2 if draw.happens_to_one(0.02, nprocs) else draw.length(*range(3, 7)) for _ in range(nprocs)]
     memories = [[draw.choice((0, 0, 0, 10, 100, 1000, LARGEST)) for _ in range(count)] for count in lengths]
-    args = [[steps + draw.happens(0.02)] for _ in range(nprocs)]
+    args = [[steps + draw.happens_to_one(0.02, nprocs)] for _ in range(nprocs)]
     return "heat", memories, args
 
 
 def draw_oddeven(draw):
     """Few words for each process, and mostly as many rounds as there are processes. Now and then a memory has a word more, or its own length."""
-    nprocs, length = draw.randint(1, 6), draw.choice((0, 1, 2, 2, 4, 4, 6, 8))
-    lengths = [draw.randrange(9) if draw.happens(0.03) else length + draw.happens(0.1) for _ in range(nprocs)]
+    nprocs, length = draw.count(*range(1, 7)), draw.length(0, 1, 2, 2, 4, 4, 6, 8)
+    lengths = [draw.randrange(9) if draw.happens_to_one(0.03, nprocs) else length + draw.happens_to_one(0.1, nprocs) for _ in range(nprocs)]
     rounds = nprocs if draw.happens(0.5) else draw.randrange(nprocs + 3)
     memories = [[draw.choice((draw.small(), draw.randrange(100))) for _ in range(count)] for count in lengths]
-    return "oddeven", memories, [[rounds + draw.happens(0.02)] for _ in range(nprocs)]
+    return "oddeven", memories, [[rounds + draw.happens_to_one(0.02, nprocs)] for _ in range(nprocs)]
 
 
 def draw_samplesort(draw):
     """Blocks of any lengths, of few or of many different words, with room behind them or without. Now and then all words are equal, or there are many."""
-    nprocs, most = draw.randint(1, 7), draw.choice((3, 8, 20, 100 if draw.happens(0.2) else 20))
+    nprocs, most = draw.count(*range(1, 8)), draw.length(3, 8, 20, 100 if draw.happens(0.2) else 20)
     highest = draw.choice((1, 5, 1000, LARGEST))
     lengths = [0 if draw.happens(0.15) else draw.randrange(most + 1) for _ in range(nprocs)]
     memories = [[draw.randrange(highest) for _ in range(length)] for length in lengths]
     has_room = draw.happens(0.5)
-    args = [[len(memory) + draw.happens(0.03)] if has_room or draw.happens(0.03) else [] for memory in memories]
+    args = [[len(memory) + draw.happens_to_one(0.03, nprocs)] if has_room or draw.happens_to_one(0.03, nprocs) else [] for memory in memories]
     if has_room:
         memories = [memory + [0] * draw.randrange(2 * most) for memory in memories]
     return "samplesort", memories, args
@@ -88,7 +103,7 @@ def draw_parts(draw, nprocs):
 def draw_collective(draw):
     """A collective call, and memories that mostly have room for what arrives."""
     program = draw.choice(("broadcast", "broadcast_in_two", "scatter", "gather", "all_gather", "exchange", "reduce", "all_reduce", "scan"))
-    nprocs = draw.choice((1, 2, 3, 3, 4, 5, 7))
+    nprocs = draw.count(1, 2, 3, 3, 4, 5, 7)
     combines = program in ("reduce", "all_reduce", "scan")
     if draw.happens(0.15):
         return draw_parts(draw, nprocs)
@@ -96,9 +111,9 @@ def draw_collective(draw):
     firsts = [draw.randrange(5)] * nprocs if combines else [count] * nprocs
     if draw.happens(0.3):
         firsts = [draw.randrange(6) for _ in range(nprocs)]
-    roots = [draw.randrange(nprocs + 1) if draw.happens(0.03) else root for _ in range(nprocs)]
+    roots = [draw.randrange(nprocs + 1) if draw.happens_to_one(0.03, nprocs) else root for _ in range(nprocs)]
     args = [[first, named] if program in ("broadcast", "broadcast_in_two", "scatter", "gather", "reduce") else [first] for first, named in zip(firsts, roots)]
-    lengths = [2 if combines else max(0, first + sum(firsts) - draw.happens(0.05)) for first in firsts]
+    lengths = [2 if combines else max(0, first + sum(firsts) - draw.happens_to_one(0.05, nprocs)) for first in firsts]
     return program, [draw.words(length) for length in lengths], args
 
 
@@ -132,14 +147,14 @@ def draw_values(draw, tool):
     given, memories, args = DRAWN[tool](draw)
     keys = given if tool == "bsp_kernel" else {"program": given}
     for words in memories + args:
-        if words and draw.happens(0.01):
+        if words and draw.happens_to_one(0.01, len(memories)):
             words.pop()
     limit = draw.randint(1, 5) if draw.happens(0.3) else draw.randint(6, MOST_SUPERSTEPS)
     values = {**keys, "limit": limit, "g": draw.randrange(5), "l": draw.randrange(20), "memory": memories, "args": args}
     if not any(args) and draw.happens(0.5):
         del values["args"]
     if draw.happens(0.9):
-        values["batches"] = [draw_batch(draw, memories, args) for _ in range(draw.randrange(6))]
+        values["batches"] = [draw_batch(draw, memories, args) for _ in range(draw.randrange(3 if draw.is_large else 6))]
     return values
 
 
@@ -270,6 +285,7 @@ def change_the_text(draw, text):
 def drawn_document(tool, seed, is_near=False):
     """The document of a seed. Most are jobs; some have another value, key or size, and some another text. It can be wanted near the limits."""
     draw = Draw(f"{tool} {seed}")
+    draw.is_large = seed % LARGE_EACH == 0
     values = draw_values(draw, tool)
     if is_near:
         come_near(draw, values)

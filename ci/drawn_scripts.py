@@ -19,7 +19,7 @@ class Scripter:
     def __init__(self, draw):
         self.draw = draw
         self.nprocs = draw.choice((1, 2, 2, 3, 3, 4))
-        size = draw.randint(1, 5)
+        size = draw.length(*range(1, 6))
         self.sizes = [draw.randint(0, 5) if draw.happens(0.1) else size for _ in range(self.nprocs)]
         self.memories = [draw.words(size) for size in self.sizes]
         self.shared = draw.randrange(3)  # argument 0 of all

@@ -86,6 +86,7 @@ class Judge:
         self.undos = []
         self.errors = []
         self.last = []  # the last block with a status, whole
+        self.runs = []  # all of them
 
     def text(self, lines):
         self.number += 1
@@ -102,6 +103,7 @@ class Judge:
         before = self.last
         if is_accepted:
             self.last = block
+            self.runs.append(block)
             for edit in edits:
                 self.input = edit.make(self.input)
         return self.text(changes_of(before, block) if is_accepted and self.changes else block), is_accepted
@@ -116,6 +118,7 @@ class Judge:
     def opening(self):
         """What is written before a line is read."""
         self.last = self.blocks([])[0]
+        self.runs.append(self.last)
         first = self.text(self.last)
         return first + "".join(self.batch(edits) for edits in self.batches) + "ready\n"
 

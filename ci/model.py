@@ -112,7 +112,7 @@ class Reply:
         if options.why:
             told += why_lines(self.program, self.old, self.new, executed, redelivered)
         if options.update_cost:
-            told += update_cost_lines(self.new, executed, redelivered)
+            told += update_cost_lines(self.old, self.new, executed, redelivered)
         return [*told, line("executed", len(executed), "redelivered", len(redelivered))]
 
     def lines(self, options: Options) -> list[str]:

@@ -26,7 +26,9 @@ cat "$here/$name" 2> /dev/null || { echo fault write >&2; exit 1; }"""
 # Writes STUB_BEGIN and STUB_END, and makes allocations in between: 16 for each byte of the document where STUB_ALLOCATES is `bytes`, so many for each as it
 # has quotation marks where it is `product`, one for each 64 pairs of bytes where it is `square`, 1 where it is anything else, and none where it is not
 # there. Does nothing where its first word is not STUB_TEST. Where one is refused it says `fault memory` as a tool does, or ends with STUB_REFUSED.
-ALLOCATING = r"""#include <stdlib.h>
+# With STUB_KEEPS it gives no memory back, and with STUB_STAYS it has a second thread.
+ALLOCATING = r"""#include <pthread.h>
+#include <stdlib.h>
 #include <string.h>
 #include <unistd.h>
 static void say(const char *text) { if (text && write(1, text, strlen(text)) < 0) _exit(2); }
@@ -42,13 +44,19 @@ static int refused(void) {
     if (status) return atoi(status);
     return write(2, said, strlen(said)) < 0 ? 2 : 1;
 }
+static void *wait(void *given) {
+    pause();
+    return given;
+}
 int main(int words, char **word) {
     if (words > 1 && getenv("STUB_TEST") && strcmp(word[1], getenv("STUB_TEST"))) return 0;
+    pthread_t stays;
+    if (getenv("STUB_STAYS") && pthread_create(&stays, NULL, wait, NULL)) return 2;
     say(getenv("STUB_BEGIN"));
     for (long count = wanted(getenv("STUB_ALLOCATES")); count > 0; count--) {
         void *volatile made = malloc(8);
         if (!made) return refused();
-        free(made);
+        if (!getenv("STUB_KEEPS")) free(made);
     }
     say(getenv("STUB_END"));
     return 0;
@@ -97,7 +105,7 @@ class Place:
         """Builds the program that makes allocations."""
         self.write("allocating.c", ALLOCATING.encode())
         self.write(path)
-        subprocess.run(["cc", "-o", f"{self.root}/{path}", f"{self.root}/allocating.c"], check=True)
+        subprocess.run(["cc", "-pthread", "-o", f"{self.root}/{path}", f"{self.root}/allocating.c"], check=True)
 
     def commit(self):
         settings = ["-c", "user.name=nobody", "-c", "user.email=nobody"]

@@ -15,6 +15,8 @@ from talks import Ask, draw_ask, long_lines, word_ask
 
 LINES = 14  # of a talk
 WORKERS = (1, 3, MOST_WORKERS)
+# How many workers a talk has, and whether they start at once.
+CREWS = ((1, False), (2, True), (3, True), (MOST_WORKERS, False), (4, True), (MOST_WORKERS, True))
 CONFLICT = b"error: the argument '%s' cannot be used with '--scratch'\n"
 
 
@@ -104,22 +106,24 @@ def words_of(seed, changes):
     """The options of a seed."""
     draw = Draw(f"words {seed}")
     words = ("--places", "--why", "--update-cost", *(["--changes"] if changes else []))
-    return ["--workers", str(WORKERS[seed % 3]), *(word for word in words if draw.happens(0.5))]
+    return ["--workers", str(CREWS[seed % len(CREWS)][0]), *(word for word in words if draw.happens(0.5))]
 
 
-def random_talk(crate, command, room, options, seed):
-    """What differs in the talk of a seed."""
+def random_talk(crate, command, room, options, starting, seed):
+    """What differs in the talk of a seed. Where its workers start at once their threads are counted."""
     draw = Draw(f"live {crate} {seed}")
     document = drawn_job(crate, draw)
     rates = {"undo": draw.choice((0.1, 0.3)), "document": 0.08, "help": 0.04, "shown": 0.2}
     words, path = words_of(seed, "--changes" in options), f"{room}/{crate} {seed}.toml"
     judge = Judge(crate, document, Options.of(words))
+    workers, is_at_once = CREWS[seed % len(CREWS)]
+    started = starting.run() if is_at_once else None
     try:
-        with opened(command, path, document, *words) as client:
+        with opened(command, path, document, *words, environment=started and started.environment()) as client:
             Talk(draw, client, judge, command, path).go(drawn_asks(draw, crate, document, rates))
     except FAILURES as wrong:
         return [f"{crate} seed {seed}, {' '.join(words)}: {wrong}"]
-    return []
+    return [f"{crate} seed {seed}, {' '.join(words)}: {it}" for it in (started.differences(judge.runs, workers) if started else [])]
 
 
 def dying_talk(crate, command, room, seed):

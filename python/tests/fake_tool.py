@@ -9,18 +9,21 @@ it can be shown that its client notices.
 """
 from __future__ import annotations
 
+import contextlib
 import errno
 import json
 import os
 import re
 import signal
 import sys
+import threading
 import time
 
 ROOT = os.path.dirname(os.path.dirname(os.path.dirname(os.path.realpath(__file__))))
 sys.path.insert(0, f"{ROOT}/ci")
 sys.dont_write_bytecode = True
 
+from cases import runs_of  # noqa: E402
 from model import Options, Reply, answer  # noqa: E402
 from modelled.documents import TOOLS, Refused, job_of, tree_of  # noqa: E402
 from modelled.limits import MOST_DOCUMENT_BYTES, MOST_WORKERS  # noqa: E402
@@ -29,6 +32,7 @@ from modelled.runs import Input, Run, run  # noqa: E402
 from modelled.sessions import Edit  # noqa: E402
 from modelled.shown import WORDS, shown  # noqa: E402
 from modelled.texts import line, text_of  # noqa: E402
+from starting import AT_ONCE, threads_of  # noqa: E402
 
 FLAWS = {
     "dies": "it is killed in the middle of block 2",
@@ -49,14 +53,26 @@ FLAWS = {
     "ends_badly": "at the end of input the status is 1",
     "stays": "it does not end at the end of its input",
     "unheard": "it ends well though nobody reads its answers any more",
+    "alone": "it starts no worker",
 }
+
+
+def work(words: list[str], runs: list[list[str]]) -> None:
+    """Starts the threads that a tool starts for runs, of which these are the blocks, where its workers are to start at once."""
+    if os.environ.get(AT_ONCE) != "1" or "--workers" not in words or "alone" in words:
+        return
+    for _ in range(threads_of(runs, int(words[words.index("--workers") + 1]))[1]):
+        started = threading.Thread(target=int)
+        with contextlib.suppress(RuntimeError):  # where none can start
+            started.start()
+            started.join()
 
 
 class Live:
     """A session that is kept as the inputs that were left by the batches that stand."""
 
     def __init__(self, tool: str, document: bytes, words: list[str]):
-        self.tool, self.tree = tool, tree_of(document)
+        self.tool, self.tree, self.words = tool, tree_of(document), words
         job = job_of(TOOLS[tool], document)
         self.program, self.batches = job.program, job.batches
         self.inputs: list[Input] = [job.input]
@@ -74,6 +90,7 @@ class Live:
     def run_again(self) -> list[str]:
         """The block of the input as it is now."""
         old, self.made = self.made, run(self.program, self.inputs[-1])
+        work(self.words, [[line("memory")] * len(self.inputs[-1].memories)])
         return self.block(Reply(self.program, old, self.made).lines(self.options))
 
     def batch(self, batch: list[Edit]) -> list[str]:
@@ -243,6 +260,7 @@ def main(words: list[str]) -> int:
         if word in words and "--scratch" in words:
             return ended(f"error: the argument '{word}' cannot be used with '--scratch'", 2)
     given = answer(tool, sys.stdin.buffer.read(), **vars(Options.of(words)))
+    work(words, runs_of(given.report.encode()))
     sys.stdout.write(given.report)
     sys.stderr.write(given.error)
     return given.status

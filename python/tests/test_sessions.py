@@ -219,7 +219,7 @@ class Calls(unittest.TestCase):
             self.assertEqual(report.causes.turns[Place(1, 0)], TurnCauses(words=(1,)))
             self.assertEqual(report.causes.deliveries[1, 1], DeliveryCauses(puts=(0,)))
             self.assertEqual(str(report.causes.deliveries[2, 0]), "memory puts 1")
-            self.assertEqual(report.update_cost.costs[1], Cost(0, 2, 4))
+            self.assertEqual(report.update_cost.costs[1], Cost(0, 1, 3))
             nothing = session.apply([])
             self.assertEqual((nothing.causes, nothing.update_cost), (Causes.of({}, {}), UpdateCost({}, 0)))
 

@@ -3,6 +3,7 @@
 mod batches;
 mod clash;
 mod counted;
+mod crews;
 mod endings;
 mod known;
 mod meeting;

@@ -4,11 +4,12 @@ ghost use Rattle.std.specs.Prelude.{◌<◌, length};
 ghost use Rattle.bsp_deliver.specs.Condition.{AreDeliverable};
 
 use super::known::{COUNT_OF_KNOWN, Known, RANKS_AT, TOLD_AT, known_run};
+use bsp_deliver::{answers_same, deliver, deliver_inbox, inbox, parcel_same};
 use bsp_model::{Memory, OutOfMemory, Same, TryCopy};
 use bsp_programs::Bundled;
 use bsp_run::{History, RunError, Views};
 use bsp_step::{Outcome, Outcomes, Queue, View, turn};
-use bsp_whole::{answers_same, deliver, deliver_inbox, inbox, parcel_same, run_plain};
+use bsp_whole::run_plain;
 use std::alloc::Global;
 use std::process::Abort;
 

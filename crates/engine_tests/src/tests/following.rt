@@ -71,11 +71,8 @@ fn find<R: Threads + Sync + Abort>(
 /// A batch, whose line ends in the third piece, and `undo`.
 const UNDONE: &[u8] = b"[[\"word\", 0, 0, 8]]\nundo\n";
 
-/// The batch is taken back, a line after it is not read, or a read fails before that line has ended.
-#[test]
-fn a_batch_and_a_line_after_it(rt: HostRuntime) {
-    let said = changed_and!(
-        "run 2
+const SAID_WITH_UNDO: &str = changed_and!(
+    "run 2
 status halted
 memory 0 7
 memory 1 7
@@ -87,11 +84,30 @@ cost 2 0 0 0
 total 24
 executed 3 redelivered 3
 "
-    );
-    find(&rt, rt.alloc(), UNDONE, usize::MAX, said, Ok(()));
+);
+
+/// The batch is taken back, a line after it is not read, or a read fails before that line has ended.
+#[test]
+fn a_batch_and_a_line_after_it(rt: HostRuntime) {
+    find(&rt, rt.alloc(), UNDONE, usize::MAX, SAID_WITH_UNDO, Ok(()));
     let lines = b"[[\"word\", 0, 0, 8]]\nhalt";
     let said = changed_and!("run 2\nunread J1\n");
     find(&rt, rt.alloc(), lines, usize::MAX, said, Ok(()));
     let said = changed_and!("");
     find(&rt, rt.alloc(), UNDONE, 3, said, Err(EngineError::Read));
+}
+
+/// How many live sessions are opened and let go one after the other.
+const SESSIONS: usize = 1_000;
+
+/// `ci/count_allocations` compares the memory and the threads of the process at the lines `begin` and `end`. By `begin` there was one session.
+#[test]
+fn a_thousand_live_sessions_leave_nothing(rt: HostRuntime) {
+    let alloc = rt.alloc();
+    find(&rt, alloc, UNDONE, usize::MAX, SAID_WITH_UNDO, Ok(()));
+    assert!(rt; println!(rt; "begin").is_ok());
+    for _session in 0..SESSIONS {
+        find(&rt, alloc, UNDONE, usize::MAX, SAID_WITH_UNDO, Ok(()));
+    }
+    assert!(rt; println!(rt; "end").is_ok());
 }

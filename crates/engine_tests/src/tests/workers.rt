@@ -1,7 +1,7 @@
-//! The report of a document by two workers that have to meet.
+//! The report of a document by several workers: two that have to meet, and sessions one after the other in one process.
 
 use super::bundled::{STEADY, writes};
-use bsp_gate::Gate;
+use bsp_gate::{Gate, Open};
 use std::sync::atomic::AtomicU64;
 use std::sync::atomic::Ordering::SeqCst;
 use std::thread;
@@ -53,4 +53,19 @@ fn two_workers_meet_at_each_pair_of_turns_and_of_deliveries(rt: HostRuntime) {
     };
     let writes = writes(&rt, rt.alloc(), DOCUMENT, STEADY, REPORT, Ok(()), 2, &gate);
     assert!(rt; writes && gate.calls.load(SeqCst) == 10 && gate.gave_up.load(SeqCst) == 0);
+}
+
+/// How many sessions are opened and let go one after the other, by two workers each.
+const SESSIONS: usize = 1_000;
+
+/// `ci/count_allocations` compares the memory and the threads of the process at the lines `begin` and `end`. By `begin` there was one session.
+#[test]
+fn a_thousand_sessions_leave_nothing(rt: HostRuntime) {
+    let alloc = rt.alloc();
+    assert!(rt; writes(&rt, alloc, DOCUMENT, STEADY, REPORT, Ok(()), 2, &Open));
+    assert!(rt; println!(rt; "begin").is_ok());
+    for _session in 0..SESSIONS {
+        assert!(rt; writes(&rt, alloc, DOCUMENT, STEADY, REPORT, Ok(()), 2, &Open));
+    }
+    assert!(rt; println!(rt; "end").is_ok());
 }
