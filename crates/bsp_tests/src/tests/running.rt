@@ -176,6 +176,7 @@ fn each_call_runs_each_program(rt: HostRuntime) {
 fn any_number_of_workers_gives_the_sums(rt: HostRuntime) {
     let known = &SITTINGS[SUMS_OF_ONES_AT].known;
     let timed = Timed::new(&rt);
+    assert!(rt; timed.now().is_some() && Open.now().is_none());
     for workers in 1..MOST_WORKERS + 1 {
         for way in [Way::Wide, Way::UnrecordedWide] {
             let found = is_run(&rt, rt.alloc(), way, known, workers, &Open);

@@ -3,9 +3,10 @@ use std::sync::atomic::AtomicU64;
 use std::sync::atomic::Ordering::SeqCst;
 use std::thread;
 
-/// A gate at which the jobs wait until two of them were called, or give up after so many looks.
+/// A gate at which the jobs wait until so many of them were called, or give up after so many looks.
 #[derive(Drop)]
 pub(crate) struct Meeting {
+    pub(crate) together: u64,
     pub(crate) looks: u32,
     /// How many jobs were called, and the sum of their numbers.
     pub(crate) called: AtomicU64,
@@ -14,8 +15,9 @@ pub(crate) struct Meeting {
 }
 
 impl Meeting {
-    pub(crate) fn new(looks: u32) -> Meeting {
+    pub(crate) fn new(together: u64, looks: u32) -> Meeting {
         Meeting {
+            together,
             looks,
             called: AtomicU64::new(0),
             sum: AtomicU64::new(0),
@@ -36,7 +38,7 @@ impl Gate for Meeting {
         self.called.fetch_add(1, SeqCst);
         self.sum.fetch_add(job as u64, SeqCst);
         for _look in 0..self.looks {
-            if self.called.load(SeqCst) > 1 {
+            if self.called.load(SeqCst) >= self.together {
                 return;
             }
             thread::yield_now();
