@@ -7,7 +7,7 @@ use Rattle.bsp_incr.proofs.Gathering.{filter_from}
 use Rattle.bsp_causes.specs.TurnCauses.{is_other_word}
 use Rattle.bsp_causes.specs.Inside.Words.{other_words_from}
 use Rattle.bsp_causes.proofs.Filtered.{filter_range-append, passes_more, fails_more, none_passes}
-use Rattle.bsp_incr.proofs.Serving.{length_page}
+use Rattle.bsp_step.proofs.WhereLookedAt.{length_page}
 
 -- one word of a piece
 abbrev pub is_other_at : (ℕ → Bool) → ℕ → List ℕ → List ℕ → ℕ → Bool

@@ -1,2 +1,3 @@
 pub mod Continuing
 pub mod LooksFrom
+pub mod Within

@@ -1,7 +1,7 @@
 -- Laws of what instructions show, for the loop that looks for an address.
 use Rattle.std.proofs.Common.{◌≡◌, ◌<◌, ◌≤◌, ℕ, length, arith, zero, suc, ◌+◌, Bool, true, false, List, [], ◌∷◌, None, Some, Option, drop, refl, ap, sym, ◌∙◌, add-one}
 use Rattle.std.specs.Prelude.{slice_get, slice_set, ◌||◌}
-use Rattle.std.proofs.lemmas.Bool.{or_left}
+use Rattle.std.proofs.lemmas.Option.{slice_get_past}
 use Rattle.bsp_model.specs.declared.request.Message.{Message}
 use Rattle.bsp_step.specs.Queue.{first_words}
 use Rattle.bsp_kernels.specs.declared.instruction.Instruction.{Instruction}
@@ -11,44 +11,58 @@ use Rattle.bsp_kernels.specs.Inside.Showing.{Shows, block_shown, known_at, taken
 use Rattle.bsp_kernels.specs.Known.{Known, Sight, everywhere, over, reads, reads_block, sight, takes_known, within, looked, looks_from}
 use Rattle.bsp_kernels.specs.Machine.{Setting}
 
+-- the instruction at a place of the code
+at_place : (code xs : List Instruction) (place : ℕ) (i : Instruction) → xs ≡ code → slice_get xs place ≡ Some i → slice_get code place ≡ Some i
+at_place code xs place i same is = ap (λ (ys : List Instruction). slice_get ys place) (sym same) ∙ is
+
 -- where at least one more instruction is followed
-pub looks_from-more : (code : List Instruction) (n m : ℕ) (g : Setting) (k : Known) (a : ℕ) (here : Option Instruction) → n ≡ suc m → slice_get code k.place ≡ here → looks_from code n g k a ≡ looked (sight g k here) a (λ next. looks_from code m g next a)
+looks_from-more : (code : List Instruction) (n m : ℕ) (g : Setting) (k : Known) (a : ℕ) (here : Option Instruction) → n ≡ suc m → slice_get code k.place ≡ here → looks_from code n g k a ≡ looked (sight g k here) a (λ next. looks_from code m g next a)
 looks_from-more code n m g k a here count is =
     ap (λ l. looks_from code l g k a) count ∙ ap (λ (o : Option Instruction). looked (sight g k o) a (λ next. looks_from code m g next a)) is
 
-pub shows-everywhere : (v : Sight) (queue : List Message) (after : Knowledge) (a : ℕ) (later : Known → Bool) → Shows v Everywhere queue after → looked v a later ≡ true
+shows-everywhere : (v : Sight) (queue : List Message) (after : Knowledge) (a : ℕ) (later : Known → Bool) → Shows v Everywhere queue after → looked v a later ≡ true
 shows-everywhere everywhere queue after a later h = refl
 shows-everywhere over queue after a later h = let no : ⊥ = cc in absurd no
 shows-everywhere (reads from len k) queue after a later h = let e = h.0 in let no : ⊥ = cc in absurd no
 
-pub shows-over : (v : Sight) (queue : List Message) (after : Knowledge) (a : ℕ) (later : Known → Bool) → Shows v Over queue after → looked v a later ≡ false
+shows-over : (v : Sight) (queue : List Message) (after : Knowledge) (a : ℕ) (later : Known → Bool) → Shows v Over queue after → looked v a later ≡ false
 shows-over everywhere queue after a later h = let no : ⊥ = cc in absurd no
 shows-over over queue after a later h = refl
 shows-over (reads from len k) queue after a later h = let e = h.0 in let no : ⊥ = cc in absurd no
 
-pub shows-within : (v : Sight) (from len next : ℕ) (queue : List Message) (after : Knowledge) (a : ℕ) (later : Known → Bool) → Shows v (Reads from len next) queue after → within from len a ≡ true → looked v a later ≡ true
-shows-within everywhere from len next queue after a later h in_it = let no : ⊥ = cc in absurd no
-shows-within over from len next queue after a later h in_it = let no : ⊥ = cc in absurd no
-shows-within (reads f l k) from len next queue after a later h in_it =
-    let e = h.0 in
-    let first : from ≡ f = cc in
-    let count : len ≡ l = cc in
-    or_left (within f l a) (later k) ((λ i. within (sym first i) (sym count i) a) ∙ in_it)
-
-or_false : (x y : Bool) → x ≡ false → (x || y) ≡ y
-or_false true y e = let no : ⊥ = cc in absurd no
-or_false false y e = refl
-
-pub shows-on : (v : Sight) (from len next : ℕ) (queue : List Message) (after : Knowledge) (a : ℕ) (later : Known → Bool) → Shows v (Reads from len next) queue after → within from len a ≡ false → looked v a later ≡ later (known_at queue after next)
-shows-on everywhere from len next queue after a later h out = let no : ⊥ = cc in absurd no
-shows-on over from len next queue after a later h out = let no : ⊥ = cc in absurd no
-shows-on (reads f l k) from len next queue after a later h out =
+-- an instruction that goes on shows so many words, and all that is shown behind it
+shows-reads : (v : Sight) (from len next : ℕ) (queue : List Message) (after : Knowledge) (a : ℕ) (later : Known → Bool) → Shows v (Reads from len next) queue after → looked v a later ≡ (within from len a || later (known_at queue after next))
+shows-reads everywhere from len next queue after a later h = let no : ⊥ = cc in absurd no
+shows-reads over from len next queue after a later h = let no : ⊥ = cc in absurd no
+shows-reads (reads f l k) from len next queue after a later h =
     let e = h.0 in
     let first : from ≡ f = cc in
     let count : len ≡ l = cc in
     let place : k.place ≡ next = cc in
-    or_false (within f l a) (later k) ((λ i. within (sym first i) (sym count i) a) ∙ out)
-    ∙ ap later (sym h.1 ∙ ap (known_at queue after) place)
+    let on : k ≡ known_at queue after next = sym h.1 ∙ ap (known_at queue after) place in
+    λ i. within (sym first i) (sym count i) a || later (on i)
+
+-- At which addresses a turn looks from an instruction on, where at least one more is followed: by what the code knows there, and by what it shows.
+
+pub past-from : (code xs : List Instruction) (n m : ℕ) (g : Setting) (k : Known) → n ≡ suc m → xs ≡ code → length xs ≤ k.place → (a : ℕ) → looks_from code n g k a ≡ false
+past-from code xs n m g k count same past a =
+    looks_from-more code n m g k a None count (ap (λ (ys : List Instruction). slice_get ys k.place) (sym same) ∙ slice_get_past xs k.place past)
+
+pub everywhere-from : (code xs : List Instruction) (n m : ℕ) (g : Setting) (k : Known) (i : Instruction) (queue : List Message) (after : Knowledge) → n ≡ suc m → xs ≡ code → slice_get xs k.place ≡ Some i → Shows (sight g k (Some i)) Everywhere queue after → (a : ℕ) → looks_from code n g k a ≡ true
+everywhere-from code xs n m g k i queue after count same is h a =
+    looks_from-more code n m g k a (Some i) count (at_place code xs k.place i same is) ∙ shows-everywhere (sight g k (Some i)) queue after a (λ next. looks_from code m g next a) h
+
+pub over-from : (code xs : List Instruction) (n m : ℕ) (g : Setting) (k : Known) (i : Instruction) (queue : List Message) (after : Knowledge) → n ≡ suc m → xs ≡ code → slice_get xs k.place ≡ Some i → Shows (sight g k (Some i)) Over queue after → (a : ℕ) → looks_from code n g k a ≡ false
+over-from code xs n m g k i queue after count same is h a =
+    looks_from-more code n m g k a (Some i) count (at_place code xs k.place i same is) ∙ shows-over (sight g k (Some i)) queue after a (λ next. looks_from code m g next a) h
+
+pub reads-from : (code xs : List Instruction) (n m : ℕ) (g : Setting) (k : Known) (i : Instruction) (from len next : ℕ) (queue : List Message) (after : Knowledge) → n ≡ suc m → xs ≡ code → slice_get xs k.place ≡ Some i → Shows (sight g k (Some i)) (Reads from len next) queue after → (a : ℕ) → looks_from code n g k a ≡ (within from len a || looks_from code m g (known_at queue after next) a)
+reads-from code xs n m g k i from len next queue after count same is h a =
+    looks_from-more code n m g k a (Some i) count (at_place code xs k.place i same is) ∙ shows-reads (sight g k (Some i)) from len next queue after a (λ later. looks_from code m g later a) h
+
+pub or_false : (x y : Bool) → x ≡ false → (x || y) ≡ y
+or_false true y e = let no : ⊥ = cc in absurd no
+or_false false y e = refl
 
 pub block-shows : (queue : List Message) (k : Knowledge) (place : ℕ) (from len : Option ℕ) → Shows (reads_block (known_at queue k place) from len) (block_shown from len (place + 1)) queue k
 block-shows queue k place None len = refl

@@ -1,16 +1,17 @@
 //! Kernels.
 
-ghost use Rattle.std.specs.Prelude.{◌≡◌};
+ghost use Rattle.std.specs.Prelude.{◌≡◌, length};
 ghost use Rattle.bsp_step.specs.Calls.{Runs};
+ghost use Rattle.bsp_step.specs.Footprint.{same_where_looked_at};
 ghost use Rattle.bsp_kernels.specs.Inside.Making.{Leaves};
 ghost use Rattle.bsp_kernels.specs.Kernels.{kernel_looks};
 ghost use Rattle.bsp_kernels.specs.Machine.{first_state, plan_from, setting_of};
 
 use crate::Instruction;
 use crate::exit::Exit;
-use crate::looking::{Knowledge, Shown, is_within};
+use crate::looking::{Knowledge, Shown, are_same_within, is_within};
 use crate::machine::Machine;
-use bsp_model::{End, OutOfMemory, Seq, Words};
+use bsp_model::{End, MemoryRef, OutOfMemory, Same, Seq, Words};
 use bsp_step::{Ctx, Program, Stop, View, settle};
 use std::alloc::Global;
 
@@ -82,6 +83,36 @@ impl Kernel {
         }
         true
     }
+
+    /// Whether a memory has the words of the view's at each address at which the turn looks. The turn is followed once.
+    fn sees_same(&self, view: &View<'_>, memory: &MemoryRef<'_>) -> bool
+        requires { length view.now.memory ≡ length memory.now }
+        ensures { result ≡ same_where_looked_at (kernel_looks self.now view.now) view.now.memory memory.now }
+    {
+        if view.memory.same(&*memory) {
+            return true;
+        }
+        let code = self.code.as_slice();
+        let constants = self.constants.as_slice();
+        let mut knowledge = Knowledge::new();
+        let mut place = 0;
+        for shown in 0..self.looking_budget {
+            let Some(instruction) = code.get(place) else {
+                return true;
+            };
+            match knowledge.show(*instruction, constants, view, place) {
+                Shown::Everywhere => return false,
+                Shown::Over => return true,
+                Shown::Reads(from, len, next) => {
+                    if !are_same_within(&view.memory, memory, from, len) {
+                        return false;
+                    }
+                    place = next;
+                }
+            }
+        }
+        false
+    }
 }
 
 impl Program for Kernel {
@@ -98,6 +129,10 @@ impl Program for Kernel {
 
     fn looks(&self, view: &View<'_>, address: u64) -> bool {
         self.looks_at(view, address)
+    }
+
+    fn sees_same_memory(&self, view: &View<'_>, memory: &MemoryRef<'_>) -> bool {
+        self.sees_same(view, memory)
     }
 
     fn step(&self, alloc: Global, ctx: &mut Ctx<'_>) -> Result<End, OutOfMemory> {

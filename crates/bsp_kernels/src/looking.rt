@@ -1,7 +1,8 @@
 //! At which own words a turn looks: its instructions are followed without the words of the memory.
 
-ghost use Rattle.std.specs.Prelude.{◌≡◌, ℕ, List, [], ◌+◌, ◌<◌, ◌^◌, Some, is_some, slice_set, unwrap_or};
+ghost use Rattle.std.specs.Prelude.{◌≡◌, ℕ, List, [], ◌+◌, ◌<◌, ◌^◌, Some, is_some, length, slice_set, unwrap_or};
 ghost use Rattle.bsp_model.specs.declared.request.Message.{Message};
+ghost use Rattle.bsp_step.specs.Footprint.{same_where_looked_at};
 ghost use Rattle.bsp_kernels.specs.Inside.Showing.{Shows, block_shown, known_at};
 ghost use Rattle.bsp_kernels.specs.Known.{added, both, call_sight, first_known, known_word, sight, within};
 ghost use Rattle.bsp_kernels.specs.Machine.{setting_of};
@@ -11,6 +12,7 @@ mod sources;
 
 use crate::machine::Registers;
 use crate::{Call, Instruction, Operator};
+use bsp_model::MemoryRef;
 use bsp_step::View;
 
 /// What is known of a turn without the words of the memory.
@@ -40,6 +42,22 @@ pub(crate) fn is_within(from: u64, len: u64, address: u64) -> bool
     ensures { result ≡ within from len address }
 {
     from <= address && address - from < len
+}
+
+/// Whether two memories have the same words at so many addresses from one on, as far as the memories go.
+pub(crate) fn are_same_within(
+    old: &MemoryRef<'_>,
+    new: &MemoryRef<'_>,
+    from: u64,
+    len: u64,
+) -> bool
+    requires long { length old.now ≡ length new.now }
+    requires fits { length old.now < 2 ^ 64 }
+    ensures { result ≡ same_where_looked_at (within from len) old.now new.now }
+{
+    let start = from.min(old.len() as u64);
+    let count = (len as usize).min(old.len() - start as usize);
+    count == 0 || old.has_same_words(start, new, start, count)
 }
 
 fn block(from: Option<u64>, len: Option<u64>, next: usize) -> Shown

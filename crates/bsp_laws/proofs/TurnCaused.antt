@@ -13,9 +13,10 @@ use Rattle.bsp_incr.specs.declared.reply.Place.{Place}
 use Rattle.bsp_incr.specs.Exact.{HasTurn, IsServed, view_there}
 use Rattle.bsp_table.specs.Same.{same_table}
 use Rattle.bsp_model.specs.Same.{same_message, same_words}
-use Rattle.bsp_incr.specs.Inside.Reuse.{same_but_for_words, same_where_looked_at, serves}
+use Rattle.bsp_incr.specs.Inside.Reuse.{same_but_for_words, serves}
 use Rattle.bsp_incr.proofs.Comparing.{Decides-table, Decides-message}
-use Rattle.bsp_incr.proofs.Serving.{Decides-but_for_words, Decides-where_looked_at, Decides-serves}
+use Rattle.bsp_step.proofs.WhereLookedAt.{Decides-where_looked_at}
+use Rattle.bsp_incr.proofs.Serving.{Decides-but_for_words, Decides-serves}
 use Rattle.bsp_causes.specs.declared.turns.TurnCauses.{TurnCauses}
 use Rattle.bsp_causes.specs.TurnCauses.{is_other_word, view_causes, turn_causes}
 use Rattle.bsp_causes.proofs.Cases.{turn_there, turn_not_there}

@@ -15,3 +15,4 @@ pub mod Gathered
 pub mod Sorting
 pub mod Rising
 pub mod Stepping
+pub mod WhereLookedAt

@@ -1,8 +1,8 @@
 -- When the recorded turn of another run serves, as a test.
-use Rattle.std.specs.Prelude.{ℕ, Bool, true, List, Option, None, Some, ◌==◌, ◌&&◌, ◌||◌, not, length, slice_index}
-use Rattle.std.specs.List.{list_all, range_with_len}
+use Rattle.std.specs.Prelude.{ℕ, Bool, true, Option, None, Some, ◌==◌, ◌&&◌, not, length}
 use Rattle.std.specs.Cmp.Lexicographic.{pointwise}
 use Rattle.bsp_step.specs.ViewParts.{ViewParts}
+use Rattle.bsp_step.specs.Footprint.{same_where_looked_at}
 use Rattle.bsp_table.specs.Same.{same_table}
 use Rattle.bsp_model.specs.Same.{same_message, same_words}
 
@@ -11,10 +11,6 @@ abbrev pub same_but_for_words : ViewParts → ViewParts → Bool
 same_but_for_words v w =
     (v.nprocs == w.nprocs) && (v.pid == w.pid) && (v.step == w.step) && same_words v.args w.args && same_table v.table w.table
     && (v.tag_size == w.tag_size) && pointwise same_message v.queue w.queue && (length v.memory == length w.memory)
-
--- equal words at each address that is looked at
-abbrev pub same_where_looked_at : (ℕ → Bool) → List ℕ → List ℕ → Bool
-same_where_looked_at looks m n = list_all (λ a. not (looks a) || (slice_index m a == slice_index n a)) (range_with_len 0 (length m))
 
 -- The turn of the first view serves for the second (this profile): they differ at most in words at which the program does not look.
 abbrev pub serves : (ViewParts → ℕ → Bool) → ViewParts → ViewParts → Bool

@@ -2,7 +2,7 @@ use Rattle.std.proofs.Common.{length, refl, ap, ◌∙◌, arith}
 use Rattle.bsp_model.specs.Memory.{rest_of_page}
 use Rattle.bsp_step.specs.ViewParts.{ViewParts}
 use Rattle.bsp_causes.proofs.OtherWords.{page_more}
-use Rattle.bsp_incr.proofs.Serving.{inside_page}
+use Rattle.bsp_step.proofs.WhereLookedAt.{inside_page}
 use Rattle.bsp_causes.proofs.turns.add_other_words.Goals as goal
 
 pub loop-address-preserved : goal.loop-address-preserved
