@@ -5,7 +5,7 @@ use Rattle.std.specs.List.{range_with_len}
 use Rattle.std.proofs.lemmas.Bool.{cases_lt, false≢true}
 use Rattle.std.proofs.lemmas.Bool.Decides.{Decides-eqb}
 use Rattle.bsp_step.specs.ViewParts.{ViewParts}
-use Rattle.bsp_step.specs.Footprint.{AreAlike, AreAlikeButForWords}
+use Rattle.bsp_step.specs.Footprint.{AreAlike, AreAlikeButForWords, same_where_looked_at}
 use Rattle.bsp_deliver.proofs.SameDelivery.{Decides-pointwise, Decides-words}
 use Rattle.bsp_run.specs.declared.superstep.Superstep.{Superstep}
 use Rattle.bsp_run.specs.Supersteps.{superstep_at}
