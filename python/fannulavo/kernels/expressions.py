@@ -126,7 +126,7 @@ class Expressions(Framed):
                 case ast.Invert():
                     name, operands = "xor", (a, self.number(MODULUS - 1))
                 case _:
-                    return self.copied(a, self.target(into))
+                    name, operands = "copy", (a,)
         register = self.target(into)
         self.add(name, register, *operands)
         return register

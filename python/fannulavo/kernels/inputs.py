@@ -82,7 +82,7 @@ class Input:
     def read(cls, document: str) -> Input:
         """The input of a document."""
         keys = tomllib.loads(document)
-        return cls.of(*(keys[name] for name in ("memory", "args", "limit", "g", "l")))
+        return cls.of(*(keys.get(name) for name in ("memory", "args", "limit", "g", "l")))
 
     def edited(self, edits: Iterable[Edit]) -> Input:
         """The input with edits, which are all accepted."""

@@ -178,26 +178,26 @@ class Statements(Calls):
             before = both(before, names)
         frame.set_names = before
 
-    def bounds(self, node: ast.For) -> tuple[ast.expr, ast.expr, int]:
+    def bounds(self, node: ast.For) -> list[ast.expr]:
         """The start, the end and the step of a range."""
         call = node.iter
         assert isinstance(call, ast.Call)
-        zero = ast.copy_location(ast.Constant(0), call)
+        zero, one = (ast.copy_location(ast.Constant(number), call) for number in (0, 1))
         match call.args:
             case [end]:
-                start, step = zero, None
+                return [zero, end, one]
             case [start, end]:
-                step = None
+                return [start, end, one]
             case [start, end, step]:
                 pass
             case _:
-                raise self.refusal(call, "range has other arguments", "write range(end), range(start, end) or range(start, end, step)")
-        if step is None:
-            return start, end, 1
-        if isinstance(step, ast.Constant) and type(step.value) is int and 0 < step.value:
-            return start, end, step.value
-        instead = "write a step from 1 on as a number; downwards, `for k in range(n):` and i = n - 1 - k"
-        raise self.refusal(step, "a range counts upwards, by a number", instead)
+                instead = "write range(end), range(start, end) or range(start, end, step)"
+                raise self.refusal(call, "range has other arguments", instead)
+        is_zero = isinstance(step, ast.Constant) and step.value == 0
+        if is_zero or isinstance(step, ast.UnaryOp):
+            instead = "write a step from 1 on; downwards, `for k in range(n):` and i = n - 1 - k"
+            raise self.refusal(step, "a range counts upwards", instead)
+        return [start, end, step]
 
     def is_counter(self, node: ast.For, name: str) -> bool:
         """Whether the name can count by itself: nothing sets it in the loop, and nothing reads it outside of loops that
@@ -226,6 +226,8 @@ class Statements(Calls):
         self.depth += 1
         counter = self.value(start, name if self.is_counter(node, node.target.id) else self.code.fresh())
         limit, last = self.value(end), self.code.fresh()
+        is_number = isinstance(step, ast.Constant)
+        distance = self.value(step) if is_number else self.value(step, self.code.fresh())
         self.at(node)
         self.add("unless_lt", counter, limit, loop.end)
         self.add("sub", last, limit, self.number(1))
@@ -236,7 +238,7 @@ class Statements(Calls):
         self.body(loop, node.body)
         self.code.mark(loop.next)
         self.at(node)
-        self.add("add", counter, counter, self.number(step))
+        self.add("add", counter, counter, distance)
         self.add("unless_lt", last, counter, begin)
         self.code.mark(loop.end)
         self.depth -= 1
