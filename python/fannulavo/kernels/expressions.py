@@ -131,20 +131,20 @@ class Expressions(Framed):
         self.add(name, register, *operands)
         return register
 
-    def compare(self, op: ast.cmpop, a: int, b: int, into: int, node: ast.AST) -> None:
-        if type(op) not in COMPARES:
-            raise self.refusal(node, "words are compared by ==, !=, <, <=, > and >=", "write one of these, or a loop")
+    def compare(self, op: ast.cmpop, a: int, b: int, into: int) -> None:
         name, is_swapped = COMPARES[type(op)]
         self.add(name, into, *((b, a) if is_swapped else (a, b)))
 
     def chosen(self, node: ast.Compare | ast.BoolOp | ast.IfExp, into: int | None) -> int:
         """Comparisons, `and`, `or` and `x if c else y`. All but a single comparison are computed in a register of their
         own, since their parts may read the register that gets the word."""
+        if isinstance(node, ast.Compare) and any(type(op) not in COMPARES for op in node.ops):
+            raise self.refusal(node, "words are compared by ==, !=, <, <=, > and >=", "write one of these, or a loop")
         if isinstance(node, ast.Compare) and len(node.ops) == 1:
             with self.released():
                 a, b = self.value(node.left), self.value(node.comparators[0])
             register = self.target(into)
-            self.compare(node.ops[0], a, b, register, node)
+            self.compare(node.ops[0], a, b, register)
             return register
         own = self.code.fresh()
         end = Place()
@@ -171,7 +171,7 @@ class Expressions(Framed):
             a = self.value(node.left)
             for place, (op, right) in enumerate(zip(node.ops, node.comparators)):
                 b = self.value(right)
-                self.compare(op, a, b, own, node)
+                self.compare(op, a, b, own)
                 if place + 1 < len(node.ops):
                     self.add("unless", own, end)
                 a = b

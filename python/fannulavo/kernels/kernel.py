@@ -79,13 +79,12 @@ class Kernel:
         """A turn by the machine, which follows at most so many instructions."""
         machine = Machine(self.code, self.constants, seen)
         ended = machine.follow(self.budget if budget is None else budget)
-        place = min(max(machine.place - 1, 0), len(self.code) - 1)
-        if not self.code:
-            end = self._end(seen, self._source, self._source.first, {})
-        else:
-            origin = self._origins[place]
+        source, line, words = self._source, self._source.first, {}
+        if self.code:
+            origin = self._origins[machine.last]
+            source, line = origin.source, origin.line
             words = {name: machine.registers[register] for name, register in origin.registers.items()}
-            end = self._end(seen, origin.source, origin.line, words)
+        end = self._end(seen, source, line, words)
         return Taken(machine.context.turn(ended), tuple(machine.context.memory.words), end)
 
     def turn(self, seen: Seen, budget: int | None = None) -> Taken:

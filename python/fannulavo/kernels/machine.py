@@ -43,14 +43,14 @@ BLOCKS = {"put_block": (1, 2), "send_block": (3, 4), "print_block": (0, 1)}
 
 
 class Machine:
-    """The registers of a turn, on a context. `place` is that of the next instruction."""
+    """The registers of a turn, on a context. `place` is that of the next instruction, `last` of the one before."""
 
     def __init__(self, code: Sequence[Instruction], constants: Sequence[int], seen: Seen):
         self.code, self.constants = code, constants
         self.context = Context(seen)
         self.registers = [0] * REGISTERS
         self.taken: Sequence[int] = ()
-        self.place = 0
+        self.place = self.last = 0
         self.followed = 0
 
     def follow(self, budget: int) -> TurnEnded:
@@ -61,6 +61,7 @@ class Machine:
                     end_by("F1 6")
                 self.followed += 1
                 name, *operands = self.code[self.place]
+                self.last = self.place
                 self.place += 1
                 self.step(name, operands)  # type: ignore[arg-type]
         except TurnEnded as ended:

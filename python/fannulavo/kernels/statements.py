@@ -80,6 +80,10 @@ class Statements(Calls):
     # names and words of the memory
 
     def assign(self, targets: list[ast.expr], value: ast.expr) -> None:
+        for target in targets:
+            if isinstance(target, ast.Subscript) and isinstance(target.slice, ast.Slice):
+                instead = "write a loop: `for i in range(a, b):` and p.memory[i]; or message.move_into(a)"
+                raise self.refusal(target, "a block can not be set", instead)
         match targets:
             case [ast.Tuple(elts=names) | ast.List(elts=names)] if isinstance(value, (ast.Tuple, ast.List)):
                 if len(names) != len(value.elts):
@@ -115,8 +119,6 @@ class Statements(Calls):
                     self.add("store", address, register)
             case _:
                 instead = "set a name of its own, or a word of the memory by p.memory[i]"
-                if isinstance(target, ast.Subscript) and isinstance(target.slice, ast.Slice):
-                    instead = "write a loop: `for i in range(a, b):` and p.memory[i]; or message.move_into(a)"
                 raise self.refusal(target, "this can not be set", instead)
 
     def change(self, node: ast.AugAssign) -> None:
@@ -171,6 +173,7 @@ class Statements(Calls):
             self.jump(node.test, False, loop.end)
         before = None if is_true(node.test) else frame.set_names
         self.body(loop, node.body)
+        self.at(node)
         self.add("jump", loop.next)
         self.code.mark(loop.end)
         self.depth -= 1
@@ -269,6 +272,7 @@ class Statements(Calls):
         frame.messages[name] = taken
         self.body(loop, node.body)
         del frame.messages[name]
+        self.at(node)
         self.add("jump", loop.next)
         self.code.mark(loop.end)
         self.depth -= 1
