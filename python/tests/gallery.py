@@ -7,12 +7,13 @@ import json
 import os
 import re
 import tomllib
+from dataclasses import replace
 from functools import cache
 from typing import Any
 
 from stored import ROOT, text_of
 
-from fannulavo import Input, Report, Session
+from fannulavo import Input, Kernel, Report, Session
 from fannulavo.kernels.files import KernelFile
 
 FOLDER = f"{ROOT}/python/examples/kernels"
@@ -52,6 +53,21 @@ def edited(name: str, tool: list[str]) -> tuple[Report, Report, Input]:
     file = file_of(name)
     with Session(file.program, tool=tool, why=True, update_cost=True, **file.names["example"]) as session:
         return session.report, session.apply(file.names["edits"]), Input.read(session.document())
+
+
+def taken_again(program: Kernel, before: Input, after: Input) -> list[tuple[int, int]]:
+    """The turns of a run that the run before does not serve: the simulation, and the words at which turns look."""
+    old, new = program.trace(before), program.trace(after)
+    places = []
+    for superstep, taken in enumerate(new.supersteps):
+        for process, seen in enumerate(taken.seen if taken.taken else ()):
+            is_there = superstep < len(old.supersteps) and old.supersteps[superstep].taken
+            was = old.seen(superstep, process) if is_there else None
+            if was is None or replace(seen, memory=was.memory) != was:
+                places.append((superstep, process))
+            elif any(seen.memory[address] != was.memory[address] for address in program.looks(was)):
+                places.append((superstep, process))
+    return places
 
 
 def told(name: str, opened: Report, report: Report) -> str:

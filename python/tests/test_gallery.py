@@ -5,7 +5,7 @@ from __future__ import annotations
 import random
 import unittest
 
-from gallery import FOLDER, NAMES, NATIVE, both_documents, edited, expected, file_of, printed, told, told_rows
+from gallery import FOLDER, NAMES, NATIVE, both_documents, edited, expected, file_of, printed, taken_again, told, told_rows
 from stored import ROOT, fake, text_of
 
 from fannulavo import Input, Report, document, read_report, write_report
@@ -40,6 +40,7 @@ class Gallery(unittest.TestCase):
                     simulated = program.simulate(of)
                     self.assertEqual((printed(made), made.total), (printed(simulated), simulated.total))
                     self.assertEqual(dict(made.memories), simulated.memories)
+                self.assertEqual(report.executed, tuple(taken_again(program, given, after)))
                 self.assertEqual(told_rows()[name], told(name, opened, report))
 
     def test_native_forms(self) -> None:

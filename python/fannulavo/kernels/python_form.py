@@ -141,7 +141,7 @@ class PythonForm:
         self.function = self._made[source.function]
 
     def _make(self, source: Source) -> None:
-        definition = copy.deepcopy(source.definition)
+        definition = source.parsed()
         definition.decorator_list, definition.returns = [], None
         for parameter in (*definition.args.posonlyargs, *definition.args.args):
             parameter.annotation = None

@@ -27,12 +27,16 @@ class Source:
         self.first = first
         self._lines = [line.rstrip("\n") for line in lines]
         self._indent = len(lines[0]) - len(lines[0].lstrip())
-        tree = ast.parse(textwrap.dedent("".join(lines)))
-        ast.increment_lineno(tree, first - 1)
-        definition = tree.body[0]
+        self._text = "\n" * (first - 1) + textwrap.dedent("".join(lines))
+        self.definition = self.parsed()
+        self.nodes = list(ast.walk(self.definition))
+
+    def parsed(self) -> ast.FunctionDef:
+        """The tree of the text, made anew."""
+        definition = ast.parse(self._text).body[0]
         if not isinstance(definition, ast.FunctionDef):
             raise self.refusal(NotInKernels, definition, "this is no function", "write it as `def NAME(p):`")
-        self.definition = definition
+        return definition
 
     def text_at(self, line: int) -> str:
         """The text of a line, without the spaces around it."""

@@ -206,19 +206,14 @@ class Statements(Calls):
         """Whether the name can count by itself: nothing sets it in the loop, and nothing reads it outside of loops that
         it counts."""
 
-        def uses(nodes: list[ast.stmt], kind: type[ast.expr_context]) -> int:
-            every = (each for statement in nodes for each in ast.walk(statement))
-            return sum(isinstance(each, ast.Name) and each.id == name and isinstance(each.ctx, kind) for each in every)
+        nodes = self.frame.source.nodes
+        loops = [each for each in nodes if isinstance(each, ast.For) and getattr(each.target, "id", None) == name]
+        inside = [each for loop in loops for statement in loop.body for each in ast.walk(statement)]
 
-        body = self.frame.source.definition.body
-        loops = [
-            each
-            for statement in body
-            for each in ast.walk(statement)
-            if isinstance(each, ast.For) and isinstance(each.target, ast.Name) and each.target.id == name
-        ]
-        is_set = any(uses(loop.body, ast.Store) for loop in loops)
-        return not is_set and uses(body, ast.Load) == sum(uses(loop.body, ast.Load) for loop in loops)
+        def uses(of: list[ast.AST], kind: type[ast.expr_context]) -> int:
+            return sum(isinstance(each, ast.Name) and each.id == name and isinstance(each.ctx, kind) for each in of)
+
+        return uses(inside, ast.Store) == 0 and uses(nodes, ast.Load) == uses(inside, ast.Load)
 
     def count(self, node: ast.For) -> None:
         """A loop over a range. Its test stands at its end, where `last` is the largest number that goes on."""
