@@ -151,13 +151,17 @@ class EndedTurn:
         return f"process {self.process}, {self.file}:{self.line}: {self.text}" + (f"\n    with {words}" if words else "")
 
 
+_MOST_TOLD = 4  # of the turns of a run that faulted
+
+
 class KernelFaulted(Error):
     """A kernel's run ended by a fault, in this superstep. `report` is its report. `turns` tells where the turns with a
     fault ended, and at a fault of the superstep's end where all turns did. The further members are of the first."""
 
     def __init__(self, report: Report, turns: Sequence[EndedTurn]):
         told = [f"{report.faults.get(turn.process, 'no fault')} in {turn}" for turn in turns]
-        super().__init__("\n".join([f"the run ended {report.status}", *told]))
+        more = [f"and {len(told) - _MOST_TOLD} turns more"] if len(told) > _MOST_TOLD else []
+        super().__init__("\n".join([f"the run ended {report.status}", *told[:_MOST_TOLD], *more]))
         self.report = report
         self.superstep = report.status.superstep
         self.turns = tuple(turns)

@@ -12,7 +12,7 @@ import tempfile
 import unittest
 from collections.abc import Iterator
 
-from drawn_kernels import kernel_text
+from drawn_texts import kernel_text
 from stored import FAKE, ROOT, fake
 
 from fannulavo import (

@@ -5,6 +5,7 @@ from __future__ import annotations
 import random
 import runpy
 from collections.abc import Iterator
+from copy import copy
 from dataclasses import dataclass
 from typing import Any
 
@@ -13,6 +14,9 @@ from fannulavo.kernels.checking import compare_runs, compare_views, drawn_inputs
 from fannulavo.kernels.inputs import Input
 from fannulavo.kernels.kernel import Kernel
 from fannulavo.kernels.running import words_of
+
+
+_BUDGET = 100_000  # of a turn of a drawn input, which may loop without an end
 
 
 class NoKernel(Error):
@@ -61,13 +65,14 @@ class KernelFile:
 
     def check(self) -> Iterator[str]:
         """Compares all that can be compared, and tells what was."""
-        name = self.program.name
-        views = compare_views(self.program, self.inputs(2))
+        name, program = self.program.name, copy(self.program)
+        program.budget = min(program.budget, _BUDGET)
+        views = compare_views(program, self.inputs(2))
         yield f"{name}: at {views} views the function and the instructions leave the same turns"
         try:
             tool: list[str] | None = words_of(None)
             way = "simulation, instructions and tool"
         except ToolNotBuilt as error:
             tool, way = None, f"simulation and instructions (no tool: {error})"
-        runs = compare_runs(self.program, self.inputs(5), tool, tool is not None)
+        runs = compare_runs(program, self.inputs(5), tool, tool is not None)
         yield f"{name}: {runs} runs have the same reports by {way}"

@@ -34,7 +34,7 @@ def _word(given: Any, where: str) -> int:
         raise BadWord(f"{where} is {given!r}: write a whole number from 0 to 2**63 - 1") from None
     if 0 <= word <= LARGEST:
         return word
-    why = "a document has no word from 2**63 on: let the kernel compute it" if word > 0 else "write 2**64 - n as 0 - n"
+    why = "a document has no word from 2**63 on: let the kernel compute it" if word > 0 else "words have no sign"
     raise BadWord(f"{where} is {word}: write a whole number from 0 to 2**63 - 1 ({why})")
 
 
