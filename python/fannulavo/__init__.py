@@ -1,8 +1,8 @@
 """Kernels in Python, live sessions of BSP programs, their reports, and pictures of them.
 
-`kernel` makes a BSP program of a function. A `Session` starts a built tool on a document and keeps it ready for edits; each batch of edits is answered by a
-`Report`. `read_report` reads the reports that tools write, and `write_report` writes them back. `fannulavo.pictures`
-draws them; it alone needs matplotlib.
+`kernel` makes a BSP program of a function. A `Session` starts a built tool on a document, or on a kernel and its input,
+and keeps it ready for edits; each batch of edits is answered by a `Report`. `read_report` reads the reports that tools
+write, and `write_report` writes them back. `fannulavo.pictures` draws them; it alone needs matplotlib.
 """
 
 from fannulavo.causes import Causes, Cost, DeliveryCauses, Place, TurnCauses, UpdateCost

@@ -3,8 +3,9 @@
        python3 -m fannulavo check FILE.py [NAME]
 
 pictures: draws the last report of the file REPORT, or of standard input where that is `-`: its costs, what its update
-cost where the tool had `--update-cost`, its reach where it had `--places`, with the causes where it had `--why`, and the
-comparison with the report before. The picture is written to OUT.svg; with the ending .png or .pdf it is one of these.
+cost where the tool had `--update-cost`, its reach where it had `--places`, with the causes where it had `--why`, and
+the comparison with the report before. The picture is written to OUT.svg; with the ending .png or .pdf it is one of
+these.
 
 kernel: writes the kernel of FILE.py as a document for bsp_kernel. Of several kernels NAME is one. The document has the
 input and the edits too where the file sets `example` and `edits`.

@@ -148,7 +148,8 @@ class EndedTurn:
 
     def __str__(self) -> str:
         words = ", ".join(f"{name} = {word}" for name, word in self.locals.items())
-        return f"process {self.process}, {self.file}:{self.line}: {self.text}" + (f"\n    with {words}" if words else "")
+        place = f"process {self.process}, {self.file}:{self.line}: {self.text}"
+        return f"{place}\n    with {words}" if words else place
 
 
 _MOST_TOLD = 4  # of the turns of a run that faulted

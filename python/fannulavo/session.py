@@ -95,7 +95,7 @@ class Session:
         these options too, and the reports have `causes` and `update_cost`. `ToolEnded` where the tool refuses the
         document, or its options; `OSError` where it can't be started.
 
-        Or `command` is a kernel, `tool` that of kernels, the built one where it is not given, and `given` has the input:
+        Or `command` is a kernel, `tool` that of kernels, the built one where none is given, and `given` has the input:
         `memory`, `args`, `limit`, `g` and `l`. Then a run that ends by a fault raises `KernelFaulted`: here it ends the
         session, later the edits stand. With `may_fault` it is a report like any other.
         """
@@ -197,7 +197,7 @@ class Session:
     def apply(self, edits: Iterable[Edit]) -> Report:
         """Makes a batch of edits, all or none. The report of the edited input, with the places that were made anew.
 
-        `Refused` where the tool refuses one of them: then nothing has changed. `KernelFaulted` where the run of a kernel
+        `Refused` where the tool refuses one of them: then nothing has changed. `KernelFaulted` where a kernel's run
         ends by a fault: then the edits stand, and `undo` takes them back.
         """
         return self._ask(batch_text(edits))

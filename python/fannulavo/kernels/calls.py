@@ -111,7 +111,11 @@ class Calls(Expressions):
         return first, len(words)
 
     def is_block(self, node: ast.expr) -> bool:
-        return isinstance(node, ast.Subscript) and self.of_context(node.value) == "memory" and isinstance(node.slice, ast.Slice)
+        """Whether an expression names own words that follow one another."""
+        match node:
+            case ast.Subscript(value=of, slice=ast.Slice()):
+                return self.of_context(of) == "memory"
+        return False
 
     def block(self, node: ast.Subscript) -> tuple[int, int]:
         """The registers of the start and of the length of a block of own words."""
@@ -160,7 +164,8 @@ class Calls(Expressions):
             case "charge" | "push_reg" | "pop_reg" | "get" | "abort":
                 self.finish(node, name, tuple(map(self.value, self.bound(node, name))))
             case _:
-                instead = f"the calls are {', '.join(f'p.{each}' for each in PARAMETERS if each != 'move_into')} and p.print"
+                names = [f"p.{each}" for each in PARAMETERS if each != "move_into"]
+                instead = f"the calls are {', '.join(names)} and p.print"
                 raise self.refusal(node, f"there is no call p.{name}", instead)
 
     def finish(self, node: ast.AST, name: str, operands: tuple[int, ...], *more: int) -> None:
@@ -190,7 +195,8 @@ class Calls(Expressions):
         if name in BUILTINS:
             raise self.refusal(node, f"a kernel has no {name}", BUILTINS[name])
         if name in ("min", "max", "len"):
-            raise self.refusal(node, f"{name} has other arguments", f"write {name}(p.memory)" if name == "len" else f"write {name}(a, b)")
+            call = "len(p.memory)" if name == "len" else f"{name}(a, b)"
+            raise self.refusal(node, f"{name} has other arguments", f"write {call}")
         if name == self.frames[0].source.definition.name:
             raise self.refusal(node, f"{name} calls itself", "write a loop", Recursion)
         function = self.surrounding(node.func)

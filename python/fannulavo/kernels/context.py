@@ -156,8 +156,8 @@ class Context:
             return tuple(each for each in self.requests if type(each) is kind)
 
         return Turn(
-            ended.ended, ended.fault, _in_ranges(self.memory.stores), all_of(Put), all_of(Get), all_of(Send), all_of(Area),
-            all_of(int), self.chosen, tuple(self.lines), self.work,
+            ended.ended, ended.fault, _in_ranges(self.memory.stores), all_of(Put), all_of(Get), all_of(Send),
+            all_of(Area), all_of(int), self.chosen, tuple(self.lines), self.work,
         )  # fmt: skip
 
     # messages

@@ -41,7 +41,7 @@ WRITE_EXPRESSION = {
 
 
 class Expressions(Framed):
-    """Expressions. `into` is the register that gets the word; where it is None, the answer is a register that has it."""
+    """Expressions. `into` is the register that gets the word; where it is None, the answer is one that has it."""
 
     def target(self, into: int | None) -> int:
         return self.code.fresh() if into is None else into

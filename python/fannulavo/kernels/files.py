@@ -38,7 +38,9 @@ class KernelFile:
         kernels = {each.name: each for each in names.values() if isinstance(each, Kernel)}
         wanted = [kernels[name]] if name in kernels else [] if name else list(kernels.values())
         if len(wanted) != 1:
-            told = f"its kernels are {', '.join(sorted(kernels))}: name one" if kernels else "mark a function with @kernel"
+            told = "mark a function with @kernel"
+            if kernels:
+                told = f"its kernels are {', '.join(sorted(kernels))}: name one"
             raise NoKernel(f"{path}: {told}")
         return cls(wanted[0], names)
 

@@ -144,3 +144,10 @@ class Framed:
         if not 0 <= word < MODULUS:
             raise self.refusal(node, f"{node.id} is {word}", "write a number from 0 to 2**64 - 1")
         return word
+
+    def has_set(self, name: ast.Name) -> None:
+        frame = self.frame
+        if name.id in frame.messages:
+            raise self.refusal(name, f"{name.id} is a message", "set a name of its own")
+        if frame.set_names is not None:
+            frame.set_names |= {name.id}

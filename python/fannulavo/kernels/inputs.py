@@ -53,7 +53,8 @@ def arguments_of(given: Any, nprocs: int) -> tuple[Words, ...]:
     """The arguments of each process: lists for each, or words that all have."""
     if given is None:
         return ((),) * nprocs
-    rows = [given] if hasattr(given, "__index__") and not hasattr(given, "__len__") else _listed(given, "args", ARGUMENTS)
+    is_number = hasattr(given, "__index__") and not hasattr(given, "__len__")
+    rows = [given] if is_number else _listed(given, "args", ARGUMENTS)
     if not any(isinstance(row, (list, tuple, range)) or getattr(row, "ndim", 0) for row in rows):
         return (_words(rows, "args", ARGUMENTS),) * nprocs
     if len(rows) != nprocs:
@@ -72,7 +73,14 @@ class Input:
     l: int = 1  # noqa: E741
 
     @classmethod
-    def of(cls, memory: Any, args: Any = None, limit: Any = limits.MOST_SUPERSTEPS, g: Any = 1, l: Any = 1) -> Input:  # noqa: E741
+    def of(
+        cls,
+        memory: Any,
+        args: Any = None,
+        limit: Any = limits.MOST_SUPERSTEPS,
+        g: Any = 1,
+        l: Any = 1,  # noqa: E741
+    ) -> Input:
         """The input of lists or arrays. `BadMemories` and `BadWord` where they are none."""
         memories = memories_of(memory)
         numbers = [_word(number, name) for name, number in (("limit", limit), ("g", g), ("l", l))]

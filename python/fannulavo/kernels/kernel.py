@@ -19,6 +19,12 @@ from fannulavo.kernels.source import Source
 from fannulavo.kernels.translation import translated
 from fannulavo.reports import Report
 
+_PLAIN = {
+    "number": (1,), "jump": (0,), "unless": (1,), "unless_lt": (2,), "put": (2,), "send": (2, 4), "print": (1,),
+    "send_block": (2,), "send_constants": (2,),
+}  # fmt: skip
+"""The operands that are no registers."""
+
 
 class Kernel:
     """A function of a turn, as instructions and as Python.
@@ -49,9 +55,7 @@ class Kernel:
         """An instruction with the names of locals."""
         names = self._numbers | {register: name for name, register in origin.registers.items()}
         name, *operands = row
-        plain = {"number": (1,), "jump": (0,), "unless": (1,), "unless_lt": (2,), "put": (2,), "send": (2, 4), "print": (1,)}
-        plain |= {"send_block": (2,), "send_constants": (2,)}
-        places = plain.get(str(name), ())
+        places = _PLAIN.get(str(name), ())
         told = [
             str(each) if place in places else names.get(int(each), f"r{each}") for place, each in enumerate(operands)
         ]
@@ -71,7 +75,7 @@ class Kernel:
     # turns and runs
 
     def looks(self, seen: Seen) -> list[int]:
-        """The addresses at which a turn looks: where all these words stay, and the rest of what it sees, it is not taken
+        """The addresses at which a turn looks. Where these words and the rest of what it sees stay, no update takes it
         again."""
         return Looks(self.code, self.constants, seen).addresses()
 

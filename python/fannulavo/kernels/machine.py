@@ -37,7 +37,9 @@ OPERATORS: dict[str, Callable[[int, int], int]] = {
     "lt": lambda a, b: int(a < b),
     "le": lambda a, b: int(a <= b),
 }
-SOURCES = ("nprocs", "pid", "step", "memory_len", "tag_size", "messages_left", "words_left", "first_len", "first_tag_len")
+SOURCES = (
+    "nprocs", "pid", "step", "memory_len", "tag_size", "messages_left", "words_left", "first_len", "first_tag_len",
+)  # fmt: skip
 BLOCKS = {"put_block": (1, 2), "send_block": (3, 4), "print_block": (0, 1)}
 """The operands that are the start and the length of a block of own words."""
 
@@ -173,7 +175,8 @@ class Looks(Machine):
             return list(range(count))
         if ended.fault == "F1 6" and self.followed == LOOKING_BUDGET and self.place < len(self.code):
             return list(range(count))
-        return sorted({address for start, length in self.blocks for address in range(start, min(start + length, count))})
+        blocks = [range(start, min(start + length, count)) for start, length in self.blocks]
+        return sorted(set().union(*blocks))
 
     def needs(self, *registers: int) -> None:
         if not all(self.known[each] for each in registers):
@@ -187,7 +190,7 @@ class Looks(Machine):
         try:
             super().step(name, x)
             self.known[register] = True
-        except TurnEnded:  # the turn ends there, so nothing follows; the machine looks on as if the word were not known
+        except TurnEnded:  # the turn ends there; the machine looks on, as if the word were not known
             self.known[register] = False
 
     def step(self, name: str, x: list[int]) -> None:

@@ -147,8 +147,8 @@ class PythonForm:
             parameter.annotation = None
         tree = ast.fix_missing_locations(ast.Module([_Words().visit(definition)], []))
         builtins = {"len": len, "range": range, "min": min, "max": max}
-        namespace: dict[str, Any] = {"__builtins__": builtins, "_shifted": shifted, "_counted": counted, "_abort": abort}
-        namespace["_round"] = self.rounds.count
+        namespace: dict[str, Any] = {"__builtins__": builtins, "_round": self.rounds.count}
+        namespace |= {"_shifted": shifted, "_counted": counted, "_abort": abort}
         code = compile(tree, source.file, "exec")
         exec(code, namespace)
         self.codes |= dict.fromkeys(_codes_in(code), source)

@@ -27,7 +27,8 @@ def words_of(tool: Command | None) -> list[str]:
         words = [os.fspath(word) for word in given]
         if words and (shutil.which(words[0]) or os.path.isfile(words[0])):
             return words
-        raise ToolNotBuilt(f"there is no tool {words[0] if words else ''!r}: `./build bsp_kernel` builds one in a clone")
+        named = words[0] if words else ""
+        raise ToolNotBuilt(f"there is no tool {named!r}: `./build bsp_kernel` builds one in a clone")
     found = str(BUILT) if BUILT.is_file() else shutil.which("bsp_kernel")
     if found is None:
         raise ToolNotBuilt("bsp_kernel is not built: `./build bsp_kernel` builds it; or hand in tool=PATH")

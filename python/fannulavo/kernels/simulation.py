@@ -10,7 +10,7 @@ from fannulavo.errors import EndedTurn, NoSuchPlace
 from fannulavo.kernels import limits
 from fannulavo.kernels.context import Seen, Words
 from fannulavo.kernels.inputs import Input
-from fannulavo.places import Area, Message, Turn, View
+from fannulavo.places import Area, Get, Message, Turn, View
 from fannulavo.reports import Report, Status
 
 Table = tuple[tuple[Area, ...], ...]
@@ -62,12 +62,14 @@ def end_of(superstep: Superstep, number: int) -> Status | None:
     return Status("halted") if is_halted else None
 
 
+def _read(memory: Words, get: Get) -> Words:
+    return memory[get.address : get.address + get.length]
+
+
 def delivered(taken: Sequence[Taken]) -> tuple[list[Words], list[tuple[Message, ...]]]:
     """The next memories and queues. All gets are read before anything is written; puts are written last."""
     turns = [each.turn for each in taken]
-    read = [
-        [(get.into, taken[get.owner].memory[get.address : get.address + get.length]) for get in turn.gets] for turn in turns
-    ]
+    read = [[(get.into, _read(taken[get.owner].memory, get)) for get in turn.gets] for turn in turns]
     memories = [list(each.memory) for each in taken]
     queues: list[list[Message]] = [[] for _ in taken]
     for memory, blocks in zip(memories, read):
@@ -153,14 +155,18 @@ def simulated(take: Callable[[Seen], Taken], given: Input) -> SimulatedRun:
     tag_size, supersteps = 0, []
     for number in range(given.limit + 1):
         places = enumerate(zip(given.args, memories, queues))
-        seen = tuple(Seen(nprocs, pid, number, *parts, table, tag_size) for pid, parts in places)  # type: ignore[arg-type]
+        seen = tuple(
+            Seen(nprocs, pid, number, *parts, table, tag_size)  # type: ignore[arg-type]
+            for pid, parts in places
+        )
         supersteps.append(Superstep(seen, tuple(map(take, seen)) if number < given.limit else ()))
         taken = supersteps[-1].taken
         if not taken:
             break
         status = end_of(supersteps[-1], number)
         if status:
-            return SimulatedRun(_report(given, supersteps, status, [each.memory for each in taken]), tuple(supersteps))
+            report = _report(given, supersteps, status, [each.memory for each in taken])
+            return SimulatedRun(report, tuple(supersteps))
         turns = [each.turn for each in taken]
         memories, queues = delivered(taken)  # type: ignore[assignment]
         table = next_table(table, turns)

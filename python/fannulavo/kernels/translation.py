@@ -32,7 +32,8 @@ def _translation(source: Source, numbers: Iterable[int]) -> Statements:
     if len(names) != 1:
         raise translation.refusal(source.definition, "a kernel has one parameter, its context", "write `def NAME(p):`")
     if frame.context in stored:
-        raise translation.refusal(source.definition, f"the kernel sets {frame.context}, its context", "set a name of its own")
+        why = f"the kernel sets {frame.context}, its context"
+        raise translation.refusal(source.definition, why, "set a name of its own")
     for name in stored:
         frame.registers[name] = translation.code.fresh()
     translation.statements(source.definition.body)
