@@ -2,10 +2,11 @@
 
 usage: python3 python/bench/kernels.py [TOOL]
 
-TOOL is the program of crates/bsp_kernel, and crates/bsp_kernel/out/bsp_kernel where it is not given; `./build bsp_kernel`
-makes that. Without it the rows of sessions are left out. The kernel is python/examples/kernels/heat.py, in a rod of 64
-processes with 32 cells each; 100 time steps, and 10 where it is simulated. An edit lowers the cell in the middle by 1, and
-the next one raises it again; rounding absorbs both. Each time is the best of several.
+TOOL is the program of crates/bsp_kernel, and crates/bsp_kernel/out/bsp_kernel where it is not given;
+`./build bsp_kernel` makes that. Without it the rows of sessions are left out. The kernel is
+python/examples/kernels/heat.py, in a rod of 64 processes with 32 cells each: 100 time steps, and 10 where it is
+simulated. An edit lowers the cell in the middle by 1, and the next one raises it again; rounding absorbs both. Each
+time is the best of several.
 """
 
 from __future__ import annotations
@@ -72,9 +73,9 @@ def main(words: list[str]) -> int:
     program = KernelFile.read(str(PATH)).program
     names: dict[str, object] = {}
     source = PATH.read_text(encoding="utf-8")
-    print(f"a kernel is translated: {best(5, lambda: exec(compile(source, str(PATH), 'exec'), names)):.1f} ms")
+    print(f"a kernel is translated: {best(20, lambda: exec(compile(source, str(PATH), 'exec'), names)):.1f} ms")
     given = rod(FEW_STEPS)
-    taken = best(2, lambda: program.trace(given))
+    taken = best(5, lambda: program.trace(given))
     print(f"simulated: {instructions(program, given) / taken:,.0f} thousand instructions a second")
     try:
         sessions(program, words_of(words or None))

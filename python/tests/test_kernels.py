@@ -164,6 +164,15 @@ class Translation(InAFolder):
             with self.subTest(budget=budget):
                 self.assertEqual(program.turn(seen, budget).turn, program.turn_by_instructions(seen, budget).turn)
 
+    def test_a_budget_of_its_own(self) -> None:
+        text = "from fannulavo import kernel\n\n@kernel(budget={})\ndef k(p):\n    while True:\n        p.charge(1)\n"
+        program = KernelFile.read(self.written(text.format(30))).program
+        report = program.simulate([[0]], may_fault=True)
+        self.assertEqual((report.faults, report.costs[0].work), ({0: "F1 6"}, 15))
+        self.assertIn("budget = 30\n", program.keys())
+        for budget in ("-1", "1.5", "2**63"):
+            self.assertRaises(BadWord, KernelFile.read, self.written(text.format(budget)))
+
     def test_a_kernel_as_a_text(self) -> None:
         lines = str(ring).splitlines()
         self.assertEqual(len(lines), len(ring.code))

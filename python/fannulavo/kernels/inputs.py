@@ -27,7 +27,8 @@ def _listed(given: Any, what: str, instead: str) -> list[Any]:
     return list(given)
 
 
-def _word(given: Any, where: str) -> int:
+def word_of(given: Any, where: str) -> int:
+    """A number that a document can write. `BadWord` where it is none."""
     try:
         word = index(given)
     except TypeError:
@@ -39,7 +40,7 @@ def _word(given: Any, where: str) -> int:
 
 
 def _words(given: Any, what: str, instead: str) -> Words:
-    return tuple(_word(word, f"{what}, word {place},") for place, word in enumerate(_listed(given, what, instead)))
+    return tuple(word_of(word, f"{what}, word {place},") for place, word in enumerate(_listed(given, what, instead)))
 
 
 def memories_of(given: Any) -> tuple[Words, ...]:
@@ -83,7 +84,7 @@ class Input:
     ) -> Input:
         """The input of lists or arrays. `BadMemories` and `BadWord` where they are none."""
         memories = memories_of(memory)
-        numbers = [_word(number, name) for name, number in (("limit", limit), ("g", g), ("l", l))]
+        numbers = [word_of(number, name) for name, number in (("limit", limit), ("g", g), ("l", l))]
         return cls(memories, arguments_of(args, len(memories)), *numbers)
 
     @classmethod

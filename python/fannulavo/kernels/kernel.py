@@ -5,13 +5,13 @@ from __future__ import annotations
 import json
 from collections.abc import Callable, Iterable
 from types import TracebackType
-from typing import Any, NoReturn
+from typing import Any, NoReturn, overload
 
 from fannulavo.edits import Edit
 from fannulavo.errors import EndedTurn, KernelFaulted
 from fannulavo.kernels.code import Instruction, Origin
 from fannulavo.kernels.context import Context, Seen, TurnEnded
-from fannulavo.kernels.inputs import Input
+from fannulavo.kernels.inputs import Input, word_of
 from fannulavo.kernels.machine import BUDGET, Looks, Machine
 from fannulavo.kernels.python_form import OverBudget, PythonForm, locals_of
 from fannulavo.kernels.simulation import SimulatedRun, Taken, simulated
@@ -37,7 +37,7 @@ class Kernel:
         self._source = Source(function)
         made = translated(self._source)
         self.name, self.file = function.__name__, self._source.file
-        self.code, self.constants, self.budget = made.code, made.constants, budget
+        self.code, self.constants, self.budget = made.code, made.constants, word_of(budget, "the budget")
         self._origins = made.origins
         self._numbers = {register: f"={word}" for word, register in made.numbers.items()}
         self._form = PythonForm(self._source, made.helpers)
@@ -150,10 +150,19 @@ class Kernel:
         return f"# {self.name}\nkernel = [\n{''.join(rows)}]\n{constants}{budget}"
 
 
-def kernel(function: Callable[..., Any]) -> Kernel:
-    """Makes a kernel of a function of one parameter, its context. A `KernelError` where it is outside of the part of
-    Python in which kernels are written."""
-    return Kernel(function)
+@overload
+def kernel(function: Callable[..., Any], *, budget: int = BUDGET) -> Kernel: ...
+@overload
+def kernel(*, budget: int = BUDGET) -> Callable[[Callable[..., Any]], Kernel]: ...
+def kernel(
+    function: Callable[..., Any] | None = None, *, budget: int = BUDGET
+) -> Kernel | Callable[[Callable[..., Any]], Kernel]:
+    """Makes a kernel of a function of one parameter, its context: `@kernel`, or `@kernel(budget=n)`, with which a turn
+    follows at most n instructions. A `KernelError` where the function is outside of the part of Python in which kernels
+    are written."""
+    if function is None:
+        return lambda marked: Kernel(marked, budget)
+    return Kernel(function, budget)
 
 
 def document(
