@@ -14,6 +14,7 @@ from typing import Any, TypeVar
 
 from fannulavo.edits import Edit, batch_text
 from fannulavo.errors import (
+    BadMemories,
     Error,
     MalformedReport,
     NoSuchPlace,
@@ -23,7 +24,7 @@ from fannulavo.errors import (
     SessionClosed,
     ToolEnded,
 )
-from fannulavo.kernels.inputs import Input
+from fannulavo.kernels.inputs import MEMORIES, Input
 from fannulavo.kernels.kernel import Kernel
 from fannulavo.kernels.kernel import document as document_of
 from fannulavo.kernels.running import check_faults, without_kernels, words_of
@@ -102,6 +103,8 @@ class Session:
         self._kernel = command if isinstance(command, Kernel) and not may_fault else None
         options = _options(workers, why, update_cost)
         if isinstance(command, Kernel):
+            if document:
+                raise BadMemories(f"the input of a kernel has names: {MEMORIES}")
             self._start_kernel(command, words_of(tool), Input.of(**given), options)
         elif given or tool is not None:
             raise TypeError("memory, args, limit, g, l and tool go with a kernel; a tool has a document")

@@ -382,6 +382,8 @@ class Inputs(unittest.TestCase):
         for memory in (None, 5, [], [1, 2], [[1], 2], {0: [1]}, "ab"):
             with self.subTest(memory=memory), self.assertRaisesRegex(BadMemories, "write a list of words"):
                 ring.simulate(memory)
+        for wrong in (lambda: Session(ring, tool=TOOL), lambda: Session(ring, [[1], [2]], tool=TOOL)):  # type: ignore
+            self.assertRaisesRegex(BadMemories, "write a list of words", wrong)
         for args in ([[1]], [[1], [2], [3]], {1}, [[1], 2]):
             with self.subTest(args=args), self.assertRaisesRegex(BadMemories, "write args="):
                 ring.simulate([[1], [2]], args)

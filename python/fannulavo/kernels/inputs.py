@@ -20,6 +20,8 @@ ARGUMENTS = "write args=[6] for all processes alike, or a list for each, as args
 
 def _listed(given: Any, what: str, instead: str) -> list[Any]:
     """A list, of a list, a tuple, a range, or an array that can give one."""
+    if given is None:
+        raise BadMemories(f"{what} is not given: {instead}")
     if hasattr(given, "tolist"):
         given = given.tolist()
     if not isinstance(given, (list, tuple, range)):
@@ -76,7 +78,7 @@ class Input:
     @classmethod
     def of(
         cls,
-        memory: Any,
+        memory: Any = None,
         args: Any = None,
         limit: Any = limits.MOST_SUPERSTEPS,
         g: Any = 1,
