@@ -1,4 +1,4 @@
-"""A broadcast: the process that argument 0 names puts its word 0 to all others."""
+"""A broadcast: the process that argument 0 names puts its word 0 to all other processes."""
 
 from fannulavo import Word, kernel
 

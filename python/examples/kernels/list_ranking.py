@@ -1,5 +1,5 @@
 """List ranking by pointer doubling: each process is an element. Word 0 is its successor, word 1 its rank so far, words 2
-and 3 receive. The last element is its own successor, with rank 0; all others begin with 1."""
+and 3 receive. The last element is its own successor, with rank 0; all other elements begin with 1."""
 
 from fannulavo import Word, kernel
 

@@ -1,5 +1,5 @@
 """LU decomposition modulo a prime, without exchanges of rows. Argument 0 is the prime, below 2**32. Process p has row p of
-the matrix, and room for another row. At the end a row has its part of L, below the diagonal, and of U."""
+the matrix, and room for a second row. At the end a row has its part of L, below the diagonal, and of U."""
 
 from fannulavo import Word, kernel
 

@@ -44,7 +44,7 @@ def drawn_view(rng: random.Random) -> Seen:
 
 
 def changed_view(rng: random.Random, seen: Seen) -> Seen:
-    """A view of a run, with a word that is another."""
+    """A view of a run with one word changed."""
     memory = list(seen.memory)
     if memory:
         memory[rng.randrange(len(memory))] = _word(rng)

@@ -105,7 +105,7 @@ class Loops(Calls):
             raise self.refusal(node.iter, "messages has no arguments", "write `for message in p.messages():`")
         if any(frame.messages for frame in self.frames):
             instead = "take one message behind the other, in one loop"
-            raise self.refusal(node.iter, "a loop over messages stands in another", instead)
+            raise self.refusal(node.iter, "a loop over messages stands in a loop over messages", instead)
         loop, frame, name = Loop(), self.frame, node.target.id
         taken = self.room(node, name)
         self.depth += 1

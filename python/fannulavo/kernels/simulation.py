@@ -84,7 +84,7 @@ def delivered(taken: Sequence[Taken]) -> tuple[list[Words], list[tuple[Message, 
 
 
 def h_relation(turns: Sequence[Turn]) -> int:
-    """The largest number of words that a process sends to others, or receives from others."""
+    """The largest number of words that a process sends to other processes, or receives from them."""
     sent, received = [0] * len(turns), [0] * len(turns)
     for process, turn in enumerate(turns):
         moved = [(process, put.target, len(put.words)) for put in turn.puts]
