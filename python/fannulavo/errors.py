@@ -166,4 +166,7 @@ class KernelFaulted(Error):
         self.report = report
         self.superstep = report.status.superstep
         self.turns = tuple(turns)
-        self.process, self.line, self.locals = turns[0].process, turns[0].line, turns[0].locals
+        first = turns[0] if turns else None  # a tool with other limits may fault where the simulation goes on
+        self.process = first.process if first else min(report.faults, default=None)
+        self.line = first.line if first else None
+        self.locals = first.locals if first else {}

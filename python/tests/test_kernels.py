@@ -13,7 +13,7 @@ import unittest
 from collections.abc import Iterator
 
 from drawn_texts import kernel_text
-from stored import FAKE, ROOT, fake
+from stored import ROOT, fake
 
 from fannulavo import (
     Argument,
@@ -497,7 +497,6 @@ class Sessions(unittest.TestCase):
 
     def test_keywords_without_a_kernel(self) -> None:
         self.assertRaises(TypeError, Session, ["sh"], b"", memory=[[1]])
-        self.assertTrue(os.path.isfile(FAKE))
 
 
 class Shell(InAFolder):
