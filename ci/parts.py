@@ -17,7 +17,7 @@ def live(count):
 
 
 DOCUMENTS = Part(("ci/documents",), 15_000, 8_000)
-FIRST = (Part(("ci/test_gate",), 129), Part(("ci/statement",), 2), Part(("ci/python",), 125))  # before anything is proved
+FIRST = (Part(("ci/test_gate",), 129), Part(("ci/statement",), 2), Part(("ci/python",), 126))  # before anything is proved
 PROOFS = Part(("rt", "ci"), 109)  # 29 crates and 80 must-fail edits
 LAST = (
     DOCUMENTS,

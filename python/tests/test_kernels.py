@@ -9,17 +9,19 @@ import random
 import re
 import shutil
 import tempfile
+import tomllib
 import unittest
 from collections.abc import Iterator
 
 from drawn_texts import kernel_text
-from stored import ROOT, fake
+from stored import ROOT, fake, stored
 
 from fannulavo import (
     Argument,
     BadMemories,
     BadWord,
     CodeTooLong,
+    EndedTurn,
     Input,
     KernelError,
     KernelFaulted,
@@ -38,11 +40,14 @@ from fannulavo import (
     document,
     kernel,
     run,
+    write_report,
 )
 from fannulavo.__main__ import main
 from fannulavo.kernels import limits, running
 from fannulavo.kernels.checking import Differs, compare_views, drawn_view
 from fannulavo.kernels.files import KernelFile, NoKernel
+from fannulavo.kernels.machine import BUDGET, Machine
+from fannulavo.kernels.simulation import Taken, simulated
 from fannulavo.places import Message
 from limits import limits_of
 from modelled.kernels import Kernel as Modelled
@@ -50,6 +55,15 @@ from modelled.turns import Message as ModelledMessage
 from modelled.turns import View
 
 TOOL = fake("bsp_kernel")
+UPDATE = ("turns ", "deliveries ", "why ", "update ", "executed ")
+
+
+def from_scratch(report: str) -> str:
+    """The first block of a report, without the lines of its update."""
+    block = report.partition("run 1\n")[0].splitlines(keepends=True)
+    return "".join(line for line in block if not line.startswith(UPDATE))
+
+
 TEN = 10
 TABLE = [1, 2]
 
@@ -149,6 +163,26 @@ class Translation(InAFolder):
         for _ in range(8):
             view = drawn_view(rng)
             yield Seen(view.nprocs, view.pid, view.step, view.args, view.memory, view.queue)
+
+    def test_stored_kernels_give_their_reports(self) -> None:
+        """The machine and the simulation on the documents of cases/bsp_kernel, among which each call has each fault."""
+        count = 0
+        for path, text, written in stored():
+            if "/cases/bsp_kernel/" not in path:
+                continue
+            keys = tomllib.loads(written)
+
+            def take(seen: Seen, keys: dict = keys) -> Taken:
+                machine = Machine([tuple(row) for row in keys["kernel"]], keys.get("constants", []), seen)
+                ended = machine.follow(keys.get("budget", BUDGET))
+                end = EndedTurn(seen.pid, "", 0, "", {})
+                return Taken(machine.context.turn(ended), tuple(machine.context.memory.words), end)
+
+            report = simulated(take, Input.read(written)).report
+            with self.subTest(path=path):
+                self.assertEqual(write_report([report]), from_scratch(text))
+            count += 1
+        self.assertGreater(count, 100)
 
     def test_a_difference_is_found(self) -> None:
         program = KernelFile.read(self.written(kernel_text(1))).program
