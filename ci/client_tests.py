@@ -39,19 +39,24 @@ def talker(place, *words):
 class Sessions(InAPlace):
     def test_a_right_tool_passes(self):
         talker(self.place)
-        self.passes("7 passed, 0 failed", "ci/sessions")
+        self.passes("7 passed, 0 failed", "ci/sessions", "built")
 
     def test_a_tool_that_takes_back_once(self):
         talker(self.place, "--flaw", "undoes_once")
-        self.fails("5 passed, 2 failed", "test_twenty_batches_are_taken_back", "ci/sessions")
+        self.fails("5 passed, 2 failed", "test_twenty_batches_are_taken_back", "ci/sessions", "built")
 
     def test_a_program_that_knows_no_session(self):
         self.place.program("heat", "exit 2")
-        self.fails("0 passed, 12 failed", "ToolEnded", "ci/sessions")  # a test that tries six seeds fails with each
+        self.fails("0 passed, 12 failed", "ToolEnded", "ci/sessions", "built")  # a test that tries six seeds fails with each
 
     def test_a_program_that_is_not_built(self):
         self.place.script("bin/rt", "exit 1")
-        self.fails("0 passed, 1 failed", "heat was not built", "ci/sessions")
+        self.fails("0 passed, 1 failed", "heat was not built", "ci/sessions", "built")
+
+    def test_a_tool_that_knows_no_kernels(self):
+        for crate in ("bsp_kernel", "bsp_tool", "heat", "oddeven", "samplesort"):
+            self.place.program(crate, "cat > /dev/null; echo fault J4 >&2; exit 3")
+        self.fails("0 passed, 16 failed", "ToolWithoutKernels", "ci/sessions", "built_kernels.BuiltGallery.test_drawn_inputs")
 
 
 class Progress(InAPlace):

@@ -7,7 +7,7 @@ import re
 
 from limits import SOURCE, constants_of
 
-FILES = ("crates/*/src/**/*.rt", "crates/*/specs/**/*.antt", "crates/*/proofs/**/*.antt", "ci/*.py", "ci/modelled/*.py", "python/fannulavo/*.py")
+FILES = ("crates/*/src/**/*.rt", "crates/*/specs/**/*.antt", "crates/*/proofs/**/*.antt", "ci/*.py", "ci/modelled/*.py", "python/fannulavo/**/*.py")
 TESTS = re.compile(r"crates/\w+/src/tests(?:/|\.rt)|crates/(?:bsp_tests|engine_tests|pool_tests)/|ci/(?:\w+_tests|place|numerals)\.py")
 NUMERAL = re.compile(r"(?<![\w.,$])(\d{1,3}(?:,\d{3})+|\d[\d_]*)(?![\w,]*\d)(?!\w)")
 
@@ -36,6 +36,9 @@ OTHERS = (
     (r"crates/bsp_(?:pool|crew)/", r"\b16\b|\b4294967296\b|\b1_000_000\b"),
     # registers, and the bits of a word that is shifted
     (r"bsp_kernels?/|ci/modelled/(?:kernels|machines)", r"\b(?:64|255|256)\b"),
+    # the same, and the limits of a simulated run, which a test compares with the source
+    (r"python/fannulavo/kernels/(?:code|machine)", r"\b(?:64|256)\b"),
+    (r"python/fannulavo/kernels/limits", r"^MOST_\w+ = .*|^HIGHEST_\w+ = .*"),
     # processes and cells that a picture has room for
     (r"python/fannulavo/(?:pictures|traces)", r"\b(?:16|64)\b"),
 )

@@ -62,6 +62,13 @@ class Pages(unittest.TestCase):
         for place, name in enumerate(told):
             self.assertLessEqual(set(told[name]), set(list(told)[:place]), name)
 
+    def test_a_whole_kernel_is_told_as_it_stands(self):
+        hello = text_of(f"{ROOT}/crates/bsp_tests/src/hello.rt")
+        self.assertIn(f"```rust\n{hello}```", text_of(f"{ROOT}/docs/kernels.md"))
+
+    def test_the_readme_is_short(self):
+        self.assertLessEqual(len(text_of(f"{ROOT}/README.md").split()), 1_500)
+
     def test_updates_are_told_as_in_stored_reports(self):
         """Each line of an update on docs/updates.md stands in a report that the page is about."""
         reports = ("bsp_tool/why_prefix_of_eight", "heat/why_a_cell_that_rounding_absorbs")

@@ -22,7 +22,7 @@ DEFINED = re.compile(r"\b(?:fn|def|macro_rules!|struct|enum|trait|type|class|rec
 FOREIGN = frozenset(
     "Allgatherv Alltoallv Gatherv bsp_begin bsp_end bsp_hpget bsp_hpmove bsp_hpput bsp_init bsp_pop_reg bsp_push_reg bsp_time "
     "BAD NOT REFUSED apt declaration orphan determined gt1 inline kernel lemma plant rli tactic tidy using xargs "
-    "dict encode get_mut min str tuple unwrap "
+    "dict encode get_mut min range str tuple unwrap "
     "Beam HeatProgram beam length_of_own_cells own_cell REASON".split()
 )
 

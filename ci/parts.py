@@ -17,13 +17,13 @@ def live(count):
 
 
 DOCUMENTS = Part(("ci/documents",), 15_000, 8_000)
-FIRST = (Part(("ci/test_gate",), 126), Part(("ci/statement",), 2), Part(("ci/python",), 77))  # before anything is proved
+FIRST = (Part(("ci/test_gate",), 129), Part(("ci/statement",), 2), Part(("ci/python",), 126))  # before anything is proved
 PROOFS = Part(("rt", "ci"), 109)  # 29 crates and 80 must-fail edits
 LAST = (
     DOCUMENTS,
     Part(("ci/random", "300"), 1_800, 10_000),
     live(40),
-    Part(("ci/sessions",), 7),
+    Part(("ci/sessions",), 12),
     Part(("ci/progress",), 4),
     Part(("ci/threads",), 7),
     Part(("ci/tried",), 1),

@@ -10,10 +10,24 @@ from collections.abc import Callable, Iterable, Sequence
 from operator import index
 from pathlib import Path
 from types import TracebackType
-from typing import TypeVar
+from typing import Any, TypeVar
 
 from fannulavo.edits import Edit, batch_text
-from fannulavo.errors import Error, MalformedReport, NoSuchPlace, NothingToUndo, NotRead, Refused, SessionClosed
+from fannulavo.errors import (
+    BadMemories,
+    Error,
+    MalformedReport,
+    NoSuchPlace,
+    NothingToUndo,
+    NotRead,
+    Refused,
+    SessionClosed,
+    ToolEnded,
+)
+from fannulavo.kernels.inputs import MEMORIES, Input
+from fannulavo.kernels.kernel import Kernel
+from fannulavo.kernels.kernel import document as document_of
+from fannulavo.kernels.running import check_faults, without_kernels, words_of
 from fannulavo.places import Turn, View, turn_in, view_in
 from fannulavo.reading import blocks_in, whole
 from fannulavo.reports import Block, Refusal, Report, Unread
@@ -65,12 +79,15 @@ class Session:
 
     def __init__(
         self,
-        command: Command,
-        document: str | os.PathLike[str] | bytes,
+        command: Command | Kernel,
+        document: str | os.PathLike[str] | bytes = b"",
         workers: int = 1,
         *,
         why: bool = False,
         update_cost: bool = False,
+        tool: Command | None = None,
+        may_fault: bool = False,
+        **given: Any,
     ):
         """Starts a tool, and waits until it has run the document and its batches.
 
@@ -78,8 +95,40 @@ class Session:
         its text as bytes. Up to `workers` threads share the work. With `why` and `update_cost` the tool has
         these options too, and the reports have `causes` and `update_cost`. `ToolEnded` where the tool refuses the
         document, or its options; `OSError` where it can't be started.
+
+        Or `command` is a kernel, `tool` that of kernels, the built one where none is given, and `given` has the input:
+        `memory`, `args`, `limit`, `g` and `l`. Then a run that ends by a fault raises `KernelFaulted`: here it ends the
+        session, later the edits stand. With `may_fault` it is a report like any other.
         """
+        self._kernel = command if isinstance(command, Kernel) and not may_fault else None
         options = _options(workers, why, update_cost)
+        if isinstance(command, Kernel):
+            if document:
+                raise BadMemories(f"the input of a kernel has names: {MEMORIES}")
+            self._start_kernel(command, words_of(tool), Input.of(**given), options)
+        elif given or tool is not None:
+            raise TypeError("memory, args, limit, g, l and tool go with a kernel; a tool has a document")
+        else:
+            self._start(command, document, options)
+
+    def _start_kernel(self, program: Kernel, tool: Command, given: Input, options: list[str]) -> None:
+        try:
+            self._start(tool, document_of(program, given).encode(), options)
+        except ToolEnded as ended:
+            raise without_kernels(ended) from None
+        try:
+            self._checked(self._report)
+        except BaseException:
+            self.close()
+            raise
+
+    def _checked(self, report: Report) -> Report:
+        """The report; an exception where it tells of a fault of a kernel."""
+        if self._kernel is not None and report.status.kind in ("faulted", "syncfault"):
+            check_faults(self._kernel, Input.read(self.document()), report)
+        return report
+
+    def _start(self, command: Command, document: str | os.PathLike[str] | bytes, options: list[str]) -> None:
         if isinstance(document, bytes):
             with tempfile.NamedTemporaryFile(suffix=".toml") as file:
                 file.write(document)
@@ -131,7 +180,7 @@ class Session:
         block = self._exchange(line, _BLOCK, self._block_in)
         if not isinstance(block, Report):
             raise _fault_of(block)
-        return block
+        return self._checked(block)
 
     @property
     def opening(self) -> tuple[Block, ...]:
@@ -151,7 +200,8 @@ class Session:
     def apply(self, edits: Iterable[Edit]) -> Report:
         """Makes a batch of edits, all or none. The report of the edited input, with the places that were made anew.
 
-        `Refused` where the tool refuses one of them: then nothing has changed.
+        `Refused` where the tool refuses one of them: then nothing has changed. `KernelFaulted` where a kernel's run
+        ends by a fault: then the edits stand, and `undo` takes them back.
         """
         return self._ask(batch_text(edits))
 

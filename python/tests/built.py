@@ -1,11 +1,10 @@
-"""Sessions with a built tool: what ci/sessions runs."""
+"""Sessions with a built tool: a part of what ci/sessions runs."""
 
 from __future__ import annotations
 
 import os
 import signal
 import subprocess
-import unittest
 
 import test_sessions
 from stored import HEAT
@@ -14,15 +13,19 @@ from cases import built_program
 from fannulavo import Session, SessionClosed, ToolEnded, Word
 
 
+def program_of(crate: str) -> str:
+    program = built_program(crate)
+    if program is None:
+        raise RuntimeError(f"{crate} was not built")
+    return program
+
+
 class Built(test_sessions.Batches):
     """What test_sessions tries, with the program of crates/heat."""
 
     @classmethod
     def setUpClass(cls) -> None:
-        program = built_program("heat")
-        if program is None:
-            raise RuntimeError("heat was not built")
-        cls.program = program
+        cls.program = program_of("heat")
 
     names = ("heat",)
 

@@ -1,0 +1,14 @@
+"""The limits of a run, as crates/bsp_model/src/limits.rt has them for the tools of this profile."""
+
+MOST_PROCESSES = 64
+MOST_MEMORY_WORDS = 4_096
+MOST_ARGUMENTS = 64
+MOST_SUPERSTEPS = 1_024
+HIGHEST_PRICE = 1_000_000
+MOST_WORK = 4_294_967_295
+MOST_REQUESTS = 1_024
+MOST_PAYLOAD_WORDS = 4_096
+MOST_TAG_WORDS = 16
+MOST_SLOTS = 256
+MOST_LINES = 64
+MOST_LINE_WORDS = 64
