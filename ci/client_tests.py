@@ -64,23 +64,25 @@ class Progress(InAPlace):
     TOLD = "told() { printf '\\rrun %s, superstep 7\\033[K' $1 >&2; }; away() { printf '\\r\\033[K' >&2; }; block() { printf 'run %s\\nexecuted 1 redelivered 1\\n' $1; }"
     LIVE = "told 0; away; block 0; echo ready; for run in 1 2 3; do read -r line; [ $run = 3 ] || { told $run; away; }; block $run; done; cat"
 
-    def live(self, *changes):
+    BATCHES = "told 0; told 1; told 2; away; echo run 0; exit"
+
+    def live(self, *changes, batches=BATCHES):
         text = self.LIVE
         for old, new in changes:
             text = text.replace(old, new)
-        self.place.program("bsp_kernel", f"{self.TOLD}; {text}")
+        self.place.program("bsp_kernel", f'{self.TOLD}; if [ "$1" != --follow ]; then cat > /dev/null; {batches}; fi; {text}')
 
     def test_programs_that_show_their_progress_pass(self):
         self.place.program("heat", f'{self.LINES}; if [ -t 2 ] && [ "$2" != --quiet ]; then show; fi')
         self.live()
-        self.passes("4 passed, 0 failed", "ci/progress")
+        self.passes("5 passed, 0 failed", "ci/progress")
 
     def test_a_program_that_shows_it_always_or_never(self):
         self.live()
         self.place.program("heat", f"{self.LINES}; show")
-        self.fails("2 passed, 2 failed", "test_quiet", "ci/progress")
+        self.fails("3 passed, 2 failed", "test_quiet", "ci/progress")
         self.place.program("heat", self.LINES)
-        self.fails("3 passed, 1 failed", "test_a_terminal", "ci/progress")
+        self.fails("4 passed, 1 failed", "test_a_terminal", "ci/progress")
 
     def test_a_session_that_shows_it_wrongly(self):
         self.place.program("heat", f'{self.LINES}; if [ -t 2 ] && [ "$2" != --quiet ]; then show; fi')
@@ -93,7 +95,9 @@ class Progress(InAPlace):
         for name, change in wrong.items():
             with self.subTest(wrong=name):
                 self.live(change)
-                self.fails("3 passed, 1 failed", "test_the_line_is_taken_away_before_an_answer", "ci/progress")
+                self.fails("4 passed, 1 failed", "test_the_line_is_taken_away_before_an_answer", "ci/progress")
+        self.live(batches=self.BATCHES.replace("told 2", "told 0"))
+        self.fails("4 passed, 1 failed", "test_the_batches_of_a_document", "ci/progress")
 
     def test_a_program_that_is_not_built(self):
         self.place.script("bin/rt", "exit 1")
@@ -135,6 +139,18 @@ class RefuseThreads(InAPlace):
     def test_a_program_that_is_not_built(self):
         self.place.script("bin/rt", "exit 1")
         self.fails("0 passed, 1 failed", "heat: its program was not built", "ci/refuse_threads", "heat")
+
+    def test_phases_that_start_no_thread(self):
+        talker(self.place)
+        self.run_of()
+        self.place.script("crates/pool_tests/out/pool_tests_tests", "exit 0")
+        self.fails("31 passed, 6 failed", "phases, start 6 refused: 0 threads started in place of 5", "ci/refuse_threads")
+
+    def test_phases_that_are_not_built(self):
+        talker(self.place)
+        self.run_of()
+        self.place.script("bin/rt", "exit 1")
+        self.fails("30 passed, 1 failed", "phases: the program of the tests of pool_tests was not built", "ci/refuse_threads")
 
 
 class Live(InAPlace):

@@ -24,7 +24,7 @@ LAST = (
     Part(("ci/random", "300"), 1_800, 10_000),
     live(40),
     Part(("ci/sessions",), 12),
-    Part(("ci/progress",), 4),
+    Part(("ci/progress",), 5),
     Part(("ci/threads",), 7),
     Part(("ci/tried",), 1),
     Part(("ci/small_limits",), 3),

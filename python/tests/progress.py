@@ -38,10 +38,13 @@ class Progress(unittest.TestCase):
         cls.document = long_work()
 
     def shown(self, *words: str) -> bytes:
-        """What stands on a terminal, which standard error is."""
+        """What stands on a terminal, which standard error is, of a run from scratch."""
+        return self.shown_of([self.program, "--scratch", *words], self.document)
+
+    def shown_of(self, words: list[str], document: bytes) -> bytes:
         ours, theirs = pty.openpty()
         try:
-            ended = subprocess.run([self.program, "--scratch", *words], input=self.document, stdout=subprocess.PIPE, stderr=theirs, check=True)
+            ended = subprocess.run(words, input=document, stdout=subprocess.PIPE, stderr=theirs, check=True)
         finally:
             os.close(theirs)
         self.assertTrue(ended.stdout.startswith(b"run 0\n"))
@@ -56,6 +59,14 @@ class Progress(unittest.TestCase):
         shown = self.shown()
         self.assertRegex(shown, rb"^(\rrun [0-3], superstep [0-9]+\x1b\[K)+\r\x1b\[K$")
         self.assertIn(b"run 3,", shown)
+
+    def test_the_batches_of_a_document(self) -> None:
+        """A session tells each batch as a run of its number."""
+        program = built_program("bsp_kernel")
+        self.assertIsNotNone(program)
+        batches = [[["word", p, 0, 7 + run] for p in range(PROCESSES)] for run in (1, 2)]
+        shown = self.shown_of([program], live_work() + f"batches = {json.dumps(batches)}\n".encode())
+        self.assertRegex(shown, rb"^(\rrun 0, superstep [0-9]+\x1b\[K)+(\rrun 1, superstep [0-9]+\x1b\[K)+(\rrun 2, superstep [0-9]+\x1b\[K)+\r\x1b\[K$")
 
     def test_quiet(self) -> None:
         self.assertEqual(self.shown("--quiet"), b"")

@@ -6,6 +6,7 @@ mod counted;
 mod crews;
 mod endings;
 mod known;
+mod late;
 mod meeting;
 mod memories;
 mod pairs;
