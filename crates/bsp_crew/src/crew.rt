@@ -10,14 +10,14 @@ use crate::task::{Made, Means, Task};
 use crate::worksheet::{Pieces, Worksheet, large_piece};
 use bsp_gate::Gate;
 use bsp_model::{OutOfMemory, TryCopy};
-use bsp_pool::{Deal, Desk, MOST_WORKERS, Pool};
+use bsp_pool::{Deal, Desk, MOST_WORKERS, Patience, Pool};
 use bsp_step::{Gathering, Program};
 use std::alloc::Global;
 use std::marker::Model;
 use std::thread::Threads;
 
 /// How many units of turns a lane has, about. Deliveries go over all requests, so those of a lane are one unit.
-const TURN_UNITS_A_LANE: usize = 4;
+const TURN_UNITS_A_LANE: usize = 2;
 
 /// The workers of a run, of which the calling thread is one. Contracts see a crew as the number of the workers beside it.
 #[derive(Drop)]
@@ -82,8 +82,34 @@ impl<J: SharedRun> Crew<J> {
         }
     }
 
-    /// Draws units until none is left, and works them: those that the list begins with into `made`, the rest into the pieces of the calling thread. It
-    /// answers what is left of the list, and how many units it has drawn.
+    /// Works a unit that the calling thread has drawn: into `made` where the rest of the list begins with it, else into its own pieces. It answers what is
+    /// left of the list.
+    fn work_unit<'a, P: Program, G: Gate>(
+        &self,
+        means: &Means<'_, P, G>,
+        task: &Task,
+        rest: &Part<'a>,
+        unit: &Part<'a>,
+        own: &mut Pieces<J>,
+        spare: &mut Option<Gathering>,
+        made: &mut Made,
+    ) -> Result<Part<'a>, OutOfMemory>
+        requires turn { asks_turns task.now ≡ true → J.turn ≡ turn_by P.Program means.now.program.now }
+        requires part { IsPart J.turn (J.views rest.now.step) rest.now.processes.now task.now }
+        requires unit { IsPart J.turn (J.views unit.now.step) unit.now.processes.now task.now }
+        requires alike { has_turns made.old ≡ asks_turns task.now }
+        ensures { IfOk result (λ left. IsLeft J.turn J.views rest.now made.old left made.new) }
+    {
+        if unit.first == rest.first {
+            let (part, behind) = rest.split(unit.processes.len());
+            means.work::<J>(task, &part, spare, made)?;
+            return Ok(behind);
+        }
+        own.work(means, task, unit);
+        Ok(*rest)
+    }
+
+    /// Draws units until none is left, and works them. Meanwhile it takes over what the workers have answered. It answers what is left of the list.
     fn draw<'a, P: Program, G: Gate>(
         &self,
         means: &Means<'_, P, G>,
@@ -93,41 +119,50 @@ impl<J: SharedRun> Crew<J> {
         own: &mut Desk<Worksheet<J>>,
         spare: &mut Option<Gathering>,
         made: &mut Made,
-    ) -> Result<(Part<'a>, u64), OutOfMemory>
+    ) -> Result<Part<'a>, OutOfMemory>
         requires turn { asks_turns task.now ≡ true → J.turn ≡ turn_by P.Program means.now.program.now }
         requires part { IsPart J.turn (J.views whole.now.step) whole.now.processes.now task.now }
         requires alike { has_turns made.old ≡ asks_turns task.now }
-        ensures { IfOk result (λ r. IsLeft J.turn J.views whole.now made.old r.0 made.new) }
+        ensures { IfOk result (λ rest. IsLeft J.turn J.views whole.now made.old rest made.new) }
     {
         let mut rest = *whole;
-        for drawn in 0..u64::MAX {
+        for _drawn in 0..u64::MAX {
             let Some(unit) = own.hands.draw() else {
-                return Ok((rest, drawn));
+                return Ok(rest);
             };
-            if unit.saturating_mul(size) == rest.first {
-                let (part, behind) = rest.split(size);
-                means.work::<J>(task, &part, spare, made)?;
-                rest = behind;
-            } else {
-                let pieces = &mut own.sheet.pieces;
-                pieces.work(means, task, &whole.unit(unit, size));
-            }
+            let pieces = &mut own.sheet.pieces;
+            rest = self.work_unit(
+                means,
+                task,
+                &rest,
+                &whole.unit(unit, size),
+                pieces,
+                spare,
+                made,
+            )?;
+            rest = self.add_pieces(&rest, false, made)?;
         }
-        Ok((rest, u64::MAX))
+        Ok(rest)
     }
 
-    /// Adds to `made` the pieces of all workers that the rest of the list begins with, in one round. Orders that no worker has begun are taken back.
+    /// Adds to `made` the pieces of the workers that have answered, where the rest of the list begins with them. Once no unit is left to draw, orders that
+    /// no worker has begun are taken back.
     fn add_pieces<'a>(
         &self,
-        own: &mut Pieces<J>,
         rest: &Part<'a>,
+        are_drawn: bool,
         made: &mut Made,
     ) -> Result<Part<'a>, OutOfMemory>
         ensures { IfOk result (λ left. IsLeft J.turn J.views rest.now made.old left made.new) }
     {
-        let mut left = own.add_to(rest, made)?;
+        let mut left = *rest;
         for seat in self.pool.beside() {
-            if let Some(mut desk) = seat.take_back() {
+            let desk = if are_drawn {
+                seat.take_back()
+            } else {
+                seat.answer()
+            };
+            if let Some(mut desk) = desk {
                 desk.sheet.take_back();
                 left = desk.sheet.pieces.add_to(&left, made)?;
             }
@@ -135,7 +170,29 @@ impl<J: SharedRun> Crew<J> {
         Ok(left)
     }
 
-    /// Adds to `made` what the workers made of the rest of a list. A unit that none has answered is made by the calling thread.
+    /// The same once no unit is left to draw. It waits for a piece as long as a worker is at work, and patience lasts.
+    fn await_pieces<'a, G: Gate>(
+        &self,
+        own: &mut Pieces<J>,
+        rest: &Part<'a>,
+        patience: &mut Patience,
+        gate: &G,
+        made: &mut Made,
+    ) -> Result<Part<'a>, OutOfMemory>
+        ensures { IfOk result (λ left. IsLeft J.turn J.views rest.now made.old left made.new) }
+    {
+        let mut left = own.add_to(rest, made)?;
+        for _look in 0..u64::MAX {
+            let waits = self.pool.waits(patience, gate);
+            left = self.add_pieces(&left, true, made)?;
+            if !waits || left.processes.len() < rest.processes.len() {
+                return Ok(left);
+            }
+        }
+        Ok(left)
+    }
+
+    /// Adds to `made` what the workers made of the rest of a list. A unit that none has answered in time is made by the calling thread.
     fn gather<P: Program, G: Gate>(
         &self,
         means: &Means<'_, P, G>,
@@ -143,6 +200,7 @@ impl<J: SharedRun> Crew<J> {
         rest: &Part<'_>,
         size: usize,
         own: &mut Pieces<J>,
+        patience: &mut Patience,
         spare: &mut Option<Gathering>,
         made: &mut Made,
     ) -> Result<(), OutOfMemory>
@@ -154,9 +212,9 @@ impl<J: SharedRun> Crew<J> {
         ensures made { OnOk result (made.new
             ≡ with_part J.turn (J.views rest.now.step) rest.now.processes.now made.old) }
     {
-        let mut rest = self.add_pieces(own, rest, made)?;
+        let mut rest = *rest;
         while !rest.processes.is_empty() {
-            let left = self.add_pieces(own, &rest, made)?;
+            let left = self.await_pieces(own, &rest, patience, means.gate, made)?;
             if left.processes.len() == rest.processes.len() {
                 let (part, behind) = left.split(size);
                 means.work::<J>(task, &part, spare, made)?;
@@ -220,8 +278,9 @@ impl<J: SharedRun> Crew<J> {
         own.sheet.pieces.clear();
         self.hand_out(&deal, whole, size, task);
         let began = means.gate.now();
-        let (rest, drawn) = self.draw(means, task, whole, size, own, spare, made)?;
-        self.pool.wait(&deal, drawn, began, means.gate);
-        self.gather(means, task, &rest, size, &mut own.sheet.pieces, spare, made)
+        let rest = self.draw(means, task, whole, size, own, spare, made)?;
+        let mut patience = Patience::new(began, means.gate);
+        let pieces = &mut own.sheet.pieces;
+        self.gather(means, task, &rest, size, pieces, &mut patience, spare, made)
     }
 }

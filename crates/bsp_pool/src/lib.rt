@@ -25,6 +25,7 @@ pub use deck::{Deck, Pass};
 pub use hand::Hand;
 pub use lanes::{Deal, Hands, MOST_WORKERS};
 pub use machine::{Core, CoreRefusal, Event};
+pub use patience::Patience;
 pub use phases::phase;
 pub use pool::Pool;
 pub use row::Row;

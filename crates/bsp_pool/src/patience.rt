@@ -5,8 +5,11 @@ use std::hint::spin_loop;
 use std::thread;
 use std::time::Instant;
 
-/// How often a thread looks in vain before it yields at each look.
-const LOOKS_BEFORE_YIELD: u64 = 2_000;
+/// How often a worker looks for an order in vain before it yields at each look.
+pub(crate) const LOOKS_FOR_AN_ORDER: u64 = 2_000;
+
+/// How often the calling thread looks for an answer in vain before it yields at each look.
+const LOOKS_FOR_AN_ANSWER: u64 = 200;
 
 /// How many looks there are at most, where the gate tells no time.
 const MOST_LOOKS: u64 = 1_000_000;
@@ -14,9 +17,9 @@ const MOST_LOOKS: u64 = 1_000_000;
 /// How many nanoseconds the calling thread waits at least, before it takes the late turns itself.
 const LEAST_NANOS: u128 = 20_000;
 
-/// Waits a little at a look in vain.
-pub(crate) fn pause(look: u64) {
-    if look < LOOKS_BEFORE_YIELD {
+/// Waits a little at a look in vain, after which a thread yields at each look from this number on.
+pub(crate) fn pause(look: u64, before_yield: u64) {
+    if look < before_yield {
         spin_loop();
     } else {
         thread::yield_now();
@@ -26,7 +29,7 @@ pub(crate) fn pause(look: u64) {
 /// How long the calling thread waits in a superstep: twice as long as its own part took, and some microseconds at least. To work a part again that is
 /// about to be ready costs more than the wait.
 #[derive(Clone, Copy)]
-pub(crate) struct Patience {
+pub struct Patience {
     since: Option<Instant>,
     nanos: u128,
     looks: u64,
@@ -49,11 +52,8 @@ impl Patience {
 
     /// Waits a little. False once it has lasted long enough.
     pub fn lasts<G: Gate>(&mut self, gate: &G) -> bool {
-        pause(self.looks);
+        pause(self.looks, LOOKS_FOR_AN_ANSWER);
         self.looks = self.looks.saturating_add(1);
-        if self.looks < LOOKS_BEFORE_YIELD {
-            return true;
-        }
         match (self.since, gate.now()) {
             (Some(since), Some(now)) => now.duration_since(since).as_nanos() < self.nanos,
             _ => self.looks < MOST_LOOKS,

@@ -126,8 +126,8 @@ fn work_inputs<N: Outputs<W::Out> + Send, W: Work, G: Gate>(
     let work = |share: &mut Share<N, W::Out>, number: usize|
         requires { IsPhase (W.accepts jobs.now.work.now) (W.does jobs.now.work.now) jobs.now.inputs.now N.outputs }
     { work_input(jobs, share, number) };
-    let worked = own.work(&work);
-    pool.wait(&deal, worked, began, jobs.gate);
+    own.work(&work);
+    pool.wait(began, jobs.gate);
 }
 
 /// Keeps the outputs of each worker that has answered.

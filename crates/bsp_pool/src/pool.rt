@@ -94,20 +94,24 @@ impl<S: Sheet> Pool<S> {
         over.store(1, SeqCst);
     }
 
-    /// Waits until the workers beside the calling thread have answered the units of the phase but so many, which it drew itself from this time on; or
-    /// patience ends.
-    pub fn wait<G: Gate>(&self, deal: &Deal, drawn: u64, began: Option<Instant>, gate: &G) {
-        let units = (deal.units() as u64).saturating_sub(drawn);
+    /// Waits until no worker beside the calling thread is at work, or patience ends. The calling thread worked from this time on.
+    pub(crate) fn wait<G: Gate>(&self, began: Option<Instant>, gate: &G) {
         let mut patience = Patience::new(began, gate);
         for _look in 0..u64::MAX {
-            let mut answered: u64 = 0;
-            for seat in self.useful(deal) {
-                answered = answered.saturating_add(seat.answered());
-            }
-            if answered >= units || !patience.lasts(gate) {
+            if !self.waits(&mut patience, gate) {
                 return;
             }
         }
+    }
+
+    /// Waits a little, where a worker beside the calling thread is at work and patience lasts. Else false.
+    pub fn waits<G: Gate>(&self, patience: &mut Patience, gate: &G) -> bool {
+        for seat in self.beside() {
+            if seat.is_at_work() {
+                return patience.lasts(gate);
+            }
+        }
+        false
     }
 
     /// Lets the workers beside the calling thread draw in all phases until they are told to leave, each in a thread of its own where one can be made.

@@ -1,7 +1,7 @@
 //! The place of a worker in a pool.
 
 use crate::lanes::{Deal, Hands};
-use crate::patience::pause;
+use crate::patience::{LOOKS_FOR_AN_ORDER, pause};
 use crossbeam_utils::CachePadded;
 use std::sync::atomic::AtomicU64;
 use std::sync::atomic::Ordering::SeqCst;
@@ -19,7 +19,7 @@ const WORKING: u64 = 2;
 /// The same, of an earlier phase.
 const LATE: u64 = 3;
 
-/// The worker has answered. What the word has beyond is how many units it worked.
+/// The worker has answered.
 const ANSWERED: u64 = 4;
 
 /// What a worker writes on, and where it leaves what it makes.
@@ -36,18 +36,17 @@ pub struct Desk<S> {
 }
 
 impl<S: Sheet> Desk<S> {
-    /// Draws units, until none is left, and works each by its number: how many.
-    pub fn work<F: Fn(&mut S, usize)>(&mut self, work: &F) -> u64
+    /// Draws units, until none is left, and works each by its number.
+    pub fn work<F: Fn(&mut S, usize)>(&mut self, work: &F)
         requires { F.IsAlwaysCallable work.now }
     {
-        for units in 0..u64::MAX {
+        for _drawn in 0..u64::MAX {
             let Some(unit) = self.hands.draw() else {
                 self.sheet.close();
-                return units;
+                return;
             };
             work(&mut self.sheet, unit);
         }
-        u64::MAX
     }
 }
 
@@ -79,11 +78,14 @@ impl<S: Sheet> Seat<S> {
 
     /// The desk, unless the worker is at it. The order that lay there is taken back.
     pub fn take_back(&self) -> Option<MutexGuard<'_, Desk<S>>> {
-        if self.state() == WORKING {
+        let state = self.state();
+        if state == WORKING {
             return None;
         }
         let desk = self.desk.try_lock()?;
-        self.set_state(IDLE);
+        if state == WAITING {
+            self.set_state(IDLE);
+        }
         Some(desk)
     }
 
@@ -103,9 +105,17 @@ impl<S: Sheet> Seat<S> {
         self.set_state(WAITING);
     }
 
-    /// How many units the worker has answered in the phase.
-    pub(crate) fn answered(&self) -> u64 {
-        self.state().saturating_sub(ANSWERED)
+    /// Whether the worker is at work in the phase.
+    pub(crate) fn is_at_work(&self) -> bool {
+        self.state() == WORKING
+    }
+
+    /// The desk, if the worker has answered its last order.
+    pub fn answer(&self) -> Option<MutexGuard<'_, Desk<S>>> {
+        if self.state() != ANSWERED {
+            return None;
+        }
+        self.take_back()
     }
 
     fn work<F: Fn(&mut S, usize)>(&self, work: &F)
@@ -119,12 +129,11 @@ impl<S: Sheet> Seat<S> {
             return;
         }
         self.set_state(WORKING);
-        let units = desk.work(work);
+        desk.work(work);
         drop(desk);
         let state: &AtomicU64 = &self.state;
-        let answer = ANSWERED.saturating_add(units);
         if state
-            .compare_exchange(WORKING, answer, SeqCst, SeqCst)
+            .compare_exchange(WORKING, ANSWERED, SeqCst, SeqCst)
             .is_err()
         {
             self.set_state(IDLE);
@@ -146,7 +155,7 @@ impl<S: Sheet> Seat<S> {
                 rest();
                 looks = 0;
             } else {
-                pause(looks);
+                pause(looks, LOOKS_FOR_AN_ORDER);
                 looks = looks.saturating_add(1);
             }
         }

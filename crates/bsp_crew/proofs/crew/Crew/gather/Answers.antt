@@ -7,7 +7,7 @@ work-requires-clause-part g c κs within =
     let turn = g.J.SharedRun.turn in
     let views = g.J.SharedRun.views in
     let before = c.loop-rest in
-    let left = left_of_left turn views c.args.rest.now before.rest c.in_ok-left.left c.args.made.now before.made c.add_pieces-in-loop-rest.new.made before.invariant c.in_ok-left.ensures in
+    let left = left_of_left turn views c.args.rest.now before.rest c.in_ok-left.left c.args.made.now before.made c.await_pieces.new.made before.invariant c.in_ok-left.ensures in
     let given = left.part c.args.task.now c.requires.part in
     (parts_of turn views c.split.result.0 c.split.result.1 c.in_ok-left.left c.args.task.now c.split.ensures.cut given).0
 
@@ -16,5 +16,5 @@ loop-rest-preserved-then-left-rest g c =
     let turn = g.J.SharedRun.turn in
     let views = g.J.SharedRun.views in
     let before = c.loop-rest in
-    let left = left_of_left turn views c.args.rest.now before.rest c.in_ok-left.left c.args.made.now before.made c.add_pieces-in-loop-rest.new.made before.invariant c.in_ok-left.ensures in
-    less_left turn views c.args.rest.now c.in_ok-left.left c.split.result.0 c.split.result.1 c.args.made.now c.add_pieces-in-loop-rest.new.made c.work.new.made left c.split.ensures.cut c.in_ok-work.ensures.alike c.in_ok-work.ensures.made
+    let left = left_of_left turn views c.args.rest.now before.rest c.in_ok-left.left c.args.made.now before.made c.await_pieces.new.made before.invariant c.in_ok-left.ensures in
+    less_left turn views c.args.rest.now c.in_ok-left.left c.split.result.0 c.split.result.1 c.args.made.now c.await_pieces.new.made c.work.new.made left c.split.ensures.cut c.in_ok-work.ensures.alike c.in_ok-work.ensures.made
