@@ -21,7 +21,7 @@ struct Holding<'a, C> {
 }
 
 /// How often a job looks before it gives up.
-const MOST_LOOKS: u32 = 1_000_000;
+const MOST_LOOKS: u32 = 10_000_000;
 
 impl<'a, C> Holding<'a, C> {
     fn new(clock: &'a C) -> Holding<'a, C> {
