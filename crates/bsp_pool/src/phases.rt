@@ -89,6 +89,7 @@ fn kept_by_pool<N: Outputs<W::Out> + Send, W: Work, G: Gate, R: Threads + Sync>(
             work_inputs(pool, jobs);
             pool.dismiss();
         };
+        // Where no thread can start, `join` calls its second closure first. The workers are dismissed then, so the first returns.
         join(rt, attend, conduct);
     } else {
         work_inputs(pool, jobs);

@@ -57,6 +57,7 @@ fn beside_crew<J: SharedRun + Send, P: Program, G: Gate, R: Threads + Sync>(
         crew.dismiss();
         result
     };
+    // Where no thread can start, `join` calls its second closure first. The workers are dismissed then, so the first returns.
     join(rt, attend, conduct).1
 }
 

@@ -98,6 +98,7 @@ fn beside_crew<P: Program, J: SharedRun + Send, G: Gate, R: Threads + Sync>(
         crew.dismiss();
         made
     };
+    // Where no thread can start, `join` calls its second closure first. The workers are dismissed then, so the first returns.
     join(rt, attend, conduct).1
 }
 
