@@ -45,12 +45,7 @@ pub(crate) fn is_within(from: u64, len: u64, address: u64) -> bool
 }
 
 /// Whether two memories have the same words at so many addresses from one on, as far as the memories go.
-pub(crate) fn are_same_within(
-    old: &MemoryRef<'_>,
-    new: &MemoryRef<'_>,
-    from: u64,
-    len: u64,
-) -> bool
+pub(crate) fn are_same_within(old: &MemoryRef<'_>, new: &MemoryRef<'_>, from: u64, len: u64) -> bool
     requires long { length old.now ≡ length new.now }
     requires fits { length old.now < 2 ^ 64 }
     ensures { result ≡ same_where_looked_at (within from len) old.now new.now }
