@@ -131,8 +131,8 @@ impl Program for Kernel {
         self.looks_at(view, address)
     }
 
-    fn sees_same_memory(&self, view: &View<'_>, memory: &MemoryRef<'_>) -> bool {
-        self.sees_same(view, memory)
+    fn sees_same_memory(&self, view: &View<'_>, memory: &MemoryRef<'_>) -> Option<bool> {
+        Some(self.sees_same(view, memory))
     }
 
     fn step(&self, alloc: Global, ctx: &mut Ctx<'_>) -> Result<End, OutOfMemory> {

@@ -5,12 +5,8 @@ ghost use Rattle.bsp_step.specs.OutcomeParts.{IsOutcome, IsOutcomeOf};
 ghost use Rattle.bsp_step.specs.Turn.{turn_of};
 
 use crate::{Ctx, Gathering, Outcome, View};
-use bsp_model::limits::MOST_MEMORY_WORDS;
-use bsp_model::{End, MemoryRef, OutOfMemory, are_same_words};
+use bsp_model::{End, MemoryRef, OutOfMemory};
 use std::alloc::Global;
-
-/// Fewer words are compared one by one.
-const WORDS_WORTH_COMPARING: usize = 16;
 
 /// A BSP program: what each process does in each superstep.
 ///
@@ -18,7 +14,7 @@ const WORDS_WORTH_COMPARING: usize = 16;
 /// where no fault is kept. `acts` and `ending` are functions of the program and the view alone. And `looks` is a footprint: views that
 /// differ only in words at which the program does not look have equal acts and endings.
 pub trait Program: Sync {
-    ghost use Rattle.std.specs.Prelude.{List, ℕ, Bool, ◌≡◌, ◌↔◌, ◌+◌, ◌<◌, ◌≤◌, IfOk, IsTrue, length, slice_index};
+    ghost use Rattle.std.specs.Prelude.{List, ℕ, Bool, ◌≡◌, IfOk, IfSome, length};
     ghost use Rattle.bsp_model.specs.declared.fault.End.{End};
     ghost use Rattle.bsp_step.specs.ViewParts.{ViewParts};
     ghost use Rattle.bsp_step.specs.Context.{IsFresh};
@@ -39,47 +35,14 @@ pub trait Program: Sync {
     fn looks(&self, view: &View<'_>, address: u64) -> bool
         ensures { result ≡ looks self.now view.now address };
 
-    /// Whether words are equal at each address at which the turn at a view looks. The first of them are at the address `first`.
+    /// Whether a memory has the words of the view's at each address at which the turn at the view looks. None where `looks` is to be asked of each word
+    /// that differs. A program that has to follow the turn for an answer of `looks` answers here for all addresses at once.
     #[inline(always)]
-    fn sees_same_words(&self, view: &View<'_>, first: u64, old: &[u64], new: &[u64]) -> bool
-        requires as_many { length old.now ≡ length new.now }
-        requires short { first + length old.now ≤ MOST_MEMORY_WORDS }
-        ensures { IsTrue result ↔ ((i : ℕ) → i < length old.now → IsTrue (looks self.now view.now (first + i))
-            → slice_index old.now i ≡ slice_index new.now i) }
-    {
-        if old.len() >= WORDS_WORTH_COMPARING && are_same_words(old, new) {
-            return true;
-        }
-        for i in 0..old.len() {
-            if old[i] != new[i] && self.looks(view, first + i as u64) {
-                return false;
-            }
-        }
-        true
-    }
-
-    /// Whether a memory has the words of the view's at each address at which the turn at the view looks. A program that has to follow the turn for
-    /// an answer of `looks` answers here for all addresses at once.
-    #[inline(always)]
-    fn sees_same_memory(&self, view: &View<'_>, memory: &MemoryRef<'_>) -> bool
+    fn sees_same_memory(&self, view: &View<'_>, memory: &MemoryRef<'_>) -> Option<bool>
         requires { length view.now.memory ≡ length memory.now }
-        ensures { result ≡ same_where_looked_at (looks self.now view.now) view.now.memory memory.now }
+        ensures { IfSome result (λ same. same ≡ same_where_looked_at (looks self.now view.now) view.now.memory memory.now) }
     {
-        if let Some(before) = view.memory.in_one_piece()
-            && let Some(after) = memory.in_one_piece()
-        {
-            return self.sees_same_words(view, 0, before, after);
-        }
-        let mut address = 0;
-        while address < view.memory.len() as u64 {
-            let before = view.memory.words_from(address);
-            let after = memory.words_from(address);
-            if !self.sees_same_words(view, address, before, after) {
-                return false;
-            }
-            address += before.len() as u64;
-        }
-        true
+        None
     }
 
     /// Takes the turn of a process, by the calls of its context. It may stop at its first fault, since later acts do nothing.

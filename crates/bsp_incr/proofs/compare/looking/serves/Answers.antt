@@ -26,12 +26,12 @@ returns-then-len g c =
     ap (λ b. b && same_where_looked_at (g.P.Program.looks c.args.program.now v) v.memory w.memory)
     (sym (false_if (same_but_for_words v w) (Decides-but_for_words v w) (λ (alike : AreAlikeButForWords v w). c.if-len.true (old ∙ alike.same_length ∙ sym new))))
 
-pub returns-then-not-sees_same_memory : goal.returns-then-not-sees_same_memory
-returns-then-not-sees_same_memory g c =
+pub returns-then-not-sees_same : goal.returns-then-not-sees_same
+returns-then-not-sees_same g c =
     let v = c.args.old.now in
     let w = get_or c.args.views.now c.args.p no_view in
     let looks = g.P.Program.looks c.args.program.now v in
-    let differs = sym (c.sees_same_memory.ensures ∙ ap (same_where_looked_at looks v.memory) c.memory-memory.ensures) ∙ c.if-not-sees_same_memory.true in
+    let differs = sym (c.sees_same.ensures ∙ ap (same_where_looked_at looks v.memory) c.memory-memory.ensures) ∙ c.if-not-sees_same.true in
     sym (and_right (same_but_for_words v w) (same_where_looked_at looks v.memory w.memory) differs)
 
 pub returns : goal.returns
@@ -39,7 +39,7 @@ returns g c =
     let v = c.args.old.now in
     let w = get_or c.args.views.now c.args.p no_view in
     let looks = g.P.Program.looks c.args.program.now v in
-    let alike = sym (c.sees_same_memory.ensures ∙ ap (same_where_looked_at looks v.memory) c.memory-memory.ensures) ∙ c.if-not-sees_same_memory.false in
+    let alike = sym (c.sees_same.ensures ∙ ap (same_where_looked_at looks v.memory) c.memory-memory.ensures) ∙ c.if-not-sees_same.false in
     subst (λ (x : ViewParts). Decides c.is_alike_but_for_words.result (AreAlikeButForWords v x) → c.is_alike_but_for_words.result ≡ (same_but_for_words v w && same_where_looked_at looks v.memory w.memory)) (sym c.get.ensures)
     (λ decides. same_from_decides c.is_alike_but_for_words.result (same_but_for_words v w) decides (Decides-but_for_words v w) ∙ sym (and_true (same_but_for_words v w) (same_where_looked_at looks v.memory w.memory) alike))
     c.is_alike_but_for_words.ensures

@@ -1,6 +1,0 @@
-use Rattle.std.proofs.Common.{◌≡◌, ◌<◌, ◌+◌, ℕ, true, get_or}
-use Rattle.bsp_step.proofs.program.Program.sees_same_words.Given as goal
-
--- the words so far are equal where the program looks
-abbrev pub invariant-loop-i : goal.invariant-loop-i
-invariant-loop-i g l = (i : ℕ) → i < l.i → g.Self.Program.looks l.self l.view (l.first + i) ≡ true → get_or l.old i 0 ≡ get_or l.new i 0
