@@ -19,7 +19,7 @@ OTHERS = (
     (r"bsp_model/proofs/SetBits", r"p < 64"),
     # words of a page
     (r"bsp_model/(?:src/(?:page|memory)\.rt|specs/Inside/Pages|proofs/(?:Pages|Writes|Rests|Changes|WrittenMemories|paging|memor))", r"\b64\b"),
-    (r"bsp_(?:incr/proofs/Serving|deliver/proofs/ReadWords|causes/proofs/OtherWords|text/proofs/lines/push_memory_line)", r"\b64\b"),
+    (r"bsp_(?:step/proofs/WhereLookedAt|deliver/proofs/ReadWords|causes/proofs/OtherWords|text/proofs/lines/push_memory_line)", r"\b64\b"),
     # the distances of the bundled programs that double them
     (r"bsp_right/proofs/Prefix(?:Sums|Supersteps)", r"< 64 →|64 < n"),
     # numbers that were measured, and sizes of pieces in which words are read
